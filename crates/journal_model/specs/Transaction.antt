@@ -1,0 +1,84 @@
+-- Transactions and what they do to blocks: the effect of one on a block, its entries, and what a block is
+-- after the first n of them. Nothing here knows a log.
+-- Source: journalling.rst (handles and transactions), the GoJournal paper (a history of atomic operations).
+use Rattle.std.specs.Prelude.{◌≡◌, ⊤, ℕ, suc, ◌<◌, ◌==◌, not, if◌then◌else◌, List, [], ◌∷◌, take, filter, Option, Some, None, is_some, option_map}
+use Rattle.std.specs.List.{filter_map}
+use Rattle.journal_model.specs.declared.entry.Content.{Content}
+use Rattle.journal_model.specs.declared.entry.Content.TheVariants.{Copy as CopyContent, Direct}
+use Rattle.journal_model.specs.declared.entry.Entry.{Entry}
+use Rattle.journal_model.specs.declared.entry.Entry.TheVariants.{Copy, Revoke}
+use Rattle.journal_model.specs.declared.transaction.Op.{Op}
+use Rattle.journal_model.specs.declared.transaction.Op.TheVariants.{Write, Revoke as RevokeOp, Read}
+use Rattle.journal_model.specs.declared.transaction.Step.{Step}
+use Rattle.journal_model.specs.declared.transaction.Sealed.{Sealed}
+
+-- A transaction: its number, its handles in join order, its steps in step order. The last one of a history
+-- is perhaps not sealed.
+abbrev pub Transaction : Type 0
+Transaction = Sealed
+
+-- the transactions since the last opening that answered Ok, in the order of their numbers
+abbrev pub History : Type 0
+History = List Transaction
+
+-- transactions numbered first, first + 1, and so on: each history is so
+abbrev pub AreNumbered : ℕ → History → Type 0
+AreNumbered first [] = ⊤
+AreNumbered first (t ∷ ts) = (t.tid ≡ first) × AreNumbered (suc first) ts
+
+-- a volume: block b is the list of bytes at place b, and only places below the volume's count are spoken of
+abbrev pub Volume : Type 0
+Volume = ℕ → List ℕ
+
+-- what an operation leaves of its block: a read leaves nothing new
+abbrev pub entry_of : Op → Option Entry
+entry_of (Write v) = Some (Copy v)
+entry_of RevokeOp = Some Revoke
+entry_of (Read v) = None
+
+-- the later of two, where there is a later one
+abbrev pub later : Option Entry → Option Entry → Option Entry
+later earlier None = earlier
+later earlier (Some e) = Some e
+
+-- the effect of these steps on block b: what the last write or revoke of it leaves, or nothing
+abbrev pub effect : ℕ → List Step → Option Entry
+effect b [] = None
+effect b (s ∷ ss) = later (if s.block == b then entry_of s.op else None) (effect b ss)
+
+-- xs without x
+abbrev pub without : ℕ → List ℕ → List ℕ
+without x xs = filter (λ y. not (y == x)) xs
+
+-- the blocks that these steps write or revoke, each once, in the order of the first touches
+abbrev pub touched : List Step → List ℕ
+touched [] = []
+touched (s ∷ ss) = if is_some (entry_of s.op) then s.block ∷ without s.block (touched ss) else touched ss
+
+-- the entries of these steps: each block that they touch, with their effect on it
+abbrev pub entries : List Step → List (ℕ × Entry)
+entries ss = filter_map (λ b. option_map (λ e. (b, e)) (effect b ss)) (touched ss)
+
+-- the last effect on block b in these transactions
+abbrev pub last_effect : ℕ → History → Option Entry
+last_effect b [] = None
+last_effect b (t ∷ ts) = later (effect b t.steps) (last_effect b ts)
+
+-- a block that was last copied is that copy; one that was last revoked, or never touched, is as home holds it
+abbrev pub content_of : Option Entry → Content
+content_of None = Direct
+content_of (Some (Copy v)) = CopyContent v
+content_of (Some Revoke) = Direct
+
+-- what block b is after the first n transactions
+abbrev pub after : History → ℕ → ℕ → Content
+after ts n b = content_of (last_effect b (take n ts))
+
+-- the bytes of a block of this content, where home holds these
+abbrev pub bytes_of : Content → List ℕ → List ℕ
+bytes_of (CopyContent v) home = v
+bytes_of Direct home = home
+
+-- got is what the first n transactions make of left: their last copies, and all else as left has it
+abbrev pub Recovered : ℕ → History → ℕ → Volume → Volume → Type 0
+Recovered count ts n left got = (b : ℕ) → b < count → got b ≡ bytes_of (after ts n b) (left b)

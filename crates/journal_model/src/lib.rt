@@ -1,0 +1,22 @@
+//! The words of the journal: its numbers, blocks, entries and refusals, and in `specs/` the definitions
+//! that every contract of the crates above is stated by.
+#![tactic(auto)]
+
+mod block;
+mod entry;
+mod list;
+mod log;
+mod number;
+pub mod own_text_laws;
+pub mod plain;
+mod refusal;
+mod transaction;
+pub mod transaction_laws;
+
+pub use block::Block;
+pub use entry::{Batch, Content, Entry};
+pub use list::Items;
+pub use log::{Piece, Tag, Text};
+pub use number::{Area, BlockNo, HandleNo, Tid};
+pub use refusal::JournalError;
+pub use transaction::{Op, Sealed, Step};

@@ -1,0 +1,52 @@
+use std::marker::Model;
+
+/// One of the two parts of the disk that a journal works on.
+#[derive(Clone, Copy, Debug, PartialEq, Eq, Hash)]
+pub enum Area {
+    /// The log: the superblock at block 0, and behind it the ring.
+    Log,
+    /// The home area: the volume that the journal protects.
+    Home,
+}
+
+/// The number of a block of the home area, counted in blocks from 0.
+#[derive(Clone, Copy, Debug, PartialEq, Eq, PartialOrd, Ord, Hash)]
+pub struct BlockNo(pub u64);
+
+impl Model for BlockNo {
+    ghost use Rattle.std.specs.Prelude.{ℕ};
+
+    ghost Value = { ℕ };
+
+    ghost view = { λ b. b.0 };
+
+    ghost inverse = { λ n. record { 0 = n } };
+}
+
+/// The number of a transaction, as it stands in the headers of its log blocks.
+#[derive(Clone, Copy, Debug, PartialEq, Eq, PartialOrd, Ord, Hash)]
+pub struct Tid(pub u32);
+
+impl Model for Tid {
+    ghost use Rattle.std.specs.Prelude.{ℕ};
+
+    ghost Value = { ℕ };
+
+    ghost view = { λ t. t.0 };
+
+    ghost inverse = { λ n. record { 0 = n } };
+}
+
+/// The number of a handle. No two handles of a journal have the same one.
+#[derive(Clone, Copy, Debug, PartialEq, Eq, PartialOrd, Ord, Hash)]
+pub struct HandleNo(pub u64);
+
+impl Model for HandleNo {
+    ghost use Rattle.std.specs.Prelude.{ℕ};
+
+    ghost Value = { ℕ };
+
+    ghost view = { λ h. h.0 };
+
+    ghost inverse = { λ n. record { 0 = n } };
+}
