@@ -1,7 +1,4 @@
 -- The lemmas of this crate.
-pub mod Copies
-pub mod Covered
-pub mod EffectLoops
 pub mod Effects
 pub mod ListElements
 pub mod Newest
@@ -16,4 +13,3 @@ pub mod OwnTextPieces
 pub mod OwnTextRevokes
 pub mod OwnTextTags
 pub mod OwnTextWhole
-pub mod Rounding

@@ -8,7 +8,6 @@ mod list;
 mod log;
 mod number;
 pub mod own_text_laws;
-pub mod plain;
 mod refusal;
 mod transaction;
 pub mod transaction_laws;

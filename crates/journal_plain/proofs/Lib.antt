@@ -1,0 +1,5 @@
+-- The lemmas of this crate.
+pub mod Copies
+pub mod Covered
+pub mod EffectLoops
+pub mod Rounding

@@ -1,0 +1,156 @@
+//! Which copy of a chain a block gets at replay.
+
+ghost use Rattle.std.specs.Prelude.{◌≡◌, ◌++◌, ◌==◌, ◌↔◌, ◌<◌, ◌≤◌, ℕ, IfOk, IsTrue, List, MatchOption, OnOk, Some, length, map, slice_get};
+ghost use Rattle.std.specs.List.{list_any, zip};
+ghost use Rattle.journal_model.specs.Escape.{unescaped};
+ghost use Rattle.journal_model.specs.Replay.{HasNoLive, IsCovered, IsLive, IsNewest};
+ghost use Rattle.journal_model.specs.Text.{piece_copies, piece_revokes, text_copies, text_revokes};
+
+use journal_model::{Block, BlockNo, Items, Piece, Tag, Text};
+use std::alloc::{AllocError, Global};
+
+/// The bytes that an escaped copy begins with.
+const MAGIC: [u8; 4] = [0xc0, 0x3b, 0x39, 0x98];
+
+/// Whether a piece revokes a block.
+fn piece_revokes(piece: &Piece, block: BlockNo) -> bool
+    ensures { result ≡ list_any (λ number. number == block) (piece_revokes piece.now) }
+{
+    match piece {
+        Piece::Revokes(_, numbers) => numbers.as_slice().contains(&block),
+        Piece::Copies(_, _, _) => false,
+    }
+}
+
+/// Whether one of these pieces revokes a block.
+fn any_piece_revokes(pieces: &[Piece], block: BlockNo) -> bool
+    ensures { result ≡ list_any (λ piece. list_any (λ number. number == block) (piece_revokes piece)) pieces.now }
+{
+    for piece in pieces {
+        if piece_revokes(piece, block) {
+            return true;
+        }
+    }
+    false
+}
+
+/// Whether a text revokes a block.
+fn text_revokes(text: &Text, block: BlockNo) -> bool
+    ensures { result ≡ list_any (λ number. number == block) (text_revokes text.now) }
+{
+    any_piece_revokes(text.pieces.as_slice(), block)
+}
+
+/// Whether one of these texts revokes a block.
+fn any_text_revokes(texts: &[Text], block: BlockNo) -> bool
+    ensures { result ≡ list_any (λ text. list_any (λ number. number == block) (text_revokes text)) texts.now }
+{
+    for text in texts {
+        if text_revokes(text, block) {
+            return true;
+        }
+    }
+    false
+}
+
+/// Whether a copy of a block in text `i` of a chain is covered: that text or a later one revokes the block.
+pub fn covered(texts: &[Text], i: usize, block: BlockNo) -> bool
+    ensures { IsTrue result ↔ IsCovered texts.now i block }
+{
+    any_text_revokes(&texts[i.min(texts.len())..], block)
+}
+
+/// A copy as replay writes it. It fails where memory runs out.
+fn unescaped(alloc: Global, escaped: bool, stored: &Block) -> Result<Block, AllocError>
+    ensures { IfOk result (λ copy. copy ≡ unescaped escaped stored.now) }
+{
+    if !escaped {
+        return stored.try_clone(alloc);
+    }
+    let mut bytes = MAGIC.to_vec(alloc)?;
+    let stored = stored.bytes();
+    bytes.extend_from_slice(&stored[MAGIC.len().min(stored.len())..])?;
+    Ok(Block::new(bytes))
+}
+
+/// Adds copies to the list, each as replay writes it, with the home block that its tag names. It fails where
+/// memory runs out.
+fn add_copies(
+    alloc: Global,
+    list: &mut Items<(BlockNo, Block)>,
+    tags: &[Tag],
+    copies: &[Block],
+) -> Result<(), AllocError>
+    ensures { OnOk result (list.new ≡ list.old ++ map (λ p. (p.0.block, unescaped p.0.escaped p.1)) (zip tags.now copies.now)) }
+{
+    for (tag, stored) in tags.iter().zip(copies) {
+        list.push((tag.block, unescaped(alloc, tag.escaped, stored)?))?;
+    }
+    Ok(())
+}
+
+/// The copies of a text as replay writes them home, each with its home block. It fails where memory runs out.
+pub fn text_copies(alloc: Global, text: &Text) -> Result<Items<(BlockNo, Block)>, AllocError>
+    ensures { IfOk result (λ list. list ≡ text_copies text.now) }
+{
+    let mut list = Items::new(alloc);
+    for piece in text.pieces.as_slice() {
+        if let Piece::Copies(_, tags, copies) = piece {
+            add_copies(alloc, &mut list, tags.as_slice(), copies.as_slice())?;
+        }
+    }
+    Ok(list)
+}
+
+/// The place of the last copy of a block among these copies.
+fn last_copy(copies: &[(BlockNo, Block)], block: BlockNo) -> Option<usize>
+    ensures { MatchOption result
+        ((k : ℕ) (bytes : List ℕ) → slice_get copies.now k ≡ Some (block, bytes) → ⊥)
+        (λ k. ((bytes : List ℕ) × (slice_get copies.now k ≡ Some (block, bytes)))
+        × ((m : ℕ) (other : List ℕ) → slice_get copies.now m ≡ Some (block, other) → m ≤ k)) }
+{
+    let mut last = None;
+    for (k, copy) in copies.iter().enumerate() {
+        if copy.0 == block {
+            last = Some(k);
+        }
+    }
+    last
+}
+
+/// The last live copy of a block in text `i` of a chain. It fails where memory runs out.
+fn last_live(
+    alloc: Global,
+    texts: &[Text],
+    i: usize,
+    block: BlockNo,
+) -> Result<Option<Block>, AllocError>
+    requires { i < length texts.now }
+    ensures { IfOk result
+        (λ found. MatchOption found
+        ((k : ℕ) (bytes : List ℕ) → IsLive texts.now block i k bytes → ⊥)
+        (λ bytes. (k : ℕ) × IsLive texts.now block i k bytes
+        × ((m : ℕ) (other : List ℕ) → IsLive texts.now block i m other → m ≤ k))) }
+{
+    if covered(texts, i, block) {
+        return Ok(None);
+    }
+    let copies = text_copies(alloc, &texts[i])?;
+    match last_copy(copies.as_slice(), block) {
+        Some(k) => Ok(Some(copies.as_slice()[k].1.try_clone(alloc)?)),
+        None => Ok(None),
+    }
+}
+
+/// The newest live copy of a block in a chain, which is what replay makes of the block, or nothing where it leaves
+/// the block as it is. It fails where memory runs out.
+pub fn newest(alloc: Global, texts: &[Text], block: BlockNo) -> Result<Option<Block>, AllocError>
+    ensures { IfOk result (λ found. MatchOption found (HasNoLive texts.now block) (λ bytes. IsNewest texts.now block bytes)) }
+{
+    for i in (0..texts.len()).rev() {
+        if let Some(bytes) = last_live(alloc, texts, i, block)? {
+            return Ok(Some(bytes));
+        }
+    }
+    Ok(None)
+}
