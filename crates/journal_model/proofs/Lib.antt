@@ -13,3 +13,7 @@ pub mod OwnTextPieces
 pub mod OwnTextRevokes
 pub mod OwnTextTags
 pub mod OwnTextWhole
+pub mod ReadingNumbers
+pub mod ReadingPieces
+pub mod ReadingTags
+pub mod ReadingTexts

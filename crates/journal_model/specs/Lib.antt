@@ -18,3 +18,4 @@ pub mod Replay
 pub mod Opening
 pub mod HomeChange
 pub mod Dump
+pub mod ReadingLog

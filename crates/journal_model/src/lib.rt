@@ -6,6 +6,7 @@ mod block;
 mod entry;
 mod list;
 mod log;
+pub mod log_laws;
 mod number;
 pub mod own_text_laws;
 mod refusal;

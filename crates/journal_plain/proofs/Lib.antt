@@ -2,4 +2,7 @@
 pub mod Copies
 pub mod Covered
 pub mod EffectLoops
+pub mod ReadingBytes
+pub mod ReadingFound
+pub mod ReadingFronts
 pub mod Rounding

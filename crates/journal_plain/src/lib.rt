@@ -2,6 +2,7 @@
 //! need, and tests compare the journal's own code with them.
 #![tactic(auto)]
 
+pub mod chain;
 pub mod replay;
 pub mod room;
 pub mod transactions;

@@ -1,0 +1,10 @@
+-- What is found under one name is found under another that means the same.
+use Rattle.std.proofs.Common.{Option, Some, None}
+use Rattle.journal_model.specs.ReadingLog.{Finds}
+
+-- two facts that follow from each other are found together
+pub found_same :
+    {X : Type 0} (P Q : X → Type 0) (found : Option X)
+    → ((x : X) → P x → Q x) → ((x : X) → Q x → P x) → Finds P found → Finds Q found
+found_same P Q None on back none = λ x is. none x (back x is)
+found_same P Q (Some x) on back some = on x some

@@ -1,0 +1,475 @@
+//! The plain program that reads the chain of a log, and the damaged block behind it.
+
+ghost use Rattle.std.specs.Prelude.{◌≡◌, ℕ, ◌+◌, ◌*◌, ◌^◌, ◌<◌, ◌≤◌, ◌↔◌, List, length, drop, IsTrue, IfOk, IfSome, IfNone, MatchOption, All};
+ghost use Rattle.journal_model.specs.declared.log.Tag.{Tag};
+ghost use Rattle.journal_model.specs.Layout.{number_at, HasHeader, revoke_header_bytes, descriptor_type, revoke_type, tag_bytes};
+ghost use Rattle.journal_model.specs.Descriptor.{flag_word, uuid_behind, BeginsWithTag, IsDescriptor};
+ghost use Rattle.journal_model.specs.RevokeBlock.{IsRevokeBlock, numbers_in};
+ghost use Rattle.journal_model.specs.Chain.{IsChain, IsMalformed, IsDamaged};
+ghost use Rattle.journal_model.specs.ReadingLog.{Finds, layout_with, HasTags, NoPieceBegins, PieceBegins, PiecesBegin, NoTextBegins, TextBegins, TextsBegin};
+
+use journal_model::{Block, BlockNo, Items, Piece, Tag, Text};
+use std::alloc::{AllocError, Global};
+
+/// The first four bytes of each block that the log itself writes.
+const MAGIC: [u8; 4] = [0xc0, 0x3b, 0x39, 0x98];
+
+/// The types of a descriptor, a commit block and a revoke block.
+const DESCRIPTOR_TYPE: u64 = 1;
+
+const COMMIT_TYPE: u64 = 2;
+
+const REVOKE_TYPE: u64 = 5;
+
+/// Bytes of a header, of the fields before a revoke block's numbers, and of a UUID.
+const HEADER_BYTES: usize = 12;
+
+const REVOKE_HEADER_BYTES: usize = 16;
+
+const UUID_BYTES: usize = 16;
+
+/// What a reader knows of a log before it reads: the bytes in a block and in a block number, and how many blocks
+/// the home area has.
+#[derive(Clone, Copy)]
+struct Measures {
+    block_size: usize,
+    number_bytes: usize,
+    count: u64,
+    ghost some: { 0 < number_bytes },
+    ghost few: { number_bytes ≤ 8 },
+}
+
+/// The number in `count` bytes from a place on, the highest first. What lies behind the end counts as 0.
+fn read_number(at: usize, count: usize, bytes: &[u8]) -> u64
+    requires near { at < 2 ^ 32 }
+    requires few { count ≤ 8 }
+    ensures value { result ≡ number_at at count bytes.now }
+    ensures below { result < 256 ^ count }
+{
+    let mut number = 0;
+    for i in 0..count {
+        let byte = bytes.get(at + i).copied().unwrap_or(0);
+        number = number * 256 + u64::from(byte);
+    }
+    number
+}
+
+/// Whether the block begins with a header of this type and this number of a transaction.
+fn has_header(kind: u64, sequence: u64, block: &[u8]) -> bool
+    ensures value { IsTrue result ↔ HasHeader kind sequence block.now }
+    ensures below { IsTrue result → sequence < 2 ^ 32 }
+{
+    block.starts_with(&MAGIC)
+        && read_number(4, 4, block) == kind
+        && read_number(8, 4, block) == sequence
+}
+
+/// The tag of this block with these flags. Flag 4 and those from 16 on are no tag's.
+fn tag_of(block: BlockNo, flags: u64) -> Option<Tag>
+    ensures { Finds (λ t. (t.block ≡ block) × (flags ≡ flag_word t)) result }
+{
+    if flags >= 16 || flags / 4 % 2 == 1 {
+        return None;
+    }
+    Some(Tag {
+        block,
+        escaped: flags % 2 == 1,
+        same_uuid: flags / 2 % 2 == 1,
+        last: flags / 8 == 1,
+    })
+}
+
+/// The tag that the bytes begin with.
+fn tag_at(measures: Measures, bytes: &[u8]) -> Option<Tag>
+    ensures { Finds (BeginsWithTag (layout_with measures.block_size measures.number_bytes) bytes.now) result }
+{
+    if bytes.len() < measures.number_bytes + 4 {
+        return None;
+    }
+    let low = read_number(0, 4, bytes);
+    let high = read_number(8, measures.number_bytes.saturating_sub(4), bytes);
+    tag_of(
+        BlockNo(low + high * 0x1_0000_0000),
+        read_number(6, 2, bytes),
+    )
+}
+
+/// Whether the home area has the block that the tag names.
+fn names_home(measures: Measures, tag: &Tag) -> bool
+    ensures { IsTrue result ↔ tag.now.block < measures.count }
+{
+    tag.block.0 < measures.count
+}
+
+/// How many bytes the tag takes, with the UUID behind it.
+fn bytes_of(measures: Measures, tag: &Tag) -> usize
+    ensures value { result ≡ tag_bytes (layout_with measures.block_size measures.number_bytes) + uuid_behind tag.now }
+    ensures some { 0 < result }
+    ensures few { result ≤ 28 }
+{
+    let uuid = if tag.same_uuid { 0 } else { UUID_BYTES };
+    measures.number_bytes + 4 + uuid
+}
+
+/// The tags that the bytes begin with, if each names a home block.
+fn tags_in(
+    alloc: Global,
+    measures: Measures,
+    bytes: &[u8],
+) -> Result<Option<Items<Tag>>, AllocError>
+    ensures { IfOk result (Finds (HasTags (layout_with measures.block_size measures.number_bytes) measures.count bytes.now)) }
+{
+    let mut tags = Items::new(alloc);
+    let mut at = 0;
+    while at <= bytes.len() {
+        let (_, rest) = bytes.split_at(at);
+        let Some(tag) = tag_at(measures, rest) else {
+            return Ok(None);
+        };
+        if !names_home(measures, &tag) {
+            return Ok(None);
+        }
+        let last = tag.last;
+        let size = bytes_of(measures, &tag);
+        tags.push(tag)?;
+        if last {
+            return Ok(Some(tags));
+        }
+        at += size;
+    }
+    Ok(None)
+}
+
+/// The tags of the block, if it is a well-formed descriptor of this number of a transaction.
+fn tags(
+    alloc: Global,
+    measures: Measures,
+    sequence: u64,
+    block: &[u8],
+) -> Result<Option<Items<Tag>>, AllocError>
+    ensures { IfOk result (Finds (IsDescriptor (layout_with measures.block_size measures.number_bytes) measures.count sequence block.now)) }
+{
+    if block.len() < HEADER_BYTES {
+        return Ok(None);
+    }
+    if !has_header(DESCRIPTOR_TYPE, sequence, block) {
+        return Ok(None);
+    }
+    let (_, spelled) = block.split_at(HEADER_BYTES);
+    tags_in(alloc, measures, spelled)
+}
+
+/// How many numbers the block holds, by the field behind its header.
+fn count_of_numbers(measures: Measures, block: &[u8]) -> Option<usize>
+    ensures none { IfNone result ((n : ℕ) → number_at 12 4 block.now ≡ revoke_header_bytes + measures.number_bytes * n → revoke_header_bytes + measures.number_bytes * n ≤ measures.block_size → ⊥) }
+    ensures some { IfSome result (λ n. (number_at 12 4 block.now ≡ revoke_header_bytes + measures.number_bytes * n) × (revoke_header_bytes + measures.number_bytes * n ≤ measures.block_size)) }
+    ensures below { IfSome result (λ n. revoke_header_bytes + measures.number_bytes * n < 2 ^ 32) }
+{
+    let used = read_number(HEADER_BYTES, 4, block) as usize;
+    if used < REVOKE_HEADER_BYTES || used > measures.block_size {
+        return None;
+    }
+    let bytes = used - REVOKE_HEADER_BYTES;
+    if bytes % measures.number_bytes == 0 {
+        Some(bytes / measures.number_bytes)
+    } else {
+        None
+    }
+}
+
+/// The first numbers of the block, as many as are asked for, if each names a home block.
+fn first_numbers(
+    alloc: Global,
+    measures: Measures,
+    length: usize,
+    block: &[u8],
+) -> Result<Option<Items<BlockNo>>, AllocError>
+    requires { revoke_header_bytes + measures.number_bytes * length < 2 ^ 32 }
+    ensures { IfOk result (Finds (λ numbers. (numbers ≡ numbers_in (layout_with measures.block_size measures.number_bytes) block.now length) × All (λ b. b < measures.count) numbers)) }
+{
+    let mut numbers = Items::new(alloc);
+    for i in 0..length {
+        let at = REVOKE_HEADER_BYTES + measures.number_bytes * i;
+        let number = read_number(at, measures.number_bytes, block);
+        if number >= measures.count {
+            return Ok(None);
+        }
+        numbers.push(BlockNo(number))?;
+    }
+    Ok(Some(numbers))
+}
+
+/// The numbers of the block, if it is a well-formed revoke block of this number of a transaction.
+fn numbers(
+    alloc: Global,
+    measures: Measures,
+    sequence: u64,
+    block: &[u8],
+) -> Result<Option<Items<BlockNo>>, AllocError>
+    ensures { IfOk result (Finds (IsRevokeBlock (layout_with measures.block_size measures.number_bytes) measures.count sequence block.now)) }
+{
+    if !has_header(REVOKE_TYPE, sequence, block) {
+        return Ok(None);
+    }
+    let Some(length) = count_of_numbers(measures, block) else {
+        return Ok(None);
+    };
+    first_numbers(alloc, measures, length, block)
+}
+
+/// Copies of these blocks.
+fn copies_of(alloc: Global, blocks: &[Block]) -> Result<Items<Block>, AllocError>
+    ensures { IfOk result (λ copies. copies ≡ blocks.now) }
+{
+    let mut copies = Items::new(alloc);
+    for block in blocks {
+        copies.push(Block::copy_of(alloc, block.bytes())?)?;
+    }
+    Ok(copies)
+}
+
+/// The piece that the blocks begin with, and how many of them it takes.
+fn piece(
+    alloc: Global,
+    measures: Measures,
+    sequence: u64,
+    blocks: &[Block],
+) -> Result<Option<(Piece, usize)>, AllocError>
+    ensures { IfOk result (λ found. MatchOption found (NoPieceBegins (layout_with measures.block_size measures.number_bytes) measures.count sequence blocks.now) (λ p. PieceBegins (layout_with measures.block_size measures.number_bytes) measures.count sequence blocks.now p.0 p.1)) }
+{
+    let Some((block, behind)) = blocks.split_first() else {
+        return Ok(None);
+    };
+    if let Some(numbers) = numbers(alloc, measures, sequence, block.bytes())? {
+        let block = Block::copy_of(alloc, block.bytes())?;
+        return Ok(Some((Piece::Revokes(block, numbers), 1)));
+    }
+    let Some(tags) = tags(alloc, measures, sequence, block.bytes())? else {
+        return Ok(None);
+    };
+    let length = tags.len();
+    if behind.len() < length {
+        return Ok(None);
+    }
+    let (copies, _) = behind.split_at(length);
+    let copies = copies_of(alloc, copies)?;
+    let block = Block::copy_of(alloc, block.bytes())?;
+    Ok(Some((Piece::Copies(block, tags, copies), 1 + length)))
+}
+
+/// All pieces that the blocks begin with, and how many of them they take.
+fn pieces(
+    alloc: Global,
+    measures: Measures,
+    sequence: u64,
+    blocks: &[Block],
+) -> Result<(Items<Piece>, usize), AllocError>
+    ensures begin { IfOk result (λ found. PiecesBegin (layout_with measures.block_size measures.number_bytes) measures.count sequence blocks.now found.0 found.1) }
+    ensures last { IfOk result (λ found. NoPieceBegins (layout_with measures.block_size measures.number_bytes) measures.count sequence (drop found.1 blocks.now)) }
+    ensures within { IfOk result (λ found. found.1 ≤ length blocks.now) }
+{
+    let mut pieces = Items::new(alloc);
+    let mut taken = 0;
+    loop {
+        let (_, rest) = blocks.split_at(taken);
+        let Some((piece, size)) = piece(alloc, measures, sequence, rest)? else {
+            return Ok((pieces, taken));
+        };
+        pieces.push(piece)?;
+        taken += size;
+    }
+}
+
+/// The text that the blocks begin with, and how many of them it takes.
+fn text(
+    alloc: Global,
+    measures: Measures,
+    sequence: u64,
+    blocks: &[Block],
+) -> Result<Option<(Text, usize)>, AllocError>
+    ensures begins { IfOk result (λ found. MatchOption found (NoTextBegins (layout_with measures.block_size measures.number_bytes) measures.count sequence blocks.now) (λ t. TextBegins (layout_with measures.block_size measures.number_bytes) measures.count sequence blocks.now t.0 t.1)) }
+    ensures below { IfOk result (λ found. IfSome found (λ _. sequence < 2 ^ 32)) }
+{
+    let (pieces, taken) = pieces(alloc, measures, sequence, blocks)?;
+    let (_, rest) = blocks.split_at(taken);
+    let Some((block, _)) = rest.split_first() else {
+        return Ok(None);
+    };
+    if !has_header(COMMIT_TYPE, sequence, block.bytes()) {
+        return Ok(None);
+    }
+    let commit = Block::copy_of(alloc, block.bytes())?;
+    Ok(Some((Text { pieces, commit }, taken + 1)))
+}
+
+/// The texts in a row that the blocks begin with, the number of a transaction that is due behind them, and how many
+/// blocks they take.
+fn texts(
+    alloc: Global,
+    measures: Measures,
+    sequence: u64,
+    blocks: &[Block],
+) -> Result<(Items<Text>, u64, usize), AllocError>
+    ensures begin { IfOk result (λ found. TextsBegin (layout_with measures.block_size measures.number_bytes) measures.count sequence blocks.now found.0 found.1 found.2) }
+    ensures chain { IfOk result (λ found. IsChain (layout_with measures.block_size measures.number_bytes) measures.count sequence blocks.now found.0) }
+    ensures within { IfOk result (λ found. found.2 ≤ length blocks.now) }
+{
+    let mut texts = Items::new(alloc);
+    let mut next = sequence;
+    let mut taken = 0;
+    loop {
+        let (_, rest) = blocks.split_at(taken);
+        let Some((text, size)) = text(alloc, measures, next, rest)? else {
+            return Ok((texts, next, taken));
+        };
+        texts.push(text)?;
+        next += 1;
+        taken += size;
+    }
+}
+
+/// Whether the block is a malformed descriptor of this number of a transaction.
+fn is_bad_descriptor(
+    alloc: Global,
+    measures: Measures,
+    sequence: u64,
+    block: &[u8],
+) -> Result<bool, AllocError>
+    ensures { IfOk result (λ bad. IsTrue bad ↔ (HasHeader descriptor_type sequence block.now × ((tags : List Tag) → IsDescriptor (layout_with measures.block_size measures.number_bytes) measures.count sequence block.now tags → ⊥))) }
+{
+    if !has_header(DESCRIPTOR_TYPE, sequence, block) {
+        return Ok(false);
+    }
+    Ok(tags(alloc, measures, sequence, block)?.is_none())
+}
+
+/// Whether the block is a malformed revoke block of this number of a transaction.
+fn is_bad_revoke_block(
+    alloc: Global,
+    measures: Measures,
+    sequence: u64,
+    block: &[u8],
+) -> Result<bool, AllocError>
+    ensures { IfOk result (λ bad. IsTrue bad ↔ (HasHeader revoke_type sequence block.now × ((numbers : List ℕ) → IsRevokeBlock (layout_with measures.block_size measures.number_bytes) measures.count sequence block.now numbers → ⊥))) }
+{
+    if !has_header(REVOKE_TYPE, sequence, block) {
+        return Ok(false);
+    }
+    Ok(numbers(alloc, measures, sequence, block)?.is_none())
+}
+
+/// Whether the block is a malformed descriptor or revoke block of this number of a transaction.
+fn is_malformed(
+    alloc: Global,
+    measures: Measures,
+    sequence: u64,
+    block: &[u8],
+) -> Result<bool, AllocError>
+    ensures { IfOk result (λ bad. IsTrue bad ↔ IsMalformed (layout_with measures.block_size measures.number_bytes) measures.count sequence block.now) }
+{
+    let descriptor = is_bad_descriptor(alloc, measures, sequence, block)?;
+    let revoke_block = is_bad_revoke_block(alloc, measures, sequence, block)?;
+    Ok(descriptor || revoke_block)
+}
+
+/// The chain of the blocks of a log from the number `sequence` of a transaction on: the longest list of texts in a
+/// row that the blocks begin with. A block has `block_size` bytes and a block number `number_bytes`, of which there
+/// are one to eight; the home area has `count` blocks.
+pub fn chain(
+    alloc: Global,
+    block_size: usize,
+    number_bytes: usize,
+    count: u64,
+    sequence: u64,
+    blocks: &[Block],
+) -> Result<Items<Text>, AllocError>
+    requires some { 0 < number_bytes }
+    requires few { number_bytes ≤ 8 }
+    ensures { IfOk result (λ texts. IsChain (layout_with block_size number_bytes) count sequence blocks.now texts) }
+{
+    let measures = Measures {
+        block_size,
+        number_bytes,
+        count,
+    };
+    let (texts, _, _) = texts(alloc, measures, sequence, blocks)?;
+    Ok(texts)
+}
+
+/// The damaged block behind the chain of the blocks of a log, counted from the first of them, if there is one: the
+/// first block behind the chain, and behind the well-formed pieces there, is a malformed one of the number that is
+/// due. The parameters are those of `chain`.
+pub fn damage(
+    alloc: Global,
+    block_size: usize,
+    number_bytes: usize,
+    count: u64,
+    sequence: u64,
+    blocks: &[Block],
+) -> Result<Option<usize>, AllocError>
+    requires some { 0 < number_bytes }
+    requires few { number_bytes ≤ 8 }
+    ensures { IfOk result (Finds (IsDamaged (layout_with block_size number_bytes) count sequence blocks.now)) }
+{
+    let measures = Measures {
+        block_size,
+        number_bytes,
+        count,
+    };
+    let (_, next, before) = texts(alloc, measures, sequence, blocks)?;
+    let (_, rest) = blocks.split_at(before);
+    let (_, taken) = pieces(alloc, measures, next, rest)?;
+    let (_, rest) = rest.split_at(taken);
+    let Some((block, _)) = rest.split_first() else {
+        return Ok(None);
+    };
+    if !is_malformed(alloc, measures, next, block.bytes())? {
+        return Ok(None);
+    }
+    Ok(Some(before + taken))
+}
+
+#[cfg(test)]
+mod tests {
+    use super::*;
+    use std::test::Fail;
+
+    /// A block that begins with a header of this type and number, and then has these bytes.
+    fn block_of(alloc: Global, kind: u8, sequence: u8, bytes: &[u8]) -> Result<Block, AllocError> {
+        let mut all = Vec::new(alloc);
+        all.extend_from_slice(&MAGIC)?;
+        all.extend_from_slice(&[0, 0, 0, kind, 0, 0, 0, sequence])?;
+        all.extend_from_slice(bytes)?;
+        Ok(Block::new(all))
+    }
+
+    /// A revoke block with the number 3, a descriptor of home block 5 with its copy, a commit block, and behind them
+    /// a descriptor of the next transaction without room for a tag.
+    fn blocks(alloc: Global) -> Result<Vec<Block>, AllocError> {
+        let mut blocks = Vec::new(alloc);
+        blocks.push(block_of(alloc, 5, 7, &[0, 0, 0, 20, 0, 0, 0, 3])?)?;
+        blocks.push(block_of(alloc, 1, 7, &[0, 0, 0, 5, 0, 0, 0, 8])?)?;
+        blocks.push(block_of(alloc, 9, 9, &[])?)?;
+        blocks.push(block_of(alloc, 2, 7, &[])?)?;
+        blocks.push(block_of(alloc, 1, 8, &[0, 0, 0, 5])?)?;
+        Ok(blocks)
+    }
+
+    #[test]
+    fn reads_the_text_and_its_pieces(rt: HostRuntime) -> Result<(), Fail> {
+        let blocks = blocks(rt.alloc())?;
+        let texts = chain(rt.alloc(), 64, 4, 10, 7, &blocks)?;
+        assert_eq!(rt; texts.len(), 1);
+        let text = &texts.as_slice()[0];
+        assert_eq!(rt; text.pieces.len(), 2);
+        Ok(())
+    }
+
+    #[test]
+    fn finds_the_damage_behind_the_text(rt: HostRuntime) -> Result<(), Fail> {
+        let blocks = blocks(rt.alloc())?;
+        assert_eq!(rt; damage(rt.alloc(), 64, 4, 10, 7, &blocks)?, Some(4));
+        assert_eq!(rt; damage(rt.alloc(), 64, 4, 10, 6, &blocks)?, None);
+        Ok(())
+    }
+}
