@@ -1,0 +1,4 @@
+-- The lemmas of this crate.
+pub mod Calls
+pub mod Crash
+pub mod Moments

@@ -1,0 +1,5 @@
+pub mod State
+pub mod MemIndex
+pub mod Memory
+pub mod MemInvariant
+pub mod Stop

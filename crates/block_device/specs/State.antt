@@ -1,0 +1,68 @@
+-- A device as contracts see it, and what a call does to it. Source: a disk with a volatile write cache, as flush
+-- requests suppose (the kernel's writeback_cache_control.rst); that a block is written whole or not at all is a premise.
+use Rattle.std.specs.Prelude.{◌≡◌, ℕ, ◌+◌, ◌-◌, ◌^◌, ◌≤◌, min, List, ◌∷◌, ◌++◌}
+use Rattle.std.specs.List.{AllByRecursion}
+use Rattle.journal_model.specs.declared.number.Area.{Area}
+use Rattle.journal_model.specs.declared.number.Area.TheVariants.{Log, Home}
+use Rattle.journal_model.specs.Disk.{Disk, Image, IsOneOf, Leaves, written, handed_over}
+use Rattle.journal_model.specs.Superblock.{Shape}
+
+-- a device at one moment
+pub record DeviceState : Type 0 where
+  pub shape : Shape  -- bytes in a block, and blocks in each area
+  pub disk : Disk  -- what each block reads, and what a crash may leave there
+  pub past : List Disk  -- the disks before, newest first
+  pub faults : ℕ  -- how often the device has failed
+
+-- how many blocks an area has
+abbrev pub blocks_in : Shape → Area → ℕ
+blocks_in shape Log = shape.log_blocks
+blocks_in shape Home = shape.home_blocks
+
+-- the greatest count of failures: the count stays there
+abbrev pub most_faults : ℕ
+most_faults = 2 ^ 64 - 1
+
+-- the count has risen
+abbrev pub Rises : ℕ → ℕ → Type 0
+Rises old new = min (old + 1) most_faults ≤ new
+
+-- the state of a device that has failures of its own beside those of the one behind it
+abbrev pub with_own_faults : DeviceState → ℕ → DeviceState
+with_own_faults s own = record { shape = s.shape; disk = s.disk; past = s.past; faults = min (s.faults + own) most_faults }
+
+-- nothing that a crash or a read could tell has changed
+pub record Stays (old new : DeviceState) : Type 0 where
+  pub shape : new.shape ≡ old.shape
+  pub disk : new.disk ≡ old.disk
+  pub past : new.past ≡ old.past
+  pub faults : old.faults ≤ new.faults
+
+-- the disk is another, and the one before is noted
+pub record Moves (old new : DeviceState) (disk : Disk) : Type 0 where
+  pub shape : new.shape ≡ old.shape
+  pub now : new.disk ≡ disk
+  pub past : new.past ≡ old.disk ∷ old.past
+  pub faults : old.faults ≤ new.faults
+
+-- what a write of these bytes may leave, whether it answers Ok or a fault: nothing done, the block written, or the
+-- bytes handed over and not read
+pub data Writes (old new : DeviceState) (area : Area) (block : ℕ) (bytes : List ℕ) : Type 0 where
+  Undone : Stays old new → Writes old new area block bytes
+  Whole : Moves old new (written old.disk area block bytes) → Writes old new area block bytes
+  HandedOver : Moves old new (handed_over old.disk area block bytes) → Writes old new area block bytes
+
+-- what is known of each disk from one moment to another: those that were added to the past since, and the last one
+pub record EachMoment (P : Disk → Type 0) (old new : DeviceState) : Type 0 where
+  pub since : List Disk
+  pub past : new.past ≡ since ++ old.past
+  pub each : AllByRecursion P since
+  pub now : P new.disk
+
+-- a crash at some moment from one to another may have left this image
+pub record MayHaveLeft (old new : DeviceState) (image : Image) : Type 0 where
+  pub since : List Disk
+  pub past : new.past ≡ since ++ old.past
+  pub disk : Disk
+  pub one : IsOneOf (new.disk ∷ since) disk
+  pub leaves : Leaves disk image

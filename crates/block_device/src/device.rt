@@ -1,0 +1,63 @@
+ghost use Rattle.std.specs.Prelude.{◌≡◌, ◌<◌, ℕ, length, OnOk, OnErr};
+ghost use Rattle.block_device.specs.State.{DeviceState, blocks_in, Rises, Stays, Moves, Writes};
+ghost use Rattle.journal_model.specs.Disk.{written, flushed};
+
+use journal_model::Area;
+use std::error::Error;
+use std::fmt;
+
+/// The device failed during a call.
+#[derive(Clone, Copy, Debug, PartialEq, Eq)]
+pub struct DeviceFault;
+
+impl fmt::Display for DeviceFault {
+    fn fmt<W: fmt::Write>(&self, f: &mut fmt::Formatter<W>) -> fmt::Result {
+        f.write_str("the device failed")
+    }
+}
+
+impl Error for DeviceFault {}
+
+/// A disk with a log area and a home area, and a volatile cache. Blocks are numbered from 0 in each area. Each block of
+/// each area is written whole or not at all, and survives a loss of power independently of all others.
+pub trait Device {
+    /// What each block reads, what a crash may leave, the moments before, and the count of failures.
+    ghost state: { Self → DeviceState };
+
+    /// Nobody else writes what the device stands on. It is trivial where nobody can.
+    ghost honest: { Self → Type 0 };
+
+    /// Reads block `n` of an area into a buffer of one block. A failed read changes nothing but the buffer, whose bytes
+    /// are then unspecified.
+    fn read(&mut self, area: Area, n: u64, into: &mut [u8]) -> Result<(), DeviceFault>
+        requires block { length into.old ≡ (state self.old).shape.block_size }
+        requires there { n < blocks_in (state self.old).shape area }
+        ensures bytes { OnOk result (honest self.new → into.new ≡ ((state self.old).disk area n).reads) }
+        ensures stays { Stays (state self.old) (state self.new) }
+        ensures fault { OnErr result (Rises (state self.old).faults (state self.new).faults) }
+        ensures honest { honest self.new → honest self.old };
+
+    /// Writes block `n` of an area. After a fault the block reads as before or as the bytes, and a crash may keep either.
+    fn write(&mut self, area: Area, n: u64, bytes: &[u8]) -> Result<(), DeviceFault>
+        requires block { length bytes.now ≡ (state self.old).shape.block_size }
+        requires there { n < blocks_in (state self.old).shape area }
+        ensures ok { OnOk result (Moves (state self.old) (state self.new) (written (state self.old).disk area n bytes.now)) }
+        ensures writes { Writes (state self.old) (state self.new) area n bytes.now }
+        ensures fault { OnErr result (Rises (state self.old).faults (state self.new).faults) }
+        ensures honest { honest self.new → honest self.old };
+
+    /// Makes every block of an area durable as it reads. After a fault nothing is durable that was not before.
+    fn flush(&mut self, area: Area) -> Result<(), DeviceFault>
+        ensures ok { OnOk result (Moves (state self.old) (state self.new) (flushed (state self.old).disk area)) }
+        ensures err { OnErr result (Stays (state self.old) (state self.new)) }
+        ensures fault { OnErr result (Rises (state self.old).faults (state self.new).faults) }
+        ensures honest { honest self.new → honest self.old };
+
+    /// How many blocks an area has.
+    fn blocks(&self, area: Area) -> u64
+        ensures { result ≡ blocks_in (state self.now).shape area };
+
+    /// How many bytes a block has.
+    fn block_size(&self) -> usize
+        ensures { result ≡ (state self.now).shape.block_size };
+}

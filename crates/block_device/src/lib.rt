@@ -1,0 +1,20 @@
+//! Devices that lose power: the trait that the journal is proved over, a device in memory, and one that stops.
+//!
+//! What contracts see of a device is a `DeviceState`: of each block what a read gives and what else a crash may leave
+//! there, the disks before, and how often the device has failed. Not proved, and not provable here: that a real disk
+//! writes each block whole or not at all, and that its flush is honest.
+#![tactic(auto)]
+
+mod device;
+mod laws;
+mod memory;
+mod memory_index;
+mod stop;
+
+pub use device::{Device, DeviceFault};
+pub use laws::a_stop_leaves_what_each_moment_may_leave;
+pub use memory::{Call, MemDevice, Write};
+pub use stop::StopAt;
+
+#[cfg(test)]
+mod tests;

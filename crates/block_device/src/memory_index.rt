@@ -1,0 +1,70 @@
+ghost use Rattle.std.specs.Prelude.{◌≡◌, ℕ, ◌==◌, if◌then◌else◌, Some, None, option_map, OnOk, OnErr};
+ghost use Rattle.std.specs.Ordering.{nat_cmp};
+ghost use Rattle.std.specs.BTreeMap.{get};
+ghost use Rattle.journal_model.specs.declared.number.Area.{Area};
+
+use journal_model::Area;
+use std::alloc::{AllocError, Global};
+use std::collections::BTreeMap;
+
+/// Where the newest call that wrote a block stands in the list of calls.
+#[derive(Drop)]
+pub struct MemIndex {
+    log: BTreeMap<u64, Option<usize>>,
+    home: BTreeMap<u64, Option<usize>>,
+}
+
+impl MemIndex {
+    ghost use Rattle.block_device.specs.MemIndex.{noted_in, newest_in, NotesOnly, NotesSame};
+
+    /// An index with nothing noted. It takes no memory.
+    pub fn new(alloc: Global) -> Self
+        ensures { (a : Area) (n : ℕ) → noted_in result a n ≡ None }
+    {
+        MemIndex {
+            log: BTreeMap::new(alloc),
+            home: BTreeMap::new(alloc),
+        }
+    }
+
+    /// The call that wrote a block last.
+    pub fn newest(&self, area: Area, block: u64) -> Option<usize>
+        ensures { result ≡ newest_in self.now area block }
+    {
+        match area {
+            Area::Log => self.log.get(&block).copied().unwrap_or(None),
+            Area::Home => self.home.get(&block).copied().unwrap_or(None),
+        }
+    }
+
+    /// Notes a call that writes a block. Where memory runs out, all stays as it was.
+    pub fn note(&mut self, area: Area, block: u64, call: usize) -> Result<(), AllocError>
+        ensures ok { OnOk result (NotesOnly self.old self.new area block (λ _. Some (Some call))) }
+        ensures err { OnErr result (NotesSame self.old self.new) }
+    {
+        match area {
+            Area::Log => self.log.insert(block, Some(call))?,
+            Area::Home => self.home.insert(block, Some(call))?,
+        };
+        Ok(())
+    }
+
+    /// Sets what is known of a block that was noted before. It takes no memory.
+    pub fn reset(&mut self, area: Area, block: u64, call: Option<usize>)
+        ensures { NotesOnly self.old self.new area block (option_map (λ _. call)) }
+    {
+        match area {
+            Area::Log => reset_in(&mut self.log, block, call),
+            Area::Home => reset_in(&mut self.home, block, call),
+        }
+    }
+}
+
+/// Sets the value of a key that is there.
+fn reset_in(map: &mut BTreeMap<u64, Option<usize>>, key: u64, value: Option<usize>)
+    ensures { (k : ℕ) → get nat_cmp map.new k ≡ (if k == key then option_map (λ _. value) (get nat_cmp map.old k) else get nat_cmp map.old k) }
+{
+    if let Some(slot) = map.get_mut(&key) {
+        *slot = value;
+    }
+}
