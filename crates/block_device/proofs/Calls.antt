@@ -58,20 +58,19 @@ one_of_last : (o p : Option (List ℕ)) (v : List ℕ) → unwrap_or o (unwrap_o
 one_of_last None p v = refl
 one_of_last (Some u) p v = refl
 
--- after a write, by whether a crash left it
-after_write : Bool → Moments → Write → Moments
-after_write left m w =
-    if left
-    then record { disk = with_cell m.disk w.area w.block (record { reads = w.bytes; others = [] }); past = m.past }
-    else record { disk = written m.disk w.area w.block w.bytes; past = m.disk ∷ m.past }
+-- a write that a crash left settles its block, and a new one is written over it
+abbrev pub left_disk : Moments → Write → Moments
+left_disk m w = record { disk = with_cell m.disk w.area w.block (record { reads = w.bytes; others = [] }); past = m.past }
+
+abbrev pub new_disk : Moments → Write → Moments
+new_disk m w = record { disk = written m.disk w.area w.block w.bytes; past = m.disk ∷ m.past }
 
 -- one call changes what a block reads to the bytes that it wrote there, if it did
 reads-after_call : (m : Moments) (c : Call) (a : Area) (n : ℕ) → ((after_call m c).disk a n).reads ≡ unwrap_or (bytes_by a n c) (m.disk a n).reads
-unfolding after_write
 reads-after_call m (Wrote w) a n =
     let at : Bool = same_area a w.area && (n == w.block) in
     elim (w.number == 0) as (λ z.
-    ((after_write z m w).disk a n).reads
+    ((if◌then◌else◌ {A = Moments} z (left_disk m w) (new_disk m w)).disk a n).reads
     ≡ unwrap_or (if at then Some w.bytes else None) (m.disk a n).reads) [
       | true ↦ pick_reads at w.bytes [] (m.disk a n)
       | false ↦ pick_reads at w.bytes (held (m.disk w.area w.block)) (m.disk a n)

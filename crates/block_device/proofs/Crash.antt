@@ -15,7 +15,7 @@ use Rattle.block_device.specs.declared.memory.Write.{Write}
 use Rattle.block_device.specs.declared.memory.Call.{Call}
 use Rattle.block_device.specs.declared.memory.Call.TheVariants.{Wrote, Flushed}
 use Rattle.std.proofs.lemmas.Bool.{false≢true, eqb-true, le-leb, lt-leb}
-use Rattle.block_device.proofs.Calls.{last_bytes, one_of, not_zero, counted_left, counted_new, counts_agree, reads_last, flushed_number-flush, flushed_number-write}
+use Rattle.block_device.proofs.Calls.{left_disk, new_disk, last_bytes, one_of, not_zero, counted_left, counted_new, counts_agree, reads_last, flushed_number-flush, flushed_number-write}
 
 -- what holds of no calls, and of one more call where it holds of the calls before, holds of all
 module _ (P : List Call → Type 0) (step : (xs : List Call) (x : Call) → P xs → P (xs ++ x ∷ [])) where
@@ -34,24 +34,15 @@ survivors_left keep l h (Wrote w ∷ cs) =
     elim (survives_crash keep l h (Wrote w)) as (λ b. AllByRecursion IsLeft (map settled (if b then Wrote w ∷ filter (survives_crash keep l h) cs else filter (survives_crash keep l h) cs)))
     [ true ↦ (refl, survivors_left keep l h cs) | false ↦ survivors_left keep l h cs ]
 
--- a write that a crash left settles its block, and a new one is written over it
-left_disk : Moments → Write → Moments
-left_disk m w = record { disk = with_cell m.disk w.area w.block (record { reads = w.bytes; others = [] }); past = m.past }
-
-new_disk : Moments → Write → Moments
-new_disk m w = record { disk = written m.disk w.area w.block w.bytes; past = m.disk ∷ m.past }
-
+-- which of them a write makes is told by its number
 after_left : (m : Moments) (w : Write) → w.number ≡ 0 → after_call m (Wrote w) ≡ left_disk m w
-unfolding left_disk new_disk
 after_left m w e = ap (λ k. if k == 0 then left_disk m w else new_disk m w) e
 
 after_new : (m : Moments) (w : Write) (k : ℕ) → w.number ≡ suc k → after_call m (Wrote w) ≡ new_disk m w
-unfolding left_disk new_disk
 after_new m w k e = ap (λ i. if i == 0 then left_disk m w else new_disk m w) e ∙ ap (λ b. if b then left_disk m w else new_disk m w) (not_zero k)
 
 -- writes that a crash left add no moment
 pub left_past : (cs : List Call) (m : Moments) → AllByRecursion IsLeft cs → (fold after_call m cs).past ≡ m.past
-unfolding left_disk
 left_past [] m all = refl
 left_past (Wrote w ∷ cs) m all = left_past cs (after_call m (Wrote w)) all.1 ∙ ap (λ x. x.past) (after_left m w all.0)
 left_past (Flushed a ∷ cs) m all = absurd all.0
@@ -80,7 +71,6 @@ settled_cell true v c e = refl
 settled_cell false v c e = e
 
 pub left_others : (cs : List Call) (m : Moments) (a : Area) (n : ℕ) → AllByRecursion IsLeft cs → (m.disk a n).others ≡ [] → ((fold after_call m cs).disk a n).others ≡ []
-unfolding left_disk
 left_others [] m a n all e = e
 left_others (Wrote w ∷ cs) m a n all e =
     left_others cs (after_call m (Wrote w)) a n all.1
@@ -364,7 +354,6 @@ module _ (keep : List ℕ) (size : ℕ) (a : Area) (n : ℕ) where
       ∙ ap (λ (o : Option (List ℕ)). unwrap_or (one_of o (last_surviving keep (flushed_number a cs) a n cs)) (replicate size 0)) adds
 
   step_left : (cs : List Call) (w : Write) → w.number ≡ 0 → LeavesBlock cs → LeavesBlock (cs ++ Wrote w ∷ [])
-  unfolding left_disk
   step_left cs w e before numbered =
       let here : Bool = same_area a w.area && (n == w.block) in
       let ws : List (ℕ × List ℕ) = unflushed a n cs in
@@ -376,7 +365,6 @@ module _ (keep : List ℕ) (size : ℕ) (a : Area) (n : ℕ) where
       (ap (λ b. if here then (if b then [] else ws ++ (w.number, w.bytes) ∷ []) else ws) (sym (ap (λ k. k == 0) e)) ∙ sym (unflushed-push a n cs (Wrote w)))
 
   step_new : (cs : List Call) (w : Write) → w.number ≡ suc (writes_of cs) → LeavesBlock cs → LeavesBlock (cs ++ Wrote w ∷ [])
-  unfolding new_disk
   step_new cs w e before numbered =
       let here : Bool = same_area a w.area && (n == w.block) in
       let ws : List (ℕ × List ℕ) = unflushed a n cs in
@@ -433,7 +421,6 @@ held_new false v k c ws all = all
 
 -- one more call keeps that each unflushed write is held
 held_call : (a : Area) (n : ℕ) (m : Moments) (ws : List (ℕ × List ℕ)) (c : Call) → AllHeld (m.disk a n) ws → AllHeld ((after_call m c).disk a n) (unflushed_after a n ws c)
-unfolding left_disk new_disk
 held_call a n m ws (Flushed area) all = held_flush (same_area a area) (m.disk a n) ws all
 held_call a n m ws (Wrote w) all =
     let here : Bool = same_area a w.area && (n == w.block) in

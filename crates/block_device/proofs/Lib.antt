@@ -2,3 +2,4 @@
 pub mod Calls
 pub mod Crash
 pub mod Moments
+pub mod WholeBlocks

@@ -2,19 +2,25 @@
 use Rattle.std.proofs.Common.{◌≡◌, List, [], ◌∷◌, ◌++◌, sym, ◌∙◌, ap, subst, append_assoc, ⊎_elim}
 use Rattle.std.specs.List.{AllByRecursion}
 use Rattle.std.proofs.lemmas.List.{append_cancel_right}
-use Rattle.journal_model.specs.Disk.{Disk, IsOneOf}
-use Rattle.block_device.specs.State.{DeviceState, Stays, Moves, EachMoment}
+use Rattle.journal_model.specs.Disk.{Disk, Image, IsOneOf, Leaves}
+use Rattle.block_device.specs.State.{DeviceState, Stays, Moves, EachMoment, MayHaveLeft}
 
 -- what holds of each disk of a list holds of one of them
 pub one_has : (P : Disk → Type 0) (disks : List Disk) (disk : Disk) → AllByRecursion P disks → IsOneOf disks disk → P disk
 one_has P [] disk all one = absurd one
 one_has P (x ∷ disks) disk all one = ⊎_elim (λ e. subst P (sym e) all.0) (λ later. one_has P disks disk all.1 later) one
 
--- what holds of each moment holds of the moment at which a crash came
-pub at_crash : (P : Disk → Type 0) (old new : DeviceState) (since : List Disk) (disk : Disk) → EachMoment P old new → new.past ≡ since ++ old.past → IsOneOf (new.disk ∷ since) disk → P disk
-at_crash P old new since disk each past one =
-    let same : each.since ≡ since = append_cancel_right each.since since old.past (sym each.past ∙ past) in
-    one_has P (new.disk ∷ since) disk (each.now, subst (AllByRecursion P) same each.each) one
+-- the disk that a crash met is one of those since, however these are given
+pub crash_meets : (old new : DeviceState) (image : Image) (since : List Disk) → new.past ≡ since ++ old.past → MayHaveLeft old new image → (disk : Disk) × IsOneOf (new.disk ∷ since) disk × Leaves disk image
+crash_meets old new image since past left =
+    let same : left.since ≡ since = append_cancel_right left.since since old.past (sym left.past ∙ past) in
+    (left.disk, subst (λ disks. IsOneOf (new.disk ∷ disks) left.disk) same left.one, left.leaves)
+
+-- what holds of each moment holds of the disk that a crash met
+pub at_crash : (P : Disk → Type 0) (old new : DeviceState) (image : Image) → EachMoment P old new → MayHaveLeft old new image → (disk : Disk) × P disk × Leaves disk image
+at_crash P old new image each left =
+    let met = crash_meets old new image each.since each.past left in
+    (met.0, one_has P (new.disk ∷ each.since) met.0 (each.now, each.each) met.1, met.2)
 
 -- a call that changed nothing adds no moment
 pub each-stays : (P : Disk → Type 0) (old new : DeviceState) → Stays old new → P old.disk → EachMoment P old new

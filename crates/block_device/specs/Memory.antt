@@ -65,7 +65,7 @@ oldest v (w ∷ ws) = oldest w ws
 abbrev pub durable : Cell → List ℕ
 durable c = oldest c.reads c.others
 
--- the value of the last of these writes whose number is kept, or else v
+-- the value of the last of these writes whose number is kept, or else v; numbers rise, so it has the greatest of them
 abbrev pub kept_value : List ℕ → List ℕ → List (ℕ × List ℕ) → List ℕ
 kept_value keep v ws = fold (λ u w. if list_any (λ k. k == w.0) keep then w.1 else u) v ws
 

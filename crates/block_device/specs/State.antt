@@ -1,10 +1,10 @@
 -- A device as contracts see it, and what a call does to it. Source: a disk with a volatile write cache, as flush
 -- requests suppose (the kernel's writeback_cache_control.rst); that a block is written whole or not at all is a premise.
-use Rattle.std.specs.Prelude.{◌≡◌, ℕ, ◌+◌, ◌-◌, ◌^◌, ◌≤◌, min, List, ◌∷◌, ◌++◌}
+use Rattle.std.specs.Prelude.{◌≡◌, ℕ, ◌+◌, ◌-◌, ◌^◌, ◌<◌, min, List, ◌∷◌, ◌++◌, length, Result, MatchResult}
 use Rattle.std.specs.List.{AllByRecursion}
 use Rattle.journal_model.specs.declared.number.Area.{Area}
 use Rattle.journal_model.specs.declared.number.Area.TheVariants.{Log, Home}
-use Rattle.journal_model.specs.Disk.{Disk, Image, IsOneOf, Leaves, written, handed_over}
+use Rattle.journal_model.specs.Disk.{Disk, Image, IsOneOf, Leaves, held, written, handed_over}
 use Rattle.journal_model.specs.Superblock.{Shape}
 
 -- a device at one moment
@@ -23,9 +23,13 @@ blocks_in shape Home = shape.home_blocks
 abbrev pub most_faults : ℕ
 most_faults = 2 ^ 64 - 1
 
--- the count has risen
-abbrev pub Rises : ℕ → ℕ → Type 0
-Rises old new = min (old + 1) most_faults ≤ new
+-- the count after one more failure
+abbrev pub one_more_fault : ℕ → ℕ
+one_more_fault faults = min (faults + 1) most_faults
+
+-- a call that answers Ok has not failed, and one that answers a fault has failed once
+abbrev pub CountsFaults : {T E : Type 0} → Result T E → DeviceState → DeviceState → Type 0
+CountsFaults result old new = MatchResult result (λ _. new.faults ≡ old.faults) (λ _. new.faults ≡ one_more_fault old.faults)
 
 -- the state of a device that has failures of its own beside those of the one behind it
 abbrev pub with_own_faults : DeviceState → ℕ → DeviceState
@@ -36,14 +40,13 @@ pub record Stays (old new : DeviceState) : Type 0 where
   pub shape : new.shape ≡ old.shape
   pub disk : new.disk ≡ old.disk
   pub past : new.past ≡ old.past
-  pub faults : old.faults ≤ new.faults
 
--- the disk is another, and the one before is noted
+-- The disk is another, and the one before is noted: a call is at most one such moment. What a crash inside a write may
+-- leave is among what it may leave after it, and inside a flush, among what it might leave before.
 pub record Moves (old new : DeviceState) (disk : Disk) : Type 0 where
   pub shape : new.shape ≡ old.shape
   pub now : new.disk ≡ disk
   pub past : new.past ≡ old.disk ∷ old.past
-  pub faults : old.faults ≤ new.faults
 
 -- what a write of these bytes may leave, whether it answers Ok or a fault: nothing done, the block written, or the
 -- bytes handed over and not read
@@ -51,6 +54,11 @@ pub data Writes (old new : DeviceState) (area : Area) (block : ℕ) (bytes : Lis
   Undone : Stays old new → Writes old new area block bytes
   Whole : Moves old new (written old.disk area block bytes) → Writes old new area block bytes
   HandedOver : Moves old new (handed_over old.disk area block bytes) → Writes old new area block bytes
+
+-- every value that is held in a block of the device fills a block
+abbrev pub HoldsWholeBlocks : DeviceState → Type 0
+HoldsWholeBlocks s =
+    (a : Area) (n : ℕ) (v : List ℕ) → n < blocks_in s.shape a → IsOneOf (held (s.disk a n)) v → length v ≡ s.shape.block_size
 
 -- what is known of each disk from one moment to another: those that were added to the past since, and the last one
 pub record EachMoment (P : Disk → Type 0) (old new : DeviceState) : Type 0 where

@@ -1,5 +1,5 @@
 ghost use Rattle.std.specs.Prelude.{◌≡◌, ◌<◌, ℕ, length, OnOk, OnErr};
-ghost use Rattle.block_device.specs.State.{DeviceState, blocks_in, Rises, Stays, Moves, Writes};
+ghost use Rattle.block_device.specs.State.{DeviceState, blocks_in, CountsFaults, HoldsWholeBlocks, Stays, Moves, Writes};
 ghost use Rattle.journal_model.specs.Disk.{written, flushed};
 
 use journal_model::Area;
@@ -19,12 +19,14 @@ impl fmt::Display for DeviceFault {
 impl Error for DeviceFault {}
 
 /// A disk with a log area and a home area, and a volatile cache. Blocks are numbered from 0 in each area. Each block of
-/// each area is written whole or not at all, and survives a loss of power independently of all others.
+/// each area is written whole or not at all, and survives a loss of power independently of all others. Each call is at
+/// most one moment: the disk before it is noted in the past.
 pub trait Device {
     /// What each block reads, what a crash may leave, the moments before, and the count of failures.
     ghost state: { Self → DeviceState };
 
-    /// Nobody else writes what the device stands on. It is trivial where nobody can.
+    /// Each read so far gave what the disk reads. It is trivial for a device of its own; over files it may be lost, where
+    /// others write them or the medium forgets, and never comes back.
     ghost honest: { Self → Type 0 };
 
     /// Reads block `n` of an area into a buffer of one block. A failed read changes nothing but the buffer, whose bytes
@@ -34,7 +36,7 @@ pub trait Device {
         requires there { n < blocks_in (state self.old).shape area }
         ensures bytes { OnOk result (honest self.new → into.new ≡ ((state self.old).disk area n).reads) }
         ensures stays { Stays (state self.old) (state self.new) }
-        ensures fault { OnErr result (Rises (state self.old).faults (state self.new).faults) }
+        ensures faults { CountsFaults result (state self.old) (state self.new) }
         ensures honest { honest self.new → honest self.old };
 
     /// Writes block `n` of an area. After a fault the block reads as before or as the bytes, and a crash may keep either.
@@ -43,14 +45,14 @@ pub trait Device {
         requires there { n < blocks_in (state self.old).shape area }
         ensures ok { OnOk result (Moves (state self.old) (state self.new) (written (state self.old).disk area n bytes.now)) }
         ensures writes { Writes (state self.old) (state self.new) area n bytes.now }
-        ensures fault { OnErr result (Rises (state self.old).faults (state self.new).faults) }
+        ensures faults { CountsFaults result (state self.old) (state self.new) }
         ensures honest { honest self.new → honest self.old };
 
     /// Makes every block of an area durable as it reads. After a fault nothing is durable that was not before.
     fn flush(&mut self, area: Area) -> Result<(), DeviceFault>
         ensures ok { OnOk result (Moves (state self.old) (state self.new) (flushed (state self.old).disk area)) }
         ensures err { OnErr result (Stays (state self.old) (state self.new)) }
-        ensures fault { OnErr result (Rises (state self.old).faults (state self.new).faults) }
+        ensures faults { CountsFaults result (state self.old) (state self.new) }
         ensures honest { honest self.new → honest self.old };
 
     /// How many blocks an area has.
@@ -59,5 +61,6 @@ pub trait Device {
 
     /// How many bytes a block has.
     fn block_size(&self) -> usize
-        ensures { result ≡ (state self.now).shape.block_size };
+        ensures size { result ≡ (state self.now).shape.block_size }
+        ensures whole { HoldsWholeBlocks (state self.now) };
 }

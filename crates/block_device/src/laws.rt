@@ -1,10 +1,10 @@
-ghost use Rattle.std.specs.Prelude.{◌≡◌, true, Bool};
-ghost use Rattle.journal_model.specs.Disk.{Disk, Image, Leaves};
-ghost use Rattle.block_device.specs.State.{DeviceState, EachMoment, MayHaveLeft};
+ghost use Rattle.std.specs.Prelude.{◌≡◌, List, ◌∷◌, ◌++◌};
+ghost use Rattle.journal_model.specs.Disk.{Disk, Image, IsOneOf, Leaves};
+ghost use Rattle.block_device.specs.State.{DeviceState, MayHaveLeft};
 
-/// What holds of each image that each disk since a moment may leave holds of whatever a crash since then may have left.
-pub fn a_stop_leaves_what_each_moment_may_leave()
-    ensures { (test : Image → Bool) (old new : DeviceState) (image : Image) →
-        EachMoment (λ disk. (left : Image) → Leaves disk left → test left ≡ true) old new →
-        MayHaveLeft old new image → test image ≡ true }
+/// What a crash since a moment may have left is left by one of the disks since then: the present one, or one that was
+/// added to the past. So whatever holds of each of these, as `EachMoment` says, holds of the disk that the crash met.
+pub fn a_crash_meets_one_of_the_moments()
+    ensures { (old new : DeviceState) (image : Image) (since : List Disk) → new.past ≡ since ++ old.past →
+        MayHaveLeft old new image → (disk : Disk) × IsOneOf (new.disk ∷ since) disk × Leaves disk image }
 {}

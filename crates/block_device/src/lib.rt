@@ -12,7 +12,7 @@ mod memory_index;
 mod stop;
 
 pub use device::{Device, DeviceFault};
-pub use laws::a_stop_leaves_what_each_moment_may_leave;
+pub use laws::a_crash_meets_one_of_the_moments;
 pub use memory::{Call, MemDevice, Write};
 pub use stop::StopAt;
 

@@ -52,9 +52,9 @@ impl Model for MemDevice {
 }
 
 impl MemDevice {
-    ghost use Rattle.std.specs.Prelude.{◌≡◌, ◌<◌, ◌≤◌, ◌+◌, ◌-◌, ◌^◌, ℕ, min, length, [], ◌∷◌, ◌++◌, OnOk, OnErr};
+    ghost use Rattle.std.specs.Prelude.{◌≡◌, ◌<◌, ◌+◌, ◌-◌, ◌^◌, ℕ, length, [], ◌∷◌, ◌++◌, OnOk, OnErr};
     ghost use Rattle.block_device.specs.declared.memory.Call.TheVariants.{Wrote, Flushed};
-    ghost use Rattle.block_device.specs.State.{most_faults};
+    ghost use Rattle.block_device.specs.State.{one_more_fault};
     ghost use Rattle.journal_model.specs.declared.number.Area.{Area};
     ghost use Rattle.journal_model.specs.Disk.{Leaves, reading};
     ghost use Rattle.block_device.specs.Memory.{state_of, writes_of, crashed};
@@ -125,8 +125,7 @@ impl MemDevice {
 
     /// Counts a failure.
     fn fault(&mut self) -> DeviceFault
-        ensures counted { self.new ≡ record self.old { faults = min (self.old.faults + 1) most_faults } }
-        ensures rises { self.old.faults ≤ self.new.faults }
+        ensures { self.new ≡ record self.old { faults = one_more_fault self.old.faults } }
     {
         self.faults = self.faults.saturating_add(1);
         DeviceFault
@@ -170,11 +169,11 @@ impl MemDevice {
 }
 
 impl Device for MemDevice {
-    ghost use Rattle.std.specs.Prelude.{◌≡◌, ◌<◌, ◌+◌, min, length, [], ◌∷◌, ◌++◌, IsOk, OnOk, OnErr};
+    ghost use Rattle.std.specs.Prelude.{◌≡◌, ◌<◌, ◌+◌, ◌-◌, ◌^◌, length, [], ◌∷◌, ◌++◌, IsOk, IsErr, OnOk, OnErr};
     ghost use Rattle.journal_model.specs.Disk.{written, flushed};
     ghost use Rattle.block_device.specs.declared.memory.Call.TheVariants.{Wrote, Flushed};
     ghost use Rattle.block_device.specs.Memory.{state_of, writes_of};
-    ghost use Rattle.block_device.specs.State.{blocks_in, most_faults, Rises, Stays, Moves, Writes};
+    ghost use Rattle.block_device.specs.State.{blocks_in, one_more_fault, CountsFaults, HoldsWholeBlocks, Stays, Moves, Writes};
 
     ghost state = { λ d. state_of d };
 
@@ -185,7 +184,7 @@ impl Device for MemDevice {
         requires there { n < blocks_in self.old.shape area }
         ensures bytes { OnOk result (Unit {0} → into.new ≡ ((state_of self.old).disk area n).reads) }
         ensures stays { Stays (state_of self.old) (state_of self.new) }
-        ensures fault { OnErr result (Rises self.old.faults self.new.faults) }
+        ensures faults { CountsFaults result (state_of self.old) (state_of self.new) }
         ensures honest { Unit {0} → Unit {0} }
 
         // It takes no memory, so it never fails.
@@ -206,7 +205,7 @@ impl Device for MemDevice {
         requires there { n < blocks_in self.old.shape area }
         ensures ok { OnOk result (Moves (state_of self.old) (state_of self.new) (written (state_of self.old).disk area n bytes.now)) }
         ensures writes { Writes (state_of self.old) (state_of self.new) area n bytes.now }
-        ensures fault { OnErr result (Rises self.old.faults self.new.faults) }
+        ensures faults { CountsFaults result (state_of self.old) (state_of self.new) }
         ensures honest { Unit {0} → Unit {0} }
 
         // A write that was taken has the next number; one that was not has changed nothing.
@@ -214,7 +213,9 @@ impl Device for MemDevice {
           calls = self.old.calls
               ++ Wrote (record { area = area; block = n; number = writes_of self.old.calls + 1; bytes = bytes.now }) ∷ [];
         }) }
-        ensures refused { OnErr result (self.new ≡ record self.old { faults = min (self.old.faults + 1) most_faults }) }
+        ensures refused { OnErr result (self.new ≡ record self.old { faults = one_more_fault self.old.faults }) }
+        // No number is left.
+        ensures full { writes_of self.old.calls ≡ 2 ^ 64 - 1 → IsErr result }
     {
         if self.writes == u64::MAX {
             return Err(self.fault());
@@ -228,11 +229,11 @@ impl Device for MemDevice {
     fn flush(&mut self, area: Area) -> Result<(), DeviceFault>
         ensures ok { OnOk result (Moves (state_of self.old) (state_of self.new) (flushed (state_of self.old).disk area)) }
         ensures err { OnErr result (Stays (state_of self.old) (state_of self.new)) }
-        ensures fault { OnErr result (Rises self.old.faults self.new.faults) }
+        ensures faults { CountsFaults result (state_of self.old) (state_of self.new) }
         ensures honest { Unit {0} → Unit {0} }
 
         ensures taken { OnOk result (self.new ≡ record self.old { calls = self.old.calls ++ Flushed area ∷ [] }) }
-        ensures refused { OnErr result (self.new ≡ record self.old { faults = min (self.old.faults + 1) most_faults }) }
+        ensures refused { OnErr result (self.new ≡ record self.old { faults = one_more_fault self.old.faults }) }
     {
         match self.note_flush(area) {
             Ok(()) => Ok(()),

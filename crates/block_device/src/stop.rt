@@ -1,11 +1,11 @@
-ghost use Rattle.std.specs.Prelude.{◌≡◌, ◌≢◌, ◌<◌, ◌+◌, ◌-◌, ◌↔◌, min, false, true, length, IsOk, IsErr, OnOk, OnErr};
-ghost use Rattle.block_device.specs.State.{Rises, most_faults};
+ghost use Rattle.std.specs.Prelude.{◌≡◌, ◌≢◌, ◌<◌, ◌-◌, ◌↔◌, false, true, length, IsOk, IsErr, OnOk, OnErr};
+ghost use Rattle.block_device.specs.State.{one_more_fault};
 
 use crate::{Device, DeviceFault};
 use journal_model::Area;
 
-/// A device that loses power at one of its writes: that write is handed over and answers a fault, and so does every
-/// later call, which does nothing.
+/// A device that loses power at one of its writes: that write enters the cache and answers a fault, and each later call
+/// answers a fault and does nothing.
 #[derive(Drop)]
 pub struct StopAt<D> {
     device: D,
@@ -19,9 +19,7 @@ impl<D: Device> StopAt<D> {
 
     /// Stops the device at write `k`, counted from 1 among the writes that succeed from now on. With 0 it never stops.
     pub fn new(device: D, k: u64) -> Self
-        ensures inner { inner_of result ≡ device }
-        ensures left { left_of result ≡ k }
-        ensures running { is_stopped result ≡ false }
+        ensures { result ≡ record { device = device; left = k; stopped = false; faults = 0 } }
     {
         StopAt {
             device,
@@ -55,7 +53,7 @@ impl<D: Device> StopAt<D> {
     fn running(&mut self) -> Result<(), DeviceFault>
         ensures ok { IsOk result ↔ (is_stopped self.old ≡ false) }
         ensures running { OnOk result (self.new ≡ self.old) }
-        ensures stopped { OnErr result ((self.new ≡ record self.old { faults = self.new.faults }) × Rises self.old.faults self.new.faults) }
+        ensures stopped { OnErr result (self.new ≡ record self.old { faults = one_more_fault self.old.faults }) }
     {
         if self.stopped {
             return Err(self.fault());
@@ -63,11 +61,11 @@ impl<D: Device> StopAt<D> {
         Ok(())
     }
 
-    /// Counts a write that was handed over: a fault is answered where it was the last one.
+    /// Counts a write that entered the cache: a fault is answered where it was the last one.
     fn count_write(&mut self) -> Result<(), DeviceFault>
         ensures last { IsErr result ↔ (left_of self.old ≡ 1) }
         ensures other { OnOk result (self.new ≡ record self.old { left = self.old.left - 1 }) }
-        ensures stops { OnErr result ((is_stopped self.new ≡ true) × (inner_of self.new ≡ inner_of self.old) × Rises self.old.faults self.new.faults) }
+        ensures stops { OnErr result (self.new ≡ record self.old { stopped = true; faults = one_more_fault self.old.faults }) }
     {
         if self.left == 1 {
             self.stopped = true;
@@ -79,7 +77,7 @@ impl<D: Device> StopAt<D> {
 
     /// Counts a failure of its own.
     fn fault(&mut self) -> DeviceFault
-        ensures { self.new ≡ record self.old { faults = min (self.old.faults + 1) most_faults } }
+        ensures { self.new ≡ record self.old { faults = one_more_fault self.old.faults } }
     {
         self.faults = self.faults.saturating_add(1);
         DeviceFault
@@ -87,15 +85,26 @@ impl<D: Device> StopAt<D> {
 }
 
 impl<D: Device> Device for StopAt<D> {
-    ghost use Rattle.block_device.specs.Stop.{inner_of, left_of, is_stopped, stopping};
-    ghost use Rattle.block_device.specs.State.{blocks_in, Rises, Moves, Writes};
-    ghost use Rattle.journal_model.specs.Disk.{written};
+    ghost use Rattle.block_device.specs.Stop.{inner_of, left_of, is_stopped, stopping, PassesOn, UsesWrite, IsSilent};
+    ghost use Rattle.block_device.specs.State.{blocks_in, CountsFaults, Stays, Moves, Writes};
+    ghost use Rattle.journal_model.specs.Disk.{written, flushed};
 
     ghost state = { stopping D.state };
 
     ghost honest = { λ s. D.honest s.device };
 
-    fn read(&mut self, area: Area, n: u64, into: &mut [u8]) -> Result<(), DeviceFault> {
+    fn read(&mut self, area: Area, n: u64, into: &mut [u8]) -> Result<(), DeviceFault>
+        requires block { length into.old ≡ (D.state (inner_of self.old)).shape.block_size }
+        requires there { n < blocks_in (D.state (inner_of self.old)).shape area }
+        ensures bytes { OnOk result (D.honest (inner_of self.new) → into.new ≡ ((D.state (inner_of self.old)).disk area n).reads) }
+        ensures stays { Stays (stopping D.state self.old) (stopping D.state self.new) }
+        ensures faults { CountsFaults result (stopping D.state self.old) (stopping D.state self.new) }
+        ensures honest { D.honest (inner_of self.new) → D.honest (inner_of self.old) }
+
+        ensures silent { IsSilent result self.old self.new }
+        ensures running { is_stopped self.old ≡ false →
+            PassesOn self.old self.new × CountsFaults result (D.state (inner_of self.old)) (D.state (inner_of self.new)) }
+    {
         self.running()?;
         self.device.read(area, n, into)
     }
@@ -105,20 +114,35 @@ impl<D: Device> Device for StopAt<D> {
         requires there { n < blocks_in (D.state (inner_of self.old)).shape area }
         ensures ok { OnOk result (Moves (stopping D.state self.old) (stopping D.state self.new) (written (D.state (inner_of self.old)).disk area n bytes.now)) }
         ensures writes { Writes (stopping D.state self.old) (stopping D.state self.new) area n bytes.now }
-        ensures fault { OnErr result (Rises (stopping D.state self.old).faults (stopping D.state self.new).faults) }
+        ensures faults { CountsFaults result (stopping D.state self.old) (stopping D.state self.new) }
         ensures honest { D.honest (inner_of self.new) → D.honest (inner_of self.old) }
 
-        // The write at which the power goes away is handed over, and answers a fault.
+        ensures silent { IsSilent result self.old self.new }
+        // Each write that succeeds is counted, and the one at which the power goes away is not answered Ok.
+        ensures counts { is_stopped self.old ≡ false → OnOk result ((left_of self.old ≢ 1) × UsesWrite self.old self.new) }
+        // That one entered the cache.
         ensures last { is_stopped self.old ≡ false → is_stopped self.new ≡ true →
-            IsErr result × Moves (D.state (inner_of self.old)) (D.state (inner_of self.new)) (written (D.state (inner_of self.old)).disk area n bytes.now) }
-        ensures stops { OnOk result (left_of self.old ≢ 1) }
+            IsErr result × (left_of self.old ≡ 1)
+            × Moves (D.state (inner_of self.old)) (D.state (inner_of self.new)) (written (D.state (inner_of self.old)).disk area n bytes.now) }
+        // Any other fault is that of the device behind it.
+        ensures inside { is_stopped self.old ≡ false → is_stopped self.new ≡ false →
+            OnErr result (PassesOn self.old self.new × CountsFaults result (D.state (inner_of self.old)) (D.state (inner_of self.new))) }
     {
         self.running()?;
         self.device.write(area, n, bytes)?;
         self.count_write()
     }
 
-    fn flush(&mut self, area: Area) -> Result<(), DeviceFault> {
+    fn flush(&mut self, area: Area) -> Result<(), DeviceFault>
+        ensures ok { OnOk result (Moves (stopping D.state self.old) (stopping D.state self.new) (flushed (D.state (inner_of self.old)).disk area)) }
+        ensures err { OnErr result (Stays (stopping D.state self.old) (stopping D.state self.new)) }
+        ensures faults { CountsFaults result (stopping D.state self.old) (stopping D.state self.new) }
+        ensures honest { D.honest (inner_of self.new) → D.honest (inner_of self.old) }
+
+        ensures silent { IsSilent result self.old self.new }
+        ensures running { is_stopped self.old ≡ false →
+            PassesOn self.old self.new × CountsFaults result (D.state (inner_of self.old)) (D.state (inner_of self.new)) }
+    {
         self.running()?;
         self.device.flush(area)
     }

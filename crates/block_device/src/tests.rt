@@ -194,6 +194,22 @@ fn a_device_stops_at_each_write(rt: HostRuntime) -> Result<(), Fail> {
 }
 
 #[test]
+fn a_device_goes_on_for_many_calls(rt: HostRuntime) -> Result<(), Fail> {
+    let mut device = StopAt::new(MemDevice::new(rt.alloc(), SIZE, 4, 300), 0);
+    for i in 0..300u64 {
+        write_byte(&rt, &mut device, HOME, i, 7)?;
+        device.flush(LOG)?;
+    }
+    assert!(rt; !device.is_stopped());
+    let mut device = device.into_inner();
+    assert_eq!(rt; device.writes(), 300);
+    assert_eq!(rt; read_byte(&rt, &mut device, HOME, 299)?, 7);
+    let text = format!(in rt.alloc(); "{DeviceFault}")?;
+    assert_eq!(rt; text.as_str(), "the device failed");
+    Ok(())
+}
+
+#[test]
 fn known_images_can_be_reached(rt: HostRuntime) -> Result<(), Fail> {
     for (keep, log) in [(&[][..], 1), (&[3][..], 3)] {
         let mut device = MemDevice::new(rt.alloc(), SIZE, 4, 4);
