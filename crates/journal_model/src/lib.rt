@@ -3,6 +3,7 @@
 #![tactic(auto)]
 
 mod block;
+pub mod disk_laws;
 mod entry;
 mod list;
 mod log;
@@ -12,6 +13,7 @@ pub mod own_text_laws;
 mod refusal;
 mod transaction;
 pub mod transaction_laws;
+pub mod worked_examples;
 
 pub use block::Block;
 pub use entry::{Batch, Content, Entry};

@@ -1,0 +1,370 @@
+//! The definitions at examples that were worked out by hand.
+use crate::replay::{covered, newest};
+use crate::room::{capacity, need};
+use crate::transactions::{after, entries};
+use journal_model::{
+    Block, BlockNo, Content, Entry, HandleNo, Items, Op, Piece, Sealed, Step, Tag, Text, Tid,
+};
+use std::alloc::{AllocError, Global};
+use std::test::Fail;
+
+/// What a step of a table does to its block, whose bytes are one byte here.
+#[derive(Clone, Copy, Debug)]
+enum Does {
+    Write(u8),
+    Revoke,
+    Read(u8),
+}
+
+/// A block of one byte.
+fn block_of(alloc: Global, byte: u8) -> Result<Block, AllocError> {
+    Block::copy_of(alloc, &[byte])
+}
+
+/// The steps of a table, made by one handle.
+fn steps_of(alloc: Global, rows: &[(u64, Does)]) -> Result<Items<Step>, AllocError> {
+    let mut steps = Items::new(alloc);
+    for (block, does) in rows {
+        let op = match does {
+            Does::Write(byte) => Op::Write(block_of(alloc, *byte)?),
+            Does::Revoke => Op::Revoke,
+            Does::Read(byte) => Op::Read(block_of(alloc, *byte)?),
+        };
+        steps.push(Step {
+            handle: HandleNo(1),
+            block: BlockNo(*block),
+            op,
+        })?;
+    }
+    Ok(steps)
+}
+
+/// The entries as a table: each block with the first byte of its copy, or with nothing where it is revoked.
+fn table_of(
+    alloc: Global,
+    entries: &[(BlockNo, Entry)],
+) -> Result<Vec<(u64, Option<u8>)>, AllocError> {
+    let mut rows = Vec::new(alloc);
+    for (block, entry) in entries {
+        let first = match entry {
+            Entry::Copy(bytes) => bytes.bytes().first().copied(),
+            Entry::Revoke => None,
+        };
+        rows.push((block.0, first))?;
+    }
+    Ok(rows)
+}
+
+#[test]
+fn entries_in_the_order_of_first_touches(rt: HostRuntime) -> Result<(), Fail> {
+    let alloc = rt.alloc();
+    for (name, steps, want) in [
+        (
+            "two writes",
+            [(9, Does::Write(0x11)), (10, Does::Write(0x22))].as_slice(),
+            [(9, Some(0x11)), (10, Some(0x22))].as_slice(),
+        ),
+        (
+            "a write that is revoked later keeps its place",
+            [
+                (9, Does::Write(0x11)),
+                (5, Does::Write(0x22)),
+                (9, Does::Revoke),
+            ]
+            .as_slice(),
+            [(9, None), (5, Some(0x22))].as_slice(),
+        ),
+        (
+            "a write after a revoke",
+            [(5, Does::Revoke), (5, Does::Write(0x33))].as_slice(),
+            [(5, Some(0x33))].as_slice(),
+        ),
+        (
+            "a read leaves nothing",
+            [(4, Does::Read(0x44)), (6, Does::Write(0x55))].as_slice(),
+            [(6, Some(0x55))].as_slice(),
+        ),
+        (
+            "a second write keeps the place and has the last bytes",
+            [
+                (5, Does::Write(0x01)),
+                (6, Does::Write(0x03)),
+                (5, Does::Write(0x02)),
+                (5, Does::Read(0x02)),
+            ]
+            .as_slice(),
+            [(5, Some(0x02)), (6, Some(0x03))].as_slice(),
+        ),
+        ("no steps", [].as_slice(), [].as_slice()),
+    ] {
+        let steps = steps_of(alloc, steps)?;
+        let list = entries(alloc, steps.as_slice())?;
+        let got = table_of(alloc, list.as_slice())?;
+        assert_eq!(rt; got.as_slice(), want, "{name}");
+    }
+    Ok(())
+}
+
+/// Transactions numbered from 2, each of one step on block 8.
+fn history_of(alloc: Global, steps: &[Does]) -> Result<Vec<Sealed>, AllocError> {
+    let mut history = Vec::new(alloc);
+    for (tid, does) in (2..).zip(steps) {
+        history.push(Sealed {
+            tid: Tid(tid),
+            handles: Items::new(alloc),
+            steps: steps_of(alloc, &[(8, *does)])?,
+        })?;
+    }
+    Ok(history)
+}
+
+#[test]
+fn a_block_after_the_first_transactions(rt: HostRuntime) -> Result<(), Fail> {
+    let alloc = rt.alloc();
+    let history = history_of(alloc, &[Does::Write(0xaa), Does::Revoke, Does::Write(0xcc)])?;
+    for (n, block, want) in [
+        (0, 8, None),
+        (1, 8, Some(0xaa)),
+        (2, 8, None),
+        (3, 8, Some(0xcc)),
+        (4, 8, Some(0xcc)),
+        (3, 9, None),
+    ] {
+        let got = match after(alloc, &history, n, BlockNo(block))? {
+            Content::Copy(bytes) => bytes.bytes().first().copied(),
+            Content::Direct => None,
+        };
+        assert_eq!(rt; got, want, "block {block} after {n}");
+    }
+    Ok(())
+}
+
+#[test]
+fn room_in_a_log(rt: HostRuntime) {
+    for (block_size, number_bytes, ring, want) in [
+        (1024, 4, 16, 2),
+        (1024, 4, 32, 6),
+        (1024, 4, 1024, 252),
+        (4096, 4, 1024, 254),
+    ] {
+        assert_eq!(rt;
+            capacity(block_size, number_bytes, ring),
+            want,
+            "capacity of {ring} blocks of {block_size} bytes"
+        );
+    }
+    assert_eq!(rt; need(1024, 4, 0, 0), 1, "nothing");
+    assert_eq!(rt; need(1024, 4, 0, 1), 2, "one revoke");
+    assert_eq!(rt; need(1024, 4, 122, 0), 124, "a full descriptor");
+    assert_eq!(rt; need(1024, 4, 123, 0), 126, "a copy more");
+    assert_eq!(rt; need(1024, 4, 2, 252), 5, "a full revoke block");
+    assert_eq!(rt; need(1024, 4, 2, 253), 6, "a revoke more");
+    assert_eq!(rt; need(2048, 4, 250, 508), 253, "full blocks of 2048 bytes");
+    assert_eq!(rt; need(2048, 4, 251, 509), 256, "one more of each");
+    assert_eq!(rt; need(4096, 4, 506, 1020), 509, "full blocks of 4096 bytes");
+    assert_eq!(rt; need(4096, 4, 507, 1021), 512, "one more of each");
+}
+
+/// A block of a log in a table. A descriptor has one tag, and a block that is written is one byte.
+#[derive(Clone, Copy)]
+enum Mark {
+    /// A revoke block of one home block.
+    Revoke(u64),
+    /// A descriptor with one copy of this home block.
+    Copy(u64, u8),
+    /// A descriptor with one escaped copy of this home block, for which four times this byte and a 7 stand in the log.
+    Escaped(u64, u8),
+    /// A descriptor with two copies, each of one home block.
+    Copies(u64, u8, u64, u8),
+    /// A commit block.
+    Commit,
+}
+
+/// A tag of a home block.
+fn tag_of(block: u64, escaped: bool, same_uuid: bool, last: bool) -> Tag {
+    Tag {
+        block: BlockNo(block),
+        escaped,
+        same_uuid,
+        last,
+    }
+}
+
+/// A descriptor's piece. Its own log block has no bytes.
+fn copies_of(alloc: Global, tags: &[Tag], copies: Vec<Block>) -> Result<Piece, AllocError> {
+    Ok(Piece::Copies(
+        Block::new(Vec::new(alloc)),
+        Items::from_vec(tags.to_vec(alloc)?),
+        Items::from_vec(copies),
+    ))
+}
+
+/// The piece of a mark, if it is not a commit block.
+fn piece_of(alloc: Global, mark: Mark) -> Result<Option<Piece>, AllocError> {
+    let piece = match mark {
+        Mark::Revoke(block) => Piece::Revokes(
+            Block::new(Vec::new(alloc)),
+            Items::from_vec([BlockNo(block)].to_vec(alloc)?),
+        ),
+        Mark::Copy(block, byte) => {
+            let copies = vec![in alloc; block_of(alloc, byte)?]?;
+            copies_of(alloc, &[tag_of(block, false, false, true)], copies)?
+        }
+        Mark::Escaped(block, byte) => {
+            let bytes = [byte, byte, byte, byte, 7].to_vec(alloc)?;
+            let copies = vec![in alloc; Block::new(bytes)]?;
+            copies_of(alloc, &[tag_of(block, true, false, true)], copies)?
+        }
+        Mark::Copies(first, byte, last, other) => {
+            let tags = [
+                tag_of(first, false, false, false),
+                tag_of(last, false, true, true),
+            ];
+            let copies = vec![in alloc; block_of(alloc, byte)?, block_of(alloc, other)?]?;
+            copies_of(alloc, &tags, copies)?
+        }
+        Mark::Commit => return Ok(None),
+    };
+    Ok(Some(piece))
+}
+
+/// The texts of a table: each ends with a commit block.
+fn texts_of(alloc: Global, marks: &[Mark]) -> Result<Vec<Text>, AllocError> {
+    let mut texts = Vec::new(alloc);
+    let mut pieces = Items::new(alloc);
+    for mark in marks {
+        if let Some(piece) = piece_of(alloc, *mark)? {
+            pieces.push(piece)?;
+        } else {
+            texts.push(Text {
+                pieces,
+                commit: Block::new(Vec::new(alloc)),
+            })?;
+            pieces = Items::new(alloc);
+        }
+    }
+    Ok(texts)
+}
+
+#[test]
+fn the_newest_live_copy(rt: HostRuntime) -> Result<(), Fail> {
+    use Mark::{Commit, Copies, Copy, Escaped, Revoke};
+    let alloc = rt.alloc();
+    for (name, marks, want) in [
+        ("no text", [].as_slice(), None),
+        (
+            "one copy",
+            [Copy(8, 0xaa), Commit].as_slice(),
+            Some([0xaa].as_slice()),
+        ),
+        (
+            "a copy of another block",
+            [Copy(7, 0xaa), Commit].as_slice(),
+            None,
+        ),
+        (
+            "a revoke behind the copy, in its text",
+            [Copy(8, 0xaa), Revoke(8), Commit].as_slice(),
+            None,
+        ),
+        (
+            "a revoke before the copy, in its text",
+            [Revoke(8), Copy(8, 0xaa), Commit].as_slice(),
+            None,
+        ),
+        (
+            "a revoke in a later text",
+            [Copy(8, 0xaa), Commit, Revoke(8), Commit].as_slice(),
+            None,
+        ),
+        (
+            "a revoke in an earlier text",
+            [Revoke(8), Commit, Copy(8, 0xaa), Commit].as_slice(),
+            Some([0xaa].as_slice()),
+        ),
+        (
+            "a revoke between two copies",
+            [
+                Copy(8, 0xaa),
+                Commit,
+                Revoke(8),
+                Commit,
+                Copy(8, 0xcc),
+                Commit,
+            ]
+            .as_slice(),
+            Some([0xcc].as_slice()),
+        ),
+        (
+            "a revoke of another block",
+            [Copy(8, 0xaa), Commit, Revoke(9), Commit].as_slice(),
+            Some([0xaa].as_slice()),
+        ),
+        (
+            "copies in two texts",
+            [Copy(8, 0xaa), Commit, Copy(8, 0xbb), Commit].as_slice(),
+            Some([0xbb].as_slice()),
+        ),
+        (
+            "two copies in one text",
+            [Copy(8, 0xaa), Copy(8, 0xbb), Commit].as_slice(),
+            Some([0xbb].as_slice()),
+        ),
+        (
+            "two copies in one descriptor",
+            [Copies(8, 0xaa, 8, 0xbb), Commit].as_slice(),
+            Some([0xbb].as_slice()),
+        ),
+        (
+            "the first of two tags",
+            [Copies(8, 0xaa, 9, 0xbb), Commit].as_slice(),
+            Some([0xaa].as_slice()),
+        ),
+        (
+            "an escaped copy",
+            [Escaped(8, 0), Commit].as_slice(),
+            Some([0xc0, 0x3b, 0x39, 0x98, 7].as_slice()),
+        ),
+        (
+            "an escaped copy with other bytes in the magic's place",
+            [Escaped(8, 1), Commit].as_slice(),
+            Some([0xc0, 0x3b, 0x39, 0x98, 7].as_slice()),
+        ),
+    ] {
+        let texts = texts_of(alloc, marks)?;
+        let copy = newest(alloc, &texts, BlockNo(8))?;
+        assert_eq!(rt; copy.as_ref().map(Block::bytes), want, "{name}");
+    }
+    Ok(())
+}
+
+#[test]
+fn copies_that_are_covered(rt: HostRuntime) -> Result<(), Fail> {
+    use Mark::{Commit, Copy, Revoke};
+    let alloc = rt.alloc();
+    let texts = texts_of(
+        alloc,
+        &[
+            Copy(8, 0xaa),
+            Commit,
+            Revoke(8),
+            Commit,
+            Copy(8, 0xcc),
+            Commit,
+        ],
+    )?;
+    for (i, block, want) in [
+        (0, 8, true),
+        (1, 8, true),
+        (2, 8, false),
+        (3, 8, false),
+        (0, 9, false),
+    ] {
+        assert_eq!(rt;
+            covered(&texts, i, BlockNo(block)),
+            want,
+            "block {block} in text {i}"
+        );
+    }
+    Ok(())
+}

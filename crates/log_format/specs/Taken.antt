@@ -1,0 +1,13 @@
+-- What an opening may rely on in a superblock that is not refused.
+use Rattle.std.specs.Prelude.{◌≡◌, ◌⊎◌, ℕ, ◌+◌, ◌<◌, ◌≤◌}
+use Rattle.journal_model.specs.Superblock.{Super, greatest_length, least_length, least_ring}
+
+-- the log has the device's block size and lies within the log area, and its ring lies behind the superblock
+pub record IsTaken (block_size log_blocks : ℕ) (s : Super) : Type 0 where
+  pub size : s.s_blocksize ≡ block_size
+  pub least : least_length ≤ s.s_maxlen
+  pub greatest : s.s_maxlen ≤ greatest_length
+  pub within : s.s_maxlen ≤ log_blocks
+  pub behind : 0 < s.s_first
+  pub ring : s.s_first + least_ring ≤ s.s_maxlen
+  pub start : (s.s_start ≡ 0) ⊎ ((s.s_first ≤ s.s_start) × (s.s_start < s.s_maxlen))

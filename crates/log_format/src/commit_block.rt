@@ -1,0 +1,28 @@
+ghost use Rattle.std.specs.Prelude.{◌≡◌, length};
+ghost use Rattle.journal_model.specs.Layout.{narrow};
+ghost use Rattle.journal_model.specs.OwnText.{commit_block};
+ghost use Rattle.log_format.specs.Size.{IsBlockSize};
+
+use crate::Header;
+use crate::header::{COMMIT_TYPE, HEADER_BYTES};
+
+/// A commit block: it ends a transaction. Nothing behind its header is read.
+/// Source: journal.rst, "Commit Block".
+pub struct CommitBlock;
+
+impl CommitBlock {
+    /// Writes a commit block over all of `block`, which has 1024, 2048 or 4096 bytes: the header, with the number
+    /// `sequence` of the transaction, and zeros behind it.
+    /// Source: journal.rst, "Commit Block".
+    pub fn write(block: &mut [u8], sequence: u32)
+        requires { IsBlockSize (length block.old) }
+        ensures { block.new ≡ commit_block (narrow (length block.old)) sequence }
+    {
+        let header = Header {
+            block_type: COMMIT_TYPE,
+            sequence,
+        };
+        header.write(block);
+        block[HEADER_BYTES..].fill(0);
+    }
+}

@@ -1,0 +1,62 @@
+ghost use Rattle.std.specs.Prelude.{◌≡◌, ◌≤◌, ◌++◌, true, false, length, drop, MatchOption};
+ghost use Rattle.journal_model.specs.Layout.{begins_with_magic, header, header_bytes, sequence_in, type_in};
+ghost use Rattle.log_format.specs.Size.{IsBlockSize};
+
+use byteorder::{BigEndian, ByteOrder};
+
+/// The first four bytes of a superblock and of each descriptor, commit and revoke block.
+pub(crate) const MAGIC: [u8; 4] = [0xc0, 0x3b, 0x39, 0x98];
+
+/// Bytes of a header.
+pub(crate) const HEADER_BYTES: usize = 12;
+
+/// The type of a descriptor.
+pub(crate) const DESCRIPTOR_TYPE: u32 = 1;
+
+/// The type of a commit block.
+pub(crate) const COMMIT_TYPE: u32 = 2;
+
+/// The type of a superblock, in version 2, the one that is taken.
+pub(crate) const SUPER_TYPE: u32 = 4;
+
+/// The type of a revoke block.
+pub(crate) const REVOKE_TYPE: u32 = 5;
+
+/// The header that the superblock and each descriptor, commit and revoke block begins with.
+/// Source: journal.rst, "Block Header".
+#[derive(Clone, Copy, Debug, PartialEq, Eq)]
+pub struct Header {
+    /// What the block is: 1 a descriptor, 2 a commit block, 4 a superblock, 5 a revoke block.
+    pub block_type: u32,
+    /// The number of the transaction that the block belongs to.
+    pub sequence: u32,
+}
+
+impl Header {
+    /// Reads the header of a log block: of `block`, which has 1024, 2048 or 4096 bytes. The answer is `None` exactly
+    /// where the block does not begin with the magic; the type and the sequence are not tested.
+    /// Source: journal.rst, "Block Header".
+    pub fn read(block: &[u8]) -> Option<Header>
+        requires { IsBlockSize (length block.now) }
+        ensures { MatchOption result (begins_with_magic block.now ≡ false)
+            (λ h. (begins_with_magic block.now ≡ true) × (h.block_type ≡ type_in block.now) × (h.sequence ≡ sequence_in block.now)) }
+    {
+        if !block.starts_with(&MAGIC) {
+            return None;
+        }
+        Some(Header {
+            block_type: BigEndian::read_u32(&block[4..]),
+            sequence: BigEndian::read_u32(&block[8..]),
+        })
+    }
+
+    /// Writes the header over the first 12 bytes of a block.
+    pub(crate) fn write(self, block: &mut [u8])
+        requires { header_bytes ≤ length block.old }
+        ensures { block.new ≡ header self.block_type self.sequence ++ drop header_bytes block.old }
+    {
+        block[..4].copy_from_slice(&MAGIC);
+        BigEndian::write_u32(&mut block[4..], self.block_type);
+        BigEndian::write_u32(&mut block[8..], self.sequence);
+    }
+}

@@ -1,0 +1,71 @@
+//! What is written is read back. Each function states a law of the words in `specs/`, and has no body to run.
+ghost use Rattle.std.specs.Prelude.{◌≡◌, ℕ, ◌^◌, ◌<◌, ◌≤◌, true, List, length, None, All};
+ghost use Rattle.journal_model.specs.Descriptor.{IsDescriptor, descriptor_block};
+ghost use Rattle.journal_model.specs.Layout.{narrow, every_number, numbers_of, tags_of, uuid_bytes};
+ghost use Rattle.journal_model.specs.OwnText.{commit_block, tags_from};
+ghost use Rattle.journal_model.specs.RevokeBlock.{IsRevokeBlock, revoke_block};
+ghost use Rattle.journal_model.specs.Superblock.{Shape, Super, formatted_super, greatest_length, least_length, revoke_feature, super_in, super_refusal, with_tail};
+ghost use Rattle.journal_model.specs.Text.{IsCommitBlock};
+ghost use Rattle.log_format.specs.Size.{FitDescriptor, FitRevokeBlock, IsBlockSize};
+
+/// The tags that the writer makes of some copies, of which there are not too many, fit one descriptor.
+pub fn the_writers_tags_fit()
+    ensures { (size : ℕ) (copies : List (ℕ × List ℕ)) →
+        IsBlockSize size → length copies ≤ tags_of (narrow size) → All (λ c. c.0 < every_number (narrow size)) copies →
+        FitDescriptor (narrow size) (tags_from true copies) }
+{}
+
+/// The descriptor that is written of them is a well-formed one, with these tags.
+pub fn a_written_descriptor_is_one()
+    ensures { (size count sequence : ℕ) (uuid : List ℕ) (copies : List (ℕ × List ℕ)) →
+        IsBlockSize size → length uuid ≡ uuid_bytes → count ≤ every_number (narrow size) → sequence < 2 ^ 32 →
+        0 < length copies → length copies ≤ tags_of (narrow size) → All (λ c. c.0 < count) copies →
+        IsDescriptor (narrow size) count sequence (descriptor_block (narrow size) uuid sequence (tags_from true copies)) (tags_from true copies) }
+{}
+
+/// The revoke block that is written of some numbers is a well-formed one, with these numbers.
+pub fn a_written_revoke_block_is_one()
+    ensures { (size count sequence : ℕ) (numbers : List ℕ) →
+        IsBlockSize size → count ≤ every_number (narrow size) → sequence < 2 ^ 32 →
+        length numbers ≤ numbers_of (narrow size) → All (λ b. b < count) numbers →
+        IsRevokeBlock (narrow size) count sequence (revoke_block (narrow size) sequence numbers) numbers }
+{}
+
+/// The commit block that is written has its header.
+pub fn a_written_commit_block_is_one()
+    ensures { (size sequence : ℕ) → sequence < 2 ^ 32 → IsCommitBlock sequence (commit_block (narrow size) sequence) }
+{}
+
+/// The superblock of an empty log says what it was formatted with.
+pub fn a_formatted_superblock_says_its_fields()
+    ensures { (size maxlen : ℕ) (uuid : List ℕ) →
+        IsBlockSize size → maxlen < 2 ^ 32 → length uuid ≡ uuid_bytes →
+        let fields : Super = record {
+          s_blocksize = size;
+          s_maxlen = maxlen;
+          s_first = 1;
+          s_sequence = 1;
+          s_start = 0;
+          s_errno = 0;
+          s_feature_compat = 0;
+          s_feature_incompat = revoke_feature;
+          s_feature_ro_compat = 0;
+          s_uuid = uuid;
+          s_nr_users = 1;
+        } in super_in (formatted_super size maxlen uuid) ≡ fields }
+{}
+
+/// It is taken, where the length is one that is and the log area has as many blocks.
+pub fn a_formatted_superblock_is_taken()
+    ensures { (size maxlen log_blocks home_blocks : ℕ) (uuid : List ℕ) →
+        IsBlockSize size → least_length ≤ maxlen → maxlen ≤ greatest_length → maxlen ≤ log_blocks → length uuid ≡ uuid_bytes →
+        let shape : Shape = record { block_size = size; log_blocks = log_blocks; home_blocks = home_blocks } in
+        super_refusal shape (formatted_super size maxlen uuid) ≡ None }
+{}
+
+/// A superblock with another s_sequence and s_start says these, and else what it said before.
+pub fn a_new_tail_changes_two_fields()
+    ensures { (block : List ℕ) (sequence start : ℕ) →
+        IsBlockSize (length block) → sequence < 2 ^ 32 → start < 2 ^ 32 →
+        super_in (with_tail block sequence start) ≡ record (super_in block) { s_sequence = sequence; s_start = start } }
+{}

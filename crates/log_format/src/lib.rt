@@ -1,0 +1,23 @@
+//! The bytes of every block of the log. Each block is read from, and written into, a buffer of the caller, and nothing
+//! here takes memory. The contracts are stated by the definitions of `journal_model`, for logs whose block numbers have
+//! 32 bits and whose blocks have 1024, 2048 or 4096 bytes.
+#![tactic(auto)]
+
+mod commit_block;
+mod descriptor;
+mod escaping;
+mod header;
+pub mod laws;
+mod malformed;
+mod revoke_block;
+mod superblock;
+#[cfg(test)]
+mod tests;
+
+pub use commit_block::CommitBlock;
+pub use descriptor::Descriptor;
+pub use escaping::{escape, unescape};
+pub use header::Header;
+pub use malformed::Malformed;
+pub use revoke_block::RevokeBlock;
+pub use superblock::Super;

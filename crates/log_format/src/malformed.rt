@@ -1,0 +1,14 @@
+use std::error::Error;
+use std::fmt::{self, Display, Formatter, Write};
+
+/// A descriptor or revoke block is not well formed. The caller knows at which place of the log it stands.
+#[derive(Clone, Copy, Debug, PartialEq, Eq)]
+pub struct Malformed;
+
+impl Display for Malformed {
+    fn fmt<W: Write>(&self, f: &mut Formatter<W>) -> fmt::Result {
+        f.write_str("malformed block")
+    }
+}
+
+impl Error for Malformed {}

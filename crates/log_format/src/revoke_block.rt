@@ -1,0 +1,78 @@
+ghost use Rattle.std.specs.Prelude.{ℕ, ◌≡◌, ◌<◌, ◌≤◌, ◌+◌, length, take, List, MatchResult};
+ghost use Rattle.journal_model.specs.Layout.{narrow, numbers_of, revoke_type, sequence_in, HasHeader};
+ghost use Rattle.journal_model.specs.RevokeBlock.{IsRevokeBlock, revoke_block};
+ghost use Rattle.log_format.specs.Size.{FitRevokeBlock, IsBlockSize};
+
+use crate::header::{HEADER_BYTES, REVOKE_TYPE};
+use crate::{Header, Malformed};
+use byteorder::{BigEndian, ByteOrder};
+use journal_model::BlockNo;
+
+/// Bytes of a revoke block before its numbers: the header, and the count of bytes in use.
+const REVOKE_HEADER_BYTES: usize = 16;
+
+/// Bytes of a number.
+const NUMBER_BYTES: usize = 4;
+
+/// A revoke block: it names home blocks of which no older copy is to be replayed.
+/// Source: journal.rst, "Revocation Block".
+pub struct RevokeBlock;
+
+impl RevokeBlock {
+    /// Writes a revoke block over all of `block`, which has 1024, 2048 or 4096 bytes: the header, with the number
+    /// `sequence` of the transaction, the count of bytes in use, the numbers of the home blocks `numbers` in their
+    /// order, and zeros behind them. There are at most as many numbers as fit (252, 508 or 1020), each below 2^32.
+    /// Source: journal.rst, "Revocation Block".
+    pub fn write(block: &mut [u8], sequence: u32, numbers: &[BlockNo])
+        requires size { IsBlockSize (length block.old) }
+        requires fit { FitRevokeBlock (narrow (length block.old)) numbers.now }
+        ensures { block.new ≡ revoke_block (narrow (length block.old)) sequence numbers.now }
+    {
+        let header = Header {
+            block_type: REVOKE_TYPE,
+            sequence,
+        };
+        header.write(block);
+        let used = REVOKE_HEADER_BYTES + NUMBER_BYTES * numbers.len();
+        BigEndian::write_u32(&mut block[HEADER_BYTES..], used as u32);
+        let mut at = REVOKE_HEADER_BYTES;
+        for number in numbers {
+            BigEndian::write_u32(&mut block[at..], number.0 as u32);
+            at += NUMBER_BYTES;
+        }
+        block[at..].fill(0);
+    }
+
+    /// Reads the numbers of a revoke block of 1024, 2048 or 4096 bytes, whose header is that of one, into the first
+    /// places of `numbers`, which has room for as many as a block can hold (252, 508 or 1020). The answer is how many
+    /// there are, which may be none.
+    ///
+    /// The block is malformed where its count of bytes in use is below 16, above the block size, or not 16 and a
+    /// multiple of 4, and where a number is not below `home_blocks`, the blocks of the home area: 2^32 there refuses
+    /// none. What `numbers` holds after that is not said.
+    /// Source: journal.rst, "Revocation Block".
+    pub fn read(block: &[u8], home_blocks: u64, numbers: &mut [BlockNo]) -> Result<usize, Malformed>
+        requires size { IsBlockSize (length block.now) }
+        requires has_header { HasHeader revoke_type (sequence_in block.now) block.now }
+        requires room { numbers_of (narrow (length block.now)) ≤ length numbers.old }
+        ensures { MatchResult result
+            (λ n. (n ≤ length numbers.new) × IsRevokeBlock (narrow (length block.now)) home_blocks (sequence_in block.now) block.now (take n numbers.new))
+            (λ _. (bs : List ℕ) → IsRevokeBlock (narrow (length block.now)) home_blocks (sequence_in block.now) block.now bs → ⊥) }
+    {
+        let used = BigEndian::read_u32(&block[HEADER_BYTES..]) as usize;
+        if used < REVOKE_HEADER_BYTES || used > block.len() || used % NUMBER_BYTES != 0 {
+            return Err(Malformed);
+        }
+        let count = (used - REVOKE_HEADER_BYTES) / NUMBER_BYTES;
+        for i in 0..count {
+            let number = u64::from(BigEndian::read_u32(
+                &block[REVOKE_HEADER_BYTES + NUMBER_BYTES * i..],
+            ));
+            if number >= home_blocks {
+                return Err(Malformed);
+            }
+            numbers[i] = BlockNo(number);
+        }
+        Ok(count)
+    }
+}

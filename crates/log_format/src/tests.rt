@@ -1,0 +1,309 @@
+//! Blocks against their bytes, as tables.
+ghost use Rattle.std.specs.Prelude.{◌≤◌, ◌<◌, length};
+ghost use Rattle.journal_model.specs.Layout.{narrow, numbers_of};
+ghost use Rattle.log_format.specs.Size.{IsBlockSize, most_tags};
+
+use crate::{CommitBlock, Descriptor, Header, Malformed, RevokeBlock, Super, escape, unescape};
+use byteorder::{BigEndian, ByteOrder};
+use journal_model::{BlockNo, JournalError, Tag};
+use std::process::Abort;
+
+const UUID: [u8; 16] = [0xaa; 16];
+
+/// A tag with these flags.
+fn tag(block: u64, escaped: bool, same_uuid: bool, last: bool) -> Tag {
+    Tag {
+        block: BlockNo(block),
+        escaped,
+        same_uuid,
+        last,
+    }
+}
+
+/// Writes a descriptor, where the tags fit one.
+fn write_tags(block: &mut [u8], sequence: u32, tags: &[Tag]) -> bool
+    requires { IsBlockSize (length block.old) }
+{
+    if tags.is_empty() || tags.len() > (block.len() - 44) / 8 {
+        return false;
+    }
+    let (_, later) = tags.split_at(1);
+    if later.iter().all(|t| t.same_uuid) && tags.iter().all(|t| t.block.0 < 0x1_0000_0000) {
+        Descriptor::write(block, &UUID, sequence, tags);
+        return true;
+    }
+    false
+}
+
+/// Writes a revoke block, where the numbers fit one.
+fn write_numbers(block: &mut [u8], sequence: u32, numbers: &[BlockNo]) -> bool
+    requires { IsBlockSize (length block.old) }
+{
+    let few = numbers.len() <= (block.len() - 16) / 4;
+    let spelled = numbers.iter().all(|b| b.0 < 0x1_0000_0000);
+    if few && spelled {
+        RevokeBlock::write(block, sequence, numbers);
+        return true;
+    }
+    false
+}
+
+/// Reads a descriptor, where the block has the header of one.
+fn read_tags(block: &[u8], home_blocks: u64, tags: &mut [Tag]) -> Option<Result<usize, Malformed>>
+    requires size { IsBlockSize (length block.now) }
+    requires room { most_tags (narrow (length block.now)) ≤ length tags.old }
+{
+    let header = Header::read(block)?;
+    if header.block_type != 1 {
+        return None;
+    }
+    Some(Descriptor::read(block, home_blocks, tags))
+}
+
+/// Reads a revoke block, where the block has the header of one.
+fn read_numbers(
+    block: &[u8],
+    home_blocks: u64,
+    numbers: &mut [BlockNo],
+) -> Option<Result<usize, Malformed>>
+    requires size { IsBlockSize (length block.now) }
+    requires room { numbers_of (narrow (length block.now)) ≤ length numbers.old }
+{
+    let header = Header::read(block)?;
+    if header.block_type != 5 {
+        return None;
+    }
+    Some(RevokeBlock::read(block, home_blocks, numbers))
+}
+
+/// The bytes stand at the beginning, and zeros behind them.
+fn is_padded(block: &[u8], bytes: &[u8]) -> bool {
+    block.starts_with(bytes) && block.iter().skip(bytes.len()).all(|b| *b == 0)
+}
+
+#[test]
+fn headers(rt: HostRuntime) {
+    let descriptor = [0xc0, 0x3b, 0x39, 0x98, 0, 0, 0, 1, 0, 0, 0, 2];
+    let mut block = [0u8; 1024];
+    assert_eq!(rt; Header::read(&block), None);
+    block[..12].copy_from_slice(&descriptor);
+    assert_eq!(rt;
+        Header::read(&block),
+        Some(Header {
+            block_type: 1,
+            sequence: 2
+        })
+    );
+    block[3] = 0x99;
+    assert_eq!(rt; Header::read(&block), None);
+}
+
+/// What a descriptor of sequence 2 with these tags has behind its header, and zeros behind that.
+fn spells(tags: &[Tag], bytes: &[u8]) -> bool {
+    let mut block = [0xffu8; 1024];
+    let header = [0xc0, 0x3b, 0x39, 0x98, 0, 0, 0, 1, 0, 0, 0, 2];
+    write_tags(&mut block, 2, tags) && block.starts_with(&header) && is_padded(&block[12..], bytes)
+}
+
+#[test]
+fn tags_as_bytes(rt: HostRuntime) {
+    let several = [
+        tag(9, false, false, false),
+        tag(10, false, true, false),
+        tag(10, false, true, true),
+    ];
+    let mut bytes = [0xaau8; 40];
+    bytes[..8].copy_from_slice(&[0, 0, 0, 9, 0, 0, 0, 0]);
+    bytes[24..32].copy_from_slice(&[0, 0, 0, 10, 0, 0, 0, 2]);
+    bytes[32..].copy_from_slice(&[0, 0, 0, 10, 0, 0, 0, 10]);
+    assert!(rt; spells(&several, &bytes));
+    bytes[..8].copy_from_slice(&[0, 0, 0, 9, 0, 0, 0, 8]);
+    assert!(rt; spells(&[tag(9, false, false, true)], &bytes[..24]));
+    bytes[..8].copy_from_slice(&[0, 0, 0, 20, 0, 0, 0, 9]);
+    assert!(rt; spells(&[tag(20, true, false, true)], &bytes[..24]));
+}
+
+/// Block numbers from 1 on, as the writer tags them.
+fn number_tags(tags: &mut [Tag]) {
+    let count = tags.len();
+    for (i, slot) in tags.iter_mut().enumerate() {
+        *slot = tag(i as u64 + 1, false, i > 0, i + 1 == count);
+    }
+}
+
+/// A descriptor with as many tags as the writer puts into one leaves fewer than 24 bytes, and has these tags.
+fn is_full(block: &mut [u8], written: &mut [Tag], read: &mut [Tag]) -> bool
+    requires size { IsBlockSize (length block.old) }
+    requires room { most_tags (narrow (length block.old)) ≤ length read.old }
+{
+    number_tags(written);
+    let count = written.len();
+    if !write_tags(block, 2, written) {
+        return false;
+    }
+    let home_blocks = count as u64 + 1;
+    let full = read_tags(block, home_blocks, read) == Some(Ok(count)) && read.starts_with(written);
+    full && read_tags(block, home_blocks - 1, read) == Some(Err(Malformed))
+}
+
+/// A last tag ends at this place, where fewer than 24 bytes are left, and zeros stand behind it.
+fn ends_at(block: &[u8], end: u16) -> bool {
+    let end = usize::from(end);
+    if end == 0 || end > block.len() {
+        return false;
+    }
+    let zeros = block[end..].iter().all(|b| *b == 0);
+    zeros && block[end - 1] == 10 && block.len() - end < 24
+}
+
+#[test]
+fn full_descriptors(rt: HostRuntime) {
+    let none = tag(0, false, false, false);
+    let mut kib = [0xff; 1024];
+    assert!(rt; is_full(&mut kib, &mut [none; 122], &mut [none; 126]));
+    assert!(rt; ends_at(&kib, 1004));
+    assert!(rt; !is_full(&mut kib, &mut [none; 123], &mut [none; 126]));
+    let mut kib2 = [0xff; 2048];
+    assert!(rt; is_full(&mut kib2, &mut [none; 250], &mut [none; 254]));
+    assert!(rt; ends_at(&kib2, 2028));
+    let mut kib4 = [0xff; 4096];
+    assert!(rt; is_full(&mut kib4, &mut [none; 506], &mut [none; 510]));
+    assert!(rt; ends_at(&kib4, 4076));
+}
+
+#[test]
+fn malformed_descriptors(rt: HostRuntime) {
+    let mut tags = [tag(0, false, false, false); 126];
+    let mut block = [0u8; 1024];
+    assert_eq!(rt; read_tags(&block, 32, &mut tags), None);
+    assert!(rt; write_tags(&mut block, 2, &[tag(9, false, false, true)]));
+    for (flags, answer) in [
+        (8u8, Ok(1)),
+        (11, Ok(1)),
+        (0, Err(Malformed)),
+        (12, Err(Malformed)),
+        (24, Err(Malformed)),
+    ] {
+        block[19] = flags;
+        assert_eq!(rt; read_tags(&block, 10, &mut tags), Some(answer));
+    }
+    block[19] = 8;
+    assert_eq!(rt; read_tags(&block, 9, &mut tags), Some(Err(Malformed)));
+    block[18] = 1;
+    assert_eq!(rt; read_tags(&block, 10, &mut tags), Some(Err(Malformed)));
+}
+
+#[test]
+fn revoke_blocks(rt: HostRuntime) {
+    let mut block = [0xffu8; 1024];
+    let mut numbers = [BlockNo(0); 252];
+    assert!(rt; write_numbers(&mut block, 3, &[BlockNo(7), BlockNo(9)]));
+    let bytes = [
+        0xc0, 0x3b, 0x39, 0x98, 0, 0, 0, 5, 0, 0, 0, 3, 0, 0, 0, 0x18, 0, 0, 0, 7, 0, 0, 0, 9,
+    ];
+    assert!(rt; is_padded(&block, &bytes));
+    assert_eq!(rt; read_numbers(&block, 10, &mut numbers), Some(Ok(2)));
+    assert!(rt; numbers.starts_with(&[BlockNo(7), BlockNo(9)]));
+    assert_eq!(rt; read_numbers(&block, 9, &mut numbers), Some(Err(Malformed)));
+    for (used, answer) in [
+        (15u32, Err(Malformed)),
+        (16, Ok(0)),
+        (17, Err(Malformed)),
+        (1024, Ok(252)),
+        (1028, Err(Malformed)),
+    ] {
+        BigEndian::write_u32(&mut block[12..], used);
+        assert_eq!(rt; read_numbers(&block, 10, &mut numbers), Some(answer));
+    }
+}
+
+#[test]
+fn commit_blocks(rt: HostRuntime) {
+    let mut block = [0xffu8; 1024];
+    CommitBlock::write(&mut block, 3);
+    assert!(rt; is_padded(&block, &[0xc0, 0x3b, 0x39, 0x98, 0, 0, 0, 2, 0, 0, 0, 3]));
+}
+
+#[test]
+fn copies_that_begin_with_the_magic(rt: HostRuntime) {
+    let mut copy = [0x11u8; 1024];
+    assert!(rt; !escape(&mut copy));
+    assert_eq!(rt; copy, [0x11; 1024]);
+    unescape(&mut copy, false);
+    assert_eq!(rt; copy, [0x11; 1024]);
+    unescape(&mut copy, true);
+    assert!(rt; copy.starts_with(&[0xc0, 0x3b, 0x39, 0x98, 0x11]));
+    assert!(rt; escape(&mut copy));
+    assert!(rt; copy.starts_with(&[0, 0, 0, 0, 0x11]));
+    unescape(&mut copy, false);
+    assert!(rt; copy.starts_with(&[0, 0, 0, 0, 0x11]));
+}
+
+#[test]
+fn a_formatted_superblock(rt: HostRuntime) {
+    let mut block = [0xffu8; 1024];
+    Super::format(&mut block, 33, &UUID);
+    let mut bytes = [0u8; 0x44];
+    bytes[..12].copy_from_slice(&[0xc0, 0x3b, 0x39, 0x98, 0, 0, 0, 4, 0, 0, 0, 0]);
+    bytes[12..28].copy_from_slice(&[0, 0, 4, 0, 0, 0, 0, 33, 0, 0, 0, 1, 0, 0, 0, 1]);
+    bytes[0x2b] = 1;
+    bytes[0x30..0x40].copy_from_slice(&UUID);
+    bytes[0x43] = 1;
+    assert!(rt; is_padded(&block, &bytes));
+    block[0x400 - 1] = 0x55;
+    Super::write(&mut block, 0x0102_0304, 5);
+    bytes[0x18..0x20].copy_from_slice(&[1, 2, 3, 4, 0, 0, 0, 5]);
+    assert!(rt; block.starts_with(&bytes));
+    assert_eq!(rt; block[0x400 - 1], 0x55);
+    let fields = Super {
+        s_blocksize: 1024,
+        s_maxlen: 33,
+        s_first: 1,
+        s_sequence: 0x0102_0304,
+        s_start: 5,
+        s_errno: 0,
+        s_feature_compat: 0,
+        s_feature_incompat: 1,
+        s_feature_ro_compat: 0,
+        s_uuid: UUID,
+        s_nr_users: 1,
+    };
+    assert_eq!(rt; Super::read(&block, 33), Ok(fields));
+}
+
+/// Writes a number at a place of the first 256 bytes.
+fn put(block: &mut [u8; 1024], at: u8, value: u32) {
+    BigEndian::write_u32(&mut block[usize::from(at)..], value);
+}
+
+/// A field of a superblock that is changed, its new number, and the refusal.
+const CHANGES: [(u8, u32, JournalError); 8] = [
+    (0x00, 0, JournalError::BadMagic),
+    (0x04, 3, JournalError::BadType),
+    (0x0c, 2048, JournalError::BadBlockSize),
+    (0x10, 16, JournalError::BadLength),
+    (0x14, 18, JournalError::BadFirst),
+    (0x28, 3, JournalError::BadFeature),
+    (0x1c, 33, JournalError::BadStart),
+    (0x20, 1, JournalError::ErrnoSet),
+];
+
+#[test]
+fn refused_superblocks(rt: HostRuntime) {
+    let mut good = [0u8; 1024];
+    assert_eq!(rt; Super::read(&good, 0).err(), Some(JournalError::BadLength));
+    Super::format(&mut good, 33, &UUID);
+    assert_eq!(rt; Super::read(&good, 33).err(), None);
+    assert_eq!(rt; Super::read(&good, 0).err(), Some(JournalError::BadLength));
+    assert_eq!(rt; Super::read(&good, 32).err(), Some(JournalError::BadLength));
+    for (i, (at, value, refusal)) in CHANGES.iter().enumerate() {
+        let mut bad = good;
+        put(&mut bad, *at, *value);
+        assert_eq!(rt; Super::read(&bad, 33).err(), Some(*refusal));
+        for (other_at, other_value, _) in &CHANGES[i..] {
+            let mut worse = bad;
+            put(&mut worse, *other_at, *other_value);
+            assert_eq!(rt; Super::read(&worse, 33).err(), Some(*refusal));
+        }
+    }
+}
