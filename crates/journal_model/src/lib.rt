@@ -13,7 +13,6 @@ pub mod own_text_laws;
 mod refusal;
 mod transaction;
 pub mod transaction_laws;
-pub mod worked_examples;
 
 pub use block::Block;
 pub use entry::{Batch, Content, Entry};

@@ -13,6 +13,7 @@ mod revoke_block;
 mod superblock;
 #[cfg(test)]
 mod tests;
+pub mod worked_examples;
 
 pub use commit_block::CommitBlock;
 pub use descriptor::Descriptor;

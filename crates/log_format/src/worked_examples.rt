@@ -1,6 +1,6 @@
 //! Worked examples of the log's format, in a log with blocks of 1024 bytes whose UUID is sixteen bytes `aa`: what
 //! the words in `specs/` say of them, byte for byte. Each function states some of them, and has no body to run.
-#![tactic(auto, unfolding(crate::specs::Layout::padded, crate::specs::Descriptor::descriptor_block, crate::specs::RevokeBlock::revoke_block, crate::specs::OwnText::groups, crate::specs::OwnText::commit_block, crate::specs::OwnText::own_text, crate::specs::Superblock::formatted_super))]
+#![tactic(auto, unfolding(journal_model::specs::Layout::padded, journal_model::specs::Descriptor::descriptor_block, journal_model::specs::RevokeBlock::revoke_block, journal_model::specs::OwnText::groups, journal_model::specs::OwnText::commit_block, journal_model::specs::OwnText::own_text, journal_model::specs::Superblock::formatted_super))]
 
 ghost use Rattle.std.specs.Prelude.{◌≡◌, ◌++◌, ◌∷◌, [], drop, false, map, replicate, true};
 ghost use Rattle.std.specs.List.{range_with_len};
