@@ -12,7 +12,7 @@ use Rattle.journal_model.specs.Descriptor.{IsDescriptor}
 use Rattle.journal_model.specs.RevokeBlock.{IsRevokeBlock}
 use Rattle.journal_model.specs.Text.{IsPiece, IsText, pieces_blocks, text_blocks}
 
--- the ring: the log blocks from `first` on, `length` of them
+-- the ring: the log blocks from `first` on, this many of them
 pub record Ring : Type 0 where
   pub first : ℕ
   pub blocks : ℕ
@@ -64,7 +64,7 @@ pub record IsDamaged (l : Layout) (count sequence : ℕ) (blocks : List (List �
   pub malformed : IsMalformed l count (sequence + length texts) block
   pub place : k ≡ length (texts_blocks texts) + length (pieces_blocks pieces)
 
--- a ring block whose sequence is above the limit, so that a later scan could take it for part of a new transaction
+-- a ring block whose sequence is above the limit, so that it could once be taken for part of a new transaction
 pub record IsAhead (r : Ring) (image : Image) (limit place : ℕ) : Type 0 where
   pub low : r.first ≤ place
   pub high : place < r.first + r.blocks

@@ -13,7 +13,7 @@ use Rattle.journal_model.specs.Superblock.{Shape, Super, super_refusal}
 use Rattle.journal_model.specs.Disk.{Image}
 use Rattle.journal_model.specs.Layout.{narrow, every_number}
 use Rattle.journal_model.specs.Chain.{place_from}
-use Rattle.journal_model.specs.Opening.{ring_of, super_of, scanned_place, IsClean, HasChain, IsDamagedImage}
+use Rattle.journal_model.specs.Opening.{ring_of, super_of, lap_place, IsClean, HasChain, IsDamagedImage}
 
 -- the bytes of a blank, a comma and a newline
 abbrev pub blank : ℕ
@@ -87,4 +87,4 @@ pub data IsDump (shape : Shape) (image : Image) : List ℕ → Type 0 where
 -- are ahead, and none for the numbers that are left
 pub data IsDumpRefused (shape : Shape) (image : Image) : JournalError → Type 0 where
   BySuperblock : (e : JournalError) → super_refusal shape (image Log 0) ≡ Some e → IsDumpRefused shape image e
-  ByDamage : (k : ℕ) → IsDamagedImage shape image k → IsDumpRefused shape image (Damage (scanned_place image k))
+  ByDamage : (k : ℕ) → IsDamagedImage shape image k → IsDumpRefused shape image (Damage (lap_place image k))

@@ -22,28 +22,28 @@ ring_of s = record { first = s.s_first; blocks = s.s_maxlen - s.s_first }
 abbrev pub layout_of : Super → Layout
 layout_of s = narrow s.s_blocksize
 
--- the blocks that an opening scans: one lap from s_start on
-abbrev pub scanned : Image → List (List ℕ)
-scanned image = lap (ring_of (super_of image)) image (super_of image).s_start
+-- one lap of the log, from s_start on
+abbrev pub log_lap : Image → List (List ℕ)
+log_lap image = lap (ring_of (super_of image)) image (super_of image).s_start
 
--- the place in the log of the k-th of them
-abbrev pub scanned_place : Image → ℕ → ℕ
-scanned_place image k = place_from (ring_of (super_of image)) (super_of image).s_start k
+-- the place in the log of its k-th block
+abbrev pub lap_place : Image → ℕ → ℕ
+lap_place image k = place_from (ring_of (super_of image)) (super_of image).s_start k
 
 -- an accepted image that is not clean
 pub record IsStarted (shape : Shape) (image : Image) : Type 0 where
   pub accepted : super_refusal shape (image Log 0) ≡ None
   pub started : (super_of image).s_start ≢ 0
 
--- block k of those that are scanned is malformed
+-- block k of the lap is malformed, behind the chain and well-formed pieces
 pub record IsDamagedImage (shape : Shape) (image : Image) (k : ℕ) : Type 0 where
   pub started : IsStarted shape image
-  pub damaged : IsDamaged (layout_of (super_of image)) shape.home_blocks (super_of image).s_sequence (scanned image) k
+  pub damaged : IsDamaged (layout_of (super_of image)) shape.home_blocks (super_of image).s_sequence (log_lap image) k
 
 -- the chain of an accepted image that is not clean, with no malformed block behind it
 pub record HasChain (shape : Shape) (image : Image) (texts : List Text) : Type 0 where
   pub started : IsStarted shape image
-  pub chain : IsChain (layout_of (super_of image)) shape.home_blocks (super_of image).s_sequence (scanned image) texts
+  pub chain : IsChain (layout_of (super_of image)) shape.home_blocks (super_of image).s_sequence (log_lap image) texts
   pub undamaged : (k : ℕ) → IsDamagedImage shape image k → ⊥
 
 -- an accepted image that is clean
@@ -80,10 +80,10 @@ abbrev pub greatest_number : ℕ
 greatest_number = 0xfffffff0
 
 -- Why an opening refuses an image, whatever the device does: the superblock's tests; then the first malformed
--- block that the scan meets; then the lowest ring block that is ahead; then that no number is left.
+-- block behind the chain; then the lowest ring block that is ahead; then that no number is left.
 pub data IsRefused (shape : Shape) (image : Image) : JournalError → Type 0 where
   BySuperblock : (e : JournalError) → super_refusal shape (image Log 0) ≡ Some e → IsRefused shape image e
-  ByDamage : (k : ℕ) → IsDamagedImage shape image k → IsRefused shape image (Damage (scanned_place image k))
+  ByDamage : (k : ℕ) → IsDamagedImage shape image k → IsRefused shape image (Damage (lap_place image k))
   ByAhead : (limit place : ℕ) → HasLimit shape image limit → IsAhead (ring_of (super_of image)) image limit place →
       ((other : ℕ) → IsAhead (ring_of (super_of image)) image limit other → place ≤ other) →
       IsRefused shape image (Ahead place)

@@ -67,7 +67,7 @@ pub enum JournalError {
     /// sequence is above what the log may hold.
     #[error("Ahead {0}")]
     Ahead(u64),
-    /// 22: the first malformed block that the scan consumes (its place in the log area).
+    /// 22: the first malformed block behind the complete transactions of the log (its place in the log area).
     #[error("Damage {0}")]
     Damage(u64),
 }
