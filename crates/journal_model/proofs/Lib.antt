@@ -1,5 +1,6 @@
 -- The lemmas of this crate.
 pub mod Effects
+pub mod HomeCounts
 pub mod ListElements
 pub mod Newest
 pub mod OwnTextBlocks

@@ -1,9 +1,10 @@
 //! What is true of the one text that the writer makes of a transaction. Each function states a law of the words
 //! in `specs/`, and has no body to run.
-ghost use Rattle.std.specs.Prelude.{◌≡◌, ℕ, ◌^◌, ◌<◌, ◌≤◌, false, List, length, All};
+ghost use Rattle.std.specs.Prelude.{◌≡◌, ℕ, ◌^◌, ◌<◌, false, List, length, All};
 ghost use Rattle.journal_model.specs.declared.entry.Entry.{Entry};
+ghost use Rattle.journal_model.specs.Block.{IsAllowedBlock};
 ghost use Rattle.journal_model.specs.Escape.{escaped, unescaped};
-ghost use Rattle.journal_model.specs.Layout.{Layout, IsLayout, begins_with_magic, every_number, uuid_bytes};
+ghost use Rattle.journal_model.specs.Layout.{Layout, IsLayout, begins_with_magic, uuid_bytes};
 ghost use Rattle.journal_model.specs.OwnText.{copied, own_text, revoked};
 ghost use Rattle.journal_model.specs.Room.{need};
 ghost use Rattle.journal_model.specs.Text.{IsText, text_blocks, text_copies, text_revokes};
@@ -15,12 +16,12 @@ pub fn unescaping_undoes_escaping()
     ensures no_magic { (v : List ℕ) → begins_with_magic (escaped v) ≡ false }
 {}
 
-/// The own text is a text as readers accept it: each of its headers has the transaction's sequence, and each of
-/// its blocks is well formed, with home blocks below the count alone.
+/// The own text of entries whose blocks may be touched is a text as readers accept it: each of its headers has the
+/// transaction's sequence, and each of its blocks is well formed.
 pub fn own_text_is_a_text()
     ensures { (l : Layout) (uuid : List ℕ) (count sequence : ℕ) (entries : List (ℕ × Entry)) →
-        IsLayout l → length uuid ≡ uuid_bytes → count ≤ every_number l → sequence < 2 ^ 32 →
-        All (λ p. p.0 < count) entries →
+        IsLayout l → length uuid ≡ uuid_bytes → sequence < 2 ^ 32 →
+        All (λ p. IsAllowedBlock l count p.0) entries →
         IsText l count sequence (own_text l uuid sequence entries) }
 {}
 
