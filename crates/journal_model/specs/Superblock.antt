@@ -16,7 +16,7 @@ pub record Super : Type 0 where
   pub s_blocksize : ℕ  -- bytes in a block
   pub s_maxlen : ℕ  -- blocks in the log, the superblock among them
   pub s_first : ℕ  -- the first block of the ring
-  pub s_sequence : ℕ  -- the number of the first transaction in the log
+  pub s_sequence : ℕ  -- the number of the first transaction in the log; in a clean log, the number before the next one
   pub s_start : ℕ  -- the block where it begins, or 0 where the log is clean
   pub s_errno : ℕ
   pub s_feature_compat : ℕ
