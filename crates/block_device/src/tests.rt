@@ -1,4 +1,4 @@
-ghost use Rattle.std.specs.Prelude.{◌≡◌, ◌⊎◌, ◌<◌, ◌↔◌, OnOk, length};
+ghost use Rattle.std.specs.Prelude.{◌≡◌, ◌⊎◌, ◌<◌, ◌↔◌, ℕ, List, OnOk, length};
 ghost use Rattle.journal_model.specs.declared.number.Area.TheVariants.{Log, Home};
 ghost use Rattle.journal_model.specs.Disk.{Image, IsOneOf, Leaves, held};
 
@@ -11,8 +11,8 @@ use std::test::Fail;
 /// Blocks of this many bytes.
 const SIZE: usize = 4;
 
-/// Two writes, a flush of the log, and one more write of the same log block: a crash leaves of the log block one of its
-/// two values, and of the home block the new value or what might have been left there before.
+/// Two writes, a flush of the log, and one more write of the same log block: a crash leaves of the log block just one of
+/// its two values, and of the home block just the new value or what might have been left there before.
 fn known_images<D: Device>(
     device: &mut D,
     first: &[u8],
@@ -24,10 +24,12 @@ fn known_images<D: Device>(
     requires second { length second.now ≡ (D.state device.old).shape.block_size }
     requires log_block { 1 < (D.state device.old).shape.log_blocks }
     requires home_block { 2 < (D.state device.old).shape.home_blocks }
-    ensures log { OnOk result ((image : Image) → Leaves (D.state device.new).disk image →
+    ensures log { OnOk result ((v : List ℕ) →
+        IsOneOf (held ((D.state device.new).disk Log 1)) v ↔ ((v ≡ second.now) ⊎ (v ≡ first.now))) }
+    ensures home { OnOk result ((v : List ℕ) →
+        IsOneOf (held ((D.state device.new).disk Home 2)) v ↔ ((v ≡ home.now) ⊎ IsOneOf (held ((D.state device.old).disk Home 2)) v)) }
+    ensures image { OnOk result ((image : Image) → Leaves (D.state device.new).disk image →
         (image Log 1 ≡ second.now) ⊎ (image Log 1 ≡ first.now)) }
-    ensures home { OnOk result ((image : Image) → Leaves (D.state device.new).disk image →
-        (image Home 2 ≡ home.now) ⊎ IsOneOf (held ((D.state device.old).disk Home 2)) (image Home 2)) }
     ensures reads { OnOk result (((D.state device.new).disk Log 1).reads ≡ second.now) }
 {
     device.write(Area::Log, 1, first)?;
