@@ -1,4 +1,4 @@
--- What the superblock of an empty log says, and that it is taken.
+-- What the superblock of an empty log says, and that it is accepted.
 use Rattle.std.proofs.Common.{refl, ap, ap₂, ◌∙◌, arith, append_assoc, inl, inr, take_at}
 use Rattle.std.specs.Prelude.{◌≡◌, ℕ, ◌-◌, ◌^◌, ◌<◌, ◌≤◌, ◌==◌, ◌&&◌, nat_le, true, false, List, ◌++◌, length, take, drop, replicate, None}
 use Rattle.std.specs.List.{flat_map}
@@ -43,29 +43,29 @@ formatted_says size maxlen uuid is small long =
     ap₂ (λ (a b : ℕ). saying a b (take 16 (drop 48 whole)) (number_at 64 4 whole)) size_read maxlen_read
     ∙ ap₂ (λ (u : List ℕ) (n : ℕ). saying size maxlen u n) uuid_read users_read
 
--- a size that is taken passes its test
-size_taken : (size : ℕ) → IsBlockSize size → (is_block_size size && (size == size)) ≡ true
-size_taken size (inl kib) = rw kib refl
-size_taken size (inr (inl kib2)) = rw kib2 refl
-size_taken size (inr (inr kib4)) = rw kib4 refl
+-- an allowed size passes its test
+size_allowed : (size : ℕ) → IsBlockSize size → (is_block_size size && (size == size)) ≡ true
+size_allowed size (inl kib) = rw kib refl
+size_allowed size (inr (inl kib2)) = rw kib2 refl
+size_allowed size (inr (inr kib4)) = rw kib4 refl
 
--- the superblock of an empty log is taken, where its length is
-pub formatted_taken : (size maxlen log_blocks home_blocks : ℕ) (uuid : List ℕ) →
+-- the superblock of an empty log is accepted, where its length is
+pub formatted_accepted : (size maxlen log_blocks home_blocks : ℕ) (uuid : List ℕ) →
     IsBlockSize size → least_length ≤ maxlen → maxlen ≤ greatest_length → maxlen ≤ log_blocks → length uuid ≡ uuid_bytes →
     let shape : Shape = record { block_size = size; log_blocks = log_blocks; home_blocks = home_blocks } in
     super_refusal shape (formatted_super size maxlen uuid) ≡ None
 unfolding formatted_super padded
-formatted_taken size maxlen log_blocks home_blocks uuid is least greatest fits long =
+formatted_accepted size maxlen log_blocks home_blocks uuid is least greatest fits long =
     let says = formatted_says size maxlen uuid is (omega arith) long in
     let some : (log_blocks == 0) ≡ false = grind (arith, nat_tests) in
-    let length_taken : (nat_le least_length maxlen && nat_le maxlen greatest_length && nat_le maxlen log_blocks) ≡ true = grind (arith, nat_tests) in
+    let length_allowed : (nat_le least_length maxlen && nat_le maxlen greatest_length && nat_le maxlen log_blocks) ≡ true = grind (arith, nat_tests) in
     let ring_taken : nat_le 16 (maxlen - 1) ≡ true = grind (arith, nat_tests) in
     rw (
       ap (λ (s : Super). s.s_blocksize) says,
       ap (λ (s : Super). s.s_maxlen) says,
       ap (λ (s : Super). s.s_nr_users) says,
       some,
-      size_taken size is,
-      length_taken,
+      size_allowed size is,
+      length_allowed,
       ring_taken,
     ) refl

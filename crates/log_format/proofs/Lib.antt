@@ -1,4 +1,5 @@
 -- The lemmas of this crate.
+pub mod Accepting
 pub mod Flags
 pub mod Formatted
 pub mod Formatting

@@ -1,8 +1,8 @@
 -- The fields of a superblock are read back.
 use Rattle.std.proofs.Common.{refl, ap, ap₂, sym, ◌∙◌, arith, append_assoc, drop-drop, drop_at, length-append, length-take}
-use Rattle.std.specs.Prelude.{◌≡◌, ℕ, zero, suc, ◌+◌, ◌*◌, ◌^◌, ◌<◌, ◌≤◌, List, ◌++◌, length, take, drop}
-use Rattle.std.proofs.lemmas.List.{get_or_append_left, take-append-drop}
-use Rattle.journal_model.specs.Layout.{big_endian, number_at}
+use Rattle.std.specs.Prelude.{◌≡◌, ℕ, zero, suc, ◌+◌, ◌*◌, ◌^◌, ◌<◌, ◌≤◌, List, [], ◌∷◌, ◌++◌, length, take, drop}
+use Rattle.std.proofs.lemmas.List.{get_or_append_left, take-append-drop, take_at}
+use Rattle.journal_model.specs.Layout.{begins_with_magic, big_endian, number_at}
 use Rattle.journal_model.specs.Superblock.{with_tail}
 use Rattle.journal_model.proofs.OwnTextNumbers.{number_behind, number_behind_bytes}
 use Rattle.log_format.proofs.Numbers.{number_at-drop}
@@ -79,3 +79,33 @@ start_of_tail block sequence start long small =
     ap (number_at 28 4) (append_assoc (take 24 block ++ big_endian 4 sequence) (big_endian 4 start) (drop 32 block))
     ∙ number_behind_bytes (take 24 block ++ big_endian 4 sequence) (drop 32 block) 28 4 start
     (omega (arith, length-append (take 24 block) (big_endian 4 sequence), length-take 24 block)) small
+
+-- the magic stands before the tail
+pub magic_of_tail : (block : List ℕ) (sequence start : ℕ) →
+    24 ≤ length block → begins_with_magic (with_tail block sequence start) ≡ begins_with_magic block
+unfolding with_tail
+magic_of_tail (a ∷ b ∷ c ∷ d ∷ rest) sequence start long = refl
+magic_of_tail (a ∷ b ∷ c ∷ []) sequence start long = absurd (omega arith)
+magic_of_tail (a ∷ b ∷ []) sequence start long = absurd (omega arith)
+magic_of_tail (a ∷ []) sequence start long = absurd (omega arith)
+magic_of_tail [] sequence start long = absurd (omega arith)
+
+-- the bytes before the tail
+front_of_tail : (block : List ℕ) (sequence start : ℕ) → 24 ≤ length block → take 24 (with_tail block sequence start) ≡ take 24 block
+front_of_tail block sequence start long =
+    ap (take 24) (tail_grouped block sequence start)
+    ∙ take_at (take 24 block) (big_endian 4 sequence ++ (big_endian 4 start ++ drop 32 block)) 24 (omega (arith, length-take 24 block))
+
+-- a block with the same bytes before and behind the tail gets the same tail
+same_tail : (block other : List ℕ) (sequence start : ℕ) →
+    take 24 other ≡ take 24 block → drop 32 other ≡ drop 32 block → with_tail other sequence start ≡ with_tail block sequence start
+unfolding with_tail
+same_tail block other sequence start front rest =
+    ap₂ (λ (before behind : List ℕ). ((before ++ big_endian 4 sequence) ++ big_endian 4 start) ++ behind) front rest
+
+-- a new tail stands in the place of the one before
+pub tail_replaced : (block : List ℕ) (last_sequence last_start sequence start : ℕ) →
+    24 ≤ length block → with_tail (with_tail block last_sequence last_start) sequence start ≡ with_tail block sequence start
+tail_replaced block last_sequence last_start sequence start long =
+    same_tail block (with_tail block last_sequence last_start) sequence start
+    (front_of_tail block last_sequence last_start long) (rest_of_tail 0 block last_sequence last_start long)

@@ -1,10 +1,15 @@
 -- What the writer makes of some copies and some numbers.
 use Rattle.std.proofs.Common.{refl, ap, arith, inl}
-use Rattle.std.specs.Prelude.{◌≡◌, ℕ, suc, ◌^◌, ◌<◌, ◌≤◌, Bool, true, false, List, [], ◌∷◌, length, drop, All}
-use Rattle.std.proofs.lemmas.List.Elements.{All-cons, All-head, All-nil, All-tail}
-use Rattle.journal_model.specs.Layout.{IsLayout, narrow, every_number, numbers_of, padded, revoke_type, tags_of}
+use Rattle.std.specs.Prelude.{◌≡◌, ℕ, suc, ◌^◌, ◌<◌, ◌≤◌, Bool, true, false, List, [], ◌∷◌, length, drop, min, All}
+use Rattle.std.proofs.lemmas.List.Elements.{All-cons, All-head, All-nil, All-tail, All-weaker}
+use Rattle.std.proofs.Math.Nat.{le-min, min-le_left, min-le_right}
+use Rattle.journal_model.specs.declared.log.Tag.{Tag}
+use Rattle.journal_model.specs.Block.{IsAllowedBlock}
+use Rattle.journal_model.specs.Descriptor.{IsDescriptor, descriptor_block}
+use Rattle.journal_model.specs.Layout.{IsLayout, Layout, narrow, every_number, numbers_of, padded, revoke_type, tags_of, uuid_bytes}
 use Rattle.journal_model.specs.OwnText.{tags_from}
 use Rattle.journal_model.specs.RevokeBlock.{IsRevokeBlock, revoke_block}
+use Rattle.journal_model.proofs.OwnTextBlocks.{copies_are}
 use Rattle.journal_model.proofs.OwnTextHeader.{header_read}
 use Rattle.journal_model.proofs.OwnTextRevokes.{revoke_block_is}
 use Rattle.log_format.specs.Size.{FitDescriptor, IsBlockSize}
@@ -60,11 +65,60 @@ none_revoked size count sequence is small =
       below = All-nil (λ b. b < count);
     }
 
--- a revoke block of a few numbers is one of them
-pub numbers_revoked : (size count sequence : ℕ) (numbers : List ℕ) →
+-- a number that is allowed is below both counts, so below the lesser one
+below_lesser : (l : Layout) (count b : ℕ) → IsAllowedBlock l count b → b < min count (every_number l)
+below_lesser l count b allowed = le-min allowed.in_home allowed.spelled
+
+-- a revoke block of a few numbers below a count that the layout can spell is one of them
+few_revoked : (size count sequence : ℕ) (numbers : List ℕ) →
     IsBlockSize size → count ≤ every_number (narrow size) → sequence < 2 ^ 32 →
     length numbers ≤ numbers_of (narrow size) → All (λ b. b < count) numbers →
     IsRevokeBlock (narrow size) count sequence (revoke_block (narrow size) sequence numbers) numbers
-numbers_revoked size count sequence [] is spelled small few below = none_revoked size count sequence is small
-numbers_revoked size count sequence (n ∷ ns) is spelled small few below =
+few_revoked size count sequence [] is spelled small few below = none_revoked size count sequence is small
+few_revoked size count sequence (n ∷ ns) is spelled small few below =
     revoke_block_is (narrow size) count sequence (n ∷ ns) (narrow_layout size is) spelled small (record { some = omega arith; most = few; each = below })
+
+-- a revoke block for a home area is one for a greater home area
+more_home_revoked : (l : Layout) (count less sequence : ℕ) (block numbers : List ℕ) →
+    less ≤ count → IsRevokeBlock l less sequence block numbers → IsRevokeBlock l count sequence block numbers
+more_home_revoked l count less sequence block numbers le is =
+    record {
+      has_header = is.has_header;
+      used = is.used;
+      fits = is.fits;
+      spelled = is.spelled;
+      below = All-weaker (λ b. b < less) (λ b. b < count) (λ b h. omega arith) numbers is.below;
+    }
+
+-- a revoke block of a few numbers is one of them
+pub numbers_revoked : (size count sequence : ℕ) (numbers : List ℕ) →
+    IsBlockSize size → sequence < 2 ^ 32 →
+    length numbers ≤ numbers_of (narrow size) → All (IsAllowedBlock (narrow size) count) numbers →
+    IsRevokeBlock (narrow size) count sequence (revoke_block (narrow size) sequence numbers) numbers
+numbers_revoked size count sequence numbers is small few allowed =
+    let lesser : ℕ = min count (every_number (narrow size)) in
+    let below = All-weaker (IsAllowedBlock (narrow size) count) (λ b. b < lesser) (below_lesser (narrow size) count) numbers allowed in
+    more_home_revoked (narrow size) count lesser sequence _ numbers (min-le_left count (every_number (narrow size)))
+    (few_revoked size lesser sequence numbers is (min-le_right count (every_number (narrow size))) small few below)
+
+-- a descriptor for a home area is one for a greater home area
+more_home_described : (l : Layout) (count less sequence : ℕ) (block : List ℕ) (tags : List Tag) →
+    less ≤ count → IsDescriptor l less sequence block tags → IsDescriptor l count sequence block tags
+more_home_described l count less sequence block tags le is =
+    record {
+      has_header = is.has_header;
+      spelled = is.spelled;
+      below = All-weaker (λ t. t.block < less) (λ t. t.block < count) (λ t h. omega arith) tags is.below;
+    }
+
+-- the descriptor of a few copies is one with their tags
+pub copies_described : (size count sequence : ℕ) (uuid : List ℕ) (copies : List (ℕ × List ℕ)) →
+    IsBlockSize size → length uuid ≡ uuid_bytes → sequence < 2 ^ 32 →
+    0 < length copies → length copies ≤ tags_of (narrow size) → All (λ c. IsAllowedBlock (narrow size) count c.0) copies →
+    IsDescriptor (narrow size) count sequence (descriptor_block (narrow size) uuid sequence (tags_from true copies)) (tags_from true copies)
+copies_described size count sequence uuid copies is long small some few allowed =
+    let l : Layout = narrow size in
+    let lesser : ℕ = min count (every_number l) in
+    let below = All-weaker (λ c. IsAllowedBlock l count c.0) (λ c. c.0 < lesser) (λ c. below_lesser l count c.0) copies allowed in
+    let group = copies_are l uuid lesser sequence copies (narrow_layout size is) long (min-le_right count (every_number l)) small (record { some = some; most = few; each = below }) in
+    more_home_described l count lesser sequence _ (tags_from true copies) (min-le_left count (every_number l)) group.descriptor

@@ -1,2 +1,2 @@
+pub mod Accepted
 pub mod Size
-pub mod Taken

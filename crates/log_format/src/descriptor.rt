@@ -57,9 +57,10 @@ impl Descriptor {
     ///
     /// The block is malformed where a tag, or the UUID behind one that is not the last, does not fit into it, where a
     /// tag has a flag other than 1, 2 and 8, and where a home block is not below `home_blocks`, the blocks of the home
-    /// area: 2^32 there refuses none. What `tags` holds after that is not said. The UUID's value is not compared, and
-    /// nothing behind the last tag is read.
-    /// Source: journal.rst, "Descriptor Block".
+    /// area: 2^32 there refuses none. A tag's checksum field is not read, the UUID's value is not compared, and nothing
+    /// behind the last tag is read. What `tags` holds behind the tags that were read, and where the block is malformed,
+    /// is not said.
+    /// Source: journal.rst, "Descriptor Block"; all these tests are this project's own.
     pub fn read(block: &[u8], home_blocks: u64, tags: &mut [Tag]) -> Result<usize, Malformed>
         requires size { IsBlockSize (length block.now) }
         requires has_header { HasHeader descriptor_type (sequence_in block.now) block.now }
@@ -124,7 +125,7 @@ fn spelled_bytes(tag: &Tag) -> usize
 }
 
 /// The tag that bytes begin with. It is malformed where its 8 bytes are not there, where it has a flag other
-/// than 1, 2 and 8, and where its home block is not below `home_blocks`.
+/// than 1, 2 and 8, and where its home block is not below `home_blocks`. Its checksum field is not read.
 fn read_tag(bytes: &[u8], home_blocks: u64) -> Result<Tag, Malformed>
     ensures { MatchResult result
         (λ t. ((size : ℕ) → BeginsWithTag (narrow size) bytes.now t) × (t.block < home_blocks))

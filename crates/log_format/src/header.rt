@@ -1,6 +1,5 @@
 ghost use Rattle.std.specs.Prelude.{◌≡◌, ◌≤◌, ◌++◌, true, false, length, drop, MatchOption};
 ghost use Rattle.journal_model.specs.Layout.{begins_with_magic, header, header_bytes, sequence_in, type_in};
-ghost use Rattle.log_format.specs.Size.{IsBlockSize};
 
 use byteorder::{BigEndian, ByteOrder};
 
@@ -28,16 +27,17 @@ pub(crate) const REVOKE_TYPE: u32 = 5;
 pub struct Header {
     /// What the block is: 1 a descriptor, 2 a commit block, 4 a superblock, 5 a revoke block.
     pub block_type: u32,
-    /// The number of the transaction that the block belongs to.
+    /// The number of the transaction that the block belongs to. A superblock belongs to none: its sequence is written
+    /// as 0, and is not tested when it is read.
     pub sequence: u32,
 }
 
 impl Header {
-    /// Reads the header of a log block: of `block`, which has 1024, 2048 or 4096 bytes. The answer is `None` exactly
-    /// where the block does not begin with the magic; the type and the sequence are not tested.
+    /// Reads the header of a log block, `block`, which has at least the 12 bytes of a header. The answer is `None`
+    /// exactly where the block does not begin with the magic; the type and the sequence are not tested.
     /// Source: journal.rst, "Block Header".
     pub fn read(block: &[u8]) -> Option<Header>
-        requires { IsBlockSize (length block.now) }
+        requires { header_bytes ≤ length block.now }
         ensures { MatchOption result (begins_with_magic block.now ≡ false)
             (λ h. (begins_with_magic block.now ≡ true) × (h.block_type ≡ type_in block.now) × (h.sequence ≡ sequence_in block.now)) }
     {

@@ -1,7 +1,9 @@
 //! What is written is read back. Each function states a law of the words in `specs/`, and has no body to run.
-ghost use Rattle.std.specs.Prelude.{◌≡◌, ℕ, ◌^◌, ◌<◌, ◌≤◌, true, List, length, None, All};
+ghost use Rattle.std.specs.Prelude.{◌≡◌, ◌⊎◌, ℕ, ◌^◌, ◌<◌, ◌≤◌, true, List, length, None, All};
+ghost use Rattle.journal_model.specs.declared.log.Tag.{Tag};
+ghost use Rattle.journal_model.specs.Block.{IsAllowedBlock};
 ghost use Rattle.journal_model.specs.Descriptor.{IsDescriptor, descriptor_block};
-ghost use Rattle.journal_model.specs.Layout.{narrow, every_number, numbers_of, tags_of, uuid_bytes};
+ghost use Rattle.journal_model.specs.Layout.{Layout, narrow, every_number, numbers_of, tags_of, uuid_bytes};
 ghost use Rattle.journal_model.specs.OwnText.{commit_block, tags_from};
 ghost use Rattle.journal_model.specs.RevokeBlock.{IsRevokeBlock, revoke_block};
 ghost use Rattle.journal_model.specs.Superblock.{Shape, Super, formatted_super, greatest_length, least_length, revoke_feature, super_in, super_refusal, with_tail};
@@ -18,22 +20,32 @@ pub fn the_writers_tags_fit()
 /// The descriptor that is written of them is a well-formed one, with these tags.
 pub fn a_written_descriptor_is_one()
     ensures { (size count sequence : ℕ) (uuid : List ℕ) (copies : List (ℕ × List ℕ)) →
-        IsBlockSize size → length uuid ≡ uuid_bytes → count ≤ every_number (narrow size) → sequence < 2 ^ 32 →
-        0 < length copies → length copies ≤ tags_of (narrow size) → All (λ c. c.0 < count) copies →
+        IsBlockSize size → length uuid ≡ uuid_bytes → sequence < 2 ^ 32 →
+        0 < length copies → length copies ≤ tags_of (narrow size) → All (λ c. IsAllowedBlock (narrow size) count c.0) copies →
         IsDescriptor (narrow size) count sequence (descriptor_block (narrow size) uuid sequence (tags_from true copies)) (tags_from true copies) }
 {}
 
 /// The revoke block that is written of some numbers is a well-formed one, with these numbers.
 pub fn a_written_revoke_block_is_one()
     ensures { (size count sequence : ℕ) (numbers : List ℕ) →
-        IsBlockSize size → count ≤ every_number (narrow size) → sequence < 2 ^ 32 →
-        length numbers ≤ numbers_of (narrow size) → All (λ b. b < count) numbers →
+        IsBlockSize size → sequence < 2 ^ 32 →
+        length numbers ≤ numbers_of (narrow size) → All (IsAllowedBlock (narrow size) count) numbers →
         IsRevokeBlock (narrow size) count sequence (revoke_block (narrow size) sequence numbers) numbers }
 {}
 
 /// The commit block that is written has its header.
 pub fn a_written_commit_block_is_one()
     ensures { (size sequence : ℕ) → sequence < 2 ^ 32 → IsCommitBlock sequence (commit_block (narrow size) sequence) }
+{}
+
+/// A block can be read in one way only: as a descriptor with one list of tags, and as a revoke block with one list of
+/// numbers.
+pub fn one_reading()
+    ensures descriptor { (l : Layout) (count sequence : ℕ) (block : List ℕ) (tags others : List Tag) →
+        IsDescriptor l count sequence block tags → IsDescriptor l count sequence block others → tags ≡ others }
+    ensures revoke_block { (l : Layout) (count sequence : ℕ) (block numbers others : List ℕ) →
+        0 < l.number_bytes →
+        IsRevokeBlock l count sequence block numbers → IsRevokeBlock l count sequence block others → numbers ≡ others }
 {}
 
 /// The superblock of an empty log says what it was formatted with.
@@ -56,7 +68,7 @@ pub fn a_formatted_superblock_says_its_fields()
 {}
 
 /// It is taken, where the length is one that is and the log area has as many blocks.
-pub fn a_formatted_superblock_is_taken()
+pub fn a_formatted_superblock_is_accepted()
     ensures { (size maxlen log_blocks home_blocks : ℕ) (uuid : List ℕ) →
         IsBlockSize size → least_length ≤ maxlen → maxlen ≤ greatest_length → maxlen ≤ log_blocks → length uuid ≡ uuid_bytes →
         let shape : Shape = record { block_size = size; log_blocks = log_blocks; home_blocks = home_blocks } in
@@ -68,4 +80,19 @@ pub fn a_new_tail_changes_two_fields()
     ensures { (block : List ℕ) (sequence start : ℕ) →
         IsBlockSize (length block) → sequence < 2 ^ 32 → start < 2 ^ 32 →
         super_in (with_tail block sequence start) ≡ record (super_in block) { s_sequence = sequence; s_start = start } }
+{}
+
+/// A new tail leaves an accepted superblock accepted, where the log is then clean or begins in its ring.
+pub fn a_new_tail_is_accepted()
+    ensures { (shape : Shape) (block : List ℕ) (sequence start : ℕ) →
+        IsBlockSize (length block) → super_refusal shape block ≡ None →
+        (start ≡ 0) ⊎ (((super_in block).s_first ≤ start) × (start < (super_in block).s_maxlen)) →
+        super_refusal shape (with_tail block sequence start) ≡ None }
+{}
+
+/// Of two new tails, one after the other, the last one counts.
+pub fn a_new_tail_replaces_the_last()
+    ensures { (block : List ℕ) (last_sequence last_start sequence start : ℕ) →
+        IsBlockSize (length block) →
+        with_tail (with_tail block last_sequence last_start) sequence start ≡ with_tail block sequence start }
 {}

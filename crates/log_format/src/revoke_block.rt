@@ -14,7 +14,8 @@ const REVOKE_HEADER_BYTES: usize = 16;
 /// Bytes of a number.
 const NUMBER_BYTES: usize = 4;
 
-/// A revoke block: it names home blocks of which no older copy is to be replayed.
+/// A revoke block: it names home blocks of which no copy is to be replayed that stands in its own transaction or in an
+/// earlier one. Copies in later transactions are not touched by it.
 /// Source: journal.rst, "Revocation Block".
 pub struct RevokeBlock;
 
@@ -49,8 +50,8 @@ impl RevokeBlock {
     ///
     /// The block is malformed where its count of bytes in use is below 16, above the block size, or not 16 and a
     /// multiple of 4, and where a number is not below `home_blocks`, the blocks of the home area: 2^32 there refuses
-    /// none. What `numbers` holds after that is not said.
-    /// Source: journal.rst, "Revocation Block".
+    /// none. What `numbers` holds behind the numbers that were read, and where the block is malformed, is not said.
+    /// Source: journal.rst, "Revocation Block"; all these tests are this project's own.
     pub fn read(block: &[u8], home_blocks: u64, numbers: &mut [BlockNo]) -> Result<usize, Malformed>
         requires size { IsBlockSize (length block.now) }
         requires has_header { HasHeader revoke_type (sequence_in block.now) block.now }

@@ -1,10 +1,11 @@
 ghost use Rattle.std.specs.Prelude.{ℕ, ◌≡◌, ◌≤◌, ◌-◌, ◌==◌, ◌&&◌, ◌||◌, nat_le, nat_lt, length, IfOk, MatchResult, Some, None};
+ghost use Rattle.journal_model.specs.Layout.{super_type, type_in};
 ghost use Rattle.journal_model.specs.Superblock.{Shape, formatted_super, greatest_length, is_block_size, least_length, least_ring, revoke_feature, super_in, super_refusal, with_tail};
+ghost use Rattle.log_format.specs.Accepted.{IsAccepted};
 ghost use Rattle.log_format.specs.Size.{IsBlockSize};
-ghost use Rattle.log_format.specs.Taken.{IsTaken};
 
 use crate::Header;
-use crate::header::SUPER_TYPE;
+use crate::header::{MAGIC, SUPER_TYPE};
 use byteorder::{BigEndian, ByteOrder};
 use journal_model::JournalError;
 use std::marker::Model;
@@ -31,7 +32,7 @@ pub struct Super {
     pub s_maxlen: u32,
     /// The first block of the ring.
     pub s_first: u32,
-    /// The number of the first transaction in the log.
+    /// The number of the first transaction in the log. In a clean log, the number before that of the next transaction.
     pub s_sequence: u32,
     /// The block of the log where it begins, or 0 where the log is clean.
     pub s_start: u32,
@@ -60,30 +61,36 @@ impl Model for Super {
 }
 
 impl Super {
-    /// Reads the superblock from block 0 of a log, `block`, which has as many bytes as the device's blocks: 1024, 2048
-    /// or 4096. The log area has `log_blocks` blocks.
+    /// Reads the superblock from block 0 of a log, `block`, which has as many bytes as the device's blocks, whatever
+    /// their size. The log area has `log_blocks` blocks.
     ///
     /// A log area without a block is `BadLength`, whatever `block` holds. Else the first of these that is so is the
     /// answer: the block does not begin with the magic (`BadMagic`), its type is not 4 (`BadType`), s_blocksize is
-    /// not a size that is taken or not the device's (`BadBlockSize`), s_maxlen is below 17, above 1,048,576 or above
+    /// not 1024, 2048 or 4096 or not the device's block size (`BadBlockSize`), s_maxlen is below 17, above 1,048,576 or above
     /// `log_blocks` (`BadLength`), s_first is 0 or leaves fewer than 16 blocks for the ring (`BadFirst`), a feature
     /// other than revoke blocks is set, that one is not, or there is not one user (`BadFeature`), s_start is neither 0
     /// nor in the ring (`BadStart`), s_errno is not 0 (`ErrnoSet`).
-    /// Source: journal.rst, "Super Block"; the limits are this journal's own.
+    /// Nothing else is tested: any number stands for s_sequence, and the sequence in the block's header, which is
+    /// written as 0, is not read.
+    /// Source: journal.rst, "Super Block"; the limits and the order of the tests are this project's own.
     pub fn read(block: &[u8], log_blocks: u64) -> Result<Self, JournalError>
-        requires { IsBlockSize (length block.now) }
         ensures tests { (home_blocks : ℕ) →
             let shape : Shape = record { block_size = length block.now; log_blocks = log_blocks; home_blocks = home_blocks } in
             MatchResult result (λ _. super_refusal shape block.now ≡ None) (λ e. super_refusal shape block.now ≡ Some e) }
         ensures fields { IfOk result (λ s. s ≡ super_in block.now) }
-        ensures taken { IfOk result (λ s. IsTaken (length block.now) log_blocks s) }
+        ensures accepted { IfOk result (λ s. IsAccepted (length block.now) log_blocks s) }
     {
         if log_blocks == 0 {
             return Err(JournalError::BadLength);
         }
-        let header = Header::read(block).ok_or(JournalError::BadMagic)?;
-        if header.block_type != SUPER_TYPE {
+        if !block.starts_with(&MAGIC) {
+            return Err(JournalError::BadMagic);
+        }
+        if !has_super_type(block) {
             return Err(JournalError::BadType);
+        }
+        if !is_block_size(block.len()) {
+            return Err(JournalError::BadBlockSize);
         }
         let fields = Super::fields(block);
         if !fields.has_block_size(block.len()) {
@@ -108,8 +115,9 @@ impl Super {
     }
 
     /// Writes the superblock of an empty log over all of `block`, which has the block size that the log gets: 1024, 2048
-    /// or 4096 bytes. The log has `maxlen` blocks, the superblock among them, and the UUID `uuid`. Its first
-    /// transaction is number 1, and its ring begins at block 1.
+    /// or 4096 bytes. The log has `maxlen` blocks, the superblock among them, and the UUID `uuid`. Its ring
+    /// begins at block 1. Its s_sequence is 1, so that its first transaction will have the number 2: in a clean log the
+    /// next transaction has the number behind s_sequence.
     /// Source: journal.rst, "Super Block".
     pub fn format(block: &mut [u8], maxlen: u32, uuid: &[u8; 16])
         requires { IsBlockSize (length block.old) }
@@ -128,8 +136,9 @@ impl Super {
     }
 
     /// Writes another s_sequence and s_start into a superblock of 1024, 2048 or 4096 bytes: the number `sequence` of the
-    /// first transaction in the log, and the block `start` of the log where it begins, or 0 where the log is clean.
-    /// Every other byte of the block stays as it was.
+    /// first transaction in the log, and the block `start` of the log where it begins. Where the log is clean, `start`
+    /// is 0, and `sequence` is the number before that of the next transaction. Every other byte of the block stays as
+    /// it was.
     /// Source: journal.rst, "Super Block".
     pub fn write(block: &mut [u8], sequence: u32, start: u32)
         requires { IsBlockSize (length block.old) }
@@ -139,9 +148,12 @@ impl Super {
         BigEndian::write_u32(&mut block[0x1c..], start);
     }
 
-    /// The fields, as they stand in a block.
-    fn fields(block: &[u8]) -> Self
-        requires { IsBlockSize (length block.now) }
+    /// The fields of a superblock, as they stand in the first 1024 bytes of a log, which is what `block` begins with.
+    /// Nothing is tested, not even that a superblock stands there: it is meant for reading s_blocksize where the block
+    /// size of a device is not known yet, and `Super::read` makes the tests.
+    /// Source: journal.rst, "Super Block".
+    pub fn fields(block: &[u8]) -> Self
+        requires { 1024 ≤ length block.now }
         ensures { result ≡ super_in block.now }
     {
         let mut s_uuid = [0; 16];
@@ -165,8 +177,8 @@ impl Super {
     fn has_block_size(&self, block_size: usize) -> bool
         ensures { result ≡ (is_block_size self.now.s_blocksize && (self.now.s_blocksize == block_size)) }
     {
-        let size = self.s_blocksize;
-        (size == 1024 || size == 2048 || size == 4096) && size as usize == block_size
+        let size = self.s_blocksize as usize;
+        is_block_size(size) && size == block_size
     }
 
     /// The length is one that is taken, and the log area has as many blocks.
@@ -207,4 +219,18 @@ impl Super {
     {
         self.s_errno == 0
     }
+}
+
+/// The type in a block's header is that of a superblock. A block too short for a type has none.
+fn has_super_type(block: &[u8]) -> bool
+    ensures { result ≡ (type_in block.now == super_type) }
+{
+    block.len() >= 8 && BigEndian::read_u32(&block[4..]) == SUPER_TYPE
+}
+
+/// A block of a log may have this many bytes.
+fn is_block_size(size: usize) -> bool
+    ensures { result ≡ is_block_size size }
+{
+    size == 1024 || size == 2048 || size == 4096
 }

@@ -7,6 +7,7 @@ use crate::{CommitBlock, Descriptor, Header, Malformed, RevokeBlock, Super, esca
 use byteorder::{BigEndian, ByteOrder};
 use journal_model::{BlockNo, JournalError, Tag};
 use std::process::Abort;
+use std::test::Fail;
 
 const UUID: [u8; 16] = [0xaa; 16];
 
@@ -193,6 +194,110 @@ fn malformed_descriptors(rt: HostRuntime) {
     assert_eq!(rt; read_tags(&block, 10, &mut tags), Some(Err(Malformed)));
 }
 
+/// A descriptor whose tags name block 9 and fill the block, each but the last without a UUID behind it: the last one
+/// is that at this place, and has the flag 8 alone.
+fn tags_up_to(last: u8) -> [u8; 1024] {
+    let mut block = [0u8; 1024];
+    block[..12].copy_from_slice(&[0xc0, 0x3b, 0x39, 0x98, 0, 0, 0, 1, 0, 0, 0, 2]);
+    for i in 0..126 {
+        block[12 + 8 * i + 3] = 9;
+        block[12 + 8 * i + 7] = if i == usize::from(last) { 8 } else { 2 };
+    }
+    block
+}
+
+#[test]
+fn uuids_that_do_not_fit(rt: HostRuntime) {
+    let mut tags = [tag(0, false, false, false); 126];
+    for last in [0u8, 123, 124, 125] {
+        let count = usize::from(last) + 1;
+        assert_eq!(rt;
+            read_tags(&tags_up_to(last), 10, &mut tags),
+            Some(Ok(count))
+        );
+    }
+    assert_eq!(rt;
+        read_tags(&tags_up_to(126), 10, &mut tags),
+        Some(Err(Malformed))
+    );
+    let mut block = tags_up_to(125);
+    block[12 + 8 * 124 + 7] = 0;
+    assert_eq!(rt; read_tags(&block, 10, &mut tags), Some(Err(Malformed)));
+}
+
+/// Writes one byte over as many bytes of a block, from a place on.
+fn overwrite(block: &mut [u8; 1024], at: usize, count: usize, value: u8) {
+    for byte in block.iter_mut().skip(at).take(count) {
+        *byte = value;
+    }
+}
+
+#[test]
+fn bytes_of_a_descriptor_that_are_not_read(rt: HostRuntime) {
+    let written = [tag(9, false, false, false), tag(10, true, true, true)];
+    let mut tags = [tag(0, false, false, false); 126];
+    let mut block = [0u8; 1024];
+    assert!(rt; write_tags(&mut block, 2, &written));
+    overwrite(&mut block, 16, 2, 0x55);
+    overwrite(&mut block, 20, 16, 0x66);
+    overwrite(&mut block, 40, 2, 0x77);
+    overwrite(&mut block, 44, 980, 0xff);
+    assert_eq!(rt; read_tags(&block, 11, &mut tags), Some(Ok(2)));
+    assert!(rt; tags.starts_with(&written));
+}
+
+#[test]
+fn home_area_of_every_number(rt: HostRuntime) {
+    let greatest = 0xffff_ffff;
+    let mut block = [0u8; 1024];
+    let mut tags = [tag(0, false, false, false); 126];
+    assert!(rt; write_tags(&mut block, 2, &[tag(greatest, false, false, true)]));
+    assert_eq!(rt; read_tags(&block, greatest + 1, &mut tags), Some(Ok(1)));
+    assert!(rt; tags.starts_with(&[tag(greatest, false, false, true)]));
+    assert_eq!(rt;
+        read_tags(&block, greatest, &mut tags),
+        Some(Err(Malformed))
+    );
+    let mut numbers = [BlockNo(0); 252];
+    assert!(rt; write_numbers(&mut block, 2, &[BlockNo(greatest)]));
+    assert_eq!(rt;
+        read_numbers(&block, greatest + 1, &mut numbers),
+        Some(Ok(1))
+    );
+    assert!(rt; numbers.starts_with(&[BlockNo(greatest)]));
+    assert_eq!(rt;
+        read_numbers(&block, greatest, &mut numbers),
+        Some(Err(Malformed))
+    );
+}
+
+/// Block numbers from 1 on fill a revoke block, and are read back.
+fn is_full_of_numbers(block: &mut [u8], written: &mut [BlockNo], read: &mut [BlockNo]) -> bool
+    requires size { IsBlockSize (length block.old) }
+    requires room { numbers_of (narrow (length block.old)) ≤ length read.old }
+{
+    for (i, slot) in written.iter_mut().enumerate() {
+        *slot = BlockNo(i as u64 + 1);
+    }
+    let count = written.len();
+    if !write_numbers(block, 3, written) {
+        return false;
+    }
+    let home_blocks = count as u64 + 1;
+    let full = read_numbers(block, home_blocks, read) == Some(Ok(count))
+        && read.starts_with(written);
+    full && read_numbers(block, home_blocks - 1, read) == Some(Err(Malformed))
+}
+
+#[test]
+fn full_revoke_blocks(rt: HostRuntime) {
+    let none = BlockNo(0);
+    assert!(rt; is_full_of_numbers(&mut [0xff; 1024], &mut [none; 252], &mut [none; 252]));
+    assert!(rt; !is_full_of_numbers(&mut [0xff; 1024], &mut [none; 253], &mut [none; 252]));
+    assert!(rt; is_full_of_numbers(&mut [0xff; 2048], &mut [none; 508], &mut [none; 508]));
+    assert!(rt; is_full_of_numbers(&mut [0xff; 4096], &mut [none; 1020], &mut [none; 1020]));
+}
+
 #[test]
 fn revoke_blocks(rt: HostRuntime) {
     let mut block = [0xffu8; 1024];
@@ -306,4 +411,74 @@ fn refused_superblocks(rt: HostRuntime) {
             assert_eq!(rt; Super::read(&worse, 33).err(), Some(*refusal));
         }
     }
+}
+
+/// Some fields of a superblock of 33 blocks that are changed, their new numbers, and the answer in a log area with
+/// more blocks than any log.
+const FIELDS: [([(u8, u32); 2], Option<JournalError>); 13] = [
+    ([(0x08, 7), (0x08, 7)], None),
+    ([(0x18, 0), (0x18, 0)], None),
+    ([(0x10, 17), (0x10, 17)], None),
+    ([(0x10, 1_048_576), (0x10, 1_048_576)], None),
+    (
+        [(0x10, 1_048_577), (0x10, 1_048_577)],
+        Some(JournalError::BadLength),
+    ),
+    ([(0x14, 17), (0x1c, 17)], None),
+    ([(0x14, 0), (0x14, 0)], Some(JournalError::BadFirst)),
+    ([(0x14, 5), (0x1c, 4)], Some(JournalError::BadStart)),
+    ([(0x24, 1), (0x24, 1)], Some(JournalError::BadFeature)),
+    ([(0x28, 0), (0x28, 0)], Some(JournalError::BadFeature)),
+    ([(0x2c, 1), (0x2c, 1)], Some(JournalError::BadFeature)),
+    ([(0x40, 0), (0x40, 0)], Some(JournalError::BadFeature)),
+    ([(0x40, 2), (0x40, 2)], Some(JournalError::BadFeature)),
+];
+
+#[test]
+fn fields_of_superblocks(rt: HostRuntime) {
+    let mut good = [0u8; 1024];
+    Super::format(&mut good, 33, &UUID);
+    for (changes, answer) in &FIELDS {
+        let mut block = good;
+        for (at, value) in changes {
+            put(&mut block, *at, *value);
+        }
+        assert_eq!(rt; Super::read(&block, 2_000_000).err(), *answer);
+    }
+}
+
+/// The refusal of the first bytes of a block, where the device's blocks have as many.
+fn refusal_of_first(block: &[u8; 1024], bytes: usize) -> Option<JournalError>
+    requires { bytes ≤ 1024 }
+{
+    Super::read(&block[..bytes], 33).err()
+}
+
+#[test]
+fn superblocks_of_other_sizes(rt: HostRuntime) {
+    let mut block = [0u8; 1024];
+    assert_eq!(rt; refusal_of_first(&block, 512), Some(JournalError::BadMagic));
+    Super::format(&mut block, 33, &UUID);
+    put(&mut block, 0x0c, 512);
+    assert_eq!(rt; Super::fields(&block).s_blocksize, 512);
+    assert_eq!(rt; refusal_of_first(&block, 0), Some(JournalError::BadMagic));
+    assert_eq!(rt; refusal_of_first(&block, 3), Some(JournalError::BadMagic));
+    assert_eq!(rt; refusal_of_first(&block, 7), Some(JournalError::BadType));
+    assert_eq!(rt;
+        refusal_of_first(&block, 8),
+        Some(JournalError::BadBlockSize)
+    );
+    assert_eq!(rt;
+        refusal_of_first(&block, 512),
+        Some(JournalError::BadBlockSize)
+    );
+    put(&mut block, 0x04, 3);
+    assert_eq!(rt; refusal_of_first(&block, 512), Some(JournalError::BadType));
+}
+
+#[test]
+fn text_of_malformed(rt: HostRuntime) -> Result<(), Fail> {
+    let text = format!(in rt.alloc(); "{Malformed}")?;
+    assert_eq!(rt; text.as_str(), "malformed block");
+    Ok(())
 }
