@@ -10,17 +10,22 @@ use std::marker::Model;
 /// One write that a device in memory took.
 #[derive(Drop)]
 pub struct Write {
+    /// The area that was written.
     pub area: Area,
+    /// The block's number in its area, counted from 0.
     pub block: u64,
     /// Counted from 1; 0 for a write that a crash left.
     pub number: u64,
+    /// The new content, one block long.
     pub bytes: Block,
 }
 
 /// One call that a device in memory took.
 #[derive(Drop)]
 pub enum Call {
+    /// A write that the cache took.
     Wrote(Write),
+    /// A flush that succeeded, of one area.
     Flushed(Area),
 }
 
