@@ -1,0 +1,133 @@
+-- An engine whose stage changes stays sound where the disk changes by a write of one block that is due, or by a flush.
+use Rattle.std.proofs.Common.{sym, ◌∙◌, ap, subst, arith, inl, inr, ⊎_elim}
+use Rattle.std.specs.Prelude.{◌≡◌, ◌⊎◌, ℕ, ◌+◌, ◌<◌, ◌≤◌, Bool, List, length, Some}
+use Rattle.journal_model.specs.declared.number.Area.TheVariants.{Log}
+use Rattle.journal_model.specs.Disk.{Cell, Disk, IsOneOf, flushed, held}
+use Rattle.journal_world.specs.declared.stage.Stage.{Stage}
+use Rattle.journal_world.specs.Engine.{Engine, block_at, due_blocks, ring_place}
+use Rattle.journal_world.specs.Opening.{IsBehind}
+use Rattle.journal_world.specs.Sound.{IsDurable, IsOwnBlock, IsPlain, MayBeSuperblock, Sound, StageAgrees, StageHolds, durable_cell, handed}
+use Rattle.journal_world.proofs.Places.{IsWrite, held-after, held-flushed, one_place, place-above}
+use Rattle.journal_world.proofs.Superblocks.{first-above, names-superblock}
+use Rattle.journal_world.proofs.Texts.{block-there}
+
+-- the engine at this stage, aborted or not
+abbrev pub at : Engine → Stage → Bool → Engine
+at e stage aborted = record e { stage = stage; aborted = aborted }
+
+-- its ring does not begin at block 0
+pub ring-first : (e : Engine) → IsPlain e → 0 < e.ring.first
+ring-first e plain = first-above e.shape e.ring e.superblock (names-superblock e.started e.shape e.ring e.first e.superblock plain.names)
+
+-- it keeps of itself what it kept at another stage
+pub plain-at : (e : Engine) (old new : Stage) (a b : Bool) → IsPlain (at e old a) → StageAgrees (at e new b) new → IsPlain (at e new b)
+plain-at e old new a b plain agrees = record {
+  names = plain.names;
+  uuid = plain.uuid;
+  batches = plain.batches;
+  numbered = plain.numbered;
+  numbers = plain.numbers;
+  head = plain.head;
+  room = plain.room;
+  stage = agrees;
+}
+
+-- the blocks that were handed over are among those of a later stage
+pub own-later : (e : Engine) (old new : Stage) (a b : Bool) (k : ℕ) (v : List ℕ) →
+    handed old (length (due_blocks e)) ≤ handed new (length (due_blocks e)) →
+    IsOwnBlock (at e old a) k v → IsOwnBlock (at e new b) k v
+own-later e old new a b k v more own = record {
+  index = own.index;
+  place = own.place;
+  block = own.block;
+  handed_over = let below : own.index < handed old (length (due_blocks e)) = own.handed_over in omega arith;
+}
+
+-- so what may be held behind the committed transactions may be held at a later stage
+pub behind-later : (e : Engine) (old new : Stage) (a b : Bool) (k : ℕ) (v : List ℕ) →
+    handed old (length (due_blocks e)) ≤ handed new (length (due_blocks e)) →
+    IsBehind (e.first + e.committed) v ⊎ IsOwnBlock (at e old a) k v → IsBehind (e.first + e.committed) v ⊎ IsOwnBlock (at e new b) k v
+behind-later e old new a b k v more (inl behind) = inl behind
+behind-later e old new a b k v more (inr own) = inr (own-later e old new a b k v more own)
+
+-- the write of block i of those that are due, which may have failed
+pub record IsDueWrite (e : Engine) (old new : Disk) (i : ℕ) : Type 0 where
+  pub write : IsWrite old new (ring_place e.ring (e.head + i)) (block_at (due_blocks e) i)
+  pub within : i < length (due_blocks e)
+
+-- it leaves each ring block but one as it was
+pub due-other : (e : Engine) (old new : Disk) (i k : ℕ) → IsPlain e → IsDueWrite e old new i → k < e.ring.blocks → (k ≡ e.head + i → ⊥) →
+    new Log (ring_place e.ring k) ≡ old Log (ring_place e.ring k)
+due-other e old new i k plain due below other =
+    let room : e.head + length (due_blocks e) ≤ e.ring.blocks = plain.room in
+    let within : i < length (due_blocks e) = due.within in
+    due.write.others (ring_place e.ring k) (λ same. other (one_place e.ring k (e.head + i) below (omega arith) same))
+
+-- and the superblock
+pub due-superblock : (e : Engine) (old new : Disk) (i : ℕ) → IsPlain e → IsDueWrite e old new i → new Log 0 ≡ old Log 0
+due-superblock e old new i plain due = due.write.others 0 (λ same. place-above e.ring (e.head + i) (ring-first e plain) (sym same))
+
+-- what it leaves durable
+due-durable : (e : Engine) (old new : Disk) (i k : ℕ) (v : List ℕ) → IsPlain e → IsDueWrite e old new i → k < e.head → IsDurable e old k v →
+    IsDurable e new k v
+due-durable e old new i k v plain due below durable =
+    let room : e.head + length (due_blocks e) ≤ e.ring.blocks = plain.room in
+    due-other e old new i k plain due (omega arith) (λ same. omega arith) ∙ durable
+
+-- block i of those that are due, at its place
+due-own : (e : Engine) (i k : ℕ) (w : List ℕ) → k ≡ e.head + i → w ≡ block_at (due_blocks e) i → i < length (due_blocks e) →
+    i < handed e.stage (length (due_blocks e)) → IsOwnBlock e k w
+due-own e i k w place is within now = record { index = i; place = place; block = block-there (due_blocks e) i within ∙ ap Some (sym is); handed_over = now }
+
+-- what it leaves held behind the committed transactions
+due-behind : (e : Engine) (old new : Stage) (a b : Bool) (disk after : Disk) (i k : ℕ) (w : List ℕ) → Sound (at e old a) disk →
+    IsDueWrite (at e old a) disk after i →
+    i < handed new (length (due_blocks e)) → handed old (length (due_blocks e)) ≤ handed new (length (due_blocks e)) →
+    e.head ≤ k → k < e.ring.blocks → IsOneOf (held (after Log (ring_place e.ring k))) w → IsBehind (e.first + e.committed) w ⊎ IsOwnBlock (at e new b) k w
+due-behind e old new a b disk after i k w sound due now more low high one =
+    let room : e.head + length (due_blocks e) ≤ e.ring.blocks = sound.plain.room in
+    let within : i < length (due_blocks e) = due.within in
+    ⊎_elim
+    (λ here. inr (due-own (at e new b) i k w (one_place e.ring k (e.head + i) high (omega arith) here.0) here.1 within now))
+    (λ was. behind-later e old new a b k w more (sound.behind k w low high was))
+    (held-after disk after (ring_place e.ring (e.head + i)) (block_at (due_blocks e) i) (ring_place e.ring k) w due.write one)
+
+-- an engine stays sound over a write of a block that is due
+pub due-sound : (e : Engine) (old new : Stage) (a b : Bool) (disk after : Disk) (i : ℕ) → Sound (at e old a) disk →
+    IsDueWrite (at e old a) disk after i →
+    i < handed new (length (due_blocks e)) → handed old (length (due_blocks e)) ≤ handed new (length (due_blocks e)) →
+    ((v : List ℕ) → MayBeSuperblock (at e old a) old v → MayBeSuperblock (at e new b) new v) →
+    StageAgrees (at e new b) new → StageHolds (at e new b) after new → Sound (at e new b) after
+due-sound e old new a b disk after i sound due now more may agrees holds = record {
+  plain = plain-at e old new a b sound.plain agrees;
+  superblock = λ v one. may v (sound.superblock v (subst (λ (c : Cell). IsOneOf (held c) v) (due-superblock (at e old a) disk after i sound.plain due) one));
+  durable = λ k below. due-durable (at e old a) disk after i k _ sound.plain due below (sound.durable k below);
+  behind = λ k v low high one. due-behind e old new a b disk after i k v sound due now more low high one;
+  stage = holds;
+}
+
+-- what a flush leaves held was held
+pub held-before_flush : (disk : Disk) (m : ℕ) (w : List ℕ) → IsOneOf (held (flushed disk Log Log m)) w → IsOneOf (held (disk Log m)) w
+held-before_flush disk m w (inl is) = inl is
+held-before_flush disk m w (inr none) = absurd none
+
+-- what is durable stays so
+pub durable-flushed : (e : Engine) (disk : Disk) (k : ℕ) (v : List ℕ) → IsDurable e disk k v → IsDurable e (flushed disk Log) k v
+durable-flushed e disk k v durable = ap (λ (c : Cell). durable_cell c.reads) durable
+
+-- and what is read becomes durable
+pub read-flushed : (e : Engine) (disk : Disk) (k : ℕ) (v : List ℕ) → (disk Log (ring_place e.ring k)).reads ≡ v → IsDurable e (flushed disk Log) k v
+read-flushed e disk k v reads = ap durable_cell reads
+
+-- an engine stays sound over a flush
+pub flush-sound : (e : Engine) (old new : Stage) (a b : Bool) (disk : Disk) → Sound (at e old a) disk →
+    handed old (length (due_blocks e)) ≤ handed new (length (due_blocks e)) →
+    ((v : List ℕ) → v ≡ (disk Log 0).reads → MayBeSuperblock (at e new b) new v) →
+    StageAgrees (at e new b) new → StageHolds (at e new b) (flushed disk Log) new → Sound (at e new b) (flushed disk Log)
+flush-sound e old new a b disk sound more may agrees holds = record {
+  plain = plain-at e old new a b sound.plain agrees;
+  superblock = λ v one. may v (held-flushed disk 0 v one);
+  durable = λ k below. durable-flushed e disk k _ (sound.durable k below);
+  behind = λ k v low high one. behind-later e old new a b k v more (sound.behind k v low high (held-before_flush disk (ring_place e.ring k) v one));
+  stage = holds;
+}

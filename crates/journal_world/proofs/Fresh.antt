@@ -1,0 +1,57 @@
+-- The engine of an opened log is sound.
+use Rattle.std.proofs.Common.{refl, sym, subst, arith, inl, length-take, length-drop}
+use Rattle.std.specs.Prelude.{◌≡◌, ℕ, ◌+◌, ◌-◌, ◌%◌, ◌<◌, ◌≤◌, List, length, None}
+use Rattle.std.proofs.Math.Nat.{mod-lt}
+use Rattle.journal_model.specs.declared.number.Area.TheVariants.{Log}
+use Rattle.journal_model.specs.Disk.{Disk, IsOneOf, held}
+use Rattle.journal_model.specs.Layout.{uuid_bytes}
+use Rattle.journal_model.specs.Opening.{greatest_number, ring_of}
+use Rattle.journal_model.specs.Superblock.{Shape, Super, super_in, super_refusal}
+use Rattle.journal_world.specs.Engine.{ring_place}
+use Rattle.journal_world.specs.Journal.{fresh_engine}
+use Rattle.journal_world.specs.Opening.{IsBehind, IsOpenedLog, NamesNothing}
+use Rattle.journal_world.specs.Sound.{IsPlain, Sound}
+use Rattle.journal_world.proofs.Places.{held-durable}
+use Rattle.journal_world.proofs.Superblocks.{accepted-ring, accepted-size}
+
+-- an accepted superblock has a whole UUID
+uuid-whole : (shape : Shape) (block : List ℕ) → super_refusal shape block ≡ None → length block ≡ shape.block_size →
+    length ((super_in block).s_uuid) ≡ uuid_bytes
+uuid-whole shape block accepted size =
+    let large : 1024 ≤ shape.block_size = accepted-size shape block accepted in
+    simp (length-take, length-drop) (omega arith)
+
+-- a ring block is behind the first transaction, numbered as the sum with no committed ones
+fresh-behind : (shape : Shape) (disk : Disk) (superblock : List ℕ) (next : ℕ) (k : ℕ) (v : List ℕ) → IsOpenedLog shape disk superblock next →
+    IsOneOf (held (disk Log (ring_place (ring_of (super_in superblock)) k))) v → IsBehind (next + 0) v
+fresh-behind shape disk superblock next k v log one =
+    let s : Super = super_in superblock in
+    let blocks : 16 ≤ s.s_maxlen - s.s_first = accepted-ring shape superblock log.named.is_superblock.accepted in
+    let below : k % (s.s_maxlen - s.s_first) < s.s_maxlen - s.s_first = mod-lt k (omega arith) in
+    let behind : IsBehind next v = log.behind (ring_place (ring_of (super_in superblock)) k) v (omega arith) (omega arith) one in
+    record { below = λ magic. let low = behind.below magic in omega arith }
+
+-- what it keeps true of itself
+pub fresh-plain : (shape : Shape) (superblock : List ℕ) (next : ℕ) → NamesNothing shape (ring_of (super_in superblock)) next superblock →
+    next ≤ greatest_number → IsPlain (fresh_engine shape superblock next)
+fresh-plain shape superblock next named number = record {
+  names = named;
+  uuid = uuid-whole shape superblock named.is_superblock.accepted named.is_superblock.size;
+  batches = tt;
+  numbered = tt;
+  numbers = omega arith;
+  head = refl;
+  room = omega arith;
+  stage = (refl, λ clean. refl);
+}
+
+-- the engine of an opened log is sound
+pub fresh-sound : (shape : Shape) (disk : Disk) (superblock : List ℕ) (next : ℕ) → IsOpenedLog shape disk superblock next →
+    Sound (fresh_engine shape superblock next) disk
+fresh-sound shape disk superblock next log = record {
+  plain = fresh-plain shape superblock next log.named log.number;
+  superblock = λ v one. subst (NamesNothing shape (ring_of (super_in superblock)) next) (sym (held-durable disk 0 superblock v log.durable one)) log.named;
+  durable = λ k below. absurd (omega arith);
+  behind = λ k v low high one. inl (fresh-behind shape disk superblock next k v log one);
+  stage = tt;
+}

@@ -1,0 +1,92 @@
+-- What an accepted superblock says of the log.
+use Rattle.std.proofs.Common.{◌≡◌, ◌⊎◌, inl, ℕ, ◌-◌, ◌<◌, ◌≤◌, ◌==◌, ◌&&◌, Bool, true, false, List, [], ◌∷◌, Some, None, arith, refl, sym, ap}
+use Rattle.std.specs.Prelude.{nat_lt, nat_le, if◌then◌else◌}
+use Rattle.std.specs.List.{AllByRecursion}
+use Rattle.std.proofs.lemmas.Bool.Decides.{nat_tests}
+use Rattle.std.proofs.lemmas.Option.{none-some}
+use Rattle.journal_model.specs.declared.refusal.JournalError.{JournalError}
+use Rattle.journal_model.specs.declared.refusal.JournalError.TheVariants.{BadLength}
+use Rattle.journal_model.specs.Chain.{Ring}
+use Rattle.journal_model.specs.Layout.{IsLayout, narrow}
+use Rattle.journal_model.specs.Superblock.{Shape, first_failed, greatest_length, is_block_size, least_length, least_ring, super_in, super_refusal, super_tests}
+use Rattle.journal_world.specs.Opening.{IsSuperblock}
+use Rattle.journal_world.specs.Sound.{Names}
+
+-- where no test fails, each passes
+tests-pass : (tests : List (Bool × JournalError)) → first_failed tests ≡ None → AllByRecursion (λ t. t.0 ≡ true) tests
+tests-pass [] none = tt
+tests-pass ((true, e) ∷ tests) none = (refl, tests-pass tests none)
+tests-pass ((false, e) ∷ tests) none = absurd (none-some e (sym none))
+
+-- where a choice between a refusal and the tests refuses nothing, nor do the tests
+other-side : (b : Bool) (e : JournalError) (tests : List (Bool × JournalError)) →
+    (if b then Some e else first_failed tests) ≡ None → first_failed tests ≡ None
+other-side true e tests none = absurd (none-some e (sym none))
+other-side false e tests none = none
+
+-- each test of an accepted superblock passes
+accepted-tests : (shape : Shape) (block : List ℕ) → super_refusal shape block ≡ None → AllByRecursion (λ t. t.0 ≡ true) (super_tests shape block)
+accepted-tests shape block accepted =
+    tests-pass (super_tests shape block) (other-side (shape.log_blocks == 0) BadLength (super_tests shape block) accepted)
+
+-- the size that a superblock names is one that a block may have, and the device's
+size-passes : (named size : ℕ) → (is_block_size named && (named == size)) ≡ true →
+    (named ≡ size) × ((size ≡ 1024) ⊎ ((size ≡ 2048) ⊎ (size ≡ 4096)))
+size-passes named size passes = (grind (arith, nat_tests), grind (arith, nat_tests))
+
+-- a ring that passes its test begins behind block 0, and has blocks
+ring-passes : (first maxlen : ℕ) → (nat_lt 0 first && nat_le least_ring (maxlen - first)) ≡ true → (0 < first) × (16 ≤ maxlen - first)
+ring-passes first maxlen passes = (grind (arith, nat_tests), grind (arith, nat_tests))
+
+-- the blocks of an accepted log are as large as the device's
+pub accepted-block_size : (shape : Shape) (block : List ℕ) → super_refusal shape block ≡ None → (super_in block).s_blocksize ≡ shape.block_size
+accepted-block_size shape block accepted =
+    (size-passes (super_in block).s_blocksize shape.block_size (accepted-tests shape block accepted).1.1.0).0
+
+-- so the layout is one that the writer's text is made in
+pub accepted-layout : (shape : Shape) (block : List ℕ) → super_refusal shape block ≡ None → IsLayout (narrow shape.block_size)
+accepted-layout shape block accepted =
+    ((size-passes (super_in block).s_blocksize shape.block_size (accepted-tests shape block accepted).1.1.0).1, inl refl)
+
+-- and a block has room for all fields of a superblock
+pub accepted-size : (shape : Shape) (block : List ℕ) → super_refusal shape block ≡ None → 1024 ≤ shape.block_size
+accepted-size shape block accepted = let sizes = (accepted-layout shape block accepted).0 in grind arith
+
+-- the ring of an accepted log begins behind block 0
+pub accepted-first : (shape : Shape) (block : List ℕ) → super_refusal shape block ≡ None → 0 < (super_in block).s_first
+accepted-first shape block accepted =
+    (ring-passes (super_in block).s_first (super_in block).s_maxlen (accepted-tests shape block accepted).1.1.1.1.0).0
+
+-- it has blocks
+pub accepted-ring : (shape : Shape) (block : List ℕ) → super_refusal shape block ≡ None → 16 ≤ (super_in block).s_maxlen - (super_in block).s_first
+accepted-ring shape block accepted =
+    (ring-passes (super_in block).s_first (super_in block).s_maxlen (accepted-tests shape block accepted).1.1.1.1.0).1
+
+-- and the log no more than a log may have
+pub accepted-length : (shape : Shape) (block : List ℕ) → super_refusal shape block ≡ None → (super_in block).s_maxlen ≤ greatest_length
+accepted-length shape block accepted = grind (arith, nat_tests)
+
+-- lengths that pass their test
+within-passes : (m log : ℕ) → (nat_le least_length m && nat_le m greatest_length && nat_le m log) ≡ true → m ≤ log
+within-passes m log passes = grind (arith, nat_tests)
+
+-- it lies within the log area
+pub accepted-within : (shape : Shape) (block : List ℕ) → super_refusal shape block ≡ None → (super_in block).s_maxlen ≤ shape.log_blocks
+accepted-within shape block accepted = within-passes (super_in block).s_maxlen shape.log_blocks (accepted-tests shape block accepted).1.1.1.0
+
+-- the ring of a superblock begins where the superblock says
+pub first-is : (shape : Shape) (ring : Ring) (block : List ℕ) → IsSuperblock shape ring block → (super_in block).s_first ≡ ring.first
+first-is shape ring block is = ap (λ (r : Ring). r.first) is.ring_is
+
+-- so it does not begin at block 0
+pub first-above : (shape : Shape) (ring : Ring) (block : List ℕ) → IsSuperblock shape ring block → 0 < ring.first
+first-above shape ring block is =
+    let above : 0 < (super_in block).s_first = accepted-first shape block is.accepted in
+    let same : (super_in block).s_first ≡ ring.first = first-is shape ring block is in
+    omega arith
+
+-- whatever it names, it is a superblock
+pub names-superblock : (started : Bool) (shape : Shape) (ring : Ring) (first : ℕ) (block : List ℕ) → Names started shape ring first block →
+    IsSuperblock shape ring block
+names-superblock true shape ring first block names = names.is_superblock
+names-superblock false shape ring first block names = names.is_superblock

@@ -1,0 +1,7 @@
+pub mod Call
+pub mod Engine
+pub mod Front
+pub mod Journal
+pub mod Opening
+pub mod Sound
+pub mod World

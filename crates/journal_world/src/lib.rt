@@ -1,0 +1,9 @@
+//! The journal as a machine: its state beside a disk, each atomic step that may change either, and what every run of
+//! such steps keeps. There is no device, lock or thread here. The crate that runs the journal has contracts that cite
+//! these very steps, so the law over all runs speaks of what it does.
+#![tactic(auto)]
+
+pub mod laws;
+mod stage;
+
+pub use stage::Stage;
