@@ -2,7 +2,7 @@ ghost use Rattle.std.specs.Prelude.{◌≡◌, ◌<◌, ℕ, length, OnOk, OnErr
 ghost use Rattle.block_device.specs.State.{DeviceState, blocks_in, CountsFaults, HoldsWholeBlocks, Stays, Moves, Writes};
 ghost use Rattle.journal_model.specs.Disk.{written, flushed};
 
-use journal_model::Area;
+use journal_model::{Area, JournalError};
 use std::error::Error;
 use std::fmt;
 
@@ -17,6 +17,17 @@ impl fmt::Display for DeviceFault {
 }
 
 impl Error for DeviceFault {}
+
+impl From<DeviceFault> for JournalError {
+    ghost use Rattle.std.specs.Prelude.{◌≡◌};
+    ghost use Rattle.journal_model.specs.declared.refusal.JournalError.TheVariants.{Device};
+
+    ghost from_gives = { λ _ e. e ≡ Device };
+
+    fn from(_e: DeviceFault) -> Self {
+        JournalError::Device
+    }
+}
 
 /// A disk with a log area and a home area, and a volatile cache. Blocks are numbered from 0 in each area. Each block of
 /// each area is written whole or not at all, and survives a loss of power independently of all others. Each call is at

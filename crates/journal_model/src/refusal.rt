@@ -1,3 +1,4 @@
+use std::alloc::AllocError;
 use thiserror::Error;
 
 /// Why a call was refused. Each refusal has a number, by which programs print it.
@@ -70,6 +71,17 @@ pub enum JournalError {
     /// 22: the first malformed block behind the complete transactions of the log (its place in the log area).
     #[error("Damage {0}")]
     Damage(u64),
+}
+
+impl From<AllocError> for JournalError {
+    ghost use Rattle.std.specs.Prelude.{◌≡◌};
+    ghost use Rattle.journal_model.specs.declared.refusal.JournalError.TheVariants.{Memory};
+
+    ghost from_gives = { λ _ e. e ≡ Memory };
+
+    fn from(_e: AllocError) -> Self {
+        JournalError::Memory
+    }
 }
 
 impl JournalError {
