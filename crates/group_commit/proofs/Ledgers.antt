@@ -1,0 +1,115 @@
+-- What a ledger that can run on some device knows, whatever else is true of that device.
+use Rattle.std.proofs.Common.{arith, refl, sym, ap, ap₂, subst, ◌∙◌}
+use Rattle.std.proofs.lemmas.Bool.Decides.{nat_tests}
+use Rattle.std.specs.Prelude.{◌≡◌, ◌≢◌, ℕ, ◌+◌, ◌-◌, ◌<◌, Bool, true, ◌≤◌, List, length, Option, Some, None, slice_get, nat_lt, if◌then◌else◌}
+use Rattle.journal_model.specs.declared.entry.Batch.{Batch}
+use Rattle.journal_model.specs.Layout.{narrow}
+use Rattle.journal_model.specs.Opening.{greatest_number}
+use Rattle.journal_model.specs.OwnText.{own_text}
+use Rattle.journal_model.specs.Room.{need}
+use Rattle.journal_model.specs.declared.number.Area.TheVariants.{Log}
+use Rattle.journal_model.specs.Superblock.{Shape, with_tail}
+use Rattle.journal_model.specs.Text.{text_blocks}
+use Rattle.log_format.specs.Size.{IsBlockSize}
+use Rattle.journal_world.specs.declared.stage.Stage.TheVariants.{Idle, Blocks, CommitWrite, SuperblockWrite}
+use Rattle.journal_world.specs.Call.Call.{Write, Flush}
+use Rattle.journal_world.specs.Engine.{Engine, blocks_if, call_due, call_in, due_blocks, ring_place, write_block}
+use Rattle.group_commit.specs.declared.engine.Ledger.{Ledger}
+use Rattle.group_commit.specs.Engine.{CanRunOn, engine_of}
+use Rattle.group_commit.specs.Text.{AreCopies}
+use Rattle.journal_world.proofs.Elements.{all-at}
+use Rattle.journal_world.proofs.Superblocks.{accepted-size}
+use Rattle.journal_world.proofs.Texts.{due-some}
+use Rattle.group_commit.proofs.Running.{HasRing, due-one, runs-blocks, runs-few, runs-number, runs-ring, runs-size, superblock-of}
+
+-- the blocks that are due depend on the block size alone
+same-if : (l : Ledger) (shape other : Shape) (o : Option Batch) → shape.block_size ≡ other.block_size →
+    blocks_if (engine_of shape l) o ≡ blocks_if (engine_of other l) o
+same-if l shape other None same = refl
+same-if l shape other (Some b) same = ap (λ (size : ℕ). text_blocks (own_text (narrow size) l.uuid b.tid b.entries)) same
+
+pub same-due : (l : Ledger) (shape other : Shape) → shape.block_size ≡ other.block_size →
+    due_blocks (engine_of shape l) ≡ due_blocks (engine_of other l)
+same-due l shape other same = same-if l shape other (slice_get l.accepted l.committed) same
+
+-- the write of a block before the commit block is the call that is due
+pub call-block : (e : Engine) (k : ℕ) → e.stage ≡ Blocks k → k + 1 < length (due_blocks e) → Some (write_block e k) ≡ call_due e
+call-block e k is below =
+    let test : nat_lt (k + 1) (length (due_blocks e)) ≡ true = grind (arith, nat_tests) in
+    ap (λ (b : Bool). Some (if b then write_block e k else Flush Log)) (sym test) ∙ ap (call_in e) (sym is)
+
+-- and so is the write of the commit block
+pub call-commit : (e : Engine) (n : ℕ) → e.stage ≡ CommitWrite → n ≡ length (due_blocks e) → Some (write_block e (n - 1)) ≡ call_due e
+call-commit e n is last = ap (λ (m : ℕ). Some (write_block e (m - 1))) last ∙ ap (call_in e) (sym is)
+
+-- and that of the superblock
+pub call-superblock : (e : Engine) (block : List ℕ) (sequence start : ℕ) → e.stage ≡ SuperblockWrite → block ≡ with_tail e.superblock sequence start →
+    sequence ≡ e.first + e.committed → start ≡ ring_place e.ring e.head → Some (Write Log 0 block) ≡ call_due e
+call-superblock e block sequence start is made number place =
+    ap (λ (v : List ℕ). Some (Write Log 0 v)) (made ∙ ap₂ (with_tail e.superblock) number place) ∙ ap (call_in e) (sym is)
+
+module _ (l : Ledger) (size : ℕ) (on : CanRunOn l size) where
+  -- its blocks have a size that a block may have
+  pub on-size : IsBlockSize size
+  on-size = subst IsBlockSize (sym on.size_is) (runs-size (engine_of on.shape l) on.can_run.plain)
+
+  -- its ring lies behind the superblock, and has not too many blocks
+  pub on-ring : HasRing (engine_of on.shape l)
+  on-ring = runs-ring (engine_of on.shape l) on.can_run.plain
+
+  -- as many bytes as the superblock has
+  pub on-superblock : length l.superblock.items ≡ size
+  on-superblock = (superblock-of (engine_of on.shape l) on.can_run.plain).size ∙ sym on.size_is
+
+  -- and that are enough for all its fields
+  pub on-long : 32 ≤ length l.superblock.items
+  on-long =
+      let is = superblock-of (engine_of on.shape l) on.can_run.plain in
+      let size = accepted-size on.shape l.superblock.items is.accepted in
+      let same = is.size in
+      omega arith
+
+  -- a batch is there where a call is due
+  pub on-due : l.stage ≢ Idle → l.committed < length l.accepted
+  on-due busy = let one : length l.accepted ≡ l.committed + 1 = due-one (engine_of on.shape l) l.stage on.can_run.plain.stage busy in omega arith
+
+  -- the numbers of all of them fit
+  pub on-numbers : l.first + length l.accepted ≤ greatest_number + 1
+  on-numbers = on.can_run.plain.numbers
+
+  -- and then some block is due
+  pub on-some : (shape : Shape) → l.stage ≢ Idle → 0 < length (due_blocks (engine_of shape l))
+  on-some shape busy = due-some (engine_of shape l) (due-one (engine_of on.shape l) l.stage on.can_run.plain.stage busy)
+
+  -- it has copies alone
+  pub on-copies : (b : Batch) → slice_get l.accepted l.committed ≡ Some b → AreCopies size b.entries
+  on-copies b stands =
+      subst (λ (n : ℕ). AreCopies n b.entries) (sym on.size_is)
+      (all-at (λ (x : Batch). AreCopies on.shape.block_size x.entries) l.accepted l.committed b on.can_run.copies stands)
+
+  -- no more of them than the ring has blocks
+  pub on-few : (b : Batch) → slice_get l.accepted l.committed ≡ Some b → length b.entries ≤ 1048576
+  on-few b stands =
+      let few = runs-few (engine_of on.shape l) b on.can_run stands in
+      let ring = on-ring.few in
+      omega arith
+
+  -- and it has the number that is due
+  pub on-number : (b : Batch) → slice_get l.accepted l.committed ≡ Some b → b.tid ≡ l.first + l.committed
+  on-number b stands = runs-number (engine_of on.shape l) b on.can_run stands
+
+  -- the blocks that are due are as many as it needs
+  pub on-blocks : (b : Batch) (shape : Shape) → slice_get l.accepted l.committed ≡ Some b → shape.block_size ≡ size →
+      need (narrow size) (length b.entries) 0 ≡ length (due_blocks (engine_of shape l))
+  on-blocks b shape stands same =
+      ap (λ (n : ℕ). need (narrow n) (length b.entries) 0) on.size_is
+      ∙ sym (runs-blocks (engine_of on.shape l) b on.can_run stands)
+      ∙ ap length (same-due l on.shape shape (sym on.size_is ∙ sym same))
+
+  -- they fit what is left of the ring
+  pub on-room : (shape : Shape) → shape.block_size ≡ size → l.head + length (due_blocks (engine_of shape l)) ≤ l.ring_blocks
+  on-room shape same =
+      let room : l.head + length (due_blocks (engine_of on.shape l)) ≤ l.ring_blocks = on.can_run.plain.room in
+      let alike : length (due_blocks (engine_of shape l)) ≡ length (due_blocks (engine_of on.shape l)) =
+      ap length (same-due l shape on.shape (same ∙ on.size_is)) in
+      omega arith

@@ -1,0 +1,291 @@
+-- The batch of a transaction whose steps are good ones, and a front and an engine that still agree after each step.
+use Rattle.std.proofs.Common.{arith, refl, sym, ap, ap₂, subst, ◌∙◌, length-append}
+use Rattle.std.specs.Prelude.{◌≡◌, ◌≢◌, ℕ, ◌+◌, ◌<◌, ◌==◌, Bool, true, false, if◌then◌else◌, List, [], ◌∷◌, ◌++◌, length, Option, Some, None, option_map, option_to_list, nat_eq}
+use Rattle.std.specs.List.{AllByRecursion, IsDistinct, filter_map}
+use Rattle.std.proofs.lemmas.Bool.Decides.{nat_tests}
+use Rattle.std.proofs.lemmas.List.Elements.{All-from_recursion}
+use Rattle.std.proofs.lemmas.Option.{none-some, same_Some}
+use Rattle.std.proofs.lemmas.Bool.{true≢false}
+use Rattle.journal_model.specs.declared.entry.Batch.{Batch}
+use Rattle.journal_model.specs.declared.entry.Entry.{Entry}
+use Rattle.journal_model.specs.declared.entry.Entry.TheVariants.{Copy, Revoke}
+use Rattle.journal_model.specs.declared.refusal.JournalError.{JournalError}
+use Rattle.journal_model.specs.Disk.{Disk}
+use Rattle.journal_model.specs.declared.transaction.Op.{Op}
+use Rattle.journal_model.specs.declared.transaction.Op.TheVariants.{Write, Revoke as RevokeOp, Read}
+use Rattle.journal_model.specs.declared.transaction.Step.{Step}
+use Rattle.journal_model.specs.Block.{IsAllowedBlock}
+use Rattle.journal_model.specs.Layout.{narrow}
+use Rattle.journal_model.specs.OwnText.{copied}
+use Rattle.journal_model.specs.Superblock.{Shape}
+use Rattle.journal_model.specs.Transaction.{Transaction, effect, entries, entry_of, later, touched}
+use Rattle.journal_model.proofs.Effects.{entries-blocks, touched-distinct}
+use Rattle.journal_model.proofs.OwnTextEach.{each-append}
+use Rattle.journal_world.specs.declared.stage.Stage.{Stage}
+use Rattle.journal_world.specs.declared.stage.Stage.TheVariants.{Idle, SuperblockWrite, SuperblockFlush, Blocks, CommitWrite, CommitFlush}
+use Rattle.block_device.specs.State.{DeviceState}
+use Rattle.journal_world.specs.Engine.{AreBatchesOf, CommitSteps, Engine, IsBatch, stepped_from}
+use Rattle.journal_world.specs.Front.{Front, finishing, sealing, write_step, writing}
+use Rattle.journal_world.specs.Journal.{batch_of}
+use Rattle.journal_world.proofs.Batches.{batches-last}
+use Rattle.journal_world.specs.Sound.{IsPlain, StageAgrees}
+use Rattle.group_commit.specs.Engine.{MayAccept, StepRefused}
+use Rattle.group_commit.specs.Engine.StepRefused.{WasAborted, DeviceFailed}
+use Rattle.group_commit.specs.Journal.TurnRefused.{DeviceFailed as FailedTurn}
+use Rattle.group_commit.specs.Journal.{Agrees, FinishesCommit, HasRoomFor, IsGoodStep, IsWholeWrite, SealIsDue, TurnRefused}
+use Rattle.group_commit.specs.Text.{AreCopies, IsWholeCopy}
+use Rattle.group_commit.proofs.Running.{due-one}
+use Rattle.group_commit.proofs.Stepping.{busy}
+use Rattle.group_commit.proofs.Turning.{Keeps, fault-keeps, step-keeps}
+
+-- an entry that a transaction of good steps may have
+record IsGoodEntry (shape : Shape) (p : ℕ × Entry) : Type 0 where
+  whole : IsWholeCopy shape.block_size p.1
+  allowed : IsAllowedBlock (narrow shape.block_size) shape.home_blocks p.0
+
+-- what one good step leaves
+op-good : (shape : Shape) (b : ℕ) (op : Op) (e : Entry) → IsWholeWrite shape.block_size op → IsAllowedBlock (narrow shape.block_size) shape.home_blocks b →
+    entry_of op ≡ Some e → IsGoodEntry shape (b, e)
+op-good shape b (Write v) e whole allowed leaves =
+    subst (λ x. IsGoodEntry shape (b, x)) (same_Some (Copy v) e leaves) (record { whole = whole; allowed = allowed })
+op-good shape b RevokeOp e whole allowed leaves = absurd whole
+op-good shape b (Read v) e whole allowed leaves = absurd whole
+
+-- of its own block
+step-good : (shape : Shape) (b : ℕ) (s : Step) (e : Entry) (here : Bool) → IsGoodStep shape s → (s.block == b) ≡ here →
+    (if here then entry_of s.op else None) ≡ Some e → IsGoodEntry shape (b, e)
+step-good shape b s e true good is leaves =
+    let same : s.block ≡ b = grind (arith, nat_tests) in
+    subst (λ (n : ℕ). IsGoodEntry shape (n, e)) same (op-good shape s.block s.op e good.whole good.allowed leaves)
+step-good shape b s e false good is leaves = absurd (none-some e leaves)
+
+-- of the steps behind it, or of the first one
+effect-by : (shape : Shape) (b : ℕ) (s : Step) (e : Entry) (o : Option Entry) → IsGoodStep shape s → (o ≡ Some e → IsGoodEntry shape (b, e)) →
+    later (if s.block == b then entry_of s.op else None) o ≡ Some e → IsGoodEntry shape (b, e)
+effect-by shape b s e None good rest leaves = step-good shape b s e (s.block == b) good refl leaves
+effect-by shape b s e (Some x) good rest leaves = rest leaves
+
+-- what good steps leave of a block
+effect-good : (shape : Shape) (b : ℕ) (ss : List Step) (e : Entry) → AllByRecursion (IsGoodStep shape) ss → effect b ss ≡ Some e → IsGoodEntry shape (b, e)
+effect-good shape b [] e all leaves = absurd (none-some e leaves)
+effect-good shape b (s ∷ ss) e all leaves = effect-by shape b s e (effect b ss) all.0 (λ rest. effect-good shape b ss e all.1 rest) leaves
+
+-- the first value that is found, or none, before those that are found behind it
+found-by : {Y : Type 0} (P : Y → Type 0) (o : Option Y) (ys : List Y) → ((y : Y) → o ≡ Some y → P y) → AllByRecursion P ys →
+    AllByRecursion P (option_to_list o ++ ys)
+found-by P None ys found all = all
+found-by P (Some y) ys found all = (found y refl, all)
+
+-- what a function finds in a list, from its first value on
+found-first : {X Y : Type 0} (h : X → Option Y) (x : X) (xs : List X) (o : Option Y) → h x ≡ o → filter_map h (x ∷ xs) ≡ option_to_list o ++ filter_map h xs
+found-first h x xs None is = rw is
+found-first h x xs (Some y) is = rw is
+
+-- what holds of each value that a function finds, holds of those that it finds in a list
+each-found : {X Y : Type 0} (P : Y → Type 0) (h : X → Option Y) (xs : List X) → ((x : X) (y : Y) → h x ≡ Some y → P y) → AllByRecursion P (filter_map h xs)
+each-found P h [] found = tt
+each-found P h (x ∷ xs) found =
+    subst (AllByRecursion P) (sym (found-first h x xs (h x) refl)) (found-by P (h x) (filter_map h xs) (found x) (each-found P h xs found))
+
+-- an entry is found with what the steps leave of its block
+entry-found : (b : ℕ) (o : Option Entry) (y : ℕ × Entry) → option_map (λ e. (b, e)) o ≡ Some y → (e : Entry) × (o ≡ Some e) × (y ≡ (b, e))
+entry-found b None y is = absurd (none-some y is)
+entry-found b (Some e) y is = (e, refl, sym (same_Some (b, e) y is))
+
+-- each entry of good steps is a good one
+entries-good : (shape : Shape) (ss : List Step) → AllByRecursion (IsGoodStep shape) ss → AllByRecursion (IsGoodEntry shape) (entries ss)
+entries-good shape ss all = each-found (IsGoodEntry shape) (λ b. option_map (λ e. (b, e)) (effect b ss)) (touched ss)
+    (λ b y is. let found = entry-found b (effect b ss) y is in subst (IsGoodEntry shape) (sym found.2) (effect-good shape b ss found.0 all found.1))
+
+-- so its copies are whole blocks
+copies-good : (shape : Shape) (es : List (ℕ × Entry)) → AllByRecursion (IsGoodEntry shape) es → AllByRecursion (λ c. length c.1 ≡ shape.block_size) (copied es)
+copies-good shape [] all = tt
+copies-good shape ((b, Copy v) ∷ es) all = (all.0.whole, copies-good shape es all.1)
+copies-good shape ((b, Revoke) ∷ es) all = absurd all.0.whole
+
+each-weaker : {X : Type 0} (P Q : X → Type 0) → ((x : X) → P x → Q x) → (xs : List X) → AllByRecursion P xs → AllByRecursion Q xs
+each-weaker P Q weaker [] all = tt
+each-weaker P Q weaker (x ∷ xs) all = (weaker x all.0, each-weaker P Q weaker xs all.1)
+
+-- the batch of a transaction of good steps is one that the engine takes
+pub batch-good : (shape : Shape) (t : Transaction) → AllByRecursion (IsGoodStep shape) t.steps → IsBatch shape (batch_of t)
+batch-good shape t all =
+    let good = entries-good shape t.steps all in
+    record {
+      once = subst (IsDistinct nat_eq) (sym (entries-blocks t.steps)) (touched-distinct t.steps);
+      allowed = All-from_recursion _ (entries t.steps) (each-weaker (IsGoodEntry shape) _ (λ p is. is.allowed) (entries t.steps) good);
+      whole = All-from_recursion _ (copied (entries t.steps)) (copies-good shape (entries t.steps) good);
+    }
+
+-- and it has copies alone
+pub batch-copies : (shape : Shape) (t : Transaction) → AllByRecursion (IsGoodStep shape) t.steps → AreCopies shape.block_size (entries t.steps)
+batch-copies shape t all =
+    let good = entries-good shape t.steps all in
+    record {
+      whole = All-from_recursion _ (entries t.steps) (each-weaker (IsGoodEntry shape) _ (λ p is. is.whole) (entries t.steps) good);
+      spelled = All-from_recursion _ (entries t.steps) (each-weaker (IsGoodEntry shape) _ (λ p is. is.allowed.spelled) (entries t.steps) good);
+    }
+
+-- a step that leaves a call due commits nothing
+pub counts-same : (e : Engine) (stage : Stage) → (stepped_from e stage).stage ≢ Idle → (stepped_from e stage).committed ≡ e.committed
+counts-same e Idle busy = refl
+counts-same e SuperblockWrite busy = refl
+counts-same e SuperblockFlush busy = refl
+counts-same e (Blocks k) busy = refl
+counts-same e CommitWrite busy = refl
+counts-same e CommitFlush busy = absurd (busy refl)
+
+-- neither of the stages behind a block is the last
+not-idle : (more : Bool) (k : ℕ) → (if more then Blocks (k + 1) else CommitWrite) ≡ Idle → ⊥
+not-idle true k is = cc
+not-idle false k is = cc
+
+-- a step that leaves none due commits one transaction
+pub counts-one : (e : Engine) (stage : Stage) → stage ≢ Idle → (stepped_from e stage).stage ≡ Idle → (stepped_from e stage).committed ≡ e.committed + 1
+counts-one e Idle busy idle = absurd (busy refl)
+counts-one e SuperblockWrite busy idle = cc
+counts-one e SuperblockFlush busy idle = cc
+counts-one e (Blocks k) busy idle = absurd (not-idle _ k idle)
+counts-one e CommitWrite busy idle = cc
+counts-one e CommitFlush busy idle = refl
+
+module _ (f : Front) (old new : Engine) (agrees : Agrees (record { front = f; engine = old })) (keeps : Keeps old new) where
+  batches-kept : AreBatchesOf f.sealed new.accepted
+  batches-kept = subst (AreBatchesOf f.sealed) (sym keeps.accepted) agrees.batches
+
+  number-kept : f.running.tid ≡ new.first + length new.accepted
+  number-kept = agrees.number ∙ ap₂ (λ (n : ℕ) (bs : List Batch). n + length bs) (sym keeps.first) (sym keeps.accepted)
+
+  steps-kept : AllByRecursion (IsGoodStep new.shape) f.running.steps
+  steps-kept = subst (λ (s : Shape). AllByRecursion (IsGoodStep s) f.running.steps) (sym keeps.shape) agrees.steps
+
+  -- front and engine agree after a step that commits nothing
+  pub agrees-moved : new.committed ≡ old.committed → Agrees (record { front = f; engine = new })
+  agrees-moved same = record {
+    batches = batches-kept;
+    number = number-kept;
+    mark = agrees.mark ∙ ap₂ (λ (a b : ℕ). a + b) (sym keeps.first) (sym same);
+    steps = steps-kept;
+    joined = agrees.joined;
+    locked = agrees.locked;
+  }
+
+  -- and after one that commits, where the front tells of it
+  pub agrees-done : new.committed ≡ old.committed + 1 → Agrees (record { front = finishing f; engine = new })
+  agrees-done more = record {
+    batches = batches-kept;
+    number = number-kept;
+    mark = let mark = agrees.mark in let first = keeps.first in omega arith;
+    steps = steps-kept;
+    joined = agrees.joined;
+    locked = agrees.locked;
+  }
+
+-- and after the seal of a transaction whose entries the engine took
+pub agrees-sealed : (f : Front) (old new : Engine) → Agrees (record { front = f; engine = old }) → new.first ≡ old.first → new.committed ≡ old.committed →
+    new.accepted ≡ old.accepted ++ batch_of f.running ∷ [] → Agrees (record { front = sealing f; engine = new })
+agrees-sealed f old new agrees first committed accepted = record {
+  batches = subst (AreBatchesOf (f.sealed ++ f.running ∷ [])) (sym accepted) (batches-last f.sealed old.accepted f.running agrees.batches);
+  number =
+      let number = agrees.number in
+      let size : length new.accepted ≡ length old.accepted + 1 = ap length accepted ∙ omega (arith, length-append old.accepted (batch_of f.running ∷ [])) in
+      omega arith;
+  mark = agrees.mark ∙ ap₂ (λ (a b : ℕ). a + b) (sym first) (sym committed);
+  steps = tt;
+  joined = λ some. absurd (omega arith);
+  locked = λ is. absurd (true≢false (sym is));
+}
+
+-- the engine may take the batch of a transaction that is due to be sealed
+pub may-accept : (f : Front) (e : Engine) → Agrees (record { front = f; engine = e }) → IsPlain e → SealIsDue (record { front = f; engine = e }) →
+    HasRoomFor (record { front = f; engine = e }) → MayAccept e (batch_of f.running)
+may-accept f e agrees plain due room = record {
+  running = due.running;
+  idle = due.idle;
+  number = agrees.number ∙ ap (λ (n : ℕ). e.first + n) (idle-all e.stage due.idle plain.stage);
+  left = agrees.joined (agrees.locked due.locked);
+  batch = batch-good e.shape f.running agrees.steps;
+  copies = batch-copies e.shape f.running agrees.steps;
+  room = room;
+}
+  where
+    idle-all : (stage : Stage) → stage ≡ Idle → StageAgrees e stage → length e.accepted ≡ e.committed
+    idle-all stage idle agrees = (subst (StageAgrees e) idle agrees).0
+
+-- front and engine agree after a step that was refused
+pub agrees-refused : (f : Front) (old new : Engine) (before after : DeviceState) (e : JournalError) → Agrees (record { front = f; engine = old }) →
+    StepRefused old before new after e → Agrees (record { front = f; engine = new })
+agrees-refused f old new before after e agrees (WasAborted is same stays counted) = subst (λ (x : Engine). Agrees (record { front = f; engine = x })) (sym same) agrees
+agrees-refused f old new before after e agrees (DeviceFailed fault counted) =
+    agrees-moved f old new agrees (fault-keeps old new before.disk after.disk fault) (ap (λ (x : Engine). x.committed) fault.engine)
+
+-- after a step that is not the last one
+pub agrees-step : (f : Front) (old new : Engine) (disk after : Disk) → Agrees (record { front = f; engine = old }) → CommitSteps old disk new after →
+    new.stage ≢ Idle → Agrees (record { front = f; engine = new })
+agrees-step f old new disk after agrees step going =
+    let same : (stepped_from old old.stage).committed ≡ old.committed = counts-same old old.stage (λ idle. going (ap (λ (x : Engine). x.stage) step.engine ∙ idle)) in
+    agrees-moved f old new agrees (step-keeps old new disk after step) (ap (λ (x : Engine). x.committed) step.engine ∙ same)
+
+-- the last step commits one transaction
+pub one-more : (old new : Engine) (disk after : Disk) → CommitSteps old disk new after → new.stage ≡ Idle → new.committed ≡ old.committed + 1
+one-more old new disk after step idle =
+    ap (λ (x : Engine). x.committed) step.engine
+    ∙ counts-one old old.stage (busy old step.call step.due) (sym (ap (λ (x : Engine). x.stage) step.engine) ∙ idle)
+
+-- after it they agree, where the front tells of it
+pub agrees-last : (f front : Front) (old new : Engine) (disk after : Disk) → Agrees (record { front = f; engine = old }) → CommitSteps old disk new after →
+    new.stage ≡ Idle → front ≡ finishing f → Agrees (record { front = front; engine = new })
+agrees-last f front old new disk after agrees step idle told =
+    subst (λ (x : Front). Agrees (record { front = x; engine = new })) (sym told)
+    (agrees-done f old new agrees (step-keeps old new disk after step) (one-more old new disk after step idle))
+
+-- a commit step that is refused refuses the turn
+pub refused-turn : {D : Type 0} (state : D → DeviceState) (f : Front) (d other : D) (old new : Engine) (e : JournalError) → old.aborted ≡ false →
+    StepRefused old (state d) new (state other) e →
+    TurnRefused state (record { device = d; journal = record { front = f; engine = old } }) (record { device = other; journal = record { front = f; engine = new } }) e
+refused-turn state f d other old new e running (WasAborted is same stays counted) = absurd (true≢false (sym is ∙ running))
+refused-turn state f d other old new e running (DeviceFailed fault counted) = FailedTurn (record { front = refl; engine = fault }) counted
+
+-- the last step of a commit, with what the front tells
+pub finishes-commit : {D : Type 0} (state : D → DeviceState) (f front : Front) (d other : D) (old new : Engine) (tid : ℕ) →
+    Agrees (record { front = f; engine = old }) → CommitSteps old (state d).disk new (state other).disk → new.stage ≡ Idle →
+    tid ≡ old.first + old.committed → front ≡ finishing f →
+    FinishesCommit state tid (record { device = d; journal = record { front = f; engine = old } })
+    (record { device = other; journal = record { front = front; engine = new } })
+finishes-commit state f front d other old new tid agrees step idle number told = record {
+  mid = record { front = f; engine = new };
+  commits = record { front = refl; engine = step };
+  idle = idle;
+  finishes = record {
+    committed =
+        let mark = agrees.mark in
+        let first : new.first ≡ old.first = (step-keeps old new (state d).disk (state other).disk step).first in
+        let more = one-more old new (state d).disk (state other).disk step idle in
+        omega arith;
+    change = record { journal = ap (λ (x : Front). record { front = x; engine = new }) told; disk_is = refl };
+  };
+  number = number ∙ sym agrees.mark ∙ sym (ap (λ (x : Front). x.mark) told);
+}
+
+-- a transaction that is being committed lies before the running one
+pub mark-below : (f : Front) (e : Engine) → Agrees (record { front = f; engine = e }) → IsPlain e → e.stage ≢ Idle → f.mark < f.running.tid
+mark-below f e agrees plain going =
+    let one = due-one e e.stage plain.stage going in
+    let mark = agrees.mark in
+    let number = agrees.number in
+    omega arith
+
+-- front and engine agree after a good step of a handle
+pub agrees-written : (f front : Front) (e : Engine) (h b : ℕ) (v : List ℕ) → Agrees (record { front = f; engine = e }) →
+    IsAllowedBlock (narrow e.shape.block_size) e.shape.home_blocks b → length v ≡ e.shape.block_size → front ≡ writing f h b v →
+    Agrees (record { front = front; engine = e })
+agrees-written f front e h b v agrees allowed whole wrote =
+    let written : Agrees (record { front = writing f h b v; engine = e }) = record {
+      batches = agrees.batches;
+      number = agrees.number;
+      mark = agrees.mark;
+      steps = each-append (IsGoodStep e.shape) f.running.steps (write_step h b v ∷ []) agrees.steps (record { whole = whole; allowed = allowed }, tt);
+      joined = agrees.joined;
+      locked = agrees.locked;
+    } in
+    subst (λ (x : Front). Agrees (record { front = x; engine = e })) (sym wrote) written

@@ -1,0 +1,44 @@
+use Rattle.std.proofs.Common.{sym, subst, ◌≡◌}
+use Rattle.std.specs.Prelude.{false}
+use Rattle.std.proofs.lemmas.Result.{err_from_is_err_and}
+use Rattle.group_commit.specs.declared.engine.Progress.{Progress}
+use Rattle.group_commit.specs.Engine.{StepDid}
+use Rattle.group_commit.specs.Values.{JournalValue}
+use Rattle.group_commit.proofs.Sealing.{agrees-refused, finishes-commit, refused-turn}
+use Rattle.group_commit.proofs.Turning.{each-turn}
+use Rattle.group_commit.proofs.journal.Journal.commit_step.Goals as goal
+
+-- where the device failed, front and engine agree as before
+pub invariant_of-self : goal.invariant_of-self
+invariant_of-self g c = agrees-refused _ _ _ _ _ _ c.self.invariant c.in_err-commit_step.ensures.err
+
+-- the device failed
+pub returns-in_err-commit_step-clause-err : goal.returns-in_err-commit_step-clause-err
+returns-in_err-commit_step-clause-err g c =
+    let running = subst (λ (v : JournalValue g.row.D.Denot). v.journal.engine.aborted ≡ false) (sym c.self.view_is) c.requires.running in
+    let p = err_from_is_err_and c.from_residual.result c.from_residual.ensures.1 in
+    rw (p.1, p.2, ← c.self.view_is) (refused-turn g.D.Device.state _ _ _ _ _ _ running c.in_err-commit_step.ensures.err)
+
+-- each of its moments is one of the turn
+pub returns-in_err-commit_step-clause-moments : goal.returns-in_err-commit_step-clause-moments
+returns-in_err-commit_step-clause-moments g c =
+    rw (← c.self.view_is) (λ honest. each-turn _ _ _ c.self.invariant (c.commit_step.ensures.moments honest))
+
+-- so it is of a step that is not the last
+pub returns-in-Step-clause-moments : goal.returns-in-Step-clause-moments
+returns-in-Step-clause-moments g c =
+    rw (← c.self.view_is) (λ honest. each-turn _ _ _ c.self.invariant (c.commit_step.ensures.moments honest))
+
+-- the last step commits the transaction, and the front tells of it
+pub returns-in-Done-clause-ok : goal.returns-in-Done-clause-ok
+returns-in-Done-clause-ok g c =
+    let old = c.self.inside.engine in
+    let new = c.commit_step.new.self in
+    let did = subst (λ (p : Progress). StepDid p old.engine (g.D.Device.state old.device).disk new.engine (g.D.Device.state new.device).disk)
+    c.in-Done.is c.in_ok-commit_step.ensures.ok in
+    rw (← c.self.view_is) (finishes-commit g.D.Device.state _ _ _ _ _ _ _ c.self.invariant did.0 did.1 did.2 c.finish.ensures)
+
+-- each of its moments is one of the turn
+pub returns-in-Done-clause-moments : goal.returns-in-Done-clause-moments
+returns-in-Done-clause-moments g c =
+    rw (← c.self.view_is) (λ honest. each-turn _ _ _ c.self.invariant (c.commit_step.ensures.moments honest))

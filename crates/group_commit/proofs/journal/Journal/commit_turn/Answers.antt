@@ -1,0 +1,35 @@
+use Rattle.std.proofs.Common.{refl, sym, ap, subst, ◌∙◌}
+use Rattle.block_device.specs.State.{EachMoment}
+use Rattle.group_commit.specs.Journal.{IsDuringTurn, TurnRefused}
+use Rattle.journal_world.specs.Journal.{Journal}
+use Rattle.group_commit.specs.Values.{JournalValue}
+use Rattle.group_commit.proofs.Turning.{each-stay, opens-now}
+use Rattle.group_commit.proofs.journal.Journal.commit_turn.Goals as goal
+
+-- an aborted journal refuses
+pub returns-then-is_aborted-clause-err : goal.returns-then-is_aborted-clause-err
+returns-then-is_aborted-clause-err g c =
+    rw (← c.self.view_is) (TurnRefused.WasAborted (sym c.is_aborted.ensures.aborted ∙ c.if-is_aborted.true) refl)
+
+-- where the device does nothing, what holds now holds at the one moment
+pub returns-then-is_aborted-clause-moments : goal.returns-then-is_aborted-clause-moments
+returns-then-is_aborted-clause-moments g c =
+    rw (← c.self.view_is) (λ honest. each-stay _ _ (opens-now _ _ c.self.invariant (c.is_aborted.ensures.opens honest)))
+
+pub returns-then-not-is_locked-clause-moments : goal.returns-then-not-is_locked-clause-moments
+returns-then-not-is_locked-clause-moments g c =
+    rw (← c.self.view_is) (λ honest. each-stay _ _ (opens-now _ _ c.self.invariant (c.is_aborted.ensures.opens honest)))
+
+pub returns-then-has_open_handles-clause-moments :
+    goal.returns-then-has_open_handles-clause-moments
+returns-then-has_open_handles-clause-moments g c =
+    rw (← c.self.view_is) (λ honest. each-stay _ _ (opens-now _ _ c.self.invariant (c.is_aborted.ensures.opens honest)))
+
+-- a seal makes no device call
+pub returns-clause-moments : goal.returns-clause-moments
+returns-clause-moments g c =
+    let device = c.seal.ensures.device ∙ sym (ap (λ (v : JournalValue g.row.D.Denot). v.device) c.self.view_is) in
+    let before = g.D.Device.state c.self.inside.engine.device in
+    let j : Journal = record { front = c.self.inside.front; engine = c.self.inside.engine.engine } in
+    rw (← c.self.view_is) (λ honest. subst (λ (d : g.row.D.Denot). EachMoment (IsDuringTurn j before.disk) before (g.D.Device.state d)) (sym device)
+    (each-stay j before (opens-now j before.disk c.self.invariant (c.is_aborted.ensures.opens honest))))

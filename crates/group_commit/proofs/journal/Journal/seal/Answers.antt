@@ -1,0 +1,62 @@
+use Rattle.std.proofs.Common.{refl, sym, ap, subst, ◌∙◌, ◌≤◌, ◌+◌, ℕ}
+use Rattle.std.proofs.lemmas.Bool.{true≢false}
+use Rattle.std.proofs.lemmas.Result.{err_from_is_err_and}
+use Rattle.journal_model.specs.declared.entry.Batch.{Batch}
+use Rattle.journal_model.specs.Layout.{narrow}
+use Rattle.journal_model.specs.Room.{need}
+use Rattle.journal_world.specs.Engine.{Accepts, Engine}
+use Rattle.journal_world.specs.Front.{Front}
+use Rattle.journal_world.specs.Sound.{IsPlain}
+use Rattle.group_commit.specs.Engine.{MayAccept}
+use Rattle.group_commit.specs.Journal.{Agrees, HasRoomFor, SealIsDue, TurnRefused}
+use Rattle.group_commit.specs.Values.{EngineValue, JournalValue}
+use Rattle.group_commit.proofs.Sealing.{agrees-sealed, may-accept}
+use Rattle.group_commit.proofs.journal.Journal.seal.Goals as goal
+
+-- the ring is too short
+pub returns-then-not-has_room-clause-err : goal.returns-then-not-has_room-clause-err
+returns-then-not-has_room-clause-err g c =
+    let due = subst (λ (v : JournalValue g.row.D.Denot). SealIsDue v.journal) (sym c.self.view_is) c.requires.due in
+    let e = c.self.inside.engine.engine in
+    let short = λ (room : HasRoomFor (record { front = c.self.inside.front; engine = e })).
+    true≢false
+    (sym (c.has_room.ensures.1 (subst (λ (n : ℕ). e.head + need (narrow e.shape.block_size) n 0 ≤ e.ring.blocks) (sym c.touched.ensures) room))
+    ∙ c.if-not-has_room.true) in
+    rw (← c.self.view_is) (TurnRefused.RingIsShort due short refl)
+
+-- memory ran out for the batch
+pub returns-in_err-batch-clause-err : goal.returns-in_err-batch-clause-err
+returns-in_err-batch-clause-err g c =
+    let due = subst (λ (v : JournalValue g.row.D.Denot). SealIsDue v.journal) (sym c.self.view_is) c.requires.due in
+    let e = c.self.inside.engine.engine in
+    let room = subst (λ (n : ℕ). e.head + need (narrow e.shape.block_size) n 0 ≤ e.ring.blocks) c.touched.ensures (c.has_room.ensures.0 c.if-not-has_room.false) in
+    let p = err_from_is_err_and c.from_residual.result c.from_residual.ensures.1 in
+    rw (p.1, p.2, ← c.self.view_is) (TurnRefused.MemoryIsShort due room refl)
+
+-- the engine may take it
+pub accept-requires : goal.accept-requires
+accept-requires g c =
+    let due = subst (λ (v : JournalValue g.row.D.Denot). SealIsDue v.journal) (sym c.self.view_is) c.requires.due in
+    let e = c.self.inside.engine.engine in
+    let room = subst (λ (n : ℕ). e.head + need (narrow e.shape.block_size) n 0 ≤ e.ring.blocks) c.touched.ensures (c.has_room.ensures.0 c.if-not-has_room.false) in
+    let plain = subst (λ (v : JournalValue g.row.D.Denot). IsPlain v.journal.engine) (sym c.self.view_is) c.requires.plain in
+    subst (MayAccept e) (sym c.in_ok-batch.ensures) (may-accept c.self.inside.front e c.self.invariant plain due room)
+
+-- memory ran out for the engine
+pub returns-in_err-accept-clause-err : goal.returns-in_err-accept-clause-err
+returns-in_err-accept-clause-err g c =
+    let due = subst (λ (v : JournalValue g.row.D.Denot). SealIsDue v.journal) (sym c.self.view_is) c.requires.due in
+    let e = c.self.inside.engine.engine in
+    let room = subst (λ (n : ℕ). e.head + need (narrow e.shape.block_size) n 0 ≤ e.ring.blocks) c.touched.ensures (c.has_room.ensures.0 c.if-not-has_room.false) in
+    let p = err_from_is_err_and c.from_residual-in_err-accept.result c.from_residual-in_err-accept.ensures.1 in
+    let refused = c.in_err-accept.ensures.err in
+    let same = ap (λ (v : EngineValue g.row.D.Denot). record { device = v.device; journal = record { front = c.self.inside.front; engine = v.engine } }) refused.0 in
+    rw (p.1, p.2, refused.1, ← c.self.view_is) (TurnRefused.MemoryIsShort due room same)
+
+-- front and engine agree
+pub invariant_of-self-2 : goal.invariant_of-self-2
+invariant_of-self-2 g c =
+    let taken = subst (λ (b : Batch). Accepts c.self.inside.engine.engine b c.accept.new.self.engine) c.in_ok-batch.ensures c.in_ok-accept.ensures.ok in
+    subst (λ (f : Front). Agrees (record { front = f; engine = c.accept.new.self.engine })) (sym c.seal.ensures)
+    (agrees-sealed c.self.inside.front c.self.inside.engine.engine c.accept.new.self.engine c.self.invariant
+    (ap (λ (e : Engine). e.first) taken.after) (ap (λ (e : Engine). e.committed) taken.after) (ap (λ (e : Engine). e.accepted) taken.after))

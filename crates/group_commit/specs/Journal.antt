@@ -1,0 +1,152 @@
+-- What the calls of a journal do, each as one step of the pure machine, and why they are refused.
+use Rattle.std.specs.Prelude.{◌≡◌, ◌≢◌, ℕ, ◌+◌, ◌-◌, ◌<◌, ◌≤◌, true, false, length}
+use Rattle.std.specs.List.{AllByRecursion}
+use Rattle.journal_model.specs.declared.refusal.JournalError.{JournalError}
+use Rattle.journal_model.specs.declared.refusal.JournalError.TheVariants.{Aborted, BadBlock, Device, Memory, NeedSpace, NoCredit}
+use Rattle.journal_model.specs.declared.transaction.Op.{Op}
+use Rattle.journal_model.specs.declared.transaction.Op.TheVariants.{Write, Revoke, Read}
+use Rattle.journal_model.specs.declared.transaction.Step.{Step as HandleStep}
+use Rattle.journal_model.specs.Block.{IsAllowedBlock}
+use Rattle.journal_model.specs.Disk.{Disk, Image, Leaves}
+use Rattle.journal_model.specs.Layout.{narrow}
+use Rattle.journal_model.specs.Opening.{Opens, IsCountOf, greatest_number}
+use Rattle.journal_model.specs.Room.{need}
+use Rattle.journal_model.specs.Superblock.{Shape}
+use Rattle.journal_model.specs.Transaction.{History, entries}
+use Rattle.block_device.specs.State.{DeviceState, one_more_fault}
+use Rattle.journal_world.specs.declared.stage.Stage.TheVariants.{Idle}
+use Rattle.journal_world.specs.Engine.{AreBatchesOf}
+use Rattle.journal_world.specs.Front.{Front, IsFirstTouch}
+use Rattle.journal_world.specs.Journal.{Event, Happens, Journal}
+use Rattle.journal_world.specs.Journal.Event.{CommitFault, CommitStep, Finish, Lock, Seal}
+use Rattle.journal_world.specs.Sound.{KeepsHome}
+use Rattle.group_commit.specs.declared.handle.Status.{Status}
+use Rattle.group_commit.specs.declared.handle.Status.TheVariants.{Committed as IsCommitted, Open}
+use Rattle.group_commit.specs.declared.journal.Turn.{Turn}
+use Rattle.group_commit.specs.declared.journal.Turn.TheVariants.{Idle as IdleTurn, Waiting, Step, Sealed, Committed}
+use Rattle.group_commit.specs.Front.{JoinRefused}
+use Rattle.group_commit.specs.Values.{HandleValue, JournalValue}
+
+-- the journal and the disk of its device go from old to new by this one step
+abbrev pub Does : {D : Type 0} → (D → DeviceState) → JournalValue D → Event → JournalValue D → Type 0
+Does state old event new = Happens old.journal (state old.device).disk event new.journal (state new.device).disk
+
+-- the write of a whole block that may be touched
+abbrev pub IsWholeWrite : ℕ → Op → Type 0
+IsWholeWrite size (Write v) = length v ≡ size
+IsWholeWrite size Revoke = ⊥
+IsWholeWrite size (Read v) = ⊥
+
+pub record IsGoodStep (shape : Shape) (s : HandleStep) : Type 0 where
+  pub whole : IsWholeWrite shape.block_size s.op
+  pub allowed : IsAllowedBlock (narrow shape.block_size) shape.home_blocks s.block
+
+-- front and engine agree: what is sealed is what is accepted, and what is told to be committed is what is committed
+pub record Agrees (j : Journal) : Type 0 where
+  pub batches : AreBatchesOf j.front.sealed j.engine.accepted
+  pub number : j.front.running.tid ≡ j.engine.first + length j.engine.accepted
+  pub mark : j.front.mark + 1 ≡ j.engine.first + j.engine.committed
+  pub steps : AllByRecursion (IsGoodStep j.engine.shape) j.front.running.steps
+  pub joined : 0 < length j.front.running.handles → j.front.running.tid ≤ greatest_number
+  pub locked : j.front.locked ≡ true → 0 < length j.front.running.handles
+
+-- why a handle can't be had: the journal is aborted, or else the front refuses it
+pub data TryJoinRefused (j : Journal) (e : JournalError) : Type 0 where
+  IsAborted : j.engine.aborted ≡ true → e ≡ Aborted → TryJoinRefused j e
+  ByFront : j.engine.aborted ≡ false → JoinRefused j.front e → TryJoinRefused j e
+
+-- the block is one that may be touched
+abbrev pub MayTouch : Journal → ℕ → Type 0
+MayTouch j b = IsAllowedBlock (narrow j.engine.shape.block_size) j.engine.shape.home_blocks b
+
+-- why a write is refused
+pub data WriteRefused (j : Journal) (left b : ℕ) : JournalError → Type 0 where
+  WhileAborted : j.engine.aborted ≡ true → WriteRefused j left b Aborted
+  OutOfHome : j.engine.aborted ≡ false → (MayTouch j b → ⊥) → WriteRefused j left b BadBlock
+  WithoutCredit : j.engine.aborted ≡ false → MayTouch j b → IsFirstTouch j.front b → left ≡ 0 → WriteRefused j left b NoCredit
+  WithoutMemory : j.engine.aborted ≡ false → MayTouch j b → WriteRefused j left b Memory
+
+-- what a write leaves of the handle: a first touch takes one of its credits, any other write none
+pub record Spends (f : Front) (b : ℕ) (old new : HandleValue) : Type 0 where
+  pub first : IsFirstTouch f b → (0 < old.left) × (new ≡ record old { left = old.left - 1 })
+  pub later : (IsFirstTouch f b → ⊥) → new ≡ old
+
+-- a request locks the ticket's transaction where that is still running, and a handle has joined it; else it does nothing
+pub record Requests {D : Type 0} (state : D → DeviceState) (tid : ℕ) (old new : JournalValue D) : Type 0 where
+  pub running : old.journal.engine.aborted ≡ false
+  pub same : tid ≡ old.journal.front.running.tid → 0 < length old.journal.front.running.handles → Does state old Lock new
+  pub other : (tid ≢ old.journal.front.running.tid) → new ≡ old
+  pub empty : length old.journal.front.running.handles ≡ 0 → new ≡ old
+
+-- the status of a ticket of this transaction
+abbrev pub StatusIs : Status → ℕ → Front → Type 0
+StatusIs IsCommitted tid f = tid ≤ f.mark
+StatusIs Open tid f = f.mark < tid
+
+-- what is left of the ring is enough for the running transaction
+abbrev pub HasRoomFor : Journal → Type 0
+HasRoomFor j =
+    j.engine.head + need (narrow j.engine.shape.block_size) (length (entries j.front.running.steps)) 0 ≤ j.engine.ring.blocks
+
+-- nothing is being committed, and the running transaction takes no further handles and has no open one
+pub record SealIsDue (j : Journal) : Type 0 where
+  pub running : j.engine.aborted ≡ false
+  pub idle : j.engine.stage ≡ Idle
+  pub locked : j.front.locked ≡ true
+  pub stopped : j.front.open_handles ≡ 0
+
+-- The commit step was the last one of its transaction: it is committed, and told to be so.
+pub record FinishesCommit {D : Type 0} (state : D → DeviceState) (tid : ℕ) (old new : JournalValue D) : Type 0 where
+  pub mid : Journal
+  pub commits : Happens old.journal (state old.device).disk CommitStep mid (state new.device).disk
+  pub idle : mid.engine.stage ≡ Idle
+  pub finishes : Happens mid (state new.device).disk Finish new.journal (state new.device).disk
+  pub number : tid ≡ new.journal.front.mark
+
+-- a commit step that is not the last one
+pub record StepsCommit {D : Type 0} (state : D → DeviceState) (old new : JournalValue D) : Type 0 where
+  pub commits : Does state old CommitStep new
+  pub busy : new.journal.engine.stage ≢ Idle
+
+-- nothing is being committed, and the running transaction takes further handles
+pub record NothingIsDue (j : Journal) : Type 0 where
+  pub running : j.engine.aborted ≡ false
+  pub idle : j.engine.stage ≡ Idle
+  pub unlocked : j.front.locked ≡ false
+
+-- it takes none, and one of its handles has not stopped
+pub record StopIsAwaited (j : Journal) : Type 0 where
+  pub running : j.engine.aborted ≡ false
+  pub idle : j.engine.stage ≡ Idle
+  pub locked : j.front.locked ≡ true
+  pub open_handle : 0 < j.front.open_handles
+
+-- what a commit turn did
+abbrev pub TurnDid : {D : Type 0} → (D → DeviceState) → Turn → JournalValue D → JournalValue D → Type 0
+TurnDid state IdleTurn old new = NothingIsDue old.journal × (new ≡ old)
+TurnDid state Waiting old new = StopIsAwaited old.journal × (new ≡ old)
+TurnDid state Step old new = StepsCommit state old new
+TurnDid state (Sealed tid) old new = Does state old Seal new × (tid ≡ old.journal.front.running.tid)
+TurnDid state (Committed tid) old new = FinishesCommit state tid old new
+
+-- why a commit turn is refused: the device failed before, or in this turn; or a seal is due, and the ring or memory is
+-- too short
+pub data TurnRefused {D : Type 0} (state : D → DeviceState) (old new : JournalValue D) : JournalError → Type 0 where
+  WasAborted : old.journal.engine.aborted ≡ true → new ≡ old → TurnRefused state old new Aborted
+  RingIsShort : SealIsDue old.journal → (HasRoomFor old.journal → ⊥) → new ≡ old → TurnRefused state old new NeedSpace
+  MemoryIsShort : SealIsDue old.journal → HasRoomFor old.journal → new ≡ old → TurnRefused state old new Memory
+  DeviceFailed : Does state old CommitFault new → (state new.device).faults ≡ one_more_fault (state old.device).faults →
+      TurnRefused state old new Device
+
+-- every image that a crash of the disk may leave opens, to a number of these transactions from low to high
+pub record OpensOver (shape : Shape) (ts : History) (low high : ℕ) (disk : Disk) : Type 0 where
+  pub each : (image : Image) → Leaves disk image → (n : ℕ) × (low ≤ n) × (n ≤ high) × Opens shape ts n image × IsCountOf shape image ts n
+
+-- the same of a journal: from its committed transactions to its sealed ones
+abbrev pub OpensNow : Journal → Disk → Type 0
+OpensNow j disk = OpensOver j.engine.shape j.front.sealed j.engine.committed (length j.front.sealed) disk
+
+-- a moment of a turn: home is as it was, and what a stop leaves opens
+pub record IsDuringTurn (j : Journal) (old disk : Disk) : Type 0 where
+  pub home : KeepsHome old disk
+  pub opens : OpensNow j disk

@@ -1,0 +1,192 @@
+use journal_model::{HandleNo, Tid};
+use std::marker::Model;
+
+/// Credits that were granted: the right of one handle to touch so many further blocks. Make a handle of them, or give
+/// them back to the journal that granted them: while they are held, others can have the fewer.
+/// Source: journalling.rst (the credits of `journal_start`).
+#[derive(Debug, Drop)]
+pub struct Credits {
+    count: u64,
+}
+
+impl Model for Credits {
+    ghost use Rattle.std.specs.Prelude.{ℕ};
+
+    ghost Value = { ℕ };
+
+    ghost view = { λ c. c.count };
+}
+
+impl Credits {
+    ghost use Rattle.std.specs.Prelude.{◌≡◌};
+
+    pub(crate) fn new(count: u64) -> Self
+        ensures { result ≡ count }
+    {
+        Credits { count }
+    }
+
+    /// How many there are.
+    pub fn count(&self) -> u64
+        ensures { result ≡ self.now }
+    {
+        self.count
+    }
+}
+
+/// One caller's place at the journal. It is handed to each call that looks at the credits or at the commit mark.
+#[derive(Debug, Drop)]
+pub struct Seat {
+    _place: (),
+}
+
+impl Seat {
+    pub(crate) fn new() -> Self {
+        Seat { _place: () }
+    }
+}
+
+/// A handle: it writes blocks as a part of one transaction, and all that it writes is there after a stop, or nothing of
+/// it. Stop it when it is done: until then its transaction can't be committed.
+/// Source: journalling.rst (`journal_start` and `journal_stop`).
+#[derive(Debug, Drop)]
+pub struct Handle {
+    number: HandleNo,
+    tid: Tid,
+    left: u64,
+}
+
+impl Model for Handle {
+    ghost use Rattle.group_commit.specs.Values.{HandleValue};
+
+    ghost Value = { HandleValue };
+
+    ghost view = { λ h. record { number = h.number; tid = h.tid; left = h.left } };
+}
+
+impl Handle {
+    ghost use Rattle.std.specs.Prelude.{◌≡◌, ◌-◌, ◌<◌};
+
+    pub(crate) fn new(number: HandleNo, tid: Tid, left: u64) -> Self
+        ensures { result ≡ record { number = number; tid = tid; left = left } }
+    {
+        Handle { number, tid, left }
+    }
+
+    /// Its number. No other handle of the journal has it.
+    pub fn number(&self) -> HandleNo
+        ensures { result ≡ self.now.number }
+    {
+        self.number
+    }
+
+    /// The number of its transaction.
+    pub fn tid(&self) -> Tid
+        ensures { result ≡ self.now.tid }
+    {
+        self.tid
+    }
+
+    /// How many credits it has left.
+    pub fn left(&self) -> u64
+        ensures { result ≡ self.now.left }
+    {
+        self.left
+    }
+
+    /// Takes one of its credits.
+    pub(crate) fn spend(&mut self)
+        requires { 0 < self.old.left }
+        ensures { self.new ≡ record self.old { left = self.old.left - 1 } }
+    {
+        self.left -= 1;
+    }
+}
+
+/// What is left of a handle that stopped: it asks when the handle's transaction is committed.
+#[derive(Debug, Drop)]
+pub struct Ticket {
+    handle: HandleNo,
+    tid: Tid,
+}
+
+impl Model for Ticket {
+    ghost use Rattle.group_commit.specs.Values.{TicketValue};
+
+    ghost Value = { TicketValue };
+
+    ghost view = { λ t. record { handle = t.handle; tid = t.tid } };
+}
+
+impl Ticket {
+    ghost use Rattle.std.specs.Prelude.{◌≡◌};
+
+    pub(crate) fn new(handle: HandleNo, tid: Tid) -> Self
+        ensures { result ≡ record { handle = handle; tid = tid } }
+    {
+        Ticket { handle, tid }
+    }
+
+    /// The number of the handle that stopped.
+    pub fn handle(&self) -> HandleNo
+        ensures { result ≡ self.now.handle }
+    {
+        self.handle
+    }
+
+    /// The number of its transaction.
+    pub fn tid(&self) -> Tid
+        ensures { result ≡ self.now.tid }
+    {
+        self.tid
+    }
+}
+
+/// The proof that a handle's transaction is committed: whatever stops come, its writes are there, or what later
+/// transactions made of those blocks.
+#[derive(Debug, Drop)]
+pub struct Receipt {
+    handle: HandleNo,
+    tid: Tid,
+}
+
+impl Model for Receipt {
+    ghost use Rattle.group_commit.specs.Values.{TicketValue};
+
+    ghost Value = { TicketValue };
+
+    ghost view = { λ t. record { handle = t.handle; tid = t.tid } };
+}
+
+impl Receipt {
+    ghost use Rattle.std.specs.Prelude.{◌≡◌};
+
+    pub(crate) fn new(handle: HandleNo, tid: Tid) -> Self
+        ensures { result ≡ record { handle = handle; tid = tid } }
+    {
+        Receipt { handle, tid }
+    }
+
+    /// The number of the handle.
+    pub fn handle(&self) -> HandleNo
+        ensures { result ≡ self.now.handle }
+    {
+        self.handle
+    }
+
+    /// The number of its transaction.
+    pub fn tid(&self) -> Tid
+        ensures { result ≡ self.now.tid }
+    {
+        self.tid
+    }
+}
+
+/// Whether a handle's transaction is committed.
+#[derive(Clone, Copy, Debug, PartialEq, Eq)]
+pub enum Status {
+    /// The commit mark has come to its number: it is durable.
+    Committed,
+    /// Not yet, as far as the mark tells.
+    Open,
+}

@@ -1,0 +1,364 @@
+//! The journal that callers hold: a front and an engine.
+ghost use Rattle.std.specs.Prelude.{◌≡◌, ◌<◌, ◌≤◌, ◌≢◌, ◌↔◌, ℕ, IsTrue, true, false, length, [], IfOk, IfErr, OnOk, Contains};
+ghost use Rattle.journal_model.specs.declared.refusal.JournalError.TheVariants.{Aborted, Memory};
+ghost use Rattle.journal_model.specs.Block.{IsAllowedBlock};
+ghost use Rattle.journal_model.specs.Layout.{narrow};
+ghost use Rattle.block_device.specs.State.{EachMoment};
+ghost use Rattle.journal_world.specs.declared.stage.Stage.TheVariants.{Idle};
+ghost use Rattle.journal_world.specs.Front.{next_handle, writing};
+ghost use Rattle.journal_world.specs.Sound.{IsPlain};
+ghost use Rattle.journal_world.specs.Journal.{IsFresh};
+ghost use Rattle.journal_world.specs.Journal.Event.{GiveBack, Join, Reserve, StopHandle, WriteBlock};
+ghost use Rattle.journal_world.specs.World.{Begins};
+ghost use Rattle.journal_world.specs.World.Phase.{Running};
+ghost use Rattle.group_commit.specs.Front.{ReserveRefused};
+ghost use Rattle.group_commit.specs.Journal.{Does, IsDuringTurn, OpensNow, Requests, SealIsDue, Spends, StatusIs, TryJoinRefused, TurnDid, TurnRefused, WriteRefused};
+
+use crate::engine::{Engine, Progress};
+use crate::front::Front;
+use crate::handle::{Credits, Handle, Receipt, Seat, Status, Ticket};
+use crate::opener::Opened;
+use block_device::Device;
+use journal_model::{BlockNo, JournalError, Sealed, Tid};
+use journal_plain::room::capacity;
+use std::alloc::Global;
+use std::marker::Model;
+
+/// Bytes of a block number in a log without 64-bit numbers.
+const NUMBER_BYTES: usize = 4;
+
+/// A journal on an opened log.
+#[derive(Drop)]
+pub struct Journal<D: Device> {
+    front: Front,
+    engine: Engine<D>,
+}
+
+/// What a commit turn did.
+#[derive(Clone, Copy, Debug, PartialEq, Eq)]
+pub enum Turn {
+    /// Nothing: the transaction is running.
+    Idle,
+    /// Nothing: the transaction is locked, and has a handle that has not stopped.
+    Waiting,
+    /// One step of a commit.
+    Step,
+    /// This transaction was sealed, and is to be committed.
+    Sealed(Tid),
+    /// The last step of a commit: this transaction is committed.
+    Committed(Tid),
+}
+
+/// What is left of a journal at its end.
+#[derive(Drop)]
+pub struct Parts<D> {
+    /// The device.
+    pub device: D,
+    /// The transactions sealed since the opening, with their handles and steps.
+    pub sealed: Vec<Sealed>,
+    /// How many of them are committed.
+    pub committed: u64,
+}
+
+/// Whether a home block may be touched: home has it, and a tag can name it.
+fn is_allowed(block: BlockNo, home_blocks: u64) -> bool
+    ensures { (size : ℕ) → IsTrue result ↔ IsAllowedBlock (narrow size) home_blocks block }
+{
+    block.0 < home_blocks && block.0 <= u64::from(u32::MAX)
+}
+
+impl<D: Device> Model for Journal<D> {
+    ghost use Rattle.group_commit.specs.Values.{JournalValue};
+    ghost use Rattle.group_commit.specs.Journal.{Agrees};
+
+    ghost Value = { JournalValue D };
+
+    ghost view = { λ j. record { device = j.engine.device; journal = record { front = j.front; engine = j.engine.engine } } };
+
+    ghost invariant = { λ j. Agrees (record { front = j.front; engine = j.engine.engine }) };
+}
+
+impl<D: Device> Journal<D> {
+    /// A journal on an opened log, and the first seat.
+    ///
+    /// # Errors
+    ///
+    /// `Memory`: the opened log comes back.
+    pub fn new(alloc: Global, opened: Opened<D>) -> Result<(Self, Seat), (Opened<D>, JournalError)>
+        ensures fresh { IfOk result (λ r. IsFresh (D.state opened.device).shape opened.superblock opened.next r.0.journal) }
+        ensures device { IfOk result (λ r. r.0.device ≡ opened.device) }
+        ensures begins { IfOk result (λ r. D.honest opened.device → Begins (record {
+          opening = (D.state opened.device).disk;
+          journal = r.0.journal;
+          disk = (D.state r.0.device).disk;
+          answered = [];
+          phase = Running;
+        })) }
+        ensures err { IfErr result (λ e. (e.0 ≡ opened) × (e.1 ≡ Memory)) }
+    {
+        let next = opened.next();
+        let engine = Engine::new(alloc, opened)?;
+        let credits = capacity(
+            engine.block_size(),
+            NUMBER_BYTES,
+            engine.ring_blocks() as usize,
+        );
+        let front = Front::new(alloc, credits as u64, next);
+        Ok((Journal { front, engine }, Seat::new()))
+    }
+
+    /// How many bytes a block has.
+    pub fn block_size(&self) -> usize
+        ensures { result ≡ (D.state self.now.device).shape.block_size }
+    {
+        self.engine.block_size()
+    }
+
+    /// Grants `n` credits, each for the first touch of one block.
+    ///
+    /// # Errors
+    ///
+    /// Nothing changes. `TooMany` where one transaction can never have so many, `Full` where the credits that are held
+    /// leave fewer.
+    /// Source: journalling.rst (`journal_start`).
+    pub fn reserve(&mut self, _seat: &mut Seat, n: u64) -> Result<Credits, JournalError>
+        ensures ok { IfOk result (λ credits. (credits ≡ n) × Does D.state self.old (Reserve n) self.new) }
+        ensures err { IfErr result (λ e. ReserveRefused self.old.journal.front n e × (self.new ≡ self.old)) }
+        ensures device { self.new.device ≡ self.old.device }
+    {
+        self.front.reserve(n)?;
+        Ok(Credits::new(n))
+    }
+
+    /// Takes back credits that no handle was made of.
+    pub fn give_back(&mut self, credits: Credits)
+        ensures gives { Does D.state self.old (GiveBack credits) self.new }
+        ensures device { self.new.device ≡ self.old.device }
+    {
+        self.front.give_back(credits.count());
+    }
+
+    /// Makes a handle of the running transaction, with these credits.
+    ///
+    /// # Errors
+    ///
+    /// The credits come back, and nothing else changes. `Aborted` after a device failure, `NotRunning` where the
+    /// transaction takes no further handles, `SequenceEnd` where no number is left for it or for the handle, `Memory`.
+    /// Source: journalling.rst (`journal_start`).
+    pub fn try_join(&mut self, credits: Credits) -> Result<Handle, (Credits, JournalError)>
+        ensures ok { IfOk result (λ handle. Does D.state self.old Join self.new
+            × (handle ≡ record { number = next_handle self.old.journal.front; tid = self.old.journal.front.running.tid; left = credits })) }
+        ensures err { IfErr result (λ e. (e.0 ≡ credits) × TryJoinRefused self.old.journal e.1 × (self.new ≡ self.old)) }
+        ensures device { self.new.device ≡ self.old.device }
+    {
+        if self.engine.is_aborted() {
+            return Err((credits, JournalError::Aborted));
+        }
+        match self.front.join() {
+            Ok((number, tid)) => Ok(Handle::new(number, tid, credits.count())),
+            Err(e) => Err((credits, e)),
+        }
+    }
+
+    /// Writes a block of the home area, of one block of bytes, as a part of the handle's transaction. The first touch of a
+    /// block in the transaction takes one of the handle's credits.
+    ///
+    /// # Errors
+    ///
+    /// Nothing changes. `Aborted` after a device failure; `BadBlock` where home has no such block, or its number is not
+    /// below 2^32; `NoCredit` at a first touch without a credit left; `Memory`.
+    /// Source: journalling.rst (`journal_get_write_access`, `journal_dirty_metadata`).
+    pub fn write(
+        &mut self,
+        handle: &mut Handle,
+        block: BlockNo,
+        bytes: &[u8],
+    ) -> Result<(), JournalError>
+        requires { length bytes.now ≡ (D.state self.old.device).shape.block_size }
+        // A handle of this journal makes one step of its transaction.
+        ensures ok { OnOk result (Contains self.old.journal.front.running.handles handle.old.number →
+            Does D.state self.old (WriteBlock handle.old.number block bytes.now) self.new) }
+        ensures noted { OnOk result (self.new.journal ≡ record self.old.journal { front = writing self.old.journal.front handle.old.number block bytes.now }) }
+        ensures spends { OnOk result (Spends self.old.journal.front block handle.old handle.new) }
+        ensures err { IfErr result (λ e. WriteRefused self.old.journal handle.old.left block e × (self.new ≡ self.old) × (handle.new ≡ handle.old)) }
+        ensures device { self.new.device ≡ self.old.device }
+    {
+        if self.engine.is_aborted() {
+            return Err(JournalError::Aborted);
+        }
+        if !is_allowed(block, self.engine.home_blocks()) {
+            return Err(JournalError::BadBlock);
+        }
+        let first = self.front.is_first_touch(block);
+        if first && handle.left() == 0 {
+            return Err(JournalError::NoCredit);
+        }
+        self.front.write(handle.number(), block, bytes)?;
+        if first {
+            handle.spend();
+        }
+        Ok(())
+    }
+
+    /// Ends a handle. Its credits that are left come back. It always succeeds, after a device failure too.
+    /// Source: journalling.rst (`journal_stop`).
+    pub fn stop(&mut self, handle: Handle) -> Ticket
+        ensures stops { Does D.state self.old (StopHandle handle.left) self.new }
+        ensures ticket { result ≡ record { handle = handle.number; tid = handle.tid } }
+        ensures device { self.new.device ≡ self.old.device }
+    {
+        self.front.stop(handle.left());
+        Ticket::new(handle.number(), handle.tid())
+    }
+
+    /// Asks for the commit of the ticket's transaction: where it is still running, it takes no further handles.
+    ///
+    /// # Errors
+    ///
+    /// `Aborted` after a device failure.
+    /// Source: fs/jbd2/journal.c by behaviour (`jbd2_log_start_commit`).
+    pub fn request(&mut self, ticket: &Ticket) -> Result<(), JournalError>
+        ensures ok { OnOk result (Requests D.state ticket.now.tid self.old self.new) }
+        ensures err { IfErr result (λ e. (e ≡ Aborted) × (self.old.journal.engine.aborted ≡ true) × (self.new ≡ self.old)) }
+        ensures device { self.new.device ≡ self.old.device }
+    {
+        if self.engine.is_aborted() {
+            return Err(JournalError::Aborted);
+        }
+        if ticket.tid() == self.front.tid() {
+            self.front.lock();
+        }
+        Ok(())
+    }
+
+    /// Whether the ticket's transaction is committed, as far as the mark tells.
+    pub fn status(&self, ticket: &Ticket, _seat: &mut Seat) -> Status
+        ensures { StatusIs result ticket.now.tid self.now.journal.front }
+    {
+        if ticket.tid() <= self.front.mark() {
+            Status::Committed
+        } else {
+            Status::Open
+        }
+    }
+
+    /// The receipt for a ticket whose transaction is committed. The journal is one plain value, so that nobody else could
+    /// commit it meanwhile: ask `status` first, and take commit turns.
+    ///
+    /// # Errors
+    ///
+    /// `Aborted` after a device failure: the ticket comes back.
+    /// Source: fs/jbd2/journal.c by behaviour (`jbd2_log_wait_commit`).
+    pub fn wait(
+        &mut self,
+        ticket: Ticket,
+        _seat: &mut Seat,
+    ) -> Result<Receipt, (Ticket, JournalError)>
+        requires { ticket.tid ≤ self.old.journal.front.mark }
+        ensures ok { IfOk result (λ receipt. (receipt ≡ ticket) × (self.old.journal.engine.aborted ≡ false)) }
+        ensures err { IfErr result (λ e. (e.0 ≡ ticket) × (e.1 ≡ Aborted) × (self.old.journal.engine.aborted ≡ true)) }
+        ensures same { self.new ≡ self.old }
+    {
+        if self.engine.is_aborted() {
+            return Err((ticket, JournalError::Aborted));
+        }
+        Ok(Receipt::new(ticket.handle(), ticket.tid()))
+    }
+
+    /// The number of the last transaction that is told to be committed; at first, the number before the first one.
+    pub fn mark(&self) -> Tid
+        ensures { result ≡ self.now.journal.front.mark }
+    {
+        self.front.mark()
+    }
+
+    /// Takes the next step of committing: one device call of a commit, or the seal of a transaction that takes no further
+    /// handles and has no open one.
+    ///
+    /// # Errors
+    ///
+    /// `Aborted` after a device failure. `NeedSpace` where what is left of the ring is too short for the transaction, and
+    /// `Memory`: the transaction stays as it is. `Device` where the device failed: the journal is aborted, until the
+    /// device is opened again.
+    /// Source: fs/jbd2/commit.c by behaviour; that each step is one device call is this project's own.
+    pub fn commit_turn(&mut self) -> Result<Turn, JournalError>
+        ensures ok { IfOk result (λ turn. TurnDid D.state turn self.old self.new) }
+        ensures err { IfErr result (λ e. TurnRefused D.state self.old self.new e) }
+        ensures no_fault { OnOk result ((D.state self.new.device).faults ≡ (D.state self.old.device).faults) }
+        ensures shape { (D.state self.new.device).shape ≡ (D.state self.old.device).shape }
+        ensures moments { D.honest self.old.device →
+            EachMoment (IsDuringTurn self.old.journal (D.state self.old.device).disk) (D.state self.old.device) (D.state self.new.device) }
+        ensures honest { D.honest self.new.device → D.honest self.old.device }
+    {
+        if self.engine.is_aborted() {
+            return Err(JournalError::Aborted);
+        }
+        if !self.engine.is_idle() {
+            return self.commit_step();
+        }
+        if !self.front.is_locked() {
+            return Ok(Turn::Idle);
+        }
+        if self.front.has_open_handles() {
+            return Ok(Turn::Waiting);
+        }
+        self.seal()
+    }
+
+    /// One step of the commit that is under way.
+    fn commit_step(&mut self) -> Result<Turn, JournalError>
+        requires running { self.old.journal.engine.aborted ≡ false }
+        requires busy { self.old.journal.engine.stage ≢ Idle }
+        requires plain { IsPlain self.old.journal.engine }
+        ensures ok { IfOk result (λ turn. TurnDid D.state turn self.old self.new) }
+        ensures err { IfErr result (λ e. TurnRefused D.state self.old self.new e) }
+        ensures no_fault { OnOk result ((D.state self.new.device).faults ≡ (D.state self.old.device).faults) }
+        ensures shape { (D.state self.new.device).shape ≡ (D.state self.old.device).shape }
+        ensures moments { D.honest self.old.device →
+            EachMoment (IsDuringTurn self.old.journal (D.state self.old.device).disk) (D.state self.old.device) (D.state self.new.device) }
+        ensures honest { D.honest self.new.device → D.honest self.old.device }
+    {
+        match self.engine.commit_step()? {
+            Progress::Idle => Ok(Turn::Idle),
+            Progress::Step => Ok(Turn::Step),
+            Progress::Done(tid) => {
+                self.front.finish();
+                Ok(Turn::Committed(tid))
+            }
+        }
+    }
+
+    /// Seals the locked transaction, and hands its entries to the engine.
+    fn seal(&mut self) -> Result<Turn, JournalError>
+        requires due { SealIsDue self.old.journal }
+        requires plain { IsPlain self.old.journal.engine }
+        ensures ok { IfOk result (λ turn. TurnDid D.state turn self.old self.new) }
+        ensures err { IfErr result (λ e. TurnRefused D.state self.old self.new e) }
+        ensures device { self.new.device ≡ self.old.device }
+    {
+        if !self.engine.has_room(self.front.touched()) {
+            return Err(JournalError::NeedSpace);
+        }
+        let tid = self.front.tid();
+        let batch = self.front.batch()?;
+        self.engine.accept(batch)?;
+        self.front.seal();
+        Ok(Turn::Sealed(tid))
+    }
+
+    /// Ends the journal: the device, what was sealed, and how many transactions of it are committed.
+    pub fn into_parts(self) -> Parts<D>
+        ensures device { result.device ≡ self.device }
+        ensures sealed { result.sealed.items ≡ self.journal.front.sealed }
+        ensures committed { result.committed ≡ self.journal.engine.committed }
+        ensures opens { D.honest self.device → OpensNow self.journal (D.state self.device).disk }
+    {
+        let Journal { front, engine } = self;
+        let (device, committed) = engine.into_parts();
+        Parts {
+            device,
+            sealed: front.into_sealed(),
+            committed: committed as u64,
+        }
+    }
+}

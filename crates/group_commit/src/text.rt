@@ -1,0 +1,206 @@
+//! The log blocks of a transaction, built one at a time.
+ghost use Rattle.std.specs.Prelude.{◌≡◌, ◌+◌, ◌^◌, ◌<◌, ◌≤◌, true, length, IfOk, All};
+ghost use Rattle.journal_model.specs.Descriptor.{descriptor_block};
+ghost use Rattle.journal_model.specs.Layout.{narrow, tags_of};
+ghost use Rattle.journal_model.specs.OwnText.{copied, own_text, tags_from};
+ghost use Rattle.journal_model.specs.Room.{need};
+ghost use Rattle.journal_model.specs.Superblock.{with_tail};
+ghost use Rattle.journal_model.specs.Text.{text_blocks};
+ghost use Rattle.log_format.specs.Size.{IsBlockSize};
+ghost use Rattle.journal_world.specs.Engine.{block_at};
+ghost use Rattle.group_commit.specs.Text.{AreCopies, IsLong, IsStored, IsWholeCopy, is_escaped};
+
+use journal_model::{Batch, BlockNo, Entry, Tag};
+use log_format::{CommitBlock, Descriptor, Header, Super, escape};
+use std::alloc::{AllocError, Global};
+use std::marker::Model;
+
+/// Bytes of a descriptor that no tag takes: its header, the first tag's UUID, and room for a UUID behind the last tag.
+const DESCRIPTOR_BYTES: usize = 44;
+
+/// Bytes of a tag.
+const TAG_BYTES: usize = 8;
+
+/// A tag of no block, which is written over.
+const NO_TAG: Tag = Tag {
+    block: BlockNo(0),
+    escaped: false,
+    same_uuid: false,
+    last: false,
+};
+
+/// Builds the log blocks of transactions in a buffer of one block.
+#[derive(Drop)]
+pub(crate) struct TextWriter {
+    block: Vec<u8>,
+    tags: Vec<Tag>,
+}
+
+impl Model for TextWriter {
+    ghost use Rattle.std.specs.Prelude.{◌≡◌, List, ℕ, length};
+    ghost use Rattle.journal_model.specs.Layout.{narrow, tags_of};
+    ghost use Rattle.log_format.specs.Size.{IsBlockSize};
+
+    ghost Value = { List ℕ };
+
+    ghost view = { λ w. w.block.items };
+
+    ghost invariant = { λ w. IsBlockSize (length w.block.items) × (length w.tags.items ≡ tags_of (narrow (length w.block.items))) };
+}
+
+impl TextWriter {
+    /// A writer of blocks of 1024, 2048 or 4096 bytes. It fails where memory runs out.
+    pub(crate) fn new(alloc: Global, block_size: usize) -> Result<Self, AllocError>
+        requires { IsBlockSize block_size }
+        ensures { IfOk result (λ w. length w ≡ block_size) }
+    {
+        Ok(TextWriter {
+            block: vec![in alloc; 0; block_size]?,
+            tags: vec![in alloc; NO_TAG; tags_per_descriptor(block_size)]?,
+        })
+    }
+
+    /// The block that was built last.
+    pub(crate) fn bytes(&self) -> &[u8]
+        ensures { result.now ≡ self.now }
+    {
+        &self.block
+    }
+
+    /// Builds block `k` of a transaction that revokes nothing, counted from 0: a descriptor, a copy, or the commit block.
+    pub(crate) fn write_block(&mut self, uuid: &[u8; 16], batch: &Batch, k: usize)
+        requires copies { AreCopies (length self.old) batch.now.entries }
+        requires few { length batch.now.entries ≤ 2 ^ 32 }
+        requires there { k < length (text_blocks (own_text (narrow (length self.old)) uuid.now batch.now.tid batch.now.entries)) }
+        ensures block { self.new ≡ block_at (text_blocks (own_text (narrow (length self.old)) uuid.now batch.now.tid batch.now.entries)) k }
+        ensures size { length self.new ≡ length self.old }
+    {
+        write_log_block(
+            &mut self.block,
+            &mut self.tags,
+            uuid,
+            batch.tid.0,
+            batch.entries.as_slice(),
+            k,
+        );
+    }
+
+    /// Builds the superblock with another s_sequence and s_start.
+    pub(crate) fn write_superblock(&mut self, superblock: &[u8], sequence: u32, start: u32)
+        requires { length superblock.now ≡ length self.old }
+        ensures block { self.new ≡ with_tail superblock.now sequence start }
+        ensures size { length self.new ≡ length self.old }
+    {
+        self.block.copy_from_slice(superblock);
+        Super::write(&mut self.block, sequence, start);
+    }
+}
+
+/// How many tags the writer puts into one descriptor.
+fn tags_per_descriptor(block_size: usize) -> usize
+    requires { IsBlockSize block_size }
+    ensures tags { result ≡ tags_of (narrow block_size) }
+    ensures some { 0 < result }
+    ensures few { result ≤ 506 }
+{
+    (block_size - DESCRIPTOR_BYTES) / TAG_BYTES
+}
+
+/// How many log blocks a transaction of so many copies takes.
+pub(crate) fn blocks_of(block_size: usize, copies: usize) -> u64
+    requires size { IsBlockSize block_size }
+    requires few { copies ≤ 2 ^ 32 }
+    ensures { result ≡ need (narrow block_size) copies 0 }
+{
+    let descriptors = copies.div_ceil(tags_per_descriptor(block_size));
+    copies as u64 + descriptors as u64 + 1
+}
+
+/// Writes block `k` of the transaction with these entries, which are copies.
+fn write_log_block(
+    block: &mut [u8],
+    tags: &mut [Tag],
+    uuid: &[u8; 16],
+    sequence: u32,
+    entries: &[(BlockNo, Entry)],
+    k: usize,
+)
+    requires size { IsBlockSize (length block.old) }
+    requires room { length tags.old ≡ tags_of (narrow (length block.old)) }
+    requires copies { AreCopies (length block.old) entries.now }
+    requires few { length entries.now ≤ 2 ^ 32 }
+    requires there { k < length (text_blocks (own_text (narrow (length block.old)) uuid.now sequence entries.now)) }
+    ensures { block.new ≡ block_at (text_blocks (own_text (narrow (length block.old)) uuid.now sequence entries.now)) k }
+{
+    if k as u64 + 1 == blocks_of(block.len(), entries.len()) {
+        CommitBlock::write(block, sequence);
+        return;
+    }
+    let most = tags_per_descriptor(block.len());
+    let from = k / (most + 1) * most;
+    let place = k % (most + 1);
+    if place > 0 {
+        write_copy(block, &entries[from + place - 1].1);
+    } else {
+        let to = entries.len().min(from + most);
+        write_descriptor(block, tags, uuid, sequence, &entries[from..to]);
+    }
+}
+
+/// Writes the descriptor of these entries, which are copies.
+fn write_descriptor(
+    block: &mut [u8],
+    tags: &mut [Tag],
+    uuid: &[u8; 16],
+    sequence: u32,
+    entries: &[(BlockNo, Entry)],
+)
+    requires size { IsBlockSize (length block.old) }
+    requires room { length tags.old ≡ tags_of (narrow (length block.old)) }
+    requires copies { AreCopies (length block.old) entries.now }
+    requires few { length entries.now ≤ tags_of (narrow (length block.old)) }
+    ensures { block.new ≡ descriptor_block (narrow (length block.old)) uuid.now sequence (tags_from true (copied entries.now)) }
+{
+    let tags = &mut tags[..entries.len()];
+    make_tags(tags, entries);
+    Descriptor::write(block, uuid, sequence, tags);
+}
+
+/// Makes the tags of one descriptor, one for each of these entries, which are copies.
+fn make_tags(tags: &mut [Tag], entries: &[(BlockNo, Entry)])
+    requires room { length tags.old ≡ length entries.now }
+    requires long { All (λ p. IsLong p.1) entries.now }
+    ensures { tags.new ≡ tags_from true (copied entries.now) }
+{
+    for i in 0..entries.len() {
+        tags[i] = Tag {
+            block: entries[i].0,
+            escaped: begins_with_magic(&entries[i].1),
+            same_uuid: i > 0,
+            last: i + 1 == entries.len(),
+        };
+    }
+}
+
+/// Whether the entry is a copy that has to be escaped.
+fn begins_with_magic(entry: &Entry) -> bool
+    requires { IsLong entry.now }
+    ensures { result ≡ is_escaped entry.now }
+{
+    match entry {
+        Entry::Copy(copy) => Header::read(copy.bytes()).is_some(),
+        Entry::Revoke => false,
+    }
+}
+
+/// Writes what stands in the log for a copy.
+fn write_copy(block: &mut [u8], entry: &Entry)
+    requires size { IsBlockSize (length block.old) }
+    requires copy { IsWholeCopy (length block.old) entry.now }
+    ensures { IsStored entry.now block.new }
+{
+    if let Entry::Copy(copy) = entry {
+        block.copy_from_slice(copy.bytes());
+        escape(block);
+    }
+}
