@@ -1,0 +1,32 @@
+//! Reads one block of a device.
+ghost use Rattle.std.specs.Prelude.{◌≡◌, IfOk, length};
+ghost use Rattle.journal_model.specs.Disk.{reading};
+ghost use Rattle.block_device.specs.State.{Stays};
+
+use block_device::Device;
+use journal_model::{Area, Block, JournalError};
+use std::alloc::Global;
+
+/// Block `n` of an area.
+///
+/// # Errors
+///
+/// `BadBlock` where the area has no such block; `Device` and `Memory`.
+pub fn read_block<D: Device>(
+    alloc: Global,
+    device: &mut D,
+    area: Area,
+    n: u64,
+) -> Result<Block, JournalError>
+    ensures bytes { IfOk result (λ block. D.honest device.new → block ≡ reading (D.state device.old).disk area n) }
+    ensures size { IfOk result (λ block. length block ≡ (D.state device.old).shape.block_size) }
+    ensures stays { Stays (D.state device.old) (D.state device.new) }
+    ensures honest { D.honest device.new → D.honest device.old }
+{
+    if n >= device.blocks(area) {
+        return Err(JournalError::BadBlock);
+    }
+    let mut bytes = vec![in alloc; 0; device.block_size()]?;
+    device.read(area, n, &mut bytes)?;
+    Ok(Block::new(bytes))
+}

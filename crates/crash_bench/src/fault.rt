@@ -1,0 +1,88 @@
+//! How a command ends, and what it says where it can't go on.
+use journal_model::JournalError;
+use std::alloc::{AllocError, AllocFailed};
+use std::io;
+use std::io::{ErrorKind, Write};
+use std::process::ExitCode;
+
+/// How a command ended.
+#[derive(Clone, Copy, Debug, PartialEq, Eq)]
+pub enum Status {
+    /// It did what was asked: exit status 0.
+    Fine,
+    /// The words, a file, the script or the log was refused: exit status 1.
+    Refused,
+    /// What an opening gave back is not what the run had promised: exit status 2.
+    VerdictFalse,
+}
+
+impl From<Status> for ExitCode {
+    fn from(status: Status) -> ExitCode {
+        ExitCode::from(match status {
+            Status::Fine => 0,
+            Status::Refused => 1,
+            Status::VerdictFalse => 2,
+        })
+    }
+}
+
+/// Why a command can't go on.
+#[derive(Debug, Drop)]
+pub enum Fault {
+    /// A file can't be opened or read.
+    File,
+    /// The script is no script.
+    BadScript,
+    /// The journal refused, or memory ran out.
+    Refused(JournalError),
+    /// The output can't be written.
+    Output(io::Error),
+}
+
+impl Fault {
+    /// Why a file can't be opened or read.
+    pub fn of_file(e: io::Error) -> Fault {
+        match e.kind() {
+            ErrorKind::OutOfMemory => Fault::Refused(JournalError::Memory),
+            _ => Fault::File,
+        }
+    }
+}
+
+impl From<io::Error> for Fault {
+    fn from(e: io::Error) -> Fault {
+        match e.kind() {
+            ErrorKind::OutOfMemory => Fault::Refused(JournalError::Memory),
+            _ => Fault::Output(e),
+        }
+    }
+}
+
+impl From<JournalError> for Fault {
+    fn from(e: JournalError) -> Fault {
+        Fault::Refused(e)
+    }
+}
+
+impl From<AllocError> for Fault {
+    fn from(_e: AllocError) -> Fault {
+        Fault::Refused(JournalError::Memory)
+    }
+}
+
+impl<T: Drop> From<AllocFailed<T>> for Fault {
+    fn from(_e: AllocFailed<T>) -> Fault {
+        Fault::Refused(JournalError::Memory)
+    }
+}
+
+/// Writes the line that says why a command can't go on. `path` names its file. Of output that can't be written there is
+/// nothing to say.
+pub fn report(err: &mut impl Write, path: &str, fault: &Fault) -> io::Result<()> {
+    match fault {
+        Fault::File => writeln!(err, "jbench: file {path}"),
+        Fault::BadScript => writeln!(err, "jbench: bad script"),
+        Fault::Refused(e) => writeln!(err, "jbench: refusal {} {e}", e.number()),
+        Fault::Output(_) => Ok(()),
+    }
+}

@@ -1,0 +1,232 @@
+//! Runs the operations of a script on a journal.
+ghost use Rattle.std.specs.Prelude.{◌≤◌};
+
+use crate::device::{BLOCK_SIZE, RunDevice};
+use crate::outcome::Outcome;
+use crate::script::{HandleName, Operation};
+use crate::slots::{Slot, Slots};
+use group_commit::{Handle, Journal, Parts, Seat, Status, Ticket, Turn, open};
+use journal_model::{BlockNo, JournalError, Tid};
+use std::alloc::Global;
+
+/// More turns than a commit can take: each is the seal or one device call, and there are few more of these than ring blocks.
+const MOST_TURNS: u32 = 1_000;
+
+/// A journal, and what the names of a script stand for.
+#[derive(Drop)]
+pub struct Interpreter {
+    journal: Journal<RunDevice>,
+    seat: Seat,
+    slots: Slots,
+    /// The greatest transaction that an operation showed committed.
+    acknowledged: Option<Tid>,
+}
+
+/// A block of these bytes, at most one block of them, and zeros behind them.
+fn block_of(bytes: &[u8]) -> [u8; BLOCK_SIZE] {
+    let mut block = [0; BLOCK_SIZE];
+    for (place, byte) in block.iter_mut().zip(bytes) {
+        *place = *byte;
+    }
+    block
+}
+
+impl Interpreter {
+    /// An interpreter on a device, whose log it opens. Opening a clean log makes no write.
+    ///
+    /// # Errors
+    ///
+    /// The log is refused, or memory runs out.
+    pub fn new(alloc: Global, device: RunDevice) -> Result<Self, JournalError> {
+        let slots = Slots::new(alloc)?;
+        let opened = open(alloc, device).map_err(|(_, e)| e)?;
+        let (journal, seat) = Journal::new(alloc, opened).map_err(|(_, e)| e)?;
+        Ok(Interpreter {
+            journal,
+            seat,
+            slots,
+            acknowledged: None,
+        })
+    }
+
+    /// Runs one operation.
+    pub fn perform(&mut self, operation: &Operation) -> Outcome {
+        match operation {
+            Operation::Start(name, credits) => self.start(*name, *credits),
+            Operation::Write(name, block, bytes) => self.write(*name, *block, bytes),
+            Operation::Stop(name) => self.stop(*name),
+            Operation::Request(name) => self.request(*name),
+            Operation::Commit => self.commit(),
+            Operation::Status(name) => self.status(*name),
+            Operation::Wait(name) => self.wait(*name),
+        }
+    }
+
+    /// Stops all open handles and ends the journal: its device with its record, and the greatest transaction that was shown
+    /// committed.
+    pub fn finish(self) -> (Parts<RunDevice>, Option<Tid>) {
+        let Interpreter {
+            mut journal,
+            seat: _,
+            slots,
+            acknowledged,
+        } = self;
+        for slot in slots.into_slots() {
+            if let Slot::Open(handle) = slot {
+                let _ = journal.stop(handle);
+            }
+        }
+        (journal.into_parts(), acknowledged)
+    }
+
+    /// Starts a handle. Where it is refused the name stands for nothing.
+    fn start(&mut self, name: HandleName, credits: u64) -> Outcome {
+        match self.join(credits) {
+            Ok(handle) => {
+                let tid = handle.tid();
+                self.slots.put(name, Slot::Open(handle));
+                Outcome::Transaction(tid)
+            }
+            Err(e) => {
+                self.slots.put(name, Slot::Empty);
+                Outcome::Refused(e)
+            }
+        }
+    }
+
+    /// Reserves credits and makes a handle of them; where that is refused they are given back.
+    fn join(&mut self, credits: u64) -> Result<Handle, JournalError> {
+        let credits = self.journal.reserve(&mut self.seat, credits)?;
+        match self.journal.try_join(credits) {
+            Ok(handle) => Ok(handle),
+            Err((credits, e)) => {
+                self.journal.give_back(credits);
+                Err(e)
+            }
+        }
+    }
+
+    /// Writes these bytes, with zeros behind them.
+    fn write(&mut self, name: HandleName, block: BlockNo, bytes: &[u8]) -> Outcome {
+        match self.slots.take(name) {
+            Slot::Open(mut handle) => {
+                let answer = self.journal.write(&mut handle, block, &block_of(bytes));
+                self.slots.put(name, Slot::Open(handle));
+                match answer {
+                    Ok(()) => Outcome::Done,
+                    Err(e) => Outcome::Refused(e),
+                }
+            }
+            other => {
+                self.slots.put(name, other);
+                Outcome::Skipped
+            }
+        }
+    }
+
+    /// Stops a handle.
+    fn stop(&mut self, name: HandleName) -> Outcome {
+        match self.slots.take(name) {
+            Slot::Open(handle) => {
+                let ticket = self.journal.stop(handle);
+                let tid = ticket.tid();
+                self.slots.put(name, Slot::Stopped(ticket));
+                Outcome::Transaction(tid)
+            }
+            other => {
+                self.slots.put(name, other);
+                Outcome::Skipped
+            }
+        }
+    }
+
+    /// Asks for a commit. The transaction of a receipt is committed already, so nothing is left to ask for.
+    fn request(&mut self, name: HandleName) -> Outcome {
+        match self.slots.get(name) {
+            Some(Slot::Stopped(ticket)) => match self.journal.request(ticket) {
+                Ok(()) => Outcome::Done,
+                Err(e) => Outcome::Refused(e),
+            },
+            Some(Slot::Waited(_)) => Outcome::Done,
+            _ => Outcome::Skipped,
+        }
+    }
+
+    /// Takes commit turns until one has nothing to do.
+    fn commit(&mut self) -> Outcome {
+        for _ in 0..MOST_TURNS {
+            match self.journal.commit_turn() {
+                Ok(Turn::Idle | Turn::Waiting) => break,
+                Ok(Turn::Step | Turn::Sealed(_) | Turn::Committed(_)) => {}
+                Err(e) => return Outcome::Refused(e),
+            }
+        }
+        Outcome::Transaction(self.journal.mark())
+    }
+
+    /// Says whether a transaction is committed.
+    fn status(&mut self, name: HandleName) -> Outcome {
+        let (status, tid) = match self.slots.get(name) {
+            Some(Slot::Stopped(ticket)) => {
+                (self.journal.status(ticket, &mut self.seat), ticket.tid())
+            }
+            Some(Slot::Waited(receipt)) => (Status::Committed, receipt.tid()),
+            _ => return Outcome::Skipped,
+        };
+        match status {
+            Status::Committed => {
+                self.acknowledge(tid);
+                Outcome::Committed
+            }
+            Status::Open => Outcome::Open,
+        }
+    }
+
+    /// Takes the receipt of a committed transaction. Of any other nothing is awaited.
+    fn wait(&mut self, name: HandleName) -> Outcome {
+        match self.slots.take(name) {
+            Slot::Stopped(ticket) => match self.journal.status(&ticket, &mut self.seat) {
+                Status::Committed => self.wait_for(name, ticket),
+                Status::Open => {
+                    self.slots.put(name, Slot::Stopped(ticket));
+                    Outcome::Open
+                }
+            },
+            Slot::Waited(receipt) => {
+                let tid = receipt.tid();
+                self.slots.put(name, Slot::Waited(receipt));
+                Outcome::Transaction(tid)
+            }
+            other => {
+                self.slots.put(name, other);
+                Outcome::Skipped
+            }
+        }
+    }
+
+    /// Takes the receipt for the ticket of a committed transaction.
+    fn wait_for(&mut self, name: HandleName, ticket: Ticket) -> Outcome
+        requires { ticket.tid ≤ self.old.journal.journal.front.mark }
+    {
+        match self.journal.wait(ticket, &mut self.seat) {
+            Ok(receipt) => {
+                let tid = receipt.tid();
+                self.slots.put(name, Slot::Waited(receipt));
+                self.acknowledge(tid);
+                Outcome::Transaction(tid)
+            }
+            Err((ticket, e)) => {
+                self.slots.put(name, Slot::Stopped(ticket));
+                Outcome::Refused(e)
+            }
+        }
+    }
+
+    /// Notes that a transaction was shown committed.
+    fn acknowledge(&mut self, tid: Tid) {
+        self.acknowledged = match self.acknowledged {
+            Some(other) => Some(other.max(tid)),
+            None => Some(tid),
+        };
+    }
+}

@@ -1,0 +1,126 @@
+//! What a script is: its operations, and the line that each begins.
+ghost use Rattle.std.specs.Prelude.{◌≡◌, ◌<◌, ◌↔◌, IfSome, IsSome};
+
+use journal_model::BlockNo;
+use std::alloc::{AllocError, Global};
+use std::collections::BTreeSet;
+use std::fmt;
+
+/// The most operations of a script.
+pub const MOST_OPERATIONS: usize = 100_000;
+
+/// How many names of handles there are.
+pub const HANDLE_NAMES: u16 = 10_000;
+
+/// A script's own name of a handle, 0 to 9999.
+#[derive(Clone, Copy, Debug, PartialEq, Eq)]
+pub struct HandleName(u16);
+
+/// One operation of a script.
+#[derive(Debug, Drop)]
+pub enum Operation {
+    /// Starts a handle with this many credits.
+    Start(HandleName, u64),
+    /// Writes a home block: these bytes, and zeros behind them.
+    Write(HandleName, BlockNo, Vec<u8>),
+    /// Stops a handle.
+    Stop(HandleName),
+    /// Asks for the commit of a stopped handle's transaction.
+    Request(HandleName),
+    /// Takes commit turns until nothing is left to do.
+    Commit,
+    /// Asks whether a stopped handle's transaction is committed.
+    Status(HandleName),
+    /// Takes a stopped handle's receipt, where its transaction is committed.
+    Wait(HandleName),
+}
+
+/// A script whose operations all have a right form, and name handles in the right state.
+#[derive(Debug, Drop)]
+pub struct Script {
+    /// Its operations, in order.
+    pub operations: Vec<Operation>,
+}
+
+impl HandleName {
+    /// The name with this number, if there is one.
+    pub fn new(number: u64) -> Option<HandleName>
+        ensures name { IfSome result (λ name. name.0 ≡ number) }
+        ensures found { IsSome result ↔ (number < 10_000) }
+    {
+        match u16::try_from(number) {
+            Ok(small) if small < HANDLE_NAMES => Some(HandleName(small)),
+            _ => None,
+        }
+    }
+
+    /// Its number, below `HANDLE_NAMES`.
+    pub fn index(self) -> usize
+        ensures { result ≡ self.0 }
+    {
+        usize::from(self.0)
+    }
+}
+
+impl Operation {
+    /// The handle that it names.
+    pub fn handle(&self) -> Option<HandleName> {
+        match self {
+            Operation::Start(handle, _)
+            | Operation::Write(handle, _, _)
+            | Operation::Stop(handle)
+            | Operation::Request(handle)
+            | Operation::Status(handle)
+            | Operation::Wait(handle) => Some(*handle),
+            Operation::Commit => None,
+        }
+    }
+
+    /// The home block that it names.
+    pub fn block(&self) -> Option<BlockNo> {
+        match self {
+            Operation::Write(_, block, _) => Some(*block),
+            _ => None,
+        }
+    }
+}
+
+impl Script {
+    /// The blocks below `home_blocks` that its operations name, whether these will run or not.
+    pub fn named_blocks(
+        &self,
+        alloc: Global,
+        home_blocks: u64,
+    ) -> Result<BTreeSet<u64>, AllocError> {
+        let mut named = BTreeSet::new(alloc);
+        for operation in &self.operations {
+            if let Some(BlockNo(block)) = operation.block()
+                && block < home_blocks
+            {
+                named.insert(block)?;
+            }
+        }
+        Ok(named)
+    }
+}
+
+impl fmt::Display for HandleName {
+    fn fmt<W: fmt::Write>(&self, f: &mut fmt::Formatter<W>) -> fmt::Result {
+        write!(f, "{}", self.0)
+    }
+}
+
+/// The left side of an operation's line.
+impl fmt::Display for Operation {
+    fn fmt<W: fmt::Write>(&self, f: &mut fmt::Formatter<W>) -> fmt::Result {
+        match self {
+            Operation::Start(handle, credits) => write!(f, "start {handle} {credits}"),
+            Operation::Write(handle, block, _) => write!(f, "write {handle} {}", block.0),
+            Operation::Stop(handle) => write!(f, "stop {handle}"),
+            Operation::Request(handle) => write!(f, "request {handle}"),
+            Operation::Commit => f.write_str("commit"),
+            Operation::Status(handle) => write!(f, "status {handle}"),
+            Operation::Wait(handle) => write!(f, "wait {handle}"),
+        }
+    }
+}
