@@ -10,8 +10,8 @@ use Rattle.journal_model.specs.Superblock.{Shape}
 use Rattle.journal_model.specs.Transaction.{History, Volume}
 use Rattle.block_device.specs.Memory.{MemState, crashed, state_of}
 use Rattle.block_device.specs.State.{DeviceState, Stays}
-use Rattle.group_commit.specs.Opening.{Tells}
-use Rattle.group_commit.specs.Opening.Tells.{OfClean, OfChain}
+use Rattle.recovery.specs.Opening.{Tells}
+use Rattle.recovery.specs.Opening.Tells.{OfClean, OfChain}
 use Rattle.crash_bench.specs.Verdict.{IsAsLeft, IsRight, IsVerdict, owed}
 
 or_false : (b : Bool) → b ≡ (b || false)

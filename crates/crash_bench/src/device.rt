@@ -4,8 +4,8 @@ ghost use Rattle.block_device.specs.Memory.{state_of};
 ghost use Rattle.block_device.specs.Stop.{inner_of, stopping};
 
 use block_device::{Device, DeviceFault, MemDevice, StopAt};
-use group_commit::format;
 use journal_model::{Area, JournalError};
+use recovery::format;
 use std::alloc::Global;
 
 /// Bytes of a block.

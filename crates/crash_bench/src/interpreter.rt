@@ -5,8 +5,9 @@ use crate::device::{BLOCK_SIZE, RunDevice};
 use crate::outcome::Outcome;
 use crate::script::{HandleName, Operation};
 use crate::slots::{Slot, Slots};
-use group_commit::{Handle, Journal, Parts, Seat, Status, Ticket, Turn, open};
+use group_commit::{Handle, Journal, Parts, Seat, Status, Ticket, Turn};
 use journal_model::{BlockNo, JournalError, Tid};
+use recovery::open;
 use std::alloc::Global;
 
 /// More turns than a commit can take: each is the seal or one device call, and there are few more of these than ring blocks.

@@ -1,27 +1,12 @@
 -- The lemmas of this crate.
-pub mod Bringing
 pub mod Calls
-pub mod Chains
 pub mod Copies
-pub mod Copying
-pub mod During
-pub mod Ending
-pub mod Formatting
 pub mod Grouped
-pub mod Images
-pub mod Laps
 pub mod Ledgers
-pub mod OpenedLogs
-pub mod Places
-pub mod Reading
-pub mod Recovering
-pub mod Replaying
 pub mod Running
-pub mod Runs
 pub mod Sealing
 pub mod Stepping
 pub mod Tags
 pub mod TextBlocks
 pub mod Touches
 pub mod Turning
-pub mod WholeCopies

@@ -20,7 +20,7 @@ use Rattle.journal_world.proofs.Batches.{number-at}
 use Rattle.journal_world.proofs.Fresh.{fresh-plain}
 use Rattle.journal_world.proofs.Plain.{accepts-plain}
 use Rattle.journal_world.specs.Journal.{fresh_engine}
-use Rattle.group_commit.specs.Values.{IsNextNamed}
+use Rattle.recovery.specs.Values.{IsNextNamed}
 use Rattle.journal_world.proofs.Superblocks.{accepted-first, accepted-layout, accepted-length, accepted-ring, accepted-within, names-superblock}
 use Rattle.journal_world.proofs.Elements.{all-at}
 use Rattle.journal_world.proofs.Texts.{due-of}

@@ -2,6 +2,5 @@ pub mod Engine
 pub mod Front
 pub mod FrontView
 pub mod Journal
-pub mod Opening
 pub mod Text
 pub mod Values

@@ -1,10 +1,7 @@
 -- What contracts see of the journal's values.
-use Rattle.std.specs.Prelude.{ℕ, ◌<◌, ◌≤◌, Bool, List}
-use Rattle.journal_model.specs.Opening.{greatest_number, ring_of}
-use Rattle.journal_model.specs.Superblock.{Shape, super_in}
+use Rattle.std.specs.Prelude.{ℕ}
 use Rattle.journal_world.specs.Engine.{Engine}
 use Rattle.journal_world.specs.Journal.{Journal}
-use Rattle.journal_world.specs.Opening.{NamesNothing}
 
 -- a handle: its number, that of its transaction, and how many credits it has left
 pub record HandleValue : Type 0 where
@@ -17,15 +14,6 @@ pub record TicketValue : Type 0 where
   pub handle : ℕ
   pub tid : ℕ
 
--- a device with an opened log: block 0 of the log, the number of the next transaction, and what the opening found
-pub record OpenedValue (D : Type 0) : Type 0 where
-  pub device : D
-  pub superblock : List ℕ
-  pub next : ℕ
-  pub clean : Bool
-  pub ends_at : ℕ
-  pub transactions : ℕ
-
 -- an engine and its device
 pub record EngineValue (D : Type 0) : Type 0 where
   pub device : D
@@ -35,9 +23,3 @@ pub record EngineValue (D : Type 0) : Type 0 where
 pub record JournalValue (D : Type 0) : Type 0 where
   pub device : D
   pub journal : Journal
-
--- the superblock says that the log is clean, and which number the next transaction has
-pub record IsNextNamed (shape : Shape) (superblock : List ℕ) (next : ℕ) : Type 0 where
-  pub named : NamesNothing shape (ring_of (super_in superblock)) next superblock
-  pub some : 0 < next
-  pub number : next ≤ greatest_number

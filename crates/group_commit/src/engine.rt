@@ -14,12 +14,12 @@ ghost use Rattle.journal_world.specs.Sound.{IsPlain, OpensBetween};
 ghost use Rattle.group_commit.specs.Engine.{CanRun, CanRunOn, Fits, IsDuringCommit, IsOneMoment, IsProgress, MayAccept, StepDid, StepRefused, call_of, engine_of};
 ghost use Rattle.group_commit.specs.declared.engine.Progress.TheVariants.{Step, Done};
 
-use crate::opener::Opened;
 use crate::text::{TextWriter, blocks_of};
 use block_device::{Device, DeviceFault};
 use journal_model::{Area, Batch, Items, JournalError, Tid};
 use journal_world::Stage;
 use log_format::Super;
+use recovery::Opened;
 use std::alloc::Global;
 use std::marker::Model;
 

@@ -17,10 +17,10 @@ ghost use Rattle.group_commit.specs.Journal.{Does, IsDuringTurn, OpensNow, Reque
 use crate::engine::{Engine, Progress};
 use crate::front::Front;
 use crate::handle::{Credits, Handle, Receipt, Seat, Status, Ticket};
-use crate::opener::Opened;
 use block_device::Device;
 use journal_model::{BlockNo, JournalError, Sealed, Tid};
 use journal_plain::room::capacity;
+use recovery::Opened;
 use std::alloc::Global;
 use std::marker::Model;
 

@@ -1,7 +1,8 @@
 //! Whole runs over a device in memory, with ample memory.
-use crate::{Handle, Journal, Opened, Parts, Seat, Status, Ticket, Turn, format, open};
+use crate::{Handle, Journal, Parts, Seat, Status, Ticket, Turn};
 use block_device::{Device, MemDevice, StopAt};
 use journal_model::{Area, BlockNo, JournalError};
+use recovery::{Opened, format, open};
 use std::alloc::Global;
 use std::test::Fail;
 

@@ -6,7 +6,7 @@ use Rattle.journal_world.specs.Sound.{Sound}
 use Rattle.journal_world.proofs.Fresh.{fresh-sound}
 use Rattle.journal_world.proofs.Superblocks.{accepted-ring}
 use Rattle.group_commit.specs.Engine.{CanRun}
-use Rattle.group_commit.specs.Values.{IsNextNamed}
+use Rattle.recovery.specs.Values.{IsNextNamed}
 use Rattle.group_commit.proofs.Running.{fresh-is, fresh-runs}
 use Rattle.group_commit.proofs.engine.Engine.new.Goals as goal
 

@@ -1,0 +1,22 @@
+use Rattle.std.proofs.Common.{◌≡◌, ◌∙◌, arith, subst}
+use Rattle.std.specs.Prelude.{ℕ}
+use Rattle.recovery.specs.Opening.{HasZeros}
+use Rattle.recovery.proofs.Zeroed.{zeros-more}
+use Rattle.recovery.proofs.empty_log.write_zeros.Goals as goal
+
+-- one more block is zeros
+pub loop-n-preserved : goal.loop-n-preserved
+loop-n-preserved g c = (
+  zeros-more c.args.zeros.now c.loop-n.n (g.D.Device.state c.args.device.now).disk (g.D.Device.state c.loop-n.device).disk
+      (g.D.Device.state c.write.new.self).disk c.loop-n.invariant.0 c.in_ok-write.ensures.ok.now,
+  c.in_ok-write.ensures.ok.shape ∙ c.loop-n.invariant.1,
+  c.in_ok-write.ensures.faults ∙ c.loop-n.invariant.2,
+  λ honest. c.loop-n.invariant.3 (c.write.ensures.honest honest),
+)
+
+-- all are
+pub returns-clause-ok : goal.returns-clause-ok
+returns-clause-ok g c =
+    let all : c.loop-n.n ≡ c.args.maxlen = omega arith in
+    subst (λ (end : ℕ). HasZeros c.args.zeros.now end (g.D.Device.state c.args.device.now).disk (g.D.Device.state c.loop-n.device).disk) all
+    c.loop-n.invariant.0

@@ -1,0 +1,11 @@
+use Rattle.std.proofs.Common.{◌≡◌}
+use Rattle.recovery.specs.Opening.{HasZeros}
+use Rattle.recovery.proofs.empty_log.write_zeros.Given as goal
+
+-- the blocks so far are zeros
+abbrev pub invariant-loop-n : goal.invariant-loop-n
+invariant-loop-n g l =
+    HasZeros l.zeros l.n (g.D.Device.state l.fn.device).disk (g.D.Device.state l.device).disk
+    × ((g.D.Device.state l.device).shape ≡ (g.D.Device.state l.fn.device).shape)
+    × ((g.D.Device.state l.device).faults ≡ (g.D.Device.state l.fn.device).faults)
+    × (g.D.Device.honest l.device → g.D.Device.honest l.fn.device)

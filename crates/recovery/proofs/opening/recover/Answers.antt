@@ -1,0 +1,114 @@
+use Rattle.std.proofs.Common.{◌≡◌, ◌+◌, ℕ, List, ap, sym, subst, ◌∙◌, refl}
+use Rattle.journal_model.specs.declared.log.Text.{Text}
+use Rattle.journal_model.specs.Superblock.{Shape, with_tail}
+use Rattle.block_device.specs.State.{DeviceState}
+use Rattle.recovery.specs.Opening.{HasWholeCopies}
+use Rattle.recovery.specs.Values.{IsNextNamed}
+use Rattle.journal_world.specs.Opening.{IsOpening}
+use Rattle.recovery.proofs.During.{flush-moments}
+use Rattle.recovery.proofs.Recovering.{chain-tells, clean-opening, clean-tells, replayed-moments, replayed-named, replayed-opening, same-moments, same-replayed}
+use Rattle.recovery.proofs.opening.recover.Goals as goal
+
+-- a clean log is opened
+pub returns-then-clean-clause-opened : goal.returns-then-clean-clause-opened
+returns-then-clean-clause-opened g c = λ honest.
+    let s : DeviceState = g.D.Device.state c.args.device.now in
+    let clean = rw c.if-clean.true at c.in_ok-superblock.ensures.found in
+    clean-opening s (g.D.Device.state c.examine.new.device) (g.D.Device.state c.flush.new.self) c.in_ok-superblock.field-0.superblock.items
+    c.in_ok-superblock.field-0.texts c.in_ok-superblock.field-0.limit clean c.examine.ensures.stays c.in_ok-flush.ensures.ok
+    (c.in_ok-superblock.ensures.read (c.flush.ensures.honest honest))
+
+-- what that tells
+pub returns-then-clean-clause-report : goal.returns-then-clean-clause-report
+returns-then-clean-clause-report g c = λ honest.
+    let s : DeviceState = g.D.Device.state c.args.device.now in
+    let clean = rw c.if-clean.true at c.in_ok-superblock.ensures.found in
+    rw c.if-clean.true
+    (clean-tells s.shape _ c.in_ok-superblock.field-0.superblock.items
+    c.in_ok-superblock.field-0.texts c.in_ok-superblock.field-0.limit c.len.result clean c.len.ensures
+    (c.in_ok-superblock.ensures.read (c.flush.ensures.honest honest)))
+
+pub returns-then-clean-clause-moments : goal.returns-then-clean-clause-moments
+returns-then-clean-clause-moments g c = λ honest.
+    flush-moments (g.D.Device.state c.args.device.now).shape (g.D.Device.state c.args.device.now) (g.D.Device.state c.examine.new.device)
+    (g.D.Device.state c.flush.new.self) c.examine.ensures.stays c.in_ok-flush.ensures.ok
+
+-- the copies can be written
+pub bring_home-requires-clause-copies : goal.bring_home-requires-clause-copies
+bring_home-requires-clause-copies g c =
+    let other = rw c.if-clean.false at c.in_ok-superblock.ensures.found in
+    let shape = c.in_ok-flush.ensures.ok.shape ∙ c.examine.ensures.stays.shape in
+    subst (λ (size : ℕ). HasWholeCopies size c.as_slice.result.now) (sym (ap (λ (s : Shape). s.block_size) shape))
+    (subst (λ (ts : List Text). HasWholeCopies (g.D.Device.state c.args.device.now).shape.block_size ts) (sym c.as_slice.ensures) (other.copies refl))
+
+-- replay or its end failed
+pub returns-in_err-superblock-2-clause-moments : goal.returns-in_err-superblock-2-clause-moments
+returns-in_err-superblock-2-clause-moments g c = λ honest.
+    let s : DeviceState = g.D.Device.state c.args.device.now in
+    let u : DeviceState = g.D.Device.state c.flush.new.self in
+    let w : DeviceState = g.D.Device.state c.bring_home.new.device in
+    let other = rw c.if-clean.false at c.in_ok-superblock.ensures.found in
+    let shape : u.shape ≡ s.shape = c.in_ok-flush.ensures.ok.shape ∙ c.examine.ensures.stays.shape in
+    let home : c.blocks-home_blocks.result ≡ s.shape.home_blocks = c.blocks-home_blocks.ensures ∙ ap (λ (m : Shape). m.home_blocks) shape in
+    replayed-moments s (g.D.Device.state c.examine.new.device) u w c.in_ok-superblock.field-0.superblock.items c.in_ok-superblock.field-0.texts
+    c.in_ok-superblock.field-0.limit other c.examine.ensures.stays c.in_ok-flush.ensures.ok
+    (same-moments c.blocks-home_blocks.result s.shape.home_blocks c.as_slice.result.now c.in_ok-superblock.field-0.texts
+    (with_tail c.in_ok-superblock.field-0.superblock.items (c.in_ok-superblock.field-0.limit + 1) 0) u w home c.as_slice.ensures c.bring_home.ensures.moments)
+    (c.in_ok-superblock.ensures.read (c.flush.ensures.honest (c.bring_home.ensures.honest honest)))
+
+-- the log is clean again
+pub returns-clause-moments : goal.returns-clause-moments
+returns-clause-moments g c = λ honest.
+    let s : DeviceState = g.D.Device.state c.args.device.now in
+    let u : DeviceState = g.D.Device.state c.flush.new.self in
+    let w : DeviceState = g.D.Device.state c.bring_home.new.device in
+    let other = rw c.if-clean.false at c.in_ok-superblock.ensures.found in
+    let shape : u.shape ≡ s.shape = c.in_ok-flush.ensures.ok.shape ∙ c.examine.ensures.stays.shape in
+    let home : c.blocks-home_blocks.result ≡ s.shape.home_blocks = c.blocks-home_blocks.ensures ∙ ap (λ (m : Shape). m.home_blocks) shape in
+    replayed-moments s (g.D.Device.state c.examine.new.device) u w c.in_ok-superblock.field-0.superblock.items c.in_ok-superblock.field-0.texts
+    c.in_ok-superblock.field-0.limit other c.examine.ensures.stays c.in_ok-flush.ensures.ok
+    (same-moments c.blocks-home_blocks.result s.shape.home_blocks c.as_slice.result.now c.in_ok-superblock.field-0.texts
+    (with_tail c.in_ok-superblock.field-0.superblock.items (c.in_ok-superblock.field-0.limit + 1) 0) u w home c.as_slice.ensures c.bring_home.ensures.moments)
+    (c.in_ok-superblock.ensures.read (c.flush.ensures.honest (c.bring_home.ensures.honest honest)))
+
+-- its superblock names the next transaction
+pub returns-clause-named : goal.returns-clause-named
+returns-clause-named g c =
+    let s : DeviceState = g.D.Device.state c.args.device.now in
+    let shape = c.bring_home.ensures.shape ∙ c.in_ok-flush.ensures.ok.shape ∙ c.examine.ensures.stays.shape in
+    subst (λ (block : List ℕ). IsNextNamed (g.D.Device.state c.bring_home.new.device).shape block (c.in_ok-superblock.field-0.limit + 1))
+    (sym c.in_ok-superblock-2.ensures.superblock)
+    (subst (λ (m : Shape). IsNextNamed m (with_tail c.in_ok-superblock.field-0.superblock.items (c.in_ok-superblock.field-0.limit + 1) 0) (c.in_ok-superblock.field-0.limit + 1))
+    (sym shape)
+    (replayed-named s.shape c.in_ok-superblock.field-0.superblock.items c.in_ok-superblock.field-0.clean c.in_ok-superblock.field-0.texts
+    c.in_ok-superblock.field-0.limit c.in_ok-superblock.ensures.found))
+
+-- it is opened
+pub returns-clause-opened : goal.returns-clause-opened
+returns-clause-opened g c = λ honest.
+    let s : DeviceState = g.D.Device.state c.args.device.now in
+    let u : DeviceState = g.D.Device.state c.flush.new.self in
+    let w : DeviceState = g.D.Device.state c.bring_home.new.device in
+    let tail : List ℕ = with_tail c.in_ok-superblock.field-0.superblock.items (c.in_ok-superblock.field-0.limit + 1) 0 in
+    let other = rw c.if-clean.false at c.in_ok-superblock.ensures.found in
+    let shape : u.shape ≡ s.shape = c.in_ok-flush.ensures.ok.shape ∙ c.examine.ensures.stays.shape in
+    let home : c.blocks-home_blocks.result ≡ s.shape.home_blocks = c.blocks-home_blocks.ensures ∙ ap (λ (m : Shape). m.home_blocks) shape in
+    subst (λ (block : List ℕ). IsOpening s.shape s.disk w.disk block (c.in_ok-superblock.field-0.limit + 1)) (sym c.in_ok-superblock-2.ensures.superblock)
+    (replayed-opening s (g.D.Device.state c.examine.new.device) u w c.in_ok-superblock.field-0.superblock.items c.in_ok-superblock.field-0.texts
+    c.in_ok-superblock.field-0.limit other c.examine.ensures.stays c.in_ok-flush.ensures.ok
+    (same-moments c.blocks-home_blocks.result s.shape.home_blocks c.as_slice.result.now c.in_ok-superblock.field-0.texts tail u w home
+    c.as_slice.ensures c.bring_home.ensures.moments)
+    (same-replayed c.blocks-home_blocks.result s.shape.home_blocks c.as_slice.result.now c.in_ok-superblock.field-0.texts u w home
+    c.as_slice.ensures c.in_ok-superblock-2.ensures.home)
+    c.in_ok-superblock-2.ensures.durable
+    (c.in_ok-superblock.ensures.read (c.flush.ensures.honest (c.bring_home.ensures.honest honest))))
+
+-- and that tells of its chain
+pub returns-clause-report : goal.returns-clause-report
+returns-clause-report g c = λ honest.
+    let s : DeviceState = g.D.Device.state c.args.device.now in
+    let other = rw c.if-clean.false at c.in_ok-superblock.ensures.found in
+    rw c.if-clean.false
+    (chain-tells s.shape _ c.in_ok-superblock.field-0.superblock.items
+    c.in_ok-superblock.field-0.texts c.in_ok-superblock.field-0.limit c.len.result other c.len.ensures
+    (c.in_ok-superblock.ensures.read (c.flush.ensures.honest (c.bring_home.ensures.honest honest))))

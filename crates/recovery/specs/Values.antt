@@ -1,0 +1,20 @@
+-- What contracts see of an opened log.
+use Rattle.std.specs.Prelude.{ℕ, ◌<◌, ◌≤◌, Bool, List}
+use Rattle.journal_model.specs.Opening.{greatest_number, ring_of}
+use Rattle.journal_model.specs.Superblock.{Shape, super_in}
+use Rattle.journal_world.specs.Opening.{NamesNothing}
+
+-- a device with an opened log: block 0 of the log, the number of the next transaction, and what the opening found
+pub record OpenedValue (D : Type 0) : Type 0 where
+  pub device : D
+  pub superblock : List ℕ
+  pub next : ℕ
+  pub clean : Bool
+  pub ends_at : ℕ
+  pub transactions : ℕ
+
+-- the superblock says that the log is clean, and which number the next transaction has
+pub record IsNextNamed (shape : Shape) (superblock : List ℕ) (next : ℕ) : Type 0 where
+  pub named : NamesNothing shape (ring_of (super_in superblock)) next superblock
+  pub some : 0 < next
+  pub number : next ≤ greatest_number

@@ -1,0 +1,90 @@
+//! Making an empty log.
+ghost use Rattle.std.specs.Prelude.{◌≡◌, ◌<◌, ◌≤◌, length, OnOk, IfErr, MatchResult};
+ghost use Rattle.journal_model.specs.declared.number.Area.TheVariants.{Log};
+ghost use Rattle.journal_model.specs.Superblock.{greatest_length, least_length};
+ghost use Rattle.log_format.specs.Size.{IsBlockSize};
+ghost use Rattle.recovery.specs.Opening.{FormatRefused, HasZeros, IsDeviceFailure, IsFormatted};
+
+use block_device::Device;
+use journal_model::{Area, JournalError};
+use log_format::Super;
+
+/// Bytes of the largest block.
+const MOST_BYTES: usize = 4096;
+
+/// The fewest and the most blocks of a log.
+const LEAST_LENGTH: u32 = 17;
+
+const GREATEST_LENGTH: u32 = 1_048_576;
+
+/// Makes an empty log of `maxlen` blocks, 17 to 1,048,576, the superblock among them, with this UUID. All of its blocks behind
+/// the superblock become zeros; what lies behind the log in its area is made durable as it reads, and home isn't touched.
+/// Nothing is promised of a stop within it, nor after a device failure.
+///
+/// # Errors
+///
+/// `BadBlockSize` where the device's blocks don't have 1024, 2048 or 4096 bytes, `BadLength` where the length is outside its
+/// limits or above the log area's blocks: nothing is written. `Device` where the device failed.
+/// Source: journal.rst, "Super Block"; the zeros are this project's own.
+pub fn format<D: Device>(device: &mut D, maxlen: u32, uuid: &[u8; 16]) -> Result<(), JournalError>
+    ensures ok { OnOk result (IsFormatted (D.state device.old).shape maxlen uuid.now (D.state device.old).disk (D.state device.new).disk) }
+    ensures err { IfErr result (λ e. FormatRefused maxlen (D.state device.old) (D.state device.new) e) }
+    ensures no_fault { OnOk result ((D.state device.new).faults ≡ (D.state device.old).faults) }
+    ensures shape { (D.state device.new).shape ≡ (D.state device.old).shape }
+    ensures honest { D.honest device.new → D.honest device.old }
+{
+    let size = device.block_size();
+    if size != 1024 && size != 2048 && size != 4096 {
+        return Err(JournalError::BadBlockSize);
+    }
+    if maxlen < LEAST_LENGTH
+        || maxlen > GREATEST_LENGTH
+        || u64::from(maxlen) > device.blocks(Area::Log)
+    {
+        return Err(JournalError::BadLength);
+    }
+    let mut buffer = [0; MOST_BYTES];
+    write_log(device, &mut buffer[..size], maxlen, uuid)
+}
+
+/// Writes an empty log by way of a buffer of one block: first zeros behind the superblock, and then that.
+fn write_log<D: Device>(
+    device: &mut D,
+    block: &mut [u8],
+    maxlen: u32,
+    uuid: &[u8; 16],
+) -> Result<(), JournalError>
+    requires block { length block.old ≡ (D.state device.old).shape.block_size }
+    requires allowed { IsBlockSize (D.state device.old).shape.block_size }
+    requires least { least_length ≤ maxlen }
+    requires most { maxlen ≤ greatest_length }
+    requires there { maxlen ≤ (D.state device.old).shape.log_blocks }
+    ensures ok { OnOk result (IsFormatted (D.state device.old).shape maxlen uuid.now (D.state device.old).disk (D.state device.new).disk) }
+    ensures faults { MatchResult result (λ _. (D.state device.new).faults ≡ (D.state device.old).faults) (λ e. IsDeviceFailure (D.state device.old) (D.state device.new) e) }
+    ensures shape { (D.state device.new).shape ≡ (D.state device.old).shape }
+    ensures honest { D.honest device.new → D.honest device.old }
+{
+    block.fill(0);
+    write_zeros(device, block, u64::from(maxlen))?;
+    device.flush(Area::Log)?;
+    Super::format(block, maxlen, uuid);
+    device.write(Area::Log, 0, block)?;
+    device.flush(Area::Log)?;
+    Ok(())
+}
+
+/// Writes zeros to the blocks of the log behind the superblock.
+fn write_zeros<D: Device>(device: &mut D, zeros: &[u8], maxlen: u64) -> Result<(), JournalError>
+    requires block { length zeros.now ≡ (D.state device.old).shape.block_size }
+    requires some { 0 < maxlen }
+    requires there { maxlen ≤ (D.state device.old).shape.log_blocks }
+    ensures ok { OnOk result (HasZeros zeros.now maxlen (D.state device.old).disk (D.state device.new).disk) }
+    ensures faults { MatchResult result (λ _. (D.state device.new).faults ≡ (D.state device.old).faults) (λ e. IsDeviceFailure (D.state device.old) (D.state device.new) e) }
+    ensures shape { (D.state device.new).shape ≡ (D.state device.old).shape }
+    ensures honest { D.honest device.new → D.honest device.old }
+{
+    for n in 1..maxlen {
+        device.write(Area::Log, n, zeros)?;
+    }
+    Ok(())
+}

@@ -1,0 +1,217 @@
+//! Opening a log: what a stop left is replayed to home, and the log is left clean.
+ghost use Rattle.std.specs.Prelude.{◌≡◌, ◌+◌, OnOk, IfOk, IfErr, MatchResult};
+ghost use Rattle.journal_model.specs.Disk.{reading};
+ghost use Rattle.block_device.specs.State.{EachMoment, Stays};
+ghost use Rattle.journal_world.specs.Opening.{IsOpenedLog, IsOpening};
+ghost use Rattle.recovery.specs.Values.{IsNextNamed};
+ghost use Rattle.recovery.specs.Opening.{IsDuringOpening, IsExamined, IsExaminedOf, OpeningRefused, Tells};
+
+use crate::replay::bring_home;
+use crate::scan::{Read, read_log, scan};
+use block_device::Device;
+use journal_model::{Area, Items, JournalError, Text, Tid};
+use std::alloc::Global;
+use std::marker::Model;
+
+/// What an opening found in a log.
+#[derive(Clone, Copy, Debug, PartialEq, Eq)]
+pub struct Report {
+    /// The log was clean: there was nothing to replay.
+    pub clean: bool,
+    /// The number behind the last complete transaction of the log. In a clean log, its s_sequence.
+    pub ends_at: u64,
+    /// How many complete transactions the log had.
+    pub transactions: u64,
+}
+
+/// A device whose log was opened: it is clean, and what its chain held is home. Make a journal of it, or take the device
+/// back.
+#[derive(Drop)]
+pub struct Opened<D: Device> {
+    device: D,
+    superblock: Vec<u8>,
+    next: Tid,
+    report: Report,
+}
+
+impl<D: Device> Model for Opened<D> {
+    ghost use Rattle.journal_world.specs.Opening.{IsOpenedLog};
+    ghost use Rattle.recovery.specs.Values.{OpenedValue, IsNextNamed};
+
+    ghost Value = { OpenedValue D };
+
+    ghost view = { λ o. record {
+      device = o.device;
+      superblock = o.superblock.items;
+      next = o.next;
+      clean = o.report.clean;
+      ends_at = o.report.ends_at;
+      transactions = o.report.transactions;
+    } };
+
+    ghost invariant = { λ o. IsNextNamed (D.state o.device).shape o.superblock.items o.next
+        × (D.honest o.device → IsOpenedLog (D.state o.device).shape (D.state o.device).disk o.superblock.items o.next) };
+}
+
+/// Opens the log of a device: tests it, replays the transactions that it holds to home, and leaves it clean. Before
+/// anything else is relied on, the log area is flushed, so that no later stop takes back what was read.
+///
+/// # Errors
+///
+/// The device comes back with the refusal. `BadMagic` to `ErrnoSet`: the superblock; `Damage` and `Ahead`: a ring block;
+/// `SequenceEnd`: no number is left for a transaction. Before these nothing is written. `Device` where the device failed
+/// and `Memory` where memory ran out: home may have been written, and what a stop then leaves opens to the same
+/// transactions.
+/// Source: fs/jbd2/recovery.c by behaviour; the flush and the tests of ring blocks are this project's own.
+pub fn open<D: Device>(alloc: Global, device: D) -> Result<Opened<D>, (D, JournalError)>
+    ensures opened { IfOk result (λ o. D.honest o.device → IsOpening (D.state device).shape (D.state device).disk (D.state o.device).disk o.superblock o.next) }
+    ensures report { IfOk result (λ o. D.honest o.device → Tells (D.state device).shape (reading (D.state device).disk) o.clean o.ends_at o.transactions) }
+    ensures moments { MatchResult result
+        (λ o. D.honest o.device → EachMoment (IsDuringOpening (D.state device).shape (D.state device).disk) (D.state device) (D.state o.device))
+        (λ e. D.honest e.0 → EachMoment (IsDuringOpening (D.state device).shape (D.state device).disk) (D.state device) (D.state e.0)) }
+    ensures refused { IfErr result (λ e. OpeningRefused (D.honest e.0) (D.state device) (D.state e.0) e.1) }
+    ensures no_fault { IfOk result (λ o. (D.state o.device).faults ≡ (D.state device).faults) }
+    ensures shape { MatchResult result (λ o. (D.state o.device).shape ≡ (D.state device).shape) (λ e. (D.state e.0).shape ≡ (D.state device).shape) }
+    ensures honest { MatchResult result (λ o. D.honest o.device → D.honest device) (λ e. D.honest e.0 → D.honest device) }
+{
+    let mut device = device;
+    match recover(alloc, &mut device) {
+        Ok((superblock, next, report)) => Ok(Opened {
+            device,
+            superblock,
+            next,
+            report,
+        }),
+        Err(e) => Err((device, e)),
+    }
+}
+
+impl<D: Device> Opened<D> {
+    /// What the opening found.
+    pub fn report(&self) -> Report
+        ensures { result ≡ record { clean = self.now.clean; ends_at = self.now.ends_at; transactions = self.now.transactions } }
+    {
+        self.report
+    }
+
+    /// The number that the next transaction will have.
+    pub fn next(&self) -> Tid
+        ensures { result ≡ self.now.next }
+    {
+        self.next
+    }
+
+    /// How many bytes a block of the device has.
+    pub fn block_size(&self) -> usize
+        ensures { result ≡ (D.state self.now.device).shape.block_size }
+    {
+        self.device.block_size()
+    }
+
+    /// The device, whose log is clean.
+    pub fn into_device(self) -> D
+        ensures { result ≡ self.device }
+    {
+        let Opened {
+            device,
+            superblock: _,
+            next: _,
+            report: _,
+        } = self;
+        device
+    }
+
+    /// What a journal is made of: the device, block 0 of its log in the bytes of one block, and the number of the next
+    /// transaction, from 1 on. Block 0 is the superblock of a clean log, and says the number before the next one or that
+    /// number itself. Where the device's reads were honest, that block is durable, and no block of the ring can be taken
+    /// for a part of the next transaction or of a later one.
+    pub fn into_parts(self) -> (D, Vec<u8>, Tid)
+        ensures device { result.0 ≡ self.device }
+        ensures superblock { result.1.items ≡ self.superblock }
+        ensures next { result.2 ≡ self.next }
+        ensures named { IsNextNamed (D.state self.device).shape self.superblock self.next }
+        ensures log { D.honest self.device → IsOpenedLog (D.state self.device).shape (D.state self.device).disk self.superblock self.next }
+    {
+        let Opened {
+            device,
+            superblock,
+            next,
+            report: _,
+        } = self;
+        (device, superblock, next)
+    }
+}
+
+/// What a log holds: block 0, whether it is clean, its complete transactions, and the number behind the last of them.
+#[derive(Drop)]
+struct Found {
+    superblock: Vec<u8>,
+    clean: bool,
+    texts: Items<Text>,
+    limit: u64,
+}
+
+/// Reads the log, replays it and leaves it clean. The answer is block 0, the number of the next transaction and what was
+/// found.
+fn recover<D: Device>(alloc: Global, device: &mut D) -> Result<(Vec<u8>, Tid, Report), JournalError>
+    ensures named { IfOk result (λ r. IsNextNamed (D.state device.new).shape r.0.items r.1) }
+    ensures opened { IfOk result (λ r. D.honest device.new → IsOpening (D.state device.old).shape (D.state device.old).disk (D.state device.new).disk r.0.items r.1) }
+    ensures report { IfOk result (λ r. D.honest device.new → Tells (D.state device.old).shape (reading (D.state device.old).disk) r.2.clean r.2.ends_at r.2.transactions) }
+    ensures moments { D.honest device.new → EachMoment (IsDuringOpening (D.state device.old).shape (D.state device.old).disk) (D.state device.old) (D.state device.new) }
+    ensures refused { IfErr result (λ e. OpeningRefused (D.honest device.new) (D.state device.old) (D.state device.new) e) }
+    ensures no_fault { OnOk result ((D.state device.new).faults ≡ (D.state device.old).faults) }
+    ensures shape { (D.state device.new).shape ≡ (D.state device.old).shape }
+    ensures honest { D.honest device.new → D.honest device.old }
+{
+    let Found {
+        superblock,
+        clean,
+        texts,
+        limit,
+    } = examine(alloc, device)?;
+    device.flush(Area::Log)?;
+    let next = (limit + 1) as u32;
+    let report = Report {
+        clean,
+        ends_at: limit,
+        transactions: texts.len() as u64,
+    };
+    if clean {
+        return Ok((superblock, Tid(next), report));
+    }
+    let home_blocks = device.blocks(Area::Home);
+    let superblock = bring_home(
+        alloc,
+        device,
+        texts.as_slice(),
+        home_blocks,
+        superblock,
+        next,
+    )?;
+    Ok((superblock, Tid(next), report))
+}
+
+/// Reads the log and tests all that stands in it. Nothing is written.
+fn examine<D: Device>(alloc: Global, device: &mut D) -> Result<Found, JournalError>
+    ensures found { IfOk result (λ found. IsExamined (D.state device.old).shape found.superblock.items found.clean found.texts found.limit) }
+    ensures read { IfOk result (λ found. D.honest device.new → IsExaminedOf (D.state device.old).shape (reading (D.state device.old).disk) found.superblock.items found.texts found.limit) }
+    ensures faults { OnOk result ((D.state device.new).faults ≡ (D.state device.old).faults) }
+    ensures refused { IfErr result (λ e. OpeningRefused (D.honest device.new) (D.state device.old) (D.state device.new) e) }
+    ensures stays { Stays (D.state device.old) (D.state device.new) }
+    ensures honest { D.honest device.new → D.honest device.old }
+{
+    let log = read_log(alloc, device)?;
+    let home_blocks = device.blocks(Area::Home);
+    let (texts, limit) = scan(alloc, &log, home_blocks)?;
+    let Read {
+        superblock,
+        fields,
+        lap: _,
+    } = log;
+    Ok(Found {
+        superblock,
+        clean: fields.s_start == 0,
+        texts,
+        limit,
+    })
+}
