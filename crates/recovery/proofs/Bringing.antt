@@ -9,16 +9,16 @@ use Rattle.journal_model.specs.Replay.{IsNewest, IsReplayed}
 use Rattle.block_device.specs.State.{DeviceState, EachMoment}
 use Rattle.block_device.proofs.Moments.{each-joins}
 use Rattle.journal_world.specs.Sound.{durable_cell}
-use Rattle.recovery.specs.Opening.{IsCopying, IsEnding, IsHomeDone, IsHomeDurable, IsReplaying}
+use Rattle.recovery.specs.Opening.{IsEnding, IsHomeDone, IsHomeDurable, IsReplaying, IsWritingHome}
 use Rattle.recovery.proofs.Runs.{durable-one, each-weaker}
 
 -- what a log block holds while copies are written is what it held
-copying-held : (texts : List Text) (old disk : Disk) (n : ℕ) (v : List ℕ) → IsCopying texts old disk → IsOneOf (held (disk Log n)) v →
+copying-held : (texts : List Text) (old disk : Disk) (n : ℕ) (v : List ℕ) → IsWritingHome (IsNewest texts) old disk → IsOneOf (held (disk Log n)) v →
     IsOneOf (held (old Log n)) v
 copying-held texts old disk n v is one = subst (λ (c : Cell). IsOneOf (held c) v) (is.log n) one
 
 -- while copies are written
-copying-replaying : (count : ℕ) (texts : List Text) (superblock : List ℕ) (old disk : Disk) → IsCopying texts old disk → IsReplaying count texts superblock old disk
+copying-replaying : (count : ℕ) (texts : List Text) (superblock : List ℕ) (old disk : Disk) → IsWritingHome (IsNewest texts) old disk → IsReplaying count texts superblock old disk
 copying-replaying count texts superblock old disk is = record {
   home = is.home;
   log = λ n other. inl (is.log n);
@@ -50,7 +50,7 @@ ending-done count texts old middle disk replayed durable b v below one =
     ⊎_elim (λ newest. inl (subst (IsNewest texts b) (sym is) newest)) (λ none. inr (none.0, inl (is ∙ none.1))) (replayed b below)
 
 -- at the end
-ending-replaying : (count : ℕ) (texts : List Text) (superblock : List ℕ) (old middle disk : Disk) → IsCopying texts old middle →
+ending-replaying : (count : ℕ) (texts : List Text) (superblock : List ℕ) (old middle disk : Disk) → IsWritingHome (IsNewest texts) old middle →
     IsReplayed count texts (reading old Home) (reading middle Home) → IsEnding superblock middle disk → IsReplaying count texts superblock old disk
 ending-replaying count texts superblock old middle disk copying replayed is = record {
   home = ending-adds texts old middle disk copying.home is.home;
@@ -62,13 +62,13 @@ ending-replaying count texts superblock old middle disk copying replayed is = re
 }
 
 -- the moments while copies are written
-pub copying-moments : (count : ℕ) (texts : List Text) (superblock : List ℕ) (s t : DeviceState) → EachMoment (IsCopying texts s.disk) s t →
+pub copying-moments : (count : ℕ) (texts : List Text) (superblock : List ℕ) (s t : DeviceState) → EachMoment (IsWritingHome (IsNewest texts) s.disk) s t →
     EachMoment (IsReplaying count texts superblock s.disk) s t
 copying-moments count texts superblock s t each =
-    each-weaker (IsCopying texts s.disk) (IsReplaying count texts superblock s.disk) s t (copying-replaying count texts superblock s.disk) each
+    each-weaker (IsWritingHome (IsNewest texts) s.disk) (IsReplaying count texts superblock s.disk) s t (copying-replaying count texts superblock s.disk) each
 
 -- and those to the end
-pub ending-moments : (count : ℕ) (texts : List Text) (superblock : List ℕ) (s t u : DeviceState) → EachMoment (IsCopying texts s.disk) s t →
+pub ending-moments : (count : ℕ) (texts : List Text) (superblock : List ℕ) (s t u : DeviceState) → EachMoment (IsWritingHome (IsNewest texts) s.disk) s t →
     IsReplayed count texts (reading s.disk Home) (reading t.disk Home) → EachMoment (IsEnding superblock t.disk) t u →
     EachMoment (IsReplaying count texts superblock s.disk) s u
 ending-moments count texts superblock s t u first replayed second =

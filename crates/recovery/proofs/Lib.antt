@@ -4,8 +4,12 @@ pub mod Chains
 pub mod Copying
 pub mod During
 pub mod Ending
+pub mod Gathered
+pub mod Gathering
+pub mod HomeCopies
 pub mod Images
 pub mod Laps
+pub mod LongerChains
 pub mod OpenedLogs
 pub mod Places
 pub mod Reading

@@ -10,29 +10,33 @@ use Rattle.journal_model.specs.declared.refusal.JournalError.TheVariants.{Device
 use Rattle.journal_model.specs.Disk.{Disk, Image, flushed, reading}
 use Rattle.journal_model.specs.Opening.{super_of}
 use Rattle.journal_model.specs.Opening.IsRefused.{BySuperblock}
-use Rattle.journal_model.specs.Replay.{IsReplayed}
+use Rattle.journal_model.specs.Replay.{IsNewest, IsReplayed}
 use Rattle.journal_model.specs.Superblock.{Shape, Super, super_in, with_tail}
 use Rattle.block_device.specs.State.{DeviceState, EachMoment, Moves, Stays, one_more_fault}
 use Rattle.log_format.specs.Size.{IsBlockSize}
 use Rattle.journal_world.specs.Opening.{IsOpening}
 use Rattle.journal_world.specs.Sound.{durable_cell}
-use Rattle.recovery.specs.Opening.{HasWholeCopies, IsDuringOpening, IsExamined, IsExaminedOf, IsFailure, IsFound, IsReadFrom, IsReadingRefused, IsRefusedLog, IsReplaying, IsWellRead, IsWholeLap, OpeningRefused, Tells}
+use Rattle.recovery.specs.Opening.{FitsHome, IsDuringOpening, IsExamined, IsExaminedOf, IsFailure, IsFound, IsReadFrom, IsReadingRefused, IsRefusedLog, IsReplaying, IsWellRead, IsWholeLap, OpeningRefused, Tells}
 use Rattle.recovery.specs.Opening.IsRefusedLog.{ForAhead, ForDamage, ForNumber}
 use Rattle.recovery.specs.Values.{IsNextNamed}
+use Rattle.recovery.proofs.HomeCopies.{chain-below}
 use Rattle.recovery.proofs.WholeCopies.{chain-whole}
 use Rattle.recovery.proofs.During.{flush-disk, keeps-replaying, replay-moments}
 use Rattle.recovery.proofs.Images.{read-found, read-refused, read-taken}
 use Rattle.recovery.proofs.OpenedLogs.{IsCleanTail, clean-limit, clean-named, clean-tail, opening-clean, opening-replayed, tail-named, tells-chain, tells-clean}
 
--- the copies of a log that is not clean fill blocks
-copies-whole : (shape : Shape) (superblock : List ℕ) (fields : Super) (blocks : List (List ℕ)) (texts : List Text) (limit : ℕ) →
+-- the newest copies of a log that is not clean fit home
+copies-fit : (shape : Shape) (superblock : List ℕ) (fields : Super) (blocks : List (List ℕ)) (texts : List Text) (limit : ℕ) →
     IsWellRead shape superblock fields → IsWholeLap fields blocks → IsFound fields shape.home_blocks blocks texts limit → fields.s_start ≢ 0 →
-    HasWholeCopies shape.block_size texts
-copies-whole shape superblock fields blocks texts limit well whole found started =
-    subst (λ (size : ℕ). HasWholeCopies size texts) well.accepted.size
-    (chain-whole _ shape.home_blocks fields.s_sequence fields.s_blocksize blocks texts
-    (let same : fields.s_blocksize ≡ shape.block_size = well.accepted.size in let allowed = well.accepted.allowed in omega arith)
-    whole.whole (found.texts_of.chain started))
+    FitsHome shape (IsNewest texts)
+copies-fit shape superblock fields blocks texts limit well whole found started = record {
+  within = chain-below _ shape.home_blocks fields.s_sequence blocks texts (found.texts_of.chain started);
+  whole = λ b bytes newest.
+      chain-whole _ shape.home_blocks fields.s_sequence fields.s_blocksize blocks texts
+      (let same : fields.s_blocksize ≡ shape.block_size = well.accepted.size in let allowed = well.accepted.allowed in omega arith)
+      whole.whole (found.texts_of.chain started) b bytes newest
+      ∙ well.accepted.size;
+}
 
 -- a log that was read and is not refused
 pub examined : (shape : Shape) (superblock : List ℕ) (fields : Super) (count : ℕ) (blocks : List (List ℕ)) (texts : List Text) (limit : ℕ) →
@@ -51,7 +55,7 @@ examined shape superblock fields count blocks texts limit well whole same is =
           clean-limit fields shape.home_blocks blocks texts limit (eqb-true fields.s_start 0 clean) found
           ∙ ap (λ (s : Super). s.s_sequence) well.fields_are;
       copies = λ other.
-          copies-whole shape superblock fields blocks texts limit well whole found
+          copies-fit shape superblock fields blocks texts limit well whole found
           (λ zero. let yes : (fields.s_start == 0) ≡ true = grind (arith, nat_tests) in cc);
     }
 

@@ -11,9 +11,9 @@ use Rattle.journal_model.specs.declared.log.Text.{Text}
 use Rattle.journal_model.specs.Chain.{IsChain, texts_blocks}
 use Rattle.journal_model.specs.Escape.{unescaped}
 use Rattle.journal_model.specs.Layout.{Layout}
+use Rattle.journal_model.specs.Replay.{IsNewest}
 use Rattle.journal_model.specs.Text.{piece_blocks, piece_copies, pieces_blocks, text_blocks, text_copies}
 use Rattle.journal_world.proofs.Texts.{text-some}
-use Rattle.recovery.specs.Opening.{HasWholeCopies}
 
 -- each text has a block
 texts-few : (ts : List Text) → length ts ≤ length (texts_blocks ts)
@@ -54,7 +54,7 @@ all-behind P [] ys all = all
 all-behind P (x ∷ xs) ys all = all-behind P xs ys all.1
 
 -- both parts make the whole
-all-joined : {X : Type 0} (P : X → Type 0) (xs ys : List X) → AllByRecursion P xs → AllByRecursion P ys → AllByRecursion P (xs ++ ys)
+pub all-joined : {X : Type 0} (P : X → Type 0) (xs ys : List X) → AllByRecursion P xs → AllByRecursion P ys → AllByRecursion P (xs ++ ys)
 all-joined P [] ys all more = more
 all-joined P (x ∷ xs) ys all more = (all.0, all-joined P xs ys all.1 more)
 
@@ -88,14 +88,14 @@ texts-whole size (t ∷ ts) large sized = (
 )
 
 -- what is had by all is had by one
-all-at : {X : Type 0} (P : X → Type 0) (xs : List X) (k : ℕ) (x : X) → AllByRecursion P xs → slice_get xs k ≡ Some x → P x
+pub all-at : {X : Type 0} (P : X → Type 0) (xs : List X) (k : ℕ) (x : X) → AllByRecursion P xs → slice_get xs k ≡ Some x → P x
 all-at P [] k x all there = absurd (none-some x there)
 all-at P (y ∷ xs) zero x all there = subst P (same_Some y x there) all.0
 all-at P (y ∷ xs) (suc k) x all there = all-at P xs k x all.1 there
 
 -- the newest copies of a chain of whole blocks are whole
 pub chain-whole : (l : Layout) (count sequence size : ℕ) (blocks : List (List ℕ)) (texts : List Text) → 4 ≤ size → All (λ b. length b ≡ size) blocks →
-    IsChain l count sequence blocks texts → HasWholeCopies size texts
+    IsChain l count sequence blocks texts → (b : ℕ) (bytes : List ℕ) → IsNewest texts b bytes → length bytes ≡ size
 chain-whole l count sequence size blocks texts large whole chain b bytes newest =
     let sized : AreSized size (texts_blocks texts ++ chain.begins.rest) =
     subst (AreSized size) chain.begins.split (recursion_from_All (λ x. length x ≡ size) blocks whole) in

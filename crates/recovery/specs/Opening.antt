@@ -6,7 +6,7 @@ use Rattle.journal_model.specs.declared.refusal.JournalError.{JournalError}
 use Rattle.journal_model.specs.declared.refusal.JournalError.TheVariants.{Memory, Device, BadBlockSize, BadLength, Ahead, Damage, SequenceEnd}
 use Rattle.journal_model.specs.Chain.{IsChain, IsDamaged, place_from}
 use Rattle.journal_model.specs.Disk.{Disk, Image, IsOneOf, flushed, held, reading}
-use Rattle.journal_model.specs.HomeChange.{HomeAddsOnly, IsChainCopy}
+use Rattle.journal_model.specs.HomeChange.{Addition, HomeAddsOnly, IsChainCopy}
 use Rattle.journal_model.specs.Layout.{begins_with_magic, sequence_in}
 use Rattle.journal_model.specs.Opening.{HasChain, HasLimit, IsClean, IsRefused, greatest_number, layout_of, log_lap, ring_of, super_of}
 use Rattle.journal_model.specs.Replay.{HasNoLive, IsNewest}
@@ -164,9 +164,10 @@ pub record IsTaken (shape : Shape) (image : Image) : Type 0 where
   pub accepted : super_refusal shape (image Log 0) ≡ None
   pub measures : IsAccepted shape.block_size shape.log_blocks (super_of image)
 
--- replay can write each newest copy: it fills a block
-abbrev pub HasWholeCopies : ℕ → List Text → Type 0
-HasWholeCopies size texts = (b : ℕ) (bytes : List ℕ) → IsNewest texts b bytes → length bytes ≡ size
+-- what may be added to home can be written there: home has the block, and the bytes fill it
+pub record FitsHome (shape : Shape) (may : Addition) : Type 0 where
+  pub within : (b : ℕ) (bytes : List ℕ) → may b bytes → b < shape.home_blocks
+  pub whole : (b : ℕ) (bytes : List ℕ) → may b bytes → length bytes ≡ shape.block_size
 
 -- What is known of a log that was read and is not refused, whatever the device answered: block 0 is accepted, and says
 -- whether the log is clean; in a clean log the limit is its number, and else the copies can be written.
@@ -178,7 +179,7 @@ pub record IsExamined (shape : Shape) (superblock : List ℕ) (clean : Bool) (te
   pub start : ((super_in superblock).s_start == 0) ≡ clean
   pub number : limit < greatest_number
   pub end : clean ≡ true → limit ≡ (super_in superblock).s_sequence
-  pub copies : clean ≡ false → HasWholeCopies shape.block_size texts
+  pub copies : clean ≡ false → FitsHome shape (IsNewest texts)
 
 -- what was found stands in the image
 pub record IsExaminedOf (shape : Shape) (image : Image) (superblock : List ℕ) (texts : List Text) (limit : ℕ) : Type 0 where
@@ -186,9 +187,9 @@ pub record IsExaminedOf (shape : Shape) (image : Image) (superblock : List ℕ) 
   pub taken : IsTaken shape image
   pub found : IsFound (super_of image) shape.home_blocks (log_lap image) texts limit
 
--- a moment of replay: home has gained nothing but newest copies, and the log is as it was
-pub record IsCopying (texts : List Text) (old disk : Disk) : Type 0 where
-  pub home : HomeAddsOnly (IsNewest texts) old disk
+-- a moment of writing home: home has gained nothing but what may be added, and the log is as it was
+pub record IsWritingHome (may : Addition) (old disk : Disk) : Type 0 where
+  pub home : HomeAddsOnly may old disk
   pub log : (n : ℕ) → disk Log n ≡ old Log n
 
 -- home is durable as it read

@@ -179,15 +179,7 @@ fn recover<D: Device>(alloc: Global, device: &mut D) -> Result<(Vec<u8>, Tid, Re
     if clean {
         return Ok((superblock, Tid(next), report));
     }
-    let home_blocks = device.blocks(Area::Home);
-    let superblock = bring_home(
-        alloc,
-        device,
-        texts.as_slice(),
-        home_blocks,
-        superblock,
-        next,
-    )?;
+    let superblock = bring_home(alloc, device, texts.as_slice(), superblock, next)?;
     Ok((superblock, Tid(next), report))
 }
 

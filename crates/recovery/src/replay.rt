@@ -2,17 +2,18 @@
 ghost use Rattle.std.specs.Prelude.{◌≡◌, ◌<◌, length, OnOk, IfOk, MatchResult};
 ghost use Rattle.journal_model.specs.declared.number.Area.TheVariants.{Log, Home};
 ghost use Rattle.journal_model.specs.Disk.{reading};
-ghost use Rattle.journal_model.specs.Replay.{IsReplayed};
+ghost use Rattle.journal_model.specs.Replay.{IsNewest, IsReplayed};
 ghost use Rattle.journal_model.specs.Superblock.{with_tail};
 ghost use Rattle.block_device.specs.State.{EachMoment};
 ghost use Rattle.log_format.specs.Size.{IsBlockSize};
 ghost use Rattle.journal_world.specs.Sound.{durable_cell};
-ghost use Rattle.recovery.specs.Opening.{HasWholeCopies, IsCopying, IsDeviceFailure, IsEnding, IsFailure, IsHomeDurable, IsReplaying};
+ghost use Rattle.recovery.specs.Gather.{IsGathered, IsWrittenOver};
+ghost use Rattle.recovery.specs.Opening.{FitsHome, IsDeviceFailure, IsEnding, IsFailure, IsHomeDurable, IsReplaying, IsWritingHome};
 
+use crate::gather::{NewestCopies, gather};
 use block_device::Device;
-use journal_model::{Area, BlockNo, JournalError, Text};
-use journal_plain::replay::newest;
-use log_format::Super;
+use journal_model::{Area, JournalError, Text};
+use log_format::{Super, unescape};
 use std::alloc::Global;
 
 /// Writes home the newest copy of each block that has one in the chain, and then says in the superblock that the log is
@@ -21,48 +22,61 @@ pub(crate) fn bring_home<D: Device>(
     alloc: Global,
     device: &mut D,
     texts: &[Text],
-    home_blocks: u64,
     superblock: Vec<u8>,
     next: u32,
 ) -> Result<Vec<u8>, JournalError>
-    requires count { home_blocks ≡ (D.state device.old).shape.home_blocks }
-    requires copies { HasWholeCopies (D.state device.old).shape.block_size texts.now }
+    requires copies { FitsHome (D.state device.old).shape (IsNewest texts.now) }
     requires size { length superblock.items ≡ (D.state device.old).shape.block_size }
     requires allowed { IsBlockSize (length superblock.items) }
     requires there { 0 < (D.state device.old).shape.log_blocks }
     ensures superblock { IfOk result (λ block. block.items ≡ with_tail superblock.items next 0) }
-    ensures home { OnOk result (IsReplayed home_blocks texts.now (reading (D.state device.old).disk Home) (reading (D.state device.new).disk Home)) }
+    ensures home { OnOk result (IsReplayed (D.state device.old).shape.home_blocks texts.now (reading (D.state device.old).disk Home) (reading (D.state device.new).disk Home)) }
     ensures durable { OnOk result ((D.state device.new).disk Log 0 ≡ durable_cell (with_tail superblock.items next 0)) }
-    ensures moments { EachMoment (IsReplaying home_blocks texts.now (with_tail superblock.items next 0) (D.state device.old).disk) (D.state device.old) (D.state device.new) }
+    ensures moments { EachMoment (IsReplaying (D.state device.old).shape.home_blocks texts.now (with_tail superblock.items next 0) (D.state device.old).disk) (D.state device.old) (D.state device.new) }
     ensures faults { MatchResult result (λ _. (D.state device.new).faults ≡ (D.state device.old).faults) (λ e. IsFailure (D.state device.old) (D.state device.new) e) }
     ensures shape { (D.state device.new).shape ≡ (D.state device.old).shape }
     ensures honest { D.honest device.new → D.honest device.old }
 {
     let mut superblock = superblock;
-    replay(alloc, device, texts, home_blocks)?;
+    replay(alloc, device, texts)?;
     clean_log(device, &mut superblock, next)?;
     Ok(superblock)
 }
 
 /// Writes home the newest copy of each block that has one in the chain.
-fn replay<D: Device>(
-    alloc: Global,
-    device: &mut D,
-    texts: &[Text],
-    home_blocks: u64,
-) -> Result<(), JournalError>
-    requires count { home_blocks ≡ (D.state device.old).shape.home_blocks }
-    requires copies { HasWholeCopies (D.state device.old).shape.block_size texts.now }
-    ensures home { OnOk result (IsReplayed home_blocks texts.now (reading (D.state device.old).disk Home) (reading (D.state device.new).disk Home)) }
-    ensures moments { EachMoment (IsCopying texts.now (D.state device.old).disk) (D.state device.old) (D.state device.new) }
+fn replay<D: Device>(alloc: Global, device: &mut D, texts: &[Text]) -> Result<(), JournalError>
+    requires copies { FitsHome (D.state device.old).shape (IsNewest texts.now) }
+    requires allowed { IsBlockSize (D.state device.old).shape.block_size }
+    ensures home { OnOk result (IsReplayed (D.state device.old).shape.home_blocks texts.now (reading (D.state device.old).disk Home) (reading (D.state device.new).disk Home)) }
+    ensures moments { EachMoment (IsWritingHome (IsNewest texts.now) (D.state device.old).disk) (D.state device.old) (D.state device.new) }
     ensures faults { MatchResult result (λ _. (D.state device.new).faults ≡ (D.state device.old).faults) (λ e. IsFailure (D.state device.old) (D.state device.new) e) }
     ensures shape { (D.state device.new).shape ≡ (D.state device.old).shape }
     ensures honest { D.honest device.new → D.honest device.old }
 {
-    for b in 0..home_blocks {
-        if let Some(copy) = newest(alloc, texts, BlockNo(b))? {
-            device.write(Area::Home, b, copy.bytes())?;
-        }
+    let newest = gather(alloc, texts)?;
+    let mut block = vec![in alloc; 0; device.block_size()]?;
+    write_copies(device, &newest, &mut block)
+}
+
+/// Writes what was gathered home, in the order of the blocks, by way of a buffer of one block.
+fn write_copies<D: Device>(
+    device: &mut D,
+    newest: &NewestCopies<'_>,
+    block: &mut [u8],
+) -> Result<(), JournalError>
+    requires copies { FitsHome (D.state device.old).shape (IsGathered newest.now) }
+    requires block { length block.old ≡ (D.state device.old).shape.block_size }
+    requires allowed { IsBlockSize (D.state device.old).shape.block_size }
+    ensures home { OnOk result (IsWrittenOver newest.now (reading (D.state device.old).disk Home) (reading (D.state device.new).disk Home)) }
+    ensures moments { EachMoment (IsWritingHome (IsGathered newest.now) (D.state device.old).disk) (D.state device.old) (D.state device.new) }
+    ensures faults { MatchResult result (λ _. (D.state device.new).faults ≡ (D.state device.old).faults) (λ e. IsDeviceFailure (D.state device.old) (D.state device.new) e) }
+    ensures shape { (D.state device.new).shape ≡ (D.state device.old).shape }
+    ensures honest { D.honest device.new → D.honest device.old }
+{
+    for (b, copy) in newest {
+        block.copy_from_slice(copy.block.bytes());
+        unescape(block, copy.escaped);
+        device.write(Area::Home, *b, block)?;
     }
     Ok(())
 }

@@ -1,8 +1,9 @@
 use Rattle.std.proofs.Common.{◌≡◌, ◌+◌, ℕ, List, ap, sym, subst, ◌∙◌, refl}
 use Rattle.journal_model.specs.declared.log.Text.{Text}
+use Rattle.journal_model.specs.Replay.{IsNewest}
 use Rattle.journal_model.specs.Superblock.{Shape, with_tail}
 use Rattle.block_device.specs.State.{DeviceState}
-use Rattle.recovery.specs.Opening.{HasWholeCopies}
+use Rattle.recovery.specs.Opening.{FitsHome}
 use Rattle.recovery.specs.Values.{IsNextNamed}
 use Rattle.journal_world.specs.Opening.{IsOpening}
 use Rattle.recovery.proofs.During.{flush-moments}
@@ -38,8 +39,8 @@ pub bring_home-requires-clause-copies : goal.bring_home-requires-clause-copies
 bring_home-requires-clause-copies g c =
     let other = rw c.if-clean.false at c.in_ok-superblock.ensures.found in
     let shape = c.in_ok-flush.ensures.ok.shape ∙ c.examine.ensures.stays.shape in
-    subst (λ (size : ℕ). HasWholeCopies size c.as_slice.result.now) (sym (ap (λ (s : Shape). s.block_size) shape))
-    (subst (λ (ts : List Text). HasWholeCopies (g.D.Device.state c.args.device.now).shape.block_size ts) (sym c.as_slice.ensures) (other.copies refl))
+    subst (λ (s : Shape). FitsHome s (IsNewest c.as_slice.result.now)) (sym shape)
+    (subst (λ (ts : List Text). FitsHome (g.D.Device.state c.args.device.now).shape (IsNewest ts)) (sym c.as_slice.ensures) (other.copies refl))
 
 -- replay or its end failed
 pub returns-in_err-superblock-2-clause-moments : goal.returns-in_err-superblock-2-clause-moments
@@ -49,10 +50,10 @@ returns-in_err-superblock-2-clause-moments g c = λ honest.
     let w : DeviceState = g.D.Device.state c.bring_home.new.device in
     let other = rw c.if-clean.false at c.in_ok-superblock.ensures.found in
     let shape : u.shape ≡ s.shape = c.in_ok-flush.ensures.ok.shape ∙ c.examine.ensures.stays.shape in
-    let home : c.blocks-home_blocks.result ≡ s.shape.home_blocks = c.blocks-home_blocks.ensures ∙ ap (λ (m : Shape). m.home_blocks) shape in
+    let home : u.shape.home_blocks ≡ s.shape.home_blocks = ap (λ (m : Shape). m.home_blocks) shape in
     replayed-moments s (g.D.Device.state c.examine.new.device) u w c.in_ok-superblock.field-0.superblock.items c.in_ok-superblock.field-0.texts
     c.in_ok-superblock.field-0.limit other c.examine.ensures.stays c.in_ok-flush.ensures.ok
-    (same-moments c.blocks-home_blocks.result s.shape.home_blocks c.as_slice.result.now c.in_ok-superblock.field-0.texts
+    (same-moments u.shape.home_blocks s.shape.home_blocks c.as_slice.result.now c.in_ok-superblock.field-0.texts
     (with_tail c.in_ok-superblock.field-0.superblock.items (c.in_ok-superblock.field-0.limit + 1) 0) u w home c.as_slice.ensures c.bring_home.ensures.moments)
     (c.in_ok-superblock.ensures.read (c.flush.ensures.honest (c.bring_home.ensures.honest honest)))
 
@@ -64,10 +65,10 @@ returns-clause-moments g c = λ honest.
     let w : DeviceState = g.D.Device.state c.bring_home.new.device in
     let other = rw c.if-clean.false at c.in_ok-superblock.ensures.found in
     let shape : u.shape ≡ s.shape = c.in_ok-flush.ensures.ok.shape ∙ c.examine.ensures.stays.shape in
-    let home : c.blocks-home_blocks.result ≡ s.shape.home_blocks = c.blocks-home_blocks.ensures ∙ ap (λ (m : Shape). m.home_blocks) shape in
+    let home : u.shape.home_blocks ≡ s.shape.home_blocks = ap (λ (m : Shape). m.home_blocks) shape in
     replayed-moments s (g.D.Device.state c.examine.new.device) u w c.in_ok-superblock.field-0.superblock.items c.in_ok-superblock.field-0.texts
     c.in_ok-superblock.field-0.limit other c.examine.ensures.stays c.in_ok-flush.ensures.ok
-    (same-moments c.blocks-home_blocks.result s.shape.home_blocks c.as_slice.result.now c.in_ok-superblock.field-0.texts
+    (same-moments u.shape.home_blocks s.shape.home_blocks c.as_slice.result.now c.in_ok-superblock.field-0.texts
     (with_tail c.in_ok-superblock.field-0.superblock.items (c.in_ok-superblock.field-0.limit + 1) 0) u w home c.as_slice.ensures c.bring_home.ensures.moments)
     (c.in_ok-superblock.ensures.read (c.flush.ensures.honest (c.bring_home.ensures.honest honest)))
 
@@ -92,13 +93,13 @@ returns-clause-opened g c = λ honest.
     let tail : List ℕ = with_tail c.in_ok-superblock.field-0.superblock.items (c.in_ok-superblock.field-0.limit + 1) 0 in
     let other = rw c.if-clean.false at c.in_ok-superblock.ensures.found in
     let shape : u.shape ≡ s.shape = c.in_ok-flush.ensures.ok.shape ∙ c.examine.ensures.stays.shape in
-    let home : c.blocks-home_blocks.result ≡ s.shape.home_blocks = c.blocks-home_blocks.ensures ∙ ap (λ (m : Shape). m.home_blocks) shape in
+    let home : u.shape.home_blocks ≡ s.shape.home_blocks = ap (λ (m : Shape). m.home_blocks) shape in
     subst (λ (block : List ℕ). IsOpening s.shape s.disk w.disk block (c.in_ok-superblock.field-0.limit + 1)) (sym c.in_ok-superblock-2.ensures.superblock)
     (replayed-opening s (g.D.Device.state c.examine.new.device) u w c.in_ok-superblock.field-0.superblock.items c.in_ok-superblock.field-0.texts
     c.in_ok-superblock.field-0.limit other c.examine.ensures.stays c.in_ok-flush.ensures.ok
-    (same-moments c.blocks-home_blocks.result s.shape.home_blocks c.as_slice.result.now c.in_ok-superblock.field-0.texts tail u w home
+    (same-moments u.shape.home_blocks s.shape.home_blocks c.as_slice.result.now c.in_ok-superblock.field-0.texts tail u w home
     c.as_slice.ensures c.bring_home.ensures.moments)
-    (same-replayed c.blocks-home_blocks.result s.shape.home_blocks c.as_slice.result.now c.in_ok-superblock.field-0.texts u w home
+    (same-replayed u.shape.home_blocks s.shape.home_blocks c.as_slice.result.now c.in_ok-superblock.field-0.texts u w home
     c.as_slice.ensures c.in_ok-superblock-2.ensures.home)
     c.in_ok-superblock-2.ensures.durable
     (c.in_ok-superblock.ensures.read (c.flush.ensures.honest (c.bring_home.ensures.honest honest))))
