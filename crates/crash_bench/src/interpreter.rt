@@ -1,35 +1,39 @@
 //! Runs the operations of a script on a journal.
-ghost use Rattle.std.specs.Prelude.{◌≤◌};
+ghost use Rattle.std.specs.Prelude.{◌≡◌, ◌≤◌, IfOk, length};
 
-use crate::device::{BLOCK_SIZE, RunDevice};
 use crate::outcome::Outcome;
 use crate::script::{HandleName, Operation};
 use crate::slots::{Slot, Slots};
+use block_device::{MemDevice, StopAt};
 use group_commit::{Handle, Journal, Parts, Seat, Status, Ticket, Turn};
 use journal_model::{BlockNo, JournalError, Tid};
 use recovery::open;
-use std::alloc::Global;
+use std::alloc::{AllocError, Global};
 
-/// More turns than a commit can take: each is the seal or one device call, and there are few more of these than ring blocks.
-const MOST_TURNS: u32 = 1_000;
+/// More turns than a commit can take: each is the seal or one device call, and there are few more of these than ring blocks,
+/// of which a log has fewer than 1,048,576.
+const MOST_TURNS: u32 = 2_000_000;
 
 /// A journal, and what the names of a script stand for.
 #[derive(Drop)]
 pub struct Interpreter {
-    journal: Journal<RunDevice>,
+    alloc: Global,
+    journal: Journal<StopAt<MemDevice>>,
     seat: Seat,
     slots: Slots,
     /// The greatest transaction that an operation showed committed.
     acknowledged: Option<Tid>,
 }
 
-/// A block of these bytes, at most one block of them, and zeros behind them.
-fn block_of(bytes: &[u8]) -> [u8; BLOCK_SIZE] {
-    let mut block = [0; BLOCK_SIZE];
+/// A block of `size` bytes: these, at most one block of them, and zeros behind them.
+fn block_of(alloc: Global, size: usize, bytes: &[u8]) -> Result<Vec<u8>, AllocError>
+    ensures { IfOk result (λ block. length block.items ≡ size) }
+{
+    let mut block = vec![in alloc; 0; size]?;
     for (place, byte) in block.iter_mut().zip(bytes) {
         *place = *byte;
     }
-    block
+    Ok(block)
 }
 
 impl Interpreter {
@@ -38,11 +42,12 @@ impl Interpreter {
     /// # Errors
     ///
     /// The log is refused, or memory runs out.
-    pub fn new(alloc: Global, device: RunDevice) -> Result<Self, JournalError> {
+    pub fn new(alloc: Global, device: StopAt<MemDevice>) -> Result<Self, JournalError> {
         let slots = Slots::new(alloc)?;
         let opened = open(alloc, device).map_err(|(_, e)| e)?;
         let (journal, seat) = Journal::new(alloc, opened).map_err(|(_, e)| e)?;
         Ok(Interpreter {
+            alloc,
             journal,
             seat,
             slots,
@@ -65,8 +70,9 @@ impl Interpreter {
 
     /// Stops all open handles and ends the journal: its device with its record, and the greatest transaction that was shown
     /// committed.
-    pub fn finish(self) -> (Parts<RunDevice>, Option<Tid>) {
+    pub fn finish(self) -> (Parts<StopAt<MemDevice>>, Option<Tid>) {
         let Interpreter {
+            alloc: _,
             mut journal,
             seat: _,
             slots,
@@ -111,7 +117,7 @@ impl Interpreter {
     fn write(&mut self, name: HandleName, block: BlockNo, bytes: &[u8]) -> Outcome {
         match self.slots.take(name) {
             Slot::Open(mut handle) => {
-                let answer = self.journal.write(&mut handle, block, &block_of(bytes));
+                let answer = self.write_block(&mut handle, block, bytes);
                 self.slots.put(name, Slot::Open(handle));
                 match answer {
                     Ok(()) => Outcome::Done,
@@ -123,6 +129,17 @@ impl Interpreter {
                 Outcome::Skipped
             }
         }
+    }
+
+    /// Writes a block of these bytes, with zeros behind them.
+    fn write_block(
+        &mut self,
+        handle: &mut Handle,
+        block: BlockNo,
+        bytes: &[u8],
+    ) -> Result<(), JournalError> {
+        let bytes = block_of(self.alloc, self.journal.block_size(), bytes)?;
+        self.journal.write(handle, block, &bytes)
     }
 
     /// Stops a handle.

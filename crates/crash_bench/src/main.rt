@@ -3,10 +3,10 @@
 #![tactic(auto)]
 
 mod blocks;
-mod device;
 mod dump;
 mod fault;
 mod interpreter;
+mod measures;
 mod order;
 mod outcome;
 mod reading;

@@ -1,30 +1,52 @@
 //! Reads a script from the bytes of its file.
 ghost use Rattle.std.specs.Prelude.{◌≡◌, ◌≤◌, IfOk, length};
+ghost use Rattle.crash_bench.specs.Measures.{AreLimited};
 
 use crate::fault::Fault;
+use crate::measures::{DEFAULTS, Measures};
 use crate::order;
 use crate::script::{HandleName, MOST_OPERATIONS, Operation, Script};
 use hex::FromHexError;
 use journal_model::BlockNo;
-use serde_json::Value;
+use serde_json::{Map, Value};
 use std::alloc::{AllocError, Global};
 
-/// The most bytes of a block that a script can give.
-const MOST_BYTES: usize = 1024;
+/// The keys of a script.
+const KEYS: [&str; 5] = ["ops", "block", "length", "home", "uuid"];
+
+/// The fewest and the most blocks of a log, and of a home area.
+const LENGTHS: (u64, u64) = (17, 1_048_576);
+
+const HOMES: (u64, u64) = (1, 1_048_576);
 
 /// Reads a script.
 ///
 /// # Errors
 ///
-/// `BadScript` where it is no JSON object with the one key `ops`, a list of at most 100,000 operations; where an operation
-/// has another form, or names a handle in the wrong state. `Memory`.
+/// `BadScript` where it is no JSON object with the key `ops`, a list of at most 100,000 operations, and at will `block`,
+/// `length`, `home` and `uuid`, within their limits, and with no other key; where an operation has another form, or names a
+/// handle in the wrong state. `Memory`.
 pub fn read(alloc: Global, text: &[u8]) -> Result<Script, Fault>
-    ensures { IfOk result (λ script. length script.operations.items ≤ 100_000) }
+    ensures operations { IfOk result (λ script. length script.operations.items ≤ 100_000) }
+    ensures measures { IfOk result (λ script. AreLimited script.measures) }
 {
     let value = read_value(alloc, text)?;
-    let operations = read_operations(alloc, list_of(&value)?)?;
+    let members = value.as_object().ok_or(Fault::BadScript)?;
+    if KEYS
+        .iter()
+        .filter(|key| members.contains_key(**key))
+        .count()
+        != members.len()
+    {
+        return Err(Fault::BadScript);
+    }
+    let measures = read_measures(alloc, members)?;
+    let operations = read_operations(alloc, list_of(members)?, measures.block_size)?;
     order::check(alloc, &operations)?;
-    Ok(Script { operations })
+    Ok(Script {
+        measures,
+        operations,
+    })
 }
 
 /// The value of a JSON text.
@@ -36,14 +58,57 @@ fn read_value(alloc: Global, text: &[u8]) -> Result<Value, Fault> {
     }
 }
 
-/// The list of operations of a script.
-fn list_of(value: &Value) -> Result<&[Value], Fault>
-    ensures { IfOk result (λ list. length list.now ≤ 100_000) }
+/// The measures of a script's device.
+fn read_measures(alloc: Global, members: &Map<String, Value>) -> Result<Measures, Fault>
+    ensures { IfOk result (λ measures. AreLimited measures) }
 {
-    let members = value.as_object().ok_or(Fault::BadScript)?;
-    if members.len() != 1 {
+    let block_size = read_number(members, "block", DEFAULTS.block_size as u64, (1024, 4096))?;
+    if block_size != 1024 && block_size != 2048 && block_size != 4096 {
         return Err(Fault::BadScript);
     }
+    Ok(Measures {
+        block_size: block_size as usize,
+        log_blocks: read_number(members, "length", u64::from(DEFAULTS.log_blocks), LENGTHS)? as u32,
+        home_blocks: read_number(members, "home", DEFAULTS.home_blocks, HOMES)?,
+        uuid: read_uuid(alloc, members)?,
+    })
+}
+
+/// The number of a key, or where the script has no such key the default. It is not outside these limits.
+fn read_number(
+    members: &Map<String, Value>,
+    key: &str,
+    default: u64,
+    limits: (u64, u64),
+) -> Result<u64, Fault>
+    requires least { limits.0 ≤ default }
+    requires most { default ≤ limits.1 }
+    ensures least { IfOk result (λ number. limits.0 ≤ number) }
+    ensures most { IfOk result (λ number. number ≤ limits.1) }
+{
+    let Some(value) = members.get(key) else {
+        return Ok(default);
+    };
+    let number = number_of(value)?;
+    if number < limits.0 || number > limits.1 {
+        return Err(Fault::BadScript);
+    }
+    Ok(number)
+}
+
+/// The UUID of a script's journal.
+fn read_uuid(alloc: Global, members: &Map<String, Value>) -> Result<[u8; 16], Fault> {
+    let Some(value) = members.get("uuid") else {
+        return Ok(DEFAULTS.uuid);
+    };
+    let bytes = bytes_of(alloc, value, 16)?;
+    <[u8; 16]>::try_from(bytes.as_slice()).map_err(|_| Fault::BadScript)
+}
+
+/// The list of operations of a script.
+fn list_of(members: &Map<String, Value>) -> Result<&[Value], Fault>
+    ensures { IfOk result (λ list. length list.now ≤ 100_000) }
+{
     let list = members.get("ops").and_then(Value::as_array);
     match list {
         Some(operations) if operations.len() <= MOST_OPERATIONS => Ok(operations.as_slice()),
@@ -51,19 +116,23 @@ fn list_of(value: &Value) -> Result<&[Value], Fault>
     }
 }
 
-/// The operations of a list.
-fn read_operations(alloc: Global, list: &[Value]) -> Result<Vec<Operation>, Fault>
+/// The operations of a list, where a block has so many bytes.
+fn read_operations(
+    alloc: Global,
+    list: &[Value],
+    block_size: usize,
+) -> Result<Vec<Operation>, Fault>
     ensures { IfOk result (λ operations. length operations.items ≡ length list.now) }
 {
     let mut operations = Vec::with_capacity(alloc, list.len())?;
     for value in list {
-        operations.push(read_operation(alloc, value)?)?;
+        operations.push(read_operation(alloc, value, block_size)?)?;
     }
     Ok(operations)
 }
 
 /// An operation: a list of its name and what it is about.
-fn read_operation(alloc: Global, value: &Value) -> Result<Operation, Fault> {
+fn read_operation(alloc: Global, value: &Value, block_size: usize) -> Result<Operation, Fault> {
     let words = value.as_array().ok_or(Fault::BadScript)?;
     let (name, words) = words.split_first().ok_or(Fault::BadScript)?;
     match (name.as_str().ok_or(Fault::BadScript)?, words) {
@@ -74,7 +143,7 @@ fn read_operation(alloc: Global, value: &Value) -> Result<Operation, Fault> {
         ("write", [handle, block, hex]) => Ok(Operation::Write(
             handle_of(handle)?,
             BlockNo(number_of(block)?),
-            bytes_of(alloc, hex)?,
+            bytes_of(alloc, hex, block_size)?,
         )),
         ("stop", [handle]) => Ok(Operation::Stop(handle_of(handle)?)),
         ("request", [handle]) => Ok(Operation::Request(handle_of(handle)?)),
@@ -95,12 +164,12 @@ fn handle_of(value: &Value) -> Result<HandleName, Fault> {
     HandleName::new(number_of(value)?).ok_or(Fault::BadScript)
 }
 
-/// The bytes of a hex text.
-fn bytes_of(alloc: Global, value: &Value) -> Result<Vec<u8>, Fault>
-    ensures { IfOk result (λ bytes. length bytes.items ≤ 1024) }
+/// The bytes of a hex text, at most so many.
+fn bytes_of(alloc: Global, value: &Value, most: usize) -> Result<Vec<u8>, Fault>
+    ensures { IfOk result (λ bytes. length bytes.items ≤ most) }
 {
     let digits = value.as_str().ok_or(Fault::BadScript)?;
-    if digits.len() / 2 > MOST_BYTES {
+    if digits.len() / 2 > most {
         return Err(Fault::BadScript);
     }
     match hex::decode(alloc, digits) {

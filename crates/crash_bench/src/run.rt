@@ -9,7 +9,6 @@ ghost use Rattle.block_device.specs.State.{Stays};
 ghost use Rattle.crash_bench.specs.Verdict.{IsVerdict};
 
 use crate::blocks::read_block;
-use crate::device::{HOME_BLOCKS, RunDevice};
 use crate::dump::dump;
 use crate::fault::{self, Fault, Status};
 use crate::interpreter::Interpreter;
@@ -71,7 +70,7 @@ fn run_script<R: Read + Drop, W: Write + Drop>(
     out: W,
 ) -> Result<bool, Fault> {
     let script = read_script(alloc, script)?;
-    let named = script.named_blocks(alloc, HOME_BLOCKS)?;
+    let named = script.named_blocks(alloc)?;
     let mut out = BufWriter::new(alloc, out)?;
     let stopped = run_operations(alloc, &script, words.stop, &mut out)?;
     let verdict = judge(alloc, stopped, &words.keep, &named, &mut out)?;
@@ -96,7 +95,8 @@ fn run_operations(
     stop: Option<u64>,
     out: &mut impl Write,
 ) -> Result<Stopped, Fault> {
-    let mut interpreter = Interpreter::new(alloc, RunDevice::new(alloc, stop)?)?;
+    let disk = script.measures.empty_disk(alloc, stop)?;
+    let mut interpreter = Interpreter::new(alloc, disk)?;
     for operation in &script.operations {
         let outcome = interpreter.perform(operation);
         writeln!(out, "{operation} = {outcome}")?;
@@ -112,7 +112,7 @@ fn run_operations(
     };
     Ok(Stopped {
         at_write,
-        device: parts.device.into_disk(),
+        device: parts.device.into_inner(),
         recorded: Record {
             sealed: parts.sealed,
             acknowledged,

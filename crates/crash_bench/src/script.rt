@@ -1,6 +1,7 @@
 //! What a script is: its operations, and the line that each begins.
 ghost use Rattle.std.specs.Prelude.{◌≡◌, ◌<◌, ◌↔◌, IfSome, IsSome};
 
+use crate::measures::Measures;
 use journal_model::BlockNo;
 use std::alloc::{AllocError, Global};
 use std::collections::BTreeSet;
@@ -38,6 +39,8 @@ pub enum Operation {
 /// A script whose operations all have a right form, and name handles in the right state.
 #[derive(Debug, Drop)]
 pub struct Script {
+    /// The measures of its device.
+    pub measures: Measures,
     /// Its operations, in order.
     pub operations: Vec<Operation>,
 }
@@ -86,16 +89,12 @@ impl Operation {
 }
 
 impl Script {
-    /// The blocks below `home_blocks` that its operations name, whether these will run or not.
-    pub fn named_blocks(
-        &self,
-        alloc: Global,
-        home_blocks: u64,
-    ) -> Result<BTreeSet<u64>, AllocError> {
+    /// The home blocks that its operations name, whether these will run or not.
+    pub fn named_blocks(&self, alloc: Global) -> Result<BTreeSet<u64>, AllocError> {
         let mut named = BTreeSet::new(alloc);
         for operation in &self.operations {
             if let Some(BlockNo(block)) = operation.block()
-                && block < home_blocks
+                && block < self.measures.home_blocks
             {
                 named.insert(block)?;
             }

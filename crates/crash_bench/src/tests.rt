@@ -11,6 +11,7 @@ use std::test::Fail;
 mod bad_scripts;
 mod faults;
 mod refusals;
+mod sizes;
 mod verdicts;
 mod whole_runs;
 mod word_lists;

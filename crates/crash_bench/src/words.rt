@@ -22,13 +22,18 @@ const RUN_ABOUT: &str = "Runs a script, stops the device, opens what the stop le
 
 /// What stands at the end of the help of `run`.
 const RUN_AFTER_HELP: &str = "\
-The device has 33 log blocks and 64 home blocks of 1024 bytes. It is formatted and opened before the first operation; its
-writes are numbered from 1 after that. The image has of each block the greatest unflushed write that --keep names, else what
-was flushed last. A refused operation prints its refusal, and counts as done.
+The device is formatted and opened before the first operation; its writes are numbered from 1 after that. The image has of
+each block the greatest unflushed write that --keep names, else what was flushed last. A refused operation prints its
+refusal, and counts as done.
 
-A script is a JSON object with the one key \"ops\", a list of at most 100,000 operations. H names a handle, 0 to 9999:
+A script is a JSON object with these keys, of which \"ops\" alone has to be there:
+  \"block\"   bytes of a block: 1024, 2048 or 4096 [default: 1024]
+  \"length\"  blocks of the log, 17 to 1048576 [default: 33]
+  \"home\"    blocks of the home area, 1 to 1048576 [default: 64]
+  \"uuid\"    the journal's UUID, 32 hex digits [default: aa 16 times]
+  \"ops\"     a list of at most 100,000 operations, where H names a handle, 0 to 9999:
   [\"start\", H, n]       a handle with n credits
-  [\"write\", H, b, hex]  home block b becomes these bytes, at most 1024, and zeros behind them
+  [\"write\", H, b, hex]  home block b becomes these bytes, at most a block, and zeros behind them
   [\"stop\", H]           the handle ends
   [\"request\", H]        asks for the commit of its transaction
   [\"commit\"]            takes commit turns until one has nothing to do

@@ -1,8 +1,10 @@
 -- What a ledger that can run on some device knows, whatever else is true of that device.
 use Rattle.std.proofs.Common.{arith, refl, sym, ap, ap₂, subst, ◌∙◌}
 use Rattle.std.proofs.lemmas.Bool.Decides.{nat_tests}
-use Rattle.std.specs.Prelude.{◌≡◌, ◌≢◌, ℕ, ◌+◌, ◌-◌, ◌<◌, Bool, true, ◌≤◌, List, length, Option, Some, None, slice_get, nat_lt, if◌then◌else◌}
+use Rattle.std.proofs.lemmas.Option.{slice_get_past}
+use Rattle.std.specs.Prelude.{◌≡◌, ◌≢◌, ℕ, ◌+◌, ◌-◌, ◌<◌, Bool, true, ◌≤◌, List, [], ◌∷◌, ◌++◌, length, Option, Some, None, slice_get, nat_le, nat_lt, if◌then◌else◌, IsTrue, ◌↔◌}
 use Rattle.journal_model.specs.declared.entry.Batch.{Batch}
+use Rattle.journal_model.specs.Chain.{ring_place}
 use Rattle.journal_model.specs.Layout.{narrow}
 use Rattle.journal_model.specs.Opening.{greatest_number}
 use Rattle.journal_model.specs.OwnText.{own_text}
@@ -13,11 +15,13 @@ use Rattle.journal_model.specs.Text.{text_blocks}
 use Rattle.log_format.specs.Size.{IsBlockSize}
 use Rattle.journal_world.specs.declared.stage.Stage.TheVariants.{Idle, Blocks, CommitWrite, SuperblockWrite}
 use Rattle.journal_world.specs.Call.Call.{Write, Flush}
-use Rattle.journal_world.specs.Engine.{Engine, blocks_if, call_due, call_in, due_blocks, ring_place, write_block}
+use Rattle.journal_world.specs.Engine.{Engine, blocks_if, call_due, call_in, due_blocks, write_block}
+use Rattle.journal_world.specs.Sound.{IsPlain, StageAgrees}
+use Rattle.log_ring.specs.Ring.{RingValue, free}
 use Rattle.group_commit.specs.declared.engine.Ledger.{Ledger}
-use Rattle.group_commit.specs.Engine.{CanRunOn, engine_of}
+use Rattle.group_commit.specs.Engine.{CanRun, CanRunOn, HasTaken, MayAccept, Runs, engine_of}
 use Rattle.group_commit.specs.Text.{AreCopies}
-use Rattle.journal_world.proofs.Elements.{all-at}
+use Rattle.journal_world.proofs.Elements.{all-at, get-last}
 use Rattle.journal_world.proofs.Superblocks.{accepted-size}
 use Rattle.journal_world.proofs.Texts.{due-some}
 use Rattle.group_commit.proofs.Running.{HasRing, due-one, runs-blocks, runs-few, runs-number, runs-ring, runs-size, superblock-of}
@@ -31,6 +35,77 @@ same-if l shape other (Some b) same = ap (λ (size : ℕ). text_blocks (own_text
 pub same-due : (l : Ledger) (shape other : Shape) → shape.block_size ≡ other.block_size →
     due_blocks (engine_of shape l) ≡ due_blocks (engine_of other l)
 same-due l shape other same = same-if l shape other (slice_get l.accepted l.committed) same
+
+-- where nothing is being committed, no block is due
+pub idle-due : (e : Engine) → IsPlain e → e.stage ≡ Idle → due_blocks e ≡ []
+idle-due e plain idle =
+    let agrees : StageAgrees e Idle = subst (StageAgrees e) idle plain.stage in
+    let past : length e.accepted ≤ e.committed = (let all = agrees.0 in omega arith) in
+    ap (blocks_if e) (slice_get_past e.accepted e.committed past)
+
+-- a test of the room against what is needed is one of their sum against all
+pub room-test : (needed free sum all : ℕ) → (needed ≤ free → sum ≤ all) → (sum ≤ all → needed ≤ free) → IsTrue (nat_le needed free) ↔ (sum ≤ all)
+room-test needed free sum all there back = grind (arith, nat_tests)
+
+-- what is taken does not depend on how far the commit is, nor on what the superblock says
+pub taken-alike : (shape : Shape) (l new : Ledger) → new.ring ≡ l.ring → new.start ≡ l.start → new.uuid ≡ l.uuid → new.accepted ≡ l.accepted →
+    new.committed ≡ l.committed → HasTaken shape l → HasTaken shape new
+taken-alike shape l new ring start uuid accepted committed taken =
+    let due : due_blocks (engine_of shape new) ≡ due_blocks (engine_of shape l) =
+    ap₂ (λ (bs : List Batch) (n : ℕ). blocks_if (engine_of shape new) (slice_get bs n)) accepted committed
+    ∙ alike (slice_get l.accepted l.committed) in
+    record {
+      tail = ap (λ (r : RingValue). r.tail) ring ∙ taken.tail;
+      head = ap (λ (r : RingValue). r.head) ring ∙ taken.head ∙ ap₂ (λ (m n : ℕ). m + n) (sym start) (ap length (sym due));
+    }
+  where
+    alike : (o : Option Batch) → blocks_if (engine_of shape new) o ≡ blocks_if (engine_of shape l) o
+    alike None = refl
+    alike (Some b) = ap (λ (u : List ℕ). text_blocks (own_text (narrow shape.block_size) u b.tid b.entries)) uuid
+
+-- nor on a fault, on a device whose shape stays
+pub fault-taken : (shape after : Shape) (l : Ledger) → after ≡ shape → HasTaken shape l → HasTaken after (record l { aborted = true })
+fault-taken shape after l same taken =
+    subst (λ (s : Shape). HasTaken s (record l { aborted = true })) (sym same) (taken-alike shape l (record l { aborted = true }) refl refl refl refl refl taken)
+
+-- where no transaction was handed over, nothing is taken
+pub fresh-taken : (shape : Shape) (l : Ledger) → l.accepted ≡ [] → l.ring.tail ≡ 0 → l.ring.head ≡ 0 → l.start ≡ 0 → HasTaken shape l
+fresh-taken shape l none tail head start =
+    let due : length (due_blocks (engine_of shape l)) ≡ 0 =
+    ap (λ (bs : List Batch). length (blocks_if (engine_of shape l) (slice_get bs l.committed))) none in
+    record { tail = tail; head = omega arith }
+
+-- the ring has the blocks that a batch needs which may be taken
+pub room-there : (shape : Shape) (l : Ledger) (b : Batch) (count : ℕ) → Runs shape l → MayAccept (engine_of shape l) b →
+    count ≡ need (narrow shape.block_size) (length b.entries) 0 → free l.ring < count → ⊥
+room-there shape l b count runs may needed less =
+    let none = ap length (idle-due (engine_of shape l) runs.can_run.plain may.idle) in
+    let head = runs.taken.head in
+    let tail = runs.taken.tail in
+    let room = may.room in
+    omega arith
+
+-- the batch is the one that is to be committed
+pub batch-there : (shape : Shape) (l : Ledger) (b : Batch) (accepted : List Batch) → Runs shape l → MayAccept (engine_of shape l) b →
+    accepted ≡ l.accepted ++ b ∷ [] → slice_get accepted l.committed ≡ Some b
+batch-there shape l b accepted runs may taken =
+    let agrees : StageAgrees (engine_of shape l) Idle = subst (StageAgrees (engine_of shape l)) may.idle runs.can_run.plain.stage in
+    ap (λ (bs : List Batch). slice_get bs l.committed) taken ∙ get-last l.accepted b l.committed agrees.0
+
+-- where nothing is being committed, all that is taken is committed
+pub idle-head : (shape : Shape) (l : Ledger) (b : Batch) → Runs shape l → MayAccept (engine_of shape l) b → l.ring.head ≡ l.start
+idle-head shape l b runs may =
+    let none = ap length (idle-due (engine_of shape l) runs.can_run.plain may.idle) in
+    let head = runs.taken.head in
+    omega arith
+
+-- the ring blocks that a batch needs are taken for it
+pub batch-taken : (shape : Shape) (new : Ledger) (b : Batch) → CanRun (engine_of shape new) → slice_get new.accepted new.committed ≡ Some b →
+    new.ring.tail ≡ 0 → new.ring.head ≡ new.start + need (narrow shape.block_size) (length b.entries) 0 → HasTaken shape new
+batch-taken shape new b can stands tail head = record {
+  tail = tail;
+  head = head ∙ ap (λ (n : ℕ). new.start + n) (sym (runs-blocks (engine_of shape new) b can stands));
+}
 
 -- the write of a block before the commit block is the call that is due
 pub call-block : (e : Engine) (k : ℕ) → e.stage ≡ Blocks k → k + 1 < length (due_blocks e) → Some (write_block e k) ≡ call_due e
@@ -51,65 +126,71 @@ call-superblock e block sequence start is made number place =
 module _ (l : Ledger) (size : ℕ) (on : CanRunOn l size) where
   -- its blocks have a size that a block may have
   pub on-size : IsBlockSize size
-  on-size = subst IsBlockSize (sym on.size_is) (runs-size (engine_of on.shape l) on.can_run.plain)
+  on-size = subst IsBlockSize (sym on.size_is) (runs-size (engine_of on.shape l) on.runs.can_run.plain)
 
   -- its ring lies behind the superblock, and has not too many blocks
   pub on-ring : HasRing (engine_of on.shape l)
-  on-ring = runs-ring (engine_of on.shape l) on.can_run.plain
+  on-ring = runs-ring (engine_of on.shape l) on.runs.can_run.plain
 
   -- as many bytes as the superblock has
   pub on-superblock : length l.superblock.items ≡ size
-  on-superblock = (superblock-of (engine_of on.shape l) on.can_run.plain).size ∙ sym on.size_is
+  on-superblock = (superblock-of (engine_of on.shape l) on.runs.can_run.plain).size ∙ sym on.size_is
 
   -- and that are enough for all its fields
   pub on-long : 32 ≤ length l.superblock.items
   on-long =
-      let is = superblock-of (engine_of on.shape l) on.can_run.plain in
+      let is = superblock-of (engine_of on.shape l) on.runs.can_run.plain in
       let size = accepted-size on.shape l.superblock.items is.accepted in
       let same = is.size in
       omega arith
 
   -- a batch is there where a call is due
   pub on-due : l.stage ≢ Idle → l.committed < length l.accepted
-  on-due busy = let one : length l.accepted ≡ l.committed + 1 = due-one (engine_of on.shape l) l.stage on.can_run.plain.stage busy in omega arith
+  on-due busy = let one : length l.accepted ≡ l.committed + 1 = due-one (engine_of on.shape l) l.stage on.runs.can_run.plain.stage busy in omega arith
 
   -- the numbers of all of them fit
   pub on-numbers : l.first + length l.accepted ≤ greatest_number + 1
-  on-numbers = on.can_run.plain.numbers
+  on-numbers = on.runs.can_run.plain.numbers
 
   -- and then some block is due
   pub on-some : (shape : Shape) → l.stage ≢ Idle → 0 < length (due_blocks (engine_of shape l))
-  on-some shape busy = due-some (engine_of shape l) (due-one (engine_of on.shape l) l.stage on.can_run.plain.stage busy)
+  on-some shape busy = due-some (engine_of shape l) (due-one (engine_of on.shape l) l.stage on.runs.can_run.plain.stage busy)
 
   -- it has copies alone
   pub on-copies : (b : Batch) → slice_get l.accepted l.committed ≡ Some b → AreCopies size b.entries
   on-copies b stands =
       subst (λ (n : ℕ). AreCopies n b.entries) (sym on.size_is)
-      (all-at (λ (x : Batch). AreCopies on.shape.block_size x.entries) l.accepted l.committed b on.can_run.copies stands)
+      (all-at (λ (x : Batch). AreCopies on.shape.block_size x.entries) l.accepted l.committed b on.runs.can_run.copies stands)
 
   -- no more of them than the ring has blocks
   pub on-few : (b : Batch) → slice_get l.accepted l.committed ≡ Some b → length b.entries ≤ 1048576
   on-few b stands =
-      let few = runs-few (engine_of on.shape l) b on.can_run stands in
+      let few = runs-few (engine_of on.shape l) b on.runs.can_run stands in
       let ring = on-ring.few in
       omega arith
 
   -- and it has the number that is due
   pub on-number : (b : Batch) → slice_get l.accepted l.committed ≡ Some b → b.tid ≡ l.first + l.committed
-  on-number b stands = runs-number (engine_of on.shape l) b on.can_run stands
+  on-number b stands = runs-number (engine_of on.shape l) b on.runs.can_run stands
 
   -- the blocks that are due are as many as it needs
   pub on-blocks : (b : Batch) (shape : Shape) → slice_get l.accepted l.committed ≡ Some b → shape.block_size ≡ size →
       need (narrow size) (length b.entries) 0 ≡ length (due_blocks (engine_of shape l))
   on-blocks b shape stands same =
       ap (λ (n : ℕ). need (narrow n) (length b.entries) 0) on.size_is
-      ∙ sym (runs-blocks (engine_of on.shape l) b on.can_run stands)
+      ∙ sym (runs-blocks (engine_of on.shape l) b on.runs.can_run stands)
       ∙ ap length (same-due l on.shape shape (sym on.size_is ∙ sym same))
 
   -- they fit what is left of the ring
-  pub on-room : (shape : Shape) → shape.block_size ≡ size → l.head + length (due_blocks (engine_of shape l)) ≤ l.ring_blocks
+  pub on-room : (shape : Shape) → shape.block_size ≡ size → l.start + length (due_blocks (engine_of shape l)) ≤ l.ring.ring.blocks
   on-room shape same =
-      let room : l.head + length (due_blocks (engine_of on.shape l)) ≤ l.ring_blocks = on.can_run.plain.room in
+      let room : l.start + length (due_blocks (engine_of on.shape l)) ≤ l.ring.ring.blocks = on.runs.can_run.plain.room in
       let alike : length (due_blocks (engine_of shape l)) ≡ length (due_blocks (engine_of on.shape l)) =
       ap length (same-due l shape on.shape (same ∙ on.size_is)) in
       omega arith
+
+  -- what is taken, on each device with blocks of this size
+  pub on-taken : (shape : Shape) → shape.block_size ≡ size → HasTaken shape l
+  on-taken shape same =
+      let alike = ap length (same-due l on.shape shape (sym on.size_is ∙ sym same)) in
+      record { tail = on.runs.taken.tail; head = on.runs.taken.head ∙ ap (λ (n : ℕ). l.start + n) alike }

@@ -1,7 +1,6 @@
 -- The lemmas of this crate.
 pub mod Calls
 pub mod Copies
-pub mod Grouped
 pub mod Ledgers
 pub mod Running
 pub mod Sealing

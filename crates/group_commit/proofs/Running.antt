@@ -1,7 +1,6 @@
 -- What an engine that can run knows of its measures and of the transaction that it commits.
 use Rattle.std.proofs.Common.{arith, refl, sym, ap, ap₂, subst, ◌∙◌, inl, inr}
 use Rattle.std.specs.Prelude.{◌≡◌, ◌≢◌, ℕ, ◌+◌, ◌-◌, ◌<◌, ◌≤◌, List, [], ◌∷◌, ◌++◌, if◌then◌else◌, length, Some, slice_get}
-use Rattle.std.specs.List.{AllByRecursion}
 use Rattle.journal_model.specs.declared.entry.Batch.{Batch}
 use Rattle.journal_model.specs.Chain.{Ring}
 use Rattle.journal_model.specs.Layout.{narrow}
@@ -104,41 +103,38 @@ room-of e b plain are room =
     omega arith
 
 -- an engine that may take a batch takes it
-pub takes : (e : Engine) (b : Batch) (accepted : List Batch) (stage : Stage) → IsPlain e → MayAccept e b → accepted ≡ e.accepted ++ b ∷ [] →
-    stage ≡ (if e.started then Blocks 0 else SuperblockWrite) → Accepts e b (record e { accepted = accepted; stage = stage })
-takes e b accepted stage plain may taken first = record {
+pub takes : (e : Engine) (b : Batch) (ring : Ring) (accepted : List Batch) (stage : Stage) → IsPlain e → MayAccept e b → ring ≡ e.ring →
+    accepted ≡ e.accepted ++ b ∷ [] → stage ≡ (if e.started then Blocks 0 else SuperblockWrite) →
+    Accepts e b (record e { ring = ring; accepted = accepted; stage = stage })
+takes e b ring accepted stage plain may same taken first = record {
   running = may.running;
   idle = may.idle;
   number = may.number;
   left = may.left;
   batch = may.batch;
   room = room-of e b plain may.copies may.room;
-  after = ap₂ (λ (bs : List Batch) (st : Stage). record e { accepted = bs; stage = st }) taken first;
+  after =
+      ap (λ (r : Ring). record e { ring = r; accepted = accepted; stage = stage }) same
+      ∙ ap₂ (λ (bs : List Batch) (st : Stage). record e { accepted = bs; stage = st }) taken first;
 }
 
 -- and can run with it
-pub takes-runs : (e : Engine) (b : Batch) (accepted : List Batch) (stage : Stage) → CanRun e → MayAccept e b → accepted ≡ e.accepted ++ b ∷ [] →
-    Accepts e b (record e { accepted = accepted; stage = stage }) → CanRun (record e { accepted = accepted; stage = stage })
-takes-runs e b accepted stage can may taken accepts = record {
-  plain = accepts-plain e b (record e { accepted = accepted; stage = stage }) can.plain accepts;
-  copies =
-      subst (λ (bs : List Batch). AllByRecursion (λ x. AreCopies e.shape.block_size x.entries) bs) (sym taken)
-      (each-append (λ (x : Batch). AreCopies e.shape.block_size x.entries) e.accepted (b ∷ []) can.copies (may.copies, tt));
-}
+pub takes-runs : (e new : Engine) (b : Batch) → CanRun e → MayAccept e b → Accepts e b new → CanRun new
+takes-runs e new b can may accepts = subst CanRun (sym accepts.after) (record {
+  plain = subst IsPlain accepts.after (accepts-plain e b new can.plain accepts);
+  copies = each-append (λ (x : Batch). AreCopies e.shape.block_size x.entries) e.accepted (b ∷ []) can.copies (may.copies, tt);
+})
 
 -- the engine that is made of the fields of a superblock
-pub fresh-is : (shape : Shape) (superblock : List ℕ) (next first blocks number : ℕ) (uuid : List ℕ) (accepted : List Batch) →
-    first ≡ (super_in superblock).s_first → blocks ≡ (super_in superblock).s_maxlen - (super_in superblock).s_first →
-    uuid ≡ (super_in superblock).s_uuid → number ≡ next → accepted ≡ [] →
-    record (fresh_engine shape superblock next) { ring = record { first = first; blocks = blocks }; uuid = uuid; first = number; accepted = accepted }
-    ≡ fresh_engine shape superblock next
-fresh-is shape superblock next first blocks number uuid accepted e1 e2 e3 e4 e5 =
+pub fresh-is : (shape : Shape) (superblock : List ℕ) (next number : ℕ) (ring : Ring) (uuid : List ℕ) (accepted : List Batch) →
+    ring ≡ (fresh_engine shape superblock next).ring → uuid ≡ (super_in superblock).s_uuid → number ≡ next → accepted ≡ [] →
+    record (fresh_engine shape superblock next) { ring = ring; uuid = uuid; first = number; accepted = accepted } ≡ fresh_engine shape superblock next
+fresh-is shape superblock next number ring uuid accepted e1 e2 e3 e4 =
     let fresh = fresh_engine shape superblock next in
-    ap (λ (n : ℕ). record fresh { ring = record { first = n; blocks = blocks }; uuid = uuid; first = number; accepted = accepted }) e1
-    ∙ ap (λ (n : ℕ). record fresh { ring = record { first = fresh.ring.first; blocks = n }; uuid = uuid; first = number; accepted = accepted }) e2
-    ∙ ap (λ (u : List ℕ). record fresh { uuid = u; first = number; accepted = accepted }) e3
-    ∙ ap (λ (n : ℕ). record fresh { first = n; accepted = accepted }) e4
-    ∙ ap (λ (bs : List Batch). record fresh { accepted = bs }) e5
+    ap (λ (r : Ring). record fresh { ring = r; uuid = uuid; first = number; accepted = accepted }) e1
+    ∙ ap (λ (u : List ℕ). record fresh { uuid = u; first = number; accepted = accepted }) e2
+    ∙ ap (λ (n : ℕ). record fresh { first = n; accepted = accepted }) e3
+    ∙ ap (λ (bs : List Batch). record fresh { accepted = bs }) e4
 
 -- the engine of an opened log can run
 pub fresh-runs : (shape : Shape) (superblock : List ℕ) (next : ℕ) → IsNextNamed shape superblock next → CanRun (fresh_engine shape superblock next)

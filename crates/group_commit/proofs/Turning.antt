@@ -1,16 +1,19 @@
 -- A turn of the journal: what a step of the engine is beside the front, and what holds at each moment of it.
-use Rattle.std.proofs.Common.{arith, refl, sym, subst}
-use Rattle.std.specs.Prelude.{◌≡◌, ℕ, ◌≤◌, List, [], ◌∷◌, length}
+use Rattle.std.proofs.Common.{arith, refl, sym, ap, ap₂, subst, ◌∙◌}
+use Rattle.std.specs.Prelude.{◌≡◌, ℕ, ◌<◌, ◌≤◌, List, [], ◌∷◌, length}
 use Rattle.std.specs.List.{AllByRecursion}
 use Rattle.journal_model.specs.declared.entry.Batch.{Batch}
 use Rattle.journal_model.specs.Disk.{Disk}
+use Rattle.journal_model.specs.Layout.{narrow}
+use Rattle.journal_model.specs.Room.{IsCapacity}
 use Rattle.journal_model.specs.Superblock.{Shape}
 use Rattle.journal_model.specs.Transaction.{History}
 use Rattle.block_device.specs.State.{DeviceState, EachMoment}
 use Rattle.journal_world.specs.declared.stage.Stage.{Stage}
 use Rattle.journal_world.specs.declared.stage.Stage.TheVariants.{Idle, SuperblockWrite, SuperblockFlush, Blocks, CommitWrite, CommitFlush}
 use Rattle.journal_world.specs.Engine.{AreBatchesOf, CommitFaults, CommitSteps, Engine, stepped_from}
-use Rattle.journal_world.specs.Journal.{Journal}
+use Rattle.journal_world.specs.Front.{Front, fresh_front}
+use Rattle.journal_world.specs.Journal.{IsFresh, Journal, fresh_engine}
 use Rattle.journal_world.specs.Sound.{OpensBetween}
 use Rattle.journal_world.proofs.Batches.{same-length}
 use Rattle.group_commit.specs.Engine.{IsDuringCommit, IsOneMoment}
@@ -73,3 +76,29 @@ step-keeps old new disk after step = subst (Keeps old) (sym step.engine) (keeps-
 
 pub fault-keeps : (old new : Engine) (disk after : Disk) → CommitFaults old disk new after → Keeps old new
 fault-keeps old new disk after fault = subst (Keeps old) (sym fault.engine) (record { shape = refl; accepted = refl; first = refl })
+
+-- front and engine of a journal that was just made agree
+pub fresh-agrees : (shape : Shape) (superblock : List ℕ) (next capacity : ℕ) (j : Journal) → j.engine ≡ fresh_engine shape superblock next →
+    j.front ≡ fresh_front capacity next → 0 < next → Agrees j
+fresh-agrees shape superblock next capacity j engine front some =
+    let made : Journal = record { front = fresh_front capacity next; engine = fresh_engine shape superblock next } in
+    let agrees : Agrees made = record {
+      batches = tt;
+      number = omega arith;
+      mark = omega arith;
+      steps = tt;
+      joined = λ none. absurd (omega arith);
+      locked = λ lock. cc;
+    } in
+    subst Agrees (sym (ap₂ (λ (f : Front) (e : Engine). record { front = f; engine = e }) front engine)) agrees
+
+-- and it is as an opening leaves it
+pub fresh-journal : (shape : Shape) (superblock : List ℕ) (next capacity : ℕ) (j : Journal) → j.engine ≡ fresh_engine shape superblock next →
+    j.front ≡ fresh_front capacity next → IsCapacity (narrow shape.block_size) j.engine.ring.blocks capacity → IsFresh shape superblock next j
+fresh-journal shape superblock next capacity j engine front is =
+    let credits : j.front.capacity ≡ capacity = ap (λ (f : Front). f.capacity) front in
+    record {
+      engine = engine;
+      front = front ∙ ap (λ (n : ℕ). fresh_front n next) (sym credits);
+      capacity = subst (IsCapacity (narrow shape.block_size) j.engine.ring.blocks) (sym credits) is;
+    }

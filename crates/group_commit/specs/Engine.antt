@@ -14,7 +14,7 @@ use Rattle.block_device.specs.State.{DeviceState, Stays, Moves, one_more_fault}
 use Rattle.journal_world.specs.declared.stage.Stage.TheVariants.{Idle}
 use Rattle.journal_world.specs.Call.{Call}
 use Rattle.journal_world.specs.Call.Call.{Write, Flush}
-use Rattle.journal_world.specs.Engine.{Engine, CommitFaults, CommitSteps, IsBatch}
+use Rattle.journal_world.specs.Engine.{Engine, CommitFaults, CommitSteps, IsBatch, due_blocks}
 use Rattle.journal_world.specs.Sound.{IsPlain, KeepsHome, OpensBetween}
 use Rattle.group_commit.specs.declared.engine.Due.{Due}
 use Rattle.group_commit.specs.declared.engine.Due.TheVariants.{Nothing, Write as WriteDue, Flush as FlushDue}
@@ -27,14 +27,14 @@ use Rattle.group_commit.specs.Text.{AreCopies}
 abbrev pub engine_of : Shape → Ledger → Engine
 engine_of shape l = record {
   shape = shape;
-  ring = record { first = l.ring_first; blocks = l.ring_blocks };
+  ring = l.ring.ring;
   uuid = l.uuid;
   superblock = l.superblock.items;
   started = l.started;
   first = l.first;
   accepted = l.accepted;
   committed = l.committed;
-  head = l.head;
+  head = l.start;
   stage = l.stage;
   aborted = l.aborted;
 }
@@ -55,10 +55,20 @@ pub record MayAccept (e : Engine) (b : Batch) : Type 0 where
   pub copies : AreCopies e.shape.block_size b.entries
   pub room : e.head + need (narrow e.shape.block_size) (length b.entries) 0 ≤ e.ring.blocks
 
--- there is a device on which the ledger can run, with blocks of this size
+-- the ring is taken by the committed transactions, and by the one that is being committed: nothing is released yet
+pub record HasTaken (shape : Shape) (l : Ledger) : Type 0 where
+  pub tail : l.ring.tail ≡ 0
+  pub head : l.ring.head ≡ l.start + length (due_blocks (engine_of shape l))
+
+-- the ledger can run on a device of this shape
+pub record Runs (shape : Shape) (l : Ledger) : Type 0 where
+  pub can_run : CanRun (engine_of shape l)
+  pub taken : HasTaken shape l
+
+-- there is a device on which it can run, with blocks of this size
 pub record CanRunOn (l : Ledger) (size : ℕ) : Type 0 where
   pub shape : Shape
-  pub can_run : CanRun (engine_of shape l)
+  pub runs : Runs shape l
   pub size_is : size ≡ shape.block_size
 
 -- the device call that a step is to make, with the block that was built for it

@@ -1,24 +1,26 @@
 //! The transactions of an opened log: it takes one batch after another, and commits each to the log, one device call a step.
 ghost use Rattle.std.specs.Prelude.{◌≡◌, ◌≢◌, ◌+◌, ◌-◌, ◌%◌, ◌<◌, ◌≤◌, ◌↔◌, ℕ, IsTrue, true, false, if◌then◌else◌, nat_lt, length, slice_get, Some, IfOk, IfErr, OnOk, OnErr, MatchResult};
 ghost use Rattle.journal_model.specs.declared.refusal.JournalError.TheVariants.{Memory};
+ghost use Rattle.journal_model.specs.Chain.{ring_place};
 ghost use Rattle.journal_model.specs.Layout.{narrow};
 ghost use Rattle.journal_model.specs.Room.{need};
 ghost use Rattle.journal_model.specs.Superblock.{Shape};
 ghost use Rattle.block_device.specs.State.{CountsFaults, EachMoment, Stays, blocks_in};
 ghost use Rattle.journal_world.specs.declared.stage.Stage.TheVariants.{Idle, Blocks, CommitFlush, CommitWrite, SuperblockWrite};
 ghost use Rattle.journal_world.specs.Call.{Call, IsAfterFault, after_success};
-ghost use Rattle.journal_world.specs.Engine.{Accepts, call_due, due_blocks, ring_place, stepped, stepped_from, write_block};
+ghost use Rattle.journal_world.specs.Engine.{Accepts, call_due, due_blocks, stepped, stepped_from, write_block};
 ghost use Rattle.journal_world.specs.Journal.{fresh_engine};
 ghost use Rattle.journal_world.specs.Opening.{IsOpenedLog};
 ghost use Rattle.journal_world.specs.Sound.{IsPlain, OpensBetween};
-ghost use Rattle.group_commit.specs.Engine.{CanRun, CanRunOn, Fits, IsDuringCommit, IsOneMoment, IsProgress, MayAccept, StepDid, StepRefused, call_of, engine_of};
+ghost use Rattle.group_commit.specs.Engine.{CanRun, CanRunOn, Fits, HasTaken, IsDuringCommit, IsOneMoment, IsProgress, MayAccept, StepDid, StepRefused, call_of, engine_of};
 ghost use Rattle.group_commit.specs.declared.engine.Progress.TheVariants.{Step, Done};
 
-use crate::text::{TextWriter, blocks_of};
+use crate::text::TextWriter;
 use block_device::{Device, DeviceFault};
 use journal_model::{Area, Batch, Items, JournalError, Tid};
 use journal_world::Stage;
 use log_format::Super;
+use log_ring::Ring;
 use recovery::Opened;
 use std::alloc::Global;
 use std::marker::Model;
@@ -48,9 +50,10 @@ enum Due {
 /// What the engine knows beside its device.
 #[derive(Drop)]
 pub(crate) struct Ledger {
-    /// The first block of the ring, and how many it has.
-    ring_first: u64,
-    ring_blocks: u64,
+    /// The ring, and what the transactions that were handed over have taken of it.
+    ring: Ring,
+    /// The position in it where the next one begins, or the one that is being committed.
+    start: u64,
     /// The journal's UUID.
     uuid: [u8; 16],
     /// Block 0 of the log, as it was last written.
@@ -63,8 +66,6 @@ pub(crate) struct Ledger {
     accepted: Items<Batch>,
     /// How many of them are committed.
     committed: usize,
-    /// How many ring blocks these have taken.
-    head: u64,
     /// How far the next one is.
     stage: Stage,
     /// The device has failed.
@@ -86,11 +87,11 @@ impl<D: Device> Model for Engine<D> {
 
     ghost Value = { EngineValue D };
 
-    ghost use Rattle.group_commit.specs.Engine.{CanRun, engine_of};
+    ghost use Rattle.group_commit.specs.Engine.{Runs, engine_of};
 
     ghost view = { λ e. record { device = e.device; engine = engine_of (D.state e.device).shape e.ledger } };
 
-    ghost invariant = { λ e. CanRun (engine_of (D.state e.device).shape e.ledger)
+    ghost invariant = { λ e. Runs (D.state e.device).shape e.ledger
         × (length e.writer ≡ (D.state e.device).shape.block_size)
         × (D.honest e.device → Sound (engine_of (D.state e.device).shape e.ledger) (D.state e.device).disk) };
 }
@@ -111,15 +112,14 @@ impl<D: Device> Engine<D> {
         let fields = Super::fields(&superblock);
         let uuid = fields.s_uuid;
         let ledger = Ledger {
-            ring_first: u64::from(fields.s_first),
-            ring_blocks: u64::from(fields.s_maxlen - fields.s_first),
+            ring: Ring::new(fields.s_first, fields.s_maxlen),
+            start: 0,
             uuid,
             superblock,
             started: false,
             first: next.0,
             accepted: Items::new(alloc),
             committed: 0,
-            head: 0,
             stage: Stage::Idle,
             aborted: false,
         };
@@ -167,16 +167,17 @@ impl<D: Device> Engine<D> {
     pub(crate) fn ring_blocks(&self) -> u64
         ensures { result ≡ self.now.engine.ring.blocks }
     {
-        self.ledger.ring_blocks
+        self.ledger.ring.blocks()
     }
 
     /// Whether a transaction of so many copies fits what is left of the ring.
     pub(crate) fn has_room(&self, copies: usize) -> bool
+        requires { self.now.engine.stage ≡ Idle }
         ensures { IsTrue result ↔ (self.now.engine.head + need (narrow self.now.engine.shape.block_size) copies 0 ≤ self.now.engine.ring.blocks) }
     {
-        copies as u64 <= self.ledger.ring_blocks
-            && self.ledger.head + blocks_of(self.device.block_size(), copies)
-                <= self.ledger.ring_blocks
+        let copies = copies as u64;
+        copies <= self.ledger.ring.blocks()
+            && Ring::need(self.device.block_size(), copies, 0) <= self.ledger.ring.free()
     }
 
     /// Takes a batch of copies, which is then to be committed. Where memory runs out nothing changes.
@@ -186,7 +187,9 @@ impl<D: Device> Engine<D> {
         ensures err { IfErr result (λ e. (self.new ≡ self.old) × (e ≡ Memory)) }
         ensures device { self.new.device ≡ self.old.device }
     {
+        let blocks = Ring::need(self.device.block_size(), batch.entries.len() as u64, 0);
         self.ledger.accepted.push(batch)?;
+        self.ledger.ring.take(blocks)?;
         self.ledger.stage = first_stage(self.ledger.started);
         Ok(())
     }
@@ -260,15 +263,6 @@ fn make_call<D: Device>(device: &mut D, due: Due, bytes: &[u8]) -> Result<(), De
 }
 
 impl Ledger {
-    /// The place in the log of the k-th ring block since the opening.
-    fn place(&self, k: u64) -> u64
-        requires some { 0 < self.now.ring_blocks }
-        requires few { self.now.ring_first + self.now.ring_blocks ≤ u64.MAX }
-        ensures { result ≡ ring_place (record { first = self.now.ring_first; blocks = self.now.ring_blocks }) k }
-    {
-        self.ring_first + k % self.ring_blocks
-    }
-
     /// The batch that is being committed.
     fn batch(&self) -> &Batch
         requires { self.now.committed < length self.now.accepted }
@@ -292,7 +286,7 @@ impl Ledger {
         requires due { self.now.committed < length self.now.accepted }
         ensures { (shape : Shape) → shape.block_size ≡ length self.now.superblock.items → result ≡ length (due_blocks (engine_of shape self.now)) }
     {
-        blocks_of(self.superblock.len(), self.batch().entries.len())
+        Ring::need(self.superblock.len(), self.batch().entries.len() as u64, 0)
     }
 
     /// The device call that is due. The block that it is to write is built by the writer.
@@ -305,7 +299,7 @@ impl Ledger {
         match self.stage {
             Stage::Idle => Due::Nothing,
             Stage::SuperblockWrite => {
-                let start = self.place(self.head);
+                let start = self.ring.place(self.start);
                 let number = self.number_due();
                 writer.write_superblock(&self.superblock, number, start as u32);
                 Due::Write(0)
@@ -325,14 +319,15 @@ impl Ledger {
         ensures fits { (shape : Shape) → CanRun (engine_of shape self.now) → shape.block_size ≡ length writer.old → Fits shape result writer.new }
         ensures size { length writer.new ≡ length writer.old }
     {
-        writer.write_block(&self.uuid, self.batch(), k as usize);
-        Due::Write(self.place(self.head + k))
+        writer.write_block(&self.uuid, self.batch(), k);
+        Due::Write(self.ring.place(self.start + k))
     }
 
     /// Notes that the device call that was due has succeeded.
     fn advance(&mut self) -> Progress
         requires can_run { CanRunOn self.old (length self.old.superblock.items) }
         ensures stepped { (shape : Shape) → shape.block_size ≡ length self.old.superblock.items → engine_of shape self.new ≡ stepped (engine_of shape self.old) }
+        ensures taken { (shape : Shape) → shape.block_size ≡ length self.old.superblock.items → HasTaken shape self.new }
         ensures progress { self.old.stage ≢ Idle → (shape : Shape) → IsProgress result (engine_of shape self.old) (engine_of shape self.new) }
     {
         match self.stage {
@@ -362,9 +357,10 @@ impl Ledger {
         requires can_run { CanRunOn self.old (length self.old.superblock.items) }
         requires stage { self.old.stage ≡ SuperblockWrite }
         ensures stepped { (shape : Shape) → shape.block_size ≡ length self.old.superblock.items → engine_of shape self.new ≡ stepped_from (engine_of shape self.old) SuperblockWrite }
+        ensures ring { self.new.ring ≡ self.old.ring }
         ensures step { result ≡ Step }
     {
-        let start = self.place(self.head);
+        let start = self.ring.place(self.start);
         let number = self.number_due();
         Super::write(&mut self.superblock, number, start as u32);
         self.started = true;
@@ -390,10 +386,11 @@ impl Ledger {
         requires can_run { CanRunOn self.old (length self.old.superblock.items) }
         requires stage { self.old.stage ≡ CommitFlush }
         ensures stepped { (shape : Shape) → shape.block_size ≡ length self.old.superblock.items → engine_of shape self.new ≡ stepped_from (engine_of shape self.old) CommitFlush }
+        ensures taken { (shape : Shape) → shape.block_size ≡ length self.old.superblock.items → HasTaken shape self.new }
         ensures done { result ≡ Done (self.old.first + self.old.committed) }
     {
         let number = self.number_due();
-        self.head += self.blocks_due();
+        self.start = self.ring.head();
         self.committed += 1;
         self.stage = Stage::Idle;
         Progress::Done(Tid(number))

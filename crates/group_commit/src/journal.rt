@@ -19,13 +19,10 @@ use crate::front::Front;
 use crate::handle::{Credits, Handle, Receipt, Seat, Status, Ticket};
 use block_device::Device;
 use journal_model::{BlockNo, JournalError, Sealed, Tid};
-use journal_plain::room::capacity;
+use log_ring::Layout;
 use recovery::Opened;
 use std::alloc::Global;
 use std::marker::Model;
-
-/// Bytes of a block number in a log without 64-bit numbers.
-const NUMBER_BYTES: usize = 4;
 
 /// A journal on an opened log.
 #[derive(Drop)]
@@ -98,12 +95,8 @@ impl<D: Device> Journal<D> {
     {
         let next = opened.next();
         let engine = Engine::new(alloc, opened)?;
-        let credits = capacity(
-            engine.block_size(),
-            NUMBER_BYTES,
-            engine.ring_blocks() as usize,
-        );
-        let front = Front::new(alloc, credits as u64, next);
+        let credits = Layout::capacity(engine.block_size(), engine.ring_blocks());
+        let front = Front::new(alloc, credits, next);
         Ok((Journal { front, engine }, Seat::new()))
     }
 

@@ -4,6 +4,7 @@ use block_device::{Device, MemDevice, StopAt};
 use journal_model::{Area, BlockNo, JournalError};
 use recovery::{Opened, format, open};
 use std::alloc::Global;
+use std::process::Abort;
 use std::test::Fail;
 
 const SIZE: usize = 1024;
@@ -238,6 +239,109 @@ fn a_stop_at_any_write_keeps_whole_transactions(rt: HostRuntime) -> Result<(), F
                 "stopped at {k}, kept {bits}"
             );
         }
+    }
+    Ok(())
+}
+
+/// Measures of a device, and how many tags a full descriptor has there.
+const SHAPES: [(usize, u32, u64, u64); 3] = [
+    (1024, 1025, 200, 122),
+    (2048, 1025, 300, 250),
+    (4096, 2053, 600, 506),
+];
+
+/// What a log holds behind one transaction that writes home blocks 0 to `copies - 1`.
+fn committed_log(
+    alloc: Global,
+    size: usize,
+    log_blocks: u32,
+    home_blocks: u64,
+    copies: u64,
+) -> Result<MemDevice, JournalError> {
+    let mut device = MemDevice::new(alloc, size, u64::from(log_blocks), home_blocks);
+    format(&mut device, log_blocks, &UUID)?;
+    let opened = open(alloc, device.crash(&[])).map_err(|e| e.1)?;
+    let (mut journal, mut seat) = Journal::new(alloc, opened).map_err(|e| e.1)?;
+    let mut handle = joined(&mut journal, &mut seat, copies)?;
+    for block in 0..copies {
+        let bytes = vec![in alloc; 7; journal.block_size()]?;
+        journal.write(&mut handle, BlockNo(block), &bytes)?;
+    }
+    let ticket = journal.stop(handle);
+    journal.request(&ticket)?;
+    for _ in 0..2000 {
+        if journal.commit_turn()? == Turn::Idle {
+            break;
+        }
+    }
+    Ok(journal.into_parts().device)
+}
+
+/// A log block has these bytes from place `from` on.
+fn has(
+    rt: &impl Abort,
+    alloc: Global,
+    device: &mut MemDevice,
+    block: u64,
+    from: usize,
+    wanted: &[u8],
+) -> Result<(), Fail> {
+    let mut bytes = vec![in alloc; 0; device.block_size()]?;
+    assert!(rt; block < device.blocks(Area::Log));
+    device.read(Area::Log, block, &mut bytes)?;
+    let part = bytes.get(from..from.saturating_add(wanted.len()));
+    assert_eq!(rt; part, Some(wanted), "block {block} at {from}");
+    Ok(())
+}
+
+/// What a descriptor of sequence 2 begins with: its header.
+const DESCRIPTOR: [u8; 12] = [0xc0, 0x3b, 0x39, 0x98, 0, 0, 0, 1, 0, 0, 0, 2];
+
+#[test]
+fn a_second_descriptor_has_the_copy_that_is_too_many(rt: HostRuntime) -> Result<(), Fail> {
+    let alloc = rt.alloc();
+    for (size, log_blocks, home_blocks, tags) in SHAPES {
+        let copies = tags.saturating_add(1);
+        let mut device = committed_log(alloc, size, log_blocks, home_blocks, copies)?;
+        let [_, _, _, _, _, _, high, low] = tags.to_be_bytes();
+        let second = tags.saturating_add(2);
+        has(&rt, alloc, &mut device, 1, 0, &DESCRIPTOR)?;
+        has(&rt, alloc, &mut device, 1, 12, &[0; 8])?;
+        has(&rt, alloc, &mut device, 1, 20, &UUID)?;
+        has(&rt, alloc, &mut device, 1, 36, &[0, 0, 0, 1, 0, 0, 0, 2])?;
+        has(&rt, alloc, &mut device, second, 0, &DESCRIPTOR)?;
+        has(
+            &rt,
+            alloc,
+            &mut device,
+            second,
+            12,
+            &[0, 0, high, low, 0, 0, 0, 8],
+        )?;
+        has(&rt, alloc, &mut device, second, 20, &UUID)?;
+        has(&rt, alloc, &mut device, second, 36, &[0; 8])?;
+    }
+    Ok(())
+}
+
+#[test]
+fn the_last_tag_of_a_full_descriptor_is_marked(rt: HostRuntime) -> Result<(), Fail> {
+    let alloc = rt.alloc();
+    for (size, log_blocks, home_blocks, tags) in SHAPES {
+        let copies = tags.saturating_add(1);
+        let mut device = committed_log(alloc, size, log_blocks, home_blocks, copies)?;
+        let last = tags.saturating_sub(1);
+        let [_, _, _, _, _, _, high, low] = last.to_be_bytes();
+        let place = (last as usize).saturating_mul(8).saturating_add(28);
+        has(
+            &rt,
+            alloc,
+            &mut device,
+            1,
+            place,
+            &[0, 0, high, low, 0, 0, 0, 10],
+        )?;
+        has(&rt, alloc, &mut device, 1, place.saturating_add(8), &[0; 8])?;
     }
     Ok(())
 }

@@ -8,18 +8,14 @@ ghost use Rattle.journal_model.specs.Superblock.{with_tail};
 ghost use Rattle.journal_model.specs.Text.{text_blocks};
 ghost use Rattle.log_format.specs.Size.{IsBlockSize};
 ghost use Rattle.journal_world.specs.Engine.{block_at};
+ghost use Rattle.log_ring.specs.Parts.{FitsPart, part_block};
 ghost use Rattle.group_commit.specs.Text.{AreCopies, IsLong, IsStored, IsWholeCopy, is_escaped};
 
 use journal_model::{Batch, BlockNo, Entry, Tag};
 use log_format::{CommitBlock, Descriptor, Header, Super, escape};
+use log_ring::{Layout, Part};
 use std::alloc::{AllocError, Global};
 use std::marker::Model;
-
-/// Bytes of a descriptor that no tag takes: its header, the first tag's UUID, and room for a UUID behind the last tag.
-const DESCRIPTOR_BYTES: usize = 44;
-
-/// Bytes of a tag.
-const TAG_BYTES: usize = 8;
 
 /// A tag of no block, which is written over.
 const NO_TAG: Tag = Tag {
@@ -56,7 +52,7 @@ impl TextWriter {
     {
         Ok(TextWriter {
             block: vec![in alloc; 0; block_size]?,
-            tags: vec![in alloc; NO_TAG; tags_per_descriptor(block_size)]?,
+            tags: vec![in alloc; NO_TAG; Layout::tags_of(block_size) as usize]?,
         })
     }
 
@@ -68,7 +64,7 @@ impl TextWriter {
     }
 
     /// Builds block `k` of a transaction that revokes nothing, counted from 0: a descriptor, a copy, or the commit block.
-    pub(crate) fn write_block(&mut self, uuid: &[u8; 16], batch: &Batch, k: usize)
+    pub(crate) fn write_block(&mut self, uuid: &[u8; 16], batch: &Batch, k: u64)
         requires copies { AreCopies (length self.old) batch.now.entries }
         requires few { length batch.now.entries ≤ 2 ^ 32 }
         requires there { k < length (text_blocks (own_text (narrow (length self.old)) uuid.now batch.now.tid batch.now.entries)) }
@@ -96,26 +92,6 @@ impl TextWriter {
     }
 }
 
-/// How many tags the writer puts into one descriptor.
-fn tags_per_descriptor(block_size: usize) -> usize
-    requires { IsBlockSize block_size }
-    ensures tags { result ≡ tags_of (narrow block_size) }
-    ensures some { 0 < result }
-    ensures few { result ≤ 506 }
-{
-    (block_size - DESCRIPTOR_BYTES) / TAG_BYTES
-}
-
-/// How many log blocks a transaction of so many copies takes.
-pub(crate) fn blocks_of(block_size: usize, copies: usize) -> u64
-    requires size { IsBlockSize block_size }
-    requires few { copies ≤ 2 ^ 32 }
-    ensures { result ≡ need (narrow block_size) copies 0 }
-{
-    let descriptors = copies.div_ceil(tags_per_descriptor(block_size));
-    copies as u64 + descriptors as u64 + 1
-}
-
 /// Writes block `k` of the transaction with these entries, which are copies.
 fn write_log_block(
     block: &mut [u8],
@@ -123,7 +99,7 @@ fn write_log_block(
     uuid: &[u8; 16],
     sequence: u32,
     entries: &[(BlockNo, Entry)],
-    k: usize,
+    k: u64,
 )
     requires size { IsBlockSize (length block.old) }
     requires room { length tags.old ≡ tags_of (narrow (length block.old)) }
@@ -132,18 +108,34 @@ fn write_log_block(
     requires there { k < length (text_blocks (own_text (narrow (length block.old)) uuid.now sequence entries.now)) }
     ensures { block.new ≡ block_at (text_blocks (own_text (narrow (length block.old)) uuid.now sequence entries.now)) k }
 {
-    if k as u64 + 1 == blocks_of(block.len(), entries.len()) {
-        CommitBlock::write(block, sequence);
-        return;
-    }
-    let most = tags_per_descriptor(block.len());
-    let from = k / (most + 1) * most;
-    let place = k % (most + 1);
-    if place > 0 {
-        write_copy(block, &entries[from + place - 1].1);
-    } else {
-        let to = entries.len().min(from + most);
-        write_descriptor(block, tags, uuid, sequence, &entries[from..to]);
+    let layout = Layout::new(block.len(), entries.len() as u64, 0);
+    write_part(block, tags, uuid, sequence, entries, layout.part(k));
+}
+
+/// Writes the part of the transaction with these entries, which are copies.
+fn write_part(
+    block: &mut [u8],
+    tags: &mut [Tag],
+    uuid: &[u8; 16],
+    sequence: u32,
+    entries: &[(BlockNo, Entry)],
+    part: Part,
+)
+    requires size { IsBlockSize (length block.old) }
+    requires room { length tags.old ≡ tags_of (narrow (length block.old)) }
+    requires copies { AreCopies (length block.old) entries.now }
+    requires part { FitsPart (narrow (length block.old)) (length entries.now) 0 part }
+    ensures { block.new ≡ part_block (narrow (length block.old)) uuid.now sequence entries.now part }
+{
+    match part {
+        Part::Revokes { .. } => {}
+        Part::Descriptor { first, tags: count } => {
+            let first = first as usize;
+            let group = &entries[first..first + count as usize];
+            write_descriptor(block, tags, uuid, sequence, group);
+        }
+        Part::Copy(k) => write_copy(block, &entries[k as usize].1),
+        Part::Commit => CommitBlock::write(block, sequence),
     }
 }
 

@@ -1,5 +1,5 @@
--- The elements of lists, of what `filter` keeps and of what `filter_map` gives.
-use Rattle.std.proofs.Common.{◌≡◌, ◌⊎◌, inl, inr, ℕ, zero, suc, ◌<◌, Bool, true, false, cond, List, [], ◌∷◌, ◌++◌, length, map, Option, Some, None, option_map, refl, sym, ◌∙◌, ap, arith, ◌||◌, ◌==◌, eq-eqb, true≢false, ◌+◌, take, get_or}
+-- The elements of lists, of joined ones, of what `filter` keeps and of what `filter_map` gives.
+use Rattle.std.proofs.Common.{◌≡◌, ◌⊎◌, inl, inr, ℕ, zero, suc, ◌<◌, Bool, true, false, cond, List, [], ◌∷◌, ◌++◌, length, map, slice_get, Option, Some, None, option_map, refl, sym, ◌∙◌, ap, arith, ◌||◌, ◌==◌, eq-eqb, true≢false, ◌+◌, take, get_or}
 use Rattle.std.proofs.Math.Bool.{or-true}
 use Rattle.std.proofs.lemmas.Bool.{cases_eq}
 use Rattle.std.proofs.lemmas.Bool.Decides.{nat_tests}
@@ -121,6 +121,18 @@ distinct-filter eq p (x ∷ xs) d =
       | true ↦ IsDistinct-cons eq x (filter p xs) (filter-all (λ y. eq x y ≡ false) p xs (IsDistinct-head eq x xs d)) rest
       | false ↦ rest
     ]
+
+-- an element of the first of two joined lists
+pub get-front : {X : Type 0} (xs ys : List X) (k : ℕ) → k < length xs → slice_get (xs ++ ys) k ≡ slice_get xs k
+get-front [] ys k below = absurd (omega arith)
+get-front (x ∷ xs) ys zero below = refl
+get-front (x ∷ xs) ys (suc k) below = get-front xs ys k (omega arith)
+
+-- an element of the second
+pub get-behind : {X : Type 0} (xs ys : List X) (k j : ℕ) → k ≡ length xs + j → slice_get (xs ++ ys) k ≡ slice_get ys j
+get-behind [] ys k j place = ap (slice_get ys) (omega arith)
+get-behind (x ∷ xs) ys zero j place = absurd (omega arith)
+get-behind (x ∷ xs) ys (suc k) j place = get-behind xs ys k j (omega arith)
 
 -- the first i + 1 elements, where the one at i was read
 pub take-more_read : {X : Type 0} (xs : List X) (i : ℕ) (x : X) → i < length xs → x ≡ get_or xs i x → take (i + 1) xs ≡ take i xs ++ x ∷ []

@@ -17,7 +17,7 @@ enough_groups : (c n : ℕ) → 0 < n → c ≤ n * ceil_div c n
 enough_groups c n positive = omega arith
 
 -- no group begins behind the last element
-begins_within : (c n k : ℕ) → 0 < n → k < ceil_div c n → n * k < c
+pub begins_within : (c n k : ℕ) → 0 < n → k < ceil_div c n → n * k < c
 begins_within c n k positive within =
     let most : suc k * n ≤ c + n - 1 = (le-div_iff_mul-le positive).0 within in omega arith
 

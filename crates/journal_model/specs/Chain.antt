@@ -17,7 +17,11 @@ pub record Ring : Type 0 where
   pub first : ℕ
   pub blocks : ℕ
 
--- the place of the k-th ring block from this place on: the one after the last is the first
+-- the place of position k of the ring, counted over all laps: the place after the last is the first
+abbrev pub ring_place : Ring → ℕ → ℕ
+ring_place r k = r.first + k % r.blocks
+
+-- the place of the k-th ring block from this place on
 abbrev pub place_from : Ring → ℕ → ℕ → ℕ
 place_from r place k = r.first + (place - r.first + k) % r.blocks
 

@@ -4,11 +4,12 @@ use Rattle.std.specs.Prelude.{◌≡◌, ℕ, ◌+◌, ◌-◌, ◌<◌, ◌≤�
 use Rattle.std.proofs.lemmas.Bool.{cases_eq, ltb-true}
 use Rattle.std.proofs.lemmas.Bool.Decides.{nat_tests}
 use Rattle.journal_model.specs.declared.number.Area.TheVariants.{Log}
+use Rattle.journal_model.specs.Chain.{ring_place}
 use Rattle.journal_model.specs.Disk.{Cell, Disk, flushed, written}
 use Rattle.journal_world.specs.declared.stage.Stage.TheVariants.{Blocks, CommitFlush, CommitWrite}
 use Rattle.journal_world.specs.Call.{after_success}
 use Rattle.journal_world.specs.Call.Call.{Flush}
-use Rattle.journal_world.specs.Engine.{Engine, block_at, due_blocks, ring_place, write_block}
+use Rattle.journal_world.specs.Engine.{Engine, block_at, due_blocks, write_block}
 use Rattle.journal_world.specs.Sound.{IsDurable, IsPlain, Sound}
 use Rattle.journal_world.proofs.Changes.{IsDueWrite, at, due-other, due-sound, flush-sound, read-flushed}
 use Rattle.journal_world.proofs.Places.{is_write-written, written-there}

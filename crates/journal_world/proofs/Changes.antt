@@ -2,9 +2,10 @@
 use Rattle.std.proofs.Common.{sym, ◌∙◌, ap, subst, arith, inl, inr, ⊎_elim}
 use Rattle.std.specs.Prelude.{◌≡◌, ◌⊎◌, ℕ, ◌+◌, ◌<◌, ◌≤◌, Bool, List, length, Some}
 use Rattle.journal_model.specs.declared.number.Area.TheVariants.{Log}
+use Rattle.journal_model.specs.Chain.{ring_place}
 use Rattle.journal_model.specs.Disk.{Cell, Disk, IsOneOf, flushed, held}
 use Rattle.journal_world.specs.declared.stage.Stage.{Stage}
-use Rattle.journal_world.specs.Engine.{Engine, block_at, due_blocks, ring_place}
+use Rattle.journal_world.specs.Engine.{Engine, block_at, due_blocks}
 use Rattle.journal_world.specs.Opening.{IsBehind}
 use Rattle.journal_world.specs.Sound.{IsDurable, IsOwnBlock, IsPlain, MayBeSuperblock, Sound, StageAgrees, StageHolds, durable_cell, handed}
 use Rattle.journal_world.proofs.Places.{IsWrite, held-after, held-flushed, one_place, place-above}

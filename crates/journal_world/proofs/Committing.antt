@@ -3,10 +3,10 @@ use Rattle.std.proofs.Common.{sym, ◌∙◌, ap, subst, arith, inl, inr, length
 use Rattle.std.specs.Prelude.{◌≡◌, ◌⊎◌, ℕ, ◌+◌, ◌-◌, ◌<◌, ◌≤◌, Bool, true, List, ◌++◌, length}
 use Rattle.std.proofs.lemmas.Bool.{cases_lt, true≢false}
 use Rattle.journal_model.specs.declared.number.Area.TheVariants.{Log}
-use Rattle.journal_model.specs.Chain.{texts_blocks}
+use Rattle.journal_model.specs.Chain.{texts_blocks, ring_place}
 use Rattle.journal_model.specs.Disk.{Disk, flushed}
 use Rattle.journal_world.specs.declared.stage.Stage.TheVariants.{CommitFlush}
-use Rattle.journal_world.specs.Engine.{Engine, block_at, committed_texts, due_blocks, ring_place, stepped_from}
+use Rattle.journal_world.specs.Engine.{Engine, block_at, committed_texts, due_blocks, stepped_from}
 use Rattle.journal_world.specs.Opening.{IsBehind}
 use Rattle.journal_world.specs.Sound.{IsDurable, IsOwnBlock, IsPlain, Names, Sound}
 use Rattle.journal_world.proofs.Changes.{at, durable-flushed, held-before_flush, read-flushed}

@@ -1,24 +1,12 @@
 -- The elements of lists by their places, of joined lists and of a list with one more element behind it.
-use Rattle.std.proofs.Common.{refl, sym, ◌∙◌, ap, subst, arith}
+use Rattle.std.proofs.Common.{refl, sym, ◌∙◌, subst, arith}
 use Rattle.std.specs.Prelude.{◌≡◌, ℕ, zero, suc, ◌+◌, ◌<◌, Bool, false, List, [], ◌∷◌, ◌++◌, length, map, take, unwrap_or, slice_get, Some}
 use Rattle.std.specs.List.{AllByRecursion, list_any}
 use Rattle.std.proofs.lemmas.List.Elements.{All-from_recursion}
 use Rattle.std.proofs.lemmas.List.Folds.{list_any_none}
 use Rattle.std.proofs.lemmas.Option.{get_or_from_slice_get, none-some, same_Some, slice_get_within}
 use Rattle.std.proofs.Math.Seq.{take-append_seam, take-length}
-use Rattle.journal_model.proofs.ListElements.{take-more_read}
-
--- an element of the first of two joined lists
-pub get-front : {X : Type 0} (xs ys : List X) (k : ℕ) → k < length xs → slice_get (xs ++ ys) k ≡ slice_get xs k
-get-front [] ys k below = absurd (omega arith)
-get-front (x ∷ xs) ys zero below = refl
-get-front (x ∷ xs) ys (suc k) below = get-front xs ys k (omega arith)
-
--- an element of the second
-pub get-behind : {X : Type 0} (xs ys : List X) (k j : ℕ) → k ≡ length xs + j → slice_get (xs ++ ys) k ≡ slice_get ys j
-get-behind [] ys k j place = ap (slice_get ys) (omega arith)
-get-behind (x ∷ xs) ys zero j place = absurd (omega arith)
-get-behind (x ∷ xs) ys (suc k) j place = get-behind xs ys k j (omega arith)
+use Rattle.journal_model.proofs.ListElements.{get-behind, take-more_read}
 
 -- the element that stands behind a list
 pub get-last : {X : Type 0} (xs : List X) (x : X) (k : ℕ) → length xs ≡ k → slice_get (xs ++ x ∷ []) k ≡ Some x

@@ -4,12 +4,13 @@ use Rattle.std.specs.Prelude.{◌≡◌, ℕ, ◌+◌, ◌-◌, ◌<◌, nat_lt,
 use Rattle.std.proofs.lemmas.Bool.{ltb-true}
 use Rattle.std.proofs.lemmas.Option.{none-some, same_Some}
 use Rattle.journal_model.specs.declared.number.Area.TheVariants.{Log}
+use Rattle.journal_model.specs.Chain.{ring_place}
 use Rattle.journal_model.specs.Disk.{Disk}
 use Rattle.journal_world.specs.declared.stage.Stage.{Stage}
 use Rattle.journal_world.specs.declared.stage.Stage.TheVariants.{Idle, SuperblockWrite, SuperblockFlush, Blocks, CommitWrite, CommitFlush}
 use Rattle.journal_world.specs.Call.{Call, IsAfterFault}
 use Rattle.journal_world.specs.Call.Call.{Flush}
-use Rattle.journal_world.specs.Engine.{Engine, CommitFaults, block_at, call_in, due_blocks, ring_place, started_superblock, write_block}
+use Rattle.journal_world.specs.Engine.{Engine, CommitFaults, block_at, call_in, due_blocks, started_superblock, write_block}
 use Rattle.journal_world.specs.Sound.{MayBeSuperblock, Sound, StageAgrees, StageHolds}
 use Rattle.journal_world.proofs.Blocks.{block-fails, commit-fails}
 use Rattle.journal_world.proofs.Changes.{IsDueWrite, at, behind-later, plain-at}

@@ -6,12 +6,12 @@ use Rattle.std.proofs.lemmas.Bool.{cases_eq, cases_lt}
 use Rattle.std.proofs.lemmas.Option.{slice_get_within}
 use Rattle.journal_model.specs.declared.log.Text.{Text}
 use Rattle.journal_model.specs.declared.number.Area.TheVariants.{Log}
-use Rattle.journal_model.specs.Chain.{texts_blocks}
+use Rattle.journal_model.specs.Chain.{texts_blocks, ring_place}
 use Rattle.journal_model.specs.Disk.{Disk, Image, Leaves}
 use Rattle.journal_model.specs.Layout.{IsLayout, narrow}
 use Rattle.journal_world.specs.declared.stage.Stage.{Stage}
 use Rattle.journal_world.specs.declared.stage.Stage.TheVariants.{Idle, SuperblockWrite, SuperblockFlush, Blocks, CommitWrite, CommitFlush}
-use Rattle.journal_world.specs.Engine.{Engine, block_at, committed_texts, due_blocks, ring_place, text_of}
+use Rattle.journal_world.specs.Engine.{Engine, block_at, committed_texts, due_blocks, text_of}
 use Rattle.journal_world.specs.Opening.{IsBehind, NamesNothing}
 use Rattle.journal_world.specs.Sound.{IsDurable, IsOwnBlock, IsPlain, MayBeSuperblock, Names, NamesFirst, OpensBetween, OpensTo, Sound, StageAgrees, StageHolds, handed}
 use Rattle.journal_world.proofs.Batches.{texts_of}

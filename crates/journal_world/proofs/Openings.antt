@@ -5,7 +5,7 @@ use Rattle.std.proofs.lemmas.List.{length-map}
 use Rattle.journal_model.specs.declared.entry.Batch.{Batch}
 use Rattle.journal_model.specs.declared.log.Text.{Text}
 use Rattle.journal_model.specs.declared.number.Area.TheVariants.{Log, Home}
-use Rattle.journal_model.specs.Chain.{AreTexts, IsAhead, IsChain, IsDamaged, Ring, lap, place_from, texts_blocks}
+use Rattle.journal_model.specs.Chain.{AreTexts, IsAhead, IsChain, IsDamaged, Ring, lap, place_from, texts_blocks, ring_place}
 use Rattle.journal_model.specs.Disk.{Image}
 use Rattle.journal_model.specs.Layout.{IsLayout, Layout, narrow, uuid_bytes}
 use Rattle.journal_model.specs.Opening.{HasChain, IsClean, IsStarted, NothingAhead, greatest_number, layout_of, log_lap, numbered_below, super_of}
@@ -14,7 +14,7 @@ use Rattle.journal_model.specs.Opening.OpensAs.{Clean, Replayed}
 use Rattle.journal_model.specs.OwnText.{own_text}
 use Rattle.journal_model.specs.Superblock.{Shape}
 use Rattle.journal_model.specs.Transaction.{bytes_of, content_of, last_effect}
-use Rattle.journal_world.specs.Engine.{IsBatch, block_at, ring_place}
+use Rattle.journal_world.specs.Engine.{IsBatch, block_at}
 use Rattle.journal_world.specs.Opening.{IsBehind, IsSuperblock, NamesNothing}
 use Rattle.journal_world.specs.Sound.{AreNumberedFrom, NamesFirst, OpensTo}
 use Rattle.journal_world.proofs.Superblocks.{accepted-block_size, accepted-layout, first-above}

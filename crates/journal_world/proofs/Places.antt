@@ -5,12 +5,11 @@ use Rattle.std.proofs.Math.Nat.{mod-eq_of_lt}
 use Rattle.std.proofs.lemmas.Bool.{cases_eq}
 use Rattle.std.proofs.lemmas.Bool.Decides.{nat_tests}
 use Rattle.journal_model.specs.declared.number.Area.TheVariants.{Log}
-use Rattle.journal_model.specs.Chain.{Ring}
+use Rattle.journal_model.specs.Chain.{Ring, ring_place}
 use Rattle.journal_model.specs.Disk.{Cell, Disk, IsOneOf, flushed, handed_over, held, written}
 use Rattle.journal_world.specs.Call.{IsAfterFault}
 use Rattle.journal_world.specs.Call.IsAfterFault.{Undone, Whole, HandedOver}
 use Rattle.journal_world.specs.Call.Call.{Write, Flush}
-use Rattle.journal_world.specs.Engine.{ring_place}
 use Rattle.journal_world.specs.Sound.{durable_cell}
 
 -- a ring block below the ring's count stands where it is counted

@@ -2,12 +2,12 @@
 use Rattle.std.proofs.Common.{refl, sym, ◌∙◌, ap, ap₂, subst, arith, inl, inr, ⊎_elim}
 use Rattle.std.specs.Prelude.{◌≡◌, ◌⊎◌, ℕ, ◌+◌, ◌<◌, ◌≤◌, Bool, true, List, length, map, take}
 use Rattle.journal_model.specs.declared.number.Area.TheVariants.{Log}
-use Rattle.journal_model.specs.Chain.{texts_blocks}
+use Rattle.journal_model.specs.Chain.{texts_blocks, ring_place}
 use Rattle.journal_model.specs.Disk.{Cell, Disk, IsOneOf, flushed, held, written}
 use Rattle.journal_model.specs.Opening.{greatest_number}
 use Rattle.journal_model.specs.Superblock.{with_tail}
 use Rattle.journal_world.specs.declared.stage.Stage.TheVariants.{SuperblockFlush, SuperblockWrite, Blocks}
-use Rattle.journal_world.specs.Engine.{Engine, ring_place, started_superblock, stepped_from, text_of}
+use Rattle.journal_world.specs.Engine.{Engine, started_superblock, stepped_from, text_of}
 use Rattle.journal_world.specs.Opening.{IsBehind, NamesNothing}
 use Rattle.journal_world.specs.Sound.{IsOwnBlock, IsPlain, Names, NamesFirst, Sound}
 use Rattle.journal_world.proofs.Changes.{at, flush-sound, plain-at, ring-first}

@@ -10,7 +10,8 @@ use Rattle.journal_model.specs.declared.log.Text.{Text}
 use Rattle.journal_model.specs.Chain.{texts_blocks}
 use Rattle.journal_model.specs.Text.{pieces_blocks, text_blocks}
 use Rattle.journal_world.specs.Engine.{Engine, block_at, blocks_if, committed_texts, due_blocks, text_of}
-use Rattle.journal_world.proofs.Elements.{get-behind, get-front, get-within, take-one_more}
+use Rattle.journal_model.proofs.ListElements.{get-behind, get-front}
+use Rattle.journal_world.proofs.Elements.{get-within, take-one_more}
 
 -- a text has at least its commit block
 pub text-some : (t : Text) → 0 < length (text_blocks t)

@@ -1,12 +1,12 @@
 -- The engine: the transactions handed to it, how far they are committed, and the one device call that is due. Source:
 -- fs/jbd2/commit.c by behaviour; that each step is one device call is this project's own.
-use Rattle.std.specs.Prelude.{◌≡◌, ℕ, ◌+◌, ◌-◌, ◌%◌, ◌≤◌, nat_lt, nat_eq, Bool, true, false, if◌then◌else◌, List, [], ◌∷◌, ◌++◌, length, map, take, unwrap_or, slice_get, Option, Some, None, All}
+use Rattle.std.specs.Prelude.{◌≡◌, ℕ, ◌+◌, ◌-◌, ◌≤◌, nat_lt, nat_eq, Bool, true, false, if◌then◌else◌, List, [], ◌∷◌, ◌++◌, length, map, take, unwrap_or, slice_get, Option, Some, None, All}
 use Rattle.std.specs.List.{IsDistinct}
 use Rattle.journal_model.specs.declared.entry.Batch.{Batch}
 use Rattle.journal_model.specs.declared.log.Text.{Text}
 use Rattle.journal_model.specs.declared.number.Area.TheVariants.{Log}
 use Rattle.journal_model.specs.Block.{IsAllowedBlock}
-use Rattle.journal_model.specs.Chain.{Ring}
+use Rattle.journal_model.specs.Chain.{Ring, ring_place}
 use Rattle.journal_model.specs.Disk.{Disk}
 use Rattle.journal_model.specs.Layout.{Layout, narrow}
 use Rattle.journal_model.specs.Opening.{greatest_number}
@@ -31,10 +31,6 @@ pub record Engine : Type 0 where
   pub head : ℕ  -- how many ring blocks these have taken
   pub stage : Stage  -- how far the next one is
   pub aborted : Bool  -- the device has failed
-
--- the place in the log of ring block k, counted from the first one that a transaction took since the opening
-abbrev pub ring_place : Ring → ℕ → ℕ
-ring_place r k = r.first + k % r.blocks
 
 abbrev pub layout_of : Engine → Layout
 layout_of e = narrow e.shape.block_size

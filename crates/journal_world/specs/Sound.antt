@@ -4,7 +4,7 @@ use Rattle.std.specs.Prelude.{◌≡◌, ◌⊎◌, ⊤, ℕ, suc, ◌+◌, ◌-
 use Rattle.std.specs.List.{AllByRecursion}
 use Rattle.journal_model.specs.declared.entry.Batch.{Batch}
 use Rattle.journal_model.specs.declared.number.Area.TheVariants.{Log, Home}
-use Rattle.journal_model.specs.Chain.{Ring, texts_blocks}
+use Rattle.journal_model.specs.Chain.{Ring, texts_blocks, ring_place}
 use Rattle.journal_model.specs.Disk.{Disk, Cell, Image, IsOneOf, Leaves, held}
 use Rattle.journal_model.specs.Layout.{uuid_bytes}
 use Rattle.journal_model.specs.Opening.{Opens, IsCountOf, greatest_number}
@@ -12,7 +12,7 @@ use Rattle.journal_model.specs.Superblock.{Shape, super_in}
 use Rattle.journal_model.specs.Transaction.{History}
 use Rattle.journal_world.specs.declared.stage.Stage.{Stage}
 use Rattle.journal_world.specs.declared.stage.Stage.TheVariants.{Idle, SuperblockWrite, SuperblockFlush, Blocks, CommitWrite, CommitFlush}
-use Rattle.journal_world.specs.Engine.{Engine, AreBatchesOf, IsBatch, block_at, committed_texts, due_blocks, ring_place}
+use Rattle.journal_world.specs.Engine.{Engine, AreBatchesOf, IsBatch, block_at, committed_texts, due_blocks}
 use Rattle.journal_world.specs.Opening.{IsBehind, IsSuperblock, NamesNothing}
 
 -- the superblock of a log that begins with the first transaction since the opening

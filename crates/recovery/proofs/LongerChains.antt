@@ -6,11 +6,11 @@ use Rattle.std.proofs.lemmas.Bool.{cases_eq, cases_lt}
 use Rattle.std.proofs.lemmas.Bool.Decides.{nat_tests}
 use Rattle.std.proofs.lemmas.Option.{none-some, same_Some, slice_get_within}
 use Rattle.std.proofs.lemmas.List.{length-append}
-use Rattle.journal_model.proofs.ListElements.{any-from_contains, contains-from_any}
+use Rattle.journal_model.proofs.ListElements.{any-from_contains, contains-from_any, get-front}
 use Rattle.journal_model.specs.declared.log.Text.{Text}
 use Rattle.journal_model.specs.Replay.{HasNoLive, IsCovered, IsLive, IsNewest}
 use Rattle.journal_model.specs.Text.{text_copies, text_revokes}
-use Rattle.journal_world.proofs.Elements.{get-front, get-last}
+use Rattle.journal_world.proofs.Elements.{get-last}
 use Rattle.recovery.specs.Gather.{last_of}
 
 -- these bytes are the last copy of block b among some

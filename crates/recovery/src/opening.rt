@@ -1,5 +1,5 @@
 //! Opening a log: what a stop left is replayed to home, and the log is left clean.
-ghost use Rattle.std.specs.Prelude.{◌≡◌, ◌+◌, OnOk, IfOk, IfErr, MatchResult};
+ghost use Rattle.std.specs.Prelude.{◌<◌, ◌≡◌, ◌+◌, OnOk, IfOk, IfErr, MatchResult};
 ghost use Rattle.journal_model.specs.Disk.{reading};
 ghost use Rattle.block_device.specs.State.{EachMoment, Stays};
 ghost use Rattle.journal_world.specs.Opening.{IsOpenedLog, IsOpening};
@@ -96,7 +96,8 @@ impl<D: Device> Opened<D> {
 
     /// The number that the next transaction will have.
     pub fn next(&self) -> Tid
-        ensures { result ≡ self.now.next }
+        ensures next { result ≡ self.now.next }
+        ensures some { 0 < result }
     {
         self.next
     }
@@ -198,6 +199,7 @@ fn examine<D: Device>(alloc: Global, device: &mut D) -> Result<Found, JournalErr
     let Read {
         superblock,
         fields,
+        ring: _,
         lap: _,
     } = log;
     Ok(Found {

@@ -14,6 +14,7 @@ use block_device::Device;
 use journal_model::{Area, Block, Items, JournalError, Text};
 use journal_plain::chain::{chain, damage};
 use log_format::{Header, Super};
+use log_ring::Ring;
 use std::alloc::Global;
 
 /// The greatest number of a transaction.
@@ -27,12 +28,14 @@ const NUMBER_BYTES: usize = 4;
 pub(crate) struct Read {
     pub(crate) superblock: Vec<u8>,
     pub(crate) fields: Super,
+    pub(crate) ring: Ring,
     pub(crate) lap: Items<Block>,
 }
 
 /// Reads and tests the superblock, and reads the ring.
 pub(crate) fn read_log<D: Device>(alloc: Global, device: &mut D) -> Result<Read, JournalError>
     ensures superblock { IfOk result (λ log. IsWellRead (D.state device.old).shape log.superblock.items log.fields) }
+    ensures ring { IfOk result (λ log. log.ring.ring ≡ ring_of log.fields) }
     ensures lap { IfOk result (λ log. IsWholeLap log.fields log.lap) }
     ensures read { IfOk result (λ log. D.honest device.new → IsReadFrom (reading (D.state device.old).disk) log.superblock.items log.lap) }
     ensures faults { MatchResult result (λ _. (D.state device.new).faults ≡ (D.state device.old).faults) (λ e. IsReadingRefused (D.honest device.new) (D.state device.old) (D.state device.new) e) }
@@ -41,10 +44,12 @@ pub(crate) fn read_log<D: Device>(alloc: Global, device: &mut D) -> Result<Read,
 {
     let superblock = read_superblock(alloc, device)?;
     let fields = Super::read(&superblock, device.blocks(Area::Log))?;
-    let lap = read_lap(alloc, device, &fields)?;
+    let ring = Ring::new(fields.s_first, fields.s_maxlen);
+    let lap = read_lap(alloc, device, &fields, &ring)?;
     Ok(Read {
         superblock,
         fields,
+        ring,
         lap,
     })
 }
@@ -64,21 +69,13 @@ fn read_superblock<D: Device>(alloc: Global, device: &mut D) -> Result<Vec<u8>, 
     Ok(superblock)
 }
 
-/// How many blocks the ring has.
-fn ring_blocks(fields: &Super) -> u64
-    ensures { result ≡ (ring_of fields.now).blocks }
-{
-    u64::from(fields.s_maxlen.saturating_sub(fields.s_first))
-}
-
 /// Where in the log the k-th ring block stands, counted from where the log begins, or in a clean log from the ring's first.
-fn lap_place(fields: &Super, k: u64) -> u64
-    requires { k < (ring_of fields.now).blocks }
+fn lap_place(ring: &Ring, fields: &Super, k: u64) -> u64
+    requires ring { ring.now.ring ≡ ring_of fields.now }
+    requires there { k < (ring_of fields.now).blocks }
     ensures { result ≡ place_from (ring_of fields.now) fields.now.s_start k }
 {
-    let first = u64::from(fields.s_first);
-    let start = u64::from(fields.s_start);
-    first + (start.saturating_sub(first) + k) % ring_blocks(fields)
+    ring.advance(u64::from(fields.s_start), k)
 }
 
 /// Reads the blocks of the ring, in its order.
@@ -86,8 +83,10 @@ fn read_lap<D: Device>(
     alloc: Global,
     device: &mut D,
     fields: &Super,
+    ring: &Ring,
 ) -> Result<Items<Block>, JournalError>
-    requires { IsAccepted (D.state device.old).shape.block_size (D.state device.old).shape.log_blocks fields.now }
+    requires ring { ring.now.ring ≡ ring_of fields.now }
+    requires accepted { IsAccepted (D.state device.old).shape.block_size (D.state device.old).shape.log_blocks fields.now }
     ensures lap { IfOk result (λ blocks. IsWholeLap fields.now blocks) }
     ensures read { IfOk result (λ blocks. D.honest device.new → blocks ≡ lap (ring_of fields.now) (reading (D.state device.old).disk) fields.now.s_start) }
     ensures faults { MatchResult result (λ _. (D.state device.new).faults ≡ (D.state device.old).faults) (λ e. IsFailure (D.state device.old) (D.state device.new) e) }
@@ -95,8 +94,8 @@ fn read_lap<D: Device>(
     ensures honest { D.honest device.new → D.honest device.old }
 {
     let mut lap = Items::new(alloc);
-    for k in 0..ring_blocks(fields) {
-        let block = read_block(alloc, device, lap_place(fields, k))?;
+    for k in 0..ring.blocks() {
+        let block = read_block(alloc, device, lap_place(ring, fields, k))?;
         lap.push(block)?;
     }
     Ok(lap)
@@ -122,6 +121,7 @@ pub(crate) fn scan(
     log: &Read,
     home_blocks: u64,
 ) -> Result<(Items<Text>, u64), JournalError>
+    requires ring { log.now.ring.ring ≡ ring_of log.now.fields }
     requires lap { IsWholeLap log.now.fields log.now.lap }
     requires header { header_bytes ≤ log.now.fields.s_blocksize }
     ensures found { IfOk result (λ found. IsFound log.now.fields home_blocks log.now.lap found.0 found.1) }
@@ -140,7 +140,8 @@ pub(crate) fn scan(
 
 /// The chain of the log, or the damage behind it. A clean log has none.
 fn texts_of(alloc: Global, log: &Read, home_blocks: u64) -> Result<Items<Text>, JournalError>
-    requires { IsWholeLap log.now.fields log.now.lap }
+    requires ring { log.now.ring.ring ≡ ring_of log.now.fields }
+    requires lap { IsWholeLap log.now.fields log.now.lap }
     ensures texts { IfOk result (λ texts. AreTextsOf log.now.fields home_blocks log.now.lap texts) }
     ensures few { IfOk result (λ texts. length texts ≤ length log.now.lap) }
     ensures refused { IfErr result (λ e. (e ≡ Memory) ⊎ IsRefusedLog log.now.fields home_blocks log.now.lap e) }
@@ -153,7 +154,7 @@ fn texts_of(alloc: Global, log: &Read, home_blocks: u64) -> Result<Items<Text>, 
     let sequence = u64::from(fields.s_sequence);
     let lap = log.lap.as_slice();
     if let Some(k) = damage(alloc, size, NUMBER_BYTES, home_blocks, sequence, lap)? {
-        return Err(JournalError::Damage(lap_place(fields, k as u64)));
+        return Err(JournalError::Damage(lap_place(&log.ring, fields, k as u64)));
     }
     Ok(chain(alloc, size, NUMBER_BYTES, home_blocks, sequence, lap)?)
 }
@@ -171,6 +172,7 @@ fn is_ahead(block: &[u8], limit: u64) -> bool
 
 /// The lowest place of a ring block whose sequence is above the limit.
 fn lowest_ahead(log: &Read, limit: u64) -> Option<u64>
+    requires ring { log.now.ring.ring ≡ ring_of log.now.fields }
     requires lap { IsWholeLap log.now.fields log.now.lap }
     requires header { header_bytes ≤ log.now.fields.s_blocksize }
     ensures { MatchOption result (NoneAhead log.now.lap limit) (IsLowestAhead log.now.fields log.now.lap limit (length log.now.lap)) }
@@ -178,7 +180,7 @@ fn lowest_ahead(log: &Read, limit: u64) -> Option<u64>
     let mut lowest = None;
     for (k, block) in log.lap.as_slice().iter().enumerate() {
         if is_ahead(block.bytes(), limit) {
-            let place = lap_place(&log.fields, k as u64);
+            let place = lap_place(&log.ring, &log.fields, k as u64);
             lowest = Some(match lowest {
                 Some(other) => place.min(other),
                 None => place,

@@ -6,7 +6,7 @@ use std::str::from_utf8;
 use std::test::Fail;
 
 /// Texts that are no script.
-const NO_SCRIPTS: [&str; 14] = [
+const NO_SCRIPTS: [&str; 11] = [
     "",
     "[]",
     "{}",
@@ -16,11 +16,55 @@ const NO_SCRIPTS: [&str; 14] = [
     r#"{"ops": {}}"#,
     r#"{"ops": null}"#,
     r#"{"Ops": []}"#,
-    r#"{"ops": [], "block": 1024}"#,
-    r#"{"ops": [], "length": 33}"#,
-    r#"{"ops": [], "home": 64}"#,
-    r#"{"ops": [], "uuid": "aaaaaaaaaaaaaaaaaaaaaaaaaaaaaaaa"}"#,
     r#"{"ops": [], "seed": 1}"#,
+    r#"{"block": 1024, "length": 33, "home": 64}"#,
+];
+
+/// Keys that make a script bad by their values.
+const BAD_KEYS: [&str; 30] = [
+    r#""block": 1023"#,
+    r#""block": 1025"#,
+    r#""block": 0"#,
+    r#""block": 512"#,
+    r#""block": 3072"#,
+    r#""block": 8192"#,
+    r#""block": "1024""#,
+    r#""block": 1024.0"#,
+    r#""block": null"#,
+    r#""block": 18446744073709552640"#,
+    r#""length": 16"#,
+    r#""length": 0"#,
+    r#""length": 1048577"#,
+    r#""length": 4294967313"#,
+    r#""length": -33"#,
+    r#""length": 33.0"#,
+    r#""length": [33]"#,
+    r#""home": 0"#,
+    r#""home": 1048577"#,
+    r#""home": -1"#,
+    r#""home": 64.0"#,
+    r#""home": true"#,
+    r#""uuid": """#,
+    r#""uuid": "aaaaaaaaaaaaaaaaaaaaaaaaaaaaaaa""#,
+    r#""uuid": "aaaaaaaaaaaaaaaaaaaaaaaaaaaaaaaaa""#,
+    r#""uuid": "aaaaaaaaaaaaaaaaaaaaaaaaaaaaaaaaaa""#,
+    r#""uuid": "aaaaaaaaaaaaaaaaaaaaaaaaaaaaaaag""#,
+    r#""uuid": "aaaaaaaa-aaaa-aaaa-aaaa-aaaaaaaaaaaa""#,
+    r#""uuid": 16"#,
+    r#""Block": 1024"#,
+];
+
+/// Keys with values at their limits.
+const GOOD_KEYS: [&str; 9] = [
+    r#""block": 1024"#,
+    r#""block": 2048"#,
+    r#""block": 4096"#,
+    r#""length": 17"#,
+    r#""home": 1"#,
+    r#""home": 1048576"#,
+    r#""uuid": "00112233445566778899aabbccddeeff""#,
+    r#""uuid": "00112233445566778899AABBCCDDEEFF""#,
+    r#""block": 512, "block": 4096"#,
 ];
 
 /// Operations that make a script bad by their form.
@@ -80,6 +124,32 @@ const BAD_BEHIND_A_START: [&str; 16] = [
     r#"["stop",1],["stop",1]"#,
     r#"["stop",1],["write",1,9,"11"]"#,
 ];
+
+/// A script with these keys and without operations.
+fn script_of_keys(alloc: Global, keys: &str) -> Result<String, AllocError> {
+    let mut script = String::from_str(alloc, r#"{"ops": [], "#)?;
+    script.push_str(keys)?;
+    script.push_str("}")?;
+    Ok(script)
+}
+
+#[test]
+fn a_key_outside_its_limits(rt: HostRuntime) -> Result<(), Fail> {
+    for keys in BAD_KEYS {
+        is_bad(&rt, rt.alloc(), &script_of_keys(rt.alloc(), keys)?)?;
+    }
+    Ok(())
+}
+
+#[test]
+fn a_key_at_its_limits(rt: HostRuntime) -> Result<(), Fail> {
+    for keys in GOOD_KEYS {
+        let script = script_of_keys(rt.alloc(), keys)?;
+        let said = said_of(rt.alloc(), script.as_bytes(), None, &[])?;
+        assert_eq!(rt; said.status, Status::Fine, "{keys}");
+    }
+    Ok(())
+}
 
 /// The script is bad.
 fn is_bad(rt: &impl Abort, alloc: Global, script: &str) -> Result<(), Fail> {

@@ -1,5 +1,6 @@
 use Rattle.std.proofs.Common.{◌≡◌, ℕ, sym, ◌∙◌, ap, arith}
 use Rattle.journal_model.specs.declared.number.Area.TheVariants.{Log}
+use Rattle.journal_model.specs.Chain.{Ring}
 use Rattle.journal_model.specs.Disk.{Disk, reading}
 use Rattle.journal_model.specs.Opening.{ring_of}
 use Rattle.recovery.proofs.Laps.{lap_to, lap_to-all, lap_to-more, read-more}
@@ -10,7 +11,7 @@ pub loop-k-preserved : goal.loop-k-preserved
 loop-k-preserved g c =
     rw c.in_ok-push.ensures.ok (
       read-more c.args.fields.now c.loop-k.k (g.D.Device.state c.args.device.now) (g.D.Device.state c.loop-k.device)
-          (g.D.Device.state c.read_block.new.device) c.loop-k.lap c.in_ok-block.block (sym c.requires.size) c.loop-k.invariant.0
+          (g.D.Device.state c.read_block.new.device) c.loop-k.lap c.in_ok-block.block (sym c.requires.accepted.size) c.loop-k.invariant.0
           c.read_block.ensures.stays c.in_ok-block.ensures.faults c.in_ok-block.ensures.size,
       (λ honest.
           lap_to-more (ring_of c.args.fields.now) (reading (g.D.Device.state c.args.device.now).disk) c.args.fields.now.s_start c.loop-k.k c.loop-k.lap c.in_ok-block.block
@@ -24,7 +25,9 @@ loop-k-preserved g c =
 -- all are read
 pub returns-clause-read : goal.returns-clause-read
 returns-clause-read g c = λ honest.
-    let all : c.loop-k.k ≡ (ring_of c.args.fields.now).blocks = omega (arith, c.ring_blocks-k-end.ensures) in
+    let all : c.loop-k.k ≡ (ring_of c.args.fields.now).blocks =
+    let count = ap (λ (r : Ring). r.blocks) c.requires.ring in
+    omega (arith, c.blocks-k-end.ensures) in
     c.loop-k.invariant.1 honest
     ∙ ap (lap_to (ring_of c.args.fields.now) (reading (g.D.Device.state c.args.device.now).disk) c.args.fields.now.s_start) all
     ∙ lap_to-all (ring_of c.args.fields.now) (reading (g.D.Device.state c.args.device.now).disk) c.args.fields.now.s_start

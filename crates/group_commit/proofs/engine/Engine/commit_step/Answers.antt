@@ -4,6 +4,7 @@ use Rattle.journal_world.specs.Engine.{CommitFaults, CommitSteps, call_due, step
 use Rattle.journal_world.proofs.Faults.{fault-sound}
 use Rattle.journal_world.proofs.Steps.{step-sound}
 use Rattle.group_commit.specs.Engine.{IsProgress, StepRefused, call_of, engine_of}
+use Rattle.group_commit.proofs.Ledgers.{fault-taken}
 use Rattle.group_commit.proofs.Running.{superblock-of}
 use Rattle.group_commit.proofs.Stepping.{at-err, at-ok, busy, call-there, count-err, count-ok, each-fault, each-now, each-step, fault-runs, faults-here, idle-at, step-did, step-runs, steps-here}
 use Rattle.group_commit.proofs.engine.Engine.commit_step.Goals as goal
@@ -41,7 +42,10 @@ invariant_of-self-then-is_err g c =
     let fault : CommitFaults e before.disk (record e { shape = after.shape; aborted = true }) after.disk =
     faults-here e after.shape made.0 before.disk after.disk c.make_call.ensures.shape c.if-self.false due
     (at-err c.make_call.result failed (c.make_call.ensures.err made.0 made.1)) in (
-      fault-runs e after.shape c.self.invariant.0 c.make_call.ensures.shape,
+      record {
+        can_run = fault-runs e after.shape c.self.invariant.0.can_run c.make_call.ensures.shape;
+        taken = fault-taken before.shape after.shape c.self.inside.ledger c.make_call.ensures.shape c.self.invariant.0.taken;
+      },
       c.due-due.ensures.size ∙ c.self.invariant.1 ∙ sym (ap (λ (s : Shape). s.block_size) c.make_call.ensures.shape),
       λ honest. fault-sound e _ before.disk after.disk (c.self.invariant.2 (c.make_call.ensures.honest honest)) fault,
     )
@@ -78,13 +82,13 @@ invariant_of-self-2 g c =
     let due : call_due e ≡ Some made.0 =
     sym (c.due-due.ensures.due before.shape (sym c.self.invariant.1)) ∙ ap (call_of c.due-due.result) (sym c.bytes.ensures) ∙ made.1 in
     let worked = sym c.is_err.ensures.value ∙ c.if-is_err.false in
-    let size = ap (λ (s : Shape). s.block_size) c.make_call.ensures.shape ∙ sym (superblock-of e c.self.invariant.0.plain).size in
+    let size = ap (λ (s : Shape). s.block_size) c.make_call.ensures.shape ∙ sym (superblock-of e c.self.invariant.0.can_run.plain).size in
     let here = ap (λ (s : Shape). engine_of s c.self.inside.ledger) c.make_call.ensures.shape in
     let new = engine_of after.shape c.advance.new.self in
     let advanced : new ≡ stepped e = c.advance.ensures.stepped after.shape size ∙ ap stepped here in
     let step : CommitSteps e before.disk new after.disk =
     steps-here e new made.0 before.disk after.disk c.if-self.false due advanced (at-ok c.make_call.result worked (c.make_call.ensures.ok made.0 made.1)) in (
-      step-runs e new made.0 c.self.invariant.0 due advanced,
+      record { can_run = step-runs e new made.0 c.self.invariant.0.can_run due advanced; taken = c.advance.ensures.taken after.shape size },
       c.due-due.ensures.size ∙ c.self.invariant.1 ∙ sym (ap (λ (s : Shape). s.block_size) c.make_call.ensures.shape),
       λ honest. step-sound e new before.disk after.disk (c.self.invariant.2 (c.make_call.ensures.honest honest)) step,
     )
@@ -99,7 +103,7 @@ returns g c =
     let due : call_due e ≡ Some made.0 =
     sym (c.due-due.ensures.due before.shape (sym c.self.invariant.1)) ∙ ap (call_of c.due-due.result) (sym c.bytes.ensures) ∙ made.1 in
     let worked = sym c.is_err.ensures.value ∙ c.if-is_err.false in
-    let size = ap (λ (s : Shape). s.block_size) c.make_call.ensures.shape ∙ sym (superblock-of e c.self.invariant.0.plain).size in
+    let size = ap (λ (s : Shape). s.block_size) c.make_call.ensures.shape ∙ sym (superblock-of e c.self.invariant.0.can_run.plain).size in
     let here = ap (λ (s : Shape). engine_of s c.self.inside.ledger) c.make_call.ensures.shape in
     let new = engine_of after.shape c.advance.new.self in
     let advanced : new ≡ stepped e = c.advance.ensures.stepped after.shape size ∙ ap stepped here in

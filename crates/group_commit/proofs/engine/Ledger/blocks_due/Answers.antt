@@ -4,14 +4,14 @@ use Rattle.group_commit.proofs.Ledgers.{on-blocks, on-few, on-size}
 use Rattle.group_commit.proofs.engine.Ledger.blocks_due.Goals as goal
 
 -- the superblock is one block
-pub blocks_of-requires-clause-size : goal.blocks_of-requires-clause-size
-blocks_of-requires-clause-size c =
+pub need-requires-clause-size : goal.need-requires-clause-size
+need-requires-clause-size c =
     let size = on-size c.args.self.now _ c.requires.can_run in
     grind (arith, common_steps)
 
 -- a batch that fits the ring is not large
-pub blocks_of-requires-clause-few : goal.blocks_of-requires-clause-few
-blocks_of-requires-clause-few c =
+pub need-requires-clause-copies : goal.need-requires-clause-copies
+need-requires-clause-copies c =
     let few = on-few c.args.self.now _ c.requires.can_run _ c.batch.ensures in
     omega arith
 
@@ -19,4 +19,4 @@ blocks_of-requires-clause-few c =
 pub returns : goal.returns
 returns c = λ shape same.
     let blocks = on-blocks c.args.self.now _ c.requires.can_run _ shape c.batch.ensures same in
-    cc (c.len.ensures, c.len-2.ensures, c.blocks_of.ensures, blocks)
+    cc (c.len.ensures, c.len-2.ensures, c.need.ensures, blocks)

@@ -26,7 +26,7 @@ pub returns-in-SuperblockWrite-clause-due : goal.returns-in-SuperblockWrite-clau
 returns-in-SuperblockWrite-clause-due c = λ shape same.
     call-superblock (engine_of shape c.args.self.now) _ _ _ c.in-SuperblockWrite.is
     (c.write_superblock.ensures.block ∙ ap (λ (sb : List ℕ). with_tail sb c.number_due-number.result c.place-start.result) c.deref.ensures.value)
-    c.number_due-number.ensures c.place-start.ensures
+    c.number_due-number.ensures c.place-start.ensures.place
 
 -- another block of the transaction is due
 pub returns-in-Blocks-clause-due : goal.returns-in-Blocks-clause-due

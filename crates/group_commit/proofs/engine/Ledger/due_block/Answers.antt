@@ -1,6 +1,4 @@
 use Rattle.std.proofs.Common.{arith, sym, ◌∙◌}
-use Rattle.std.specs.Prelude.{◌+◌}
-use Rattle.journal_world.proofs.Places.{place-below}
 use Rattle.group_commit.proofs.Ledgers.{on-few}
 use Rattle.group_commit.proofs.Running.{runs-ring}
 use Rattle.group_commit.proofs.engine.Ledger.due_block.Goals as goal
@@ -17,5 +15,5 @@ returns-clause-fits c = λ shape can same.
     let ring = runs-ring _ can.plain in
     let there = c.requires.there shape same in
     let room = can.plain.room in
-    let place = place-below (record { first = c.args.self.now.ring_first; blocks = c.args.self.now.ring_blocks }) (c.args.self.now.head + c.args.k) (omega arith) in
+    let place = c.place.ensures in
     (omega arith, c.write_block.ensures.size ∙ sym same)

@@ -1,0 +1,56 @@
+-- What each log block of a transaction is: the own text of a transaction, with numbers in the place of bytes.
+-- Source: journal.rst, "Layout".
+use Rattle.std.specs.Prelude.{⊤, ℕ, ◌+◌, ◌<◌, ◌≤◌, true, List, [], ◌∷◌, ◌++◌, length, map, take, drop, unwrap_or, slice_get, slice_index}
+use Rattle.std.specs.List.{flat_map, range_with_len}
+use Rattle.journal_model.specs.declared.entry.Entry.{Entry}
+use Rattle.journal_model.specs.Descriptor.{descriptor_block}
+use Rattle.journal_model.specs.Escape.{escaped}
+use Rattle.journal_model.specs.Layout.{Layout as Measures, numbers_of, tags_of}
+use Rattle.journal_model.specs.OwnText.{commit_block, copied, groups, revoked, tags_from}
+use Rattle.journal_model.specs.RevokeBlock.{revoke_block}
+use Rattle.log_ring.specs.declared.layout.Part.{Part}
+use Rattle.log_ring.specs.declared.layout.Part.TheVariants.{Revokes, Descriptor, Copy, Commit}
+
+-- a transaction as its layout sees it: the bytes of a block, and how many copies and revokes it has
+pub record LayoutValue : Type 0 where
+  pub block_size : ℕ
+  pub copies : ℕ
+  pub revokes : ℕ
+
+-- the revoke block of these revokes, which stand in a row
+abbrev pub revoke_part : List ℕ → Part
+revoke_part numbers = Revokes (slice_index numbers 0) (length numbers)
+
+-- the descriptor of these copies, which stand in a row
+abbrev pub descriptor_part : List ℕ → Part
+descriptor_part numbers = Descriptor (slice_index numbers 0) (length numbers)
+
+-- it, and behind it they
+abbrev pub described : List ℕ → List Part
+described numbers = descriptor_part numbers ∷ map Copy numbers
+
+-- the revoke blocks of so many revokes
+abbrev pub revoke_parts : Measures → ℕ → List Part
+revoke_parts l revokes = map revoke_part (groups (numbers_of l) (range_with_len 0 revokes))
+
+-- so many copies with their descriptors
+abbrev pub copy_parts : Measures → ℕ → List Part
+copy_parts l copies = flat_map described (groups (tags_of l) (range_with_len 0 copies))
+
+-- the log blocks of a transaction of so many copies and revokes, in the order of the log
+abbrev pub parts : Measures → ℕ → ℕ → List Part
+parts l copies revokes = revoke_parts l revokes ++ copy_parts l copies ++ Commit ∷ []
+
+-- the part could stand in such a transaction: it has no more numbers or tags than fit a block, and these are there
+abbrev pub FitsPart : Measures → ℕ → ℕ → Part → Type 0
+FitsPart l copies revokes (Revokes first numbers) = (0 < numbers) × (numbers ≤ numbers_of l) × (first + numbers ≤ revokes)
+FitsPart l copies revokes (Descriptor first tags) = (0 < tags) × (tags ≤ tags_of l) × (first + tags ≤ copies)
+FitsPart l copies revokes (Copy k) = k < copies
+FitsPart l copies revokes Commit = ⊤
+
+-- the bytes of such a block, where the transaction has these entries
+abbrev pub part_block : Measures → List ℕ → ℕ → List (ℕ × Entry) → Part → List ℕ
+part_block l uuid sequence entries (Revokes first numbers) = revoke_block l sequence (take numbers (drop first (revoked entries)))
+part_block l uuid sequence entries (Descriptor first tags) = descriptor_block l uuid sequence (tags_from true (take tags (drop first (copied entries))))
+part_block l uuid sequence entries (Copy k) = escaped (unwrap_or (slice_get (copied entries) k) (0, [])).1
+part_block l uuid sequence entries Commit = commit_block l sequence

@@ -1,0 +1,148 @@
+//! The ring of log blocks behind the superblock, and what is taken of it.
+ghost use Rattle.std.specs.Prelude.{◌≡◌, ◌+◌, ◌-◌, ◌<◌, ◌≤◌, ◌^◌, OnOk, IfOk, IfErr};
+ghost use Rattle.journal_model.specs.declared.refusal.JournalError.TheVariants.{NeedSpace};
+ghost use Rattle.journal_model.specs.Chain.{place_from, ring_place};
+ghost use Rattle.journal_model.specs.Layout.{IsLayout, narrow};
+ghost use Rattle.journal_model.specs.Room.{need};
+ghost use Rattle.journal_model.specs.Superblock.{least_ring};
+ghost use Rattle.log_ring.specs.Ring.{IsRing, free, taken};
+
+use crate::layout::Layout;
+use journal_model::JournalError;
+use std::marker::Model;
+
+/// The ring of a log, and how many of its blocks are taken, from the tail to the head. Both are positions: they count
+/// blocks over all laps and never fall.
+/// Source: fs/jbd2 by behaviour (`j_head`, `j_tail`, `j_free`); positions in the place of places are this project's own.
+#[derive(Debug, Drop)]
+pub struct Ring {
+    /// The first block of the ring in the log, and how many it has.
+    first: u64,
+    blocks: u64,
+    /// The position of the oldest taken block, and the position behind the newest one.
+    tail: u64,
+    head: u64,
+}
+
+impl Model for Ring {
+    ghost use Rattle.log_ring.specs.Ring.{IsRing, RingValue};
+
+    ghost Value = { RingValue };
+
+    ghost view = { λ r. record { ring = record { first = r.first; blocks = r.blocks }; tail = r.tail; head = r.head } };
+
+    ghost invariant = { λ r. IsRing (record { ring = record { first = r.first; blocks = r.blocks }; tail = r.tail; head = r.head }) };
+}
+
+impl Ring {
+    /// The ring of the log blocks `first` to `maxlen - 1`, at least 16 of them, behind block 0. Nothing of it is taken.
+    pub fn new(first: u32, maxlen: u32) -> Self
+        requires behind { 0 < first }
+        requires least { first + least_ring ≤ maxlen }
+        ensures { result ≡ record { ring = record { first = first; blocks = maxlen - first }; tail = 0; head = 0 } }
+    {
+        Ring {
+            first: u64::from(first),
+            blocks: u64::from(maxlen - first),
+            tail: 0,
+            head: 0,
+        }
+    }
+
+    /// How many blocks it has.
+    pub fn blocks(&self) -> u64
+        ensures blocks { result ≡ self.now.ring.blocks }
+        ensures sound { IsRing self.now }
+    {
+        self.blocks
+    }
+
+    /// The log block of a position.
+    pub fn place(&self, position: u64) -> u64
+        ensures place { result ≡ ring_place self.now.ring position }
+        ensures low { self.now.ring.first ≤ result }
+        ensures high { result < self.now.ring.first + self.now.ring.blocks }
+        ensures small { result < 2 ^ 32 }
+    {
+        self.first + position % self.blocks
+    }
+
+    /// The log block `count` blocks behind this one. The block behind the last is the first; from a block before the
+    /// first, as block 0, it is counted from the first.
+    pub fn advance(&self, place: u64, count: u64) -> u64
+        ensures place { result ≡ place_from self.now.ring place count }
+        ensures low { self.now.ring.first ≤ result }
+        ensures high { result < self.now.ring.first + self.now.ring.blocks }
+        ensures small { result < 2 ^ 32 }
+    {
+        let behind = place.saturating_sub(self.first) % self.blocks;
+        self.first + (behind + count % self.blocks) % self.blocks
+    }
+
+    /// How many log blocks a transaction of so many copies and revokes needs, in blocks of 1024, 2048 or 4096 bytes. No
+    /// transaction has more than 2^32 of either: a block number in a log has 32 bits.
+    /// Source: journal.rst, "Layout".
+    pub fn need(block_size: usize, copies: u64, revokes: u64) -> u64
+        requires size { IsLayout (narrow block_size) }
+        requires copies { copies ≤ 2 ^ 32 }
+        requires revokes { revokes ≤ 2 ^ 32 }
+        ensures { result ≡ need (narrow block_size) copies revokes }
+    {
+        Layout::new(block_size, copies, revokes).blocks()
+    }
+
+    /// How many blocks are free.
+    pub fn free(&self) -> u64
+        ensures free { result ≡ free self.now }
+        ensures sound { IsRing self.now }
+    {
+        self.blocks - (self.head - self.tail)
+    }
+
+    /// The position of the next block that is taken.
+    pub fn head(&self) -> u64
+        ensures head { result ≡ self.now.head }
+        ensures sound { IsRing self.now }
+    {
+        let head = self.head;
+        head
+    }
+
+    /// The position of the oldest block that is taken and not released; where none is, the head.
+    pub fn tail(&self) -> u64
+        ensures tail { result ≡ self.now.tail }
+        ensures sound { IsRing self.now }
+    {
+        let tail = self.tail;
+        tail
+    }
+
+    /// Takes so many blocks, from the head on, and answers the position of the first. The head has to lie a lap below 2^64:
+    /// a log of 2^32 transactions does not come near it.
+    ///
+    /// # Errors
+    ///
+    /// `NeedSpace` where fewer are free: nothing changes.
+    pub fn take(&mut self, count: u64) -> Result<u64, JournalError>
+        requires { self.old.head + self.old.ring.blocks ≤ u64.MAX }
+        ensures ok { IfOk result (λ position. (count ≤ free self.old) × (position ≡ self.old.head) × (self.new ≡ record self.old { head = self.old.head + count })) }
+        ensures err { IfErr result (λ e. (e ≡ NeedSpace) × (free self.old < count) × (self.new ≡ self.old)) }
+        ensures sound { IsRing self.old × IsRing self.new }
+    {
+        if self.free() < count {
+            return Err(JournalError::NeedSpace);
+        }
+        let position = self.head;
+        self.head += count;
+        Ok(position)
+    }
+
+    /// Releases so many blocks, from the tail on. No more than are taken may be released.
+    pub fn release(&mut self, count: u64)
+        requires { count ≤ taken self.old }
+        ensures released { self.new ≡ record self.old { tail = self.old.tail + count } }
+        ensures sound { IsRing self.old × IsRing self.new }
+    {
+        self.tail += count;
+    }
+}

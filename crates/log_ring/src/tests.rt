@@ -1,0 +1,198 @@
+//! Tables of places, room and layouts, with values worked out by hand.
+use crate::{Layout, Part, Ring};
+use journal_model::JournalError;
+use std::test::Fail;
+
+#[test]
+fn the_place_after_the_last_is_the_first(rt: HostRuntime) -> Result<(), Fail> {
+    let ring = Ring::new(1, 33);
+    assert_eq!(rt; ring.blocks(), 32);
+    for (position, place) in [
+        (0u64, 1u64),
+        (1, 2),
+        (30, 31),
+        (31, 32),
+        (32, 1),
+        (63, 32),
+        (64, 1),
+    ] {
+        assert_eq!(rt; ring.place(position), place, "position {position}");
+    }
+    for (place, count, behind) in [
+        (1u64, 0u64, 1u64),
+        (31, 1, 32),
+        (31, 2, 1),
+        (32, 1, 1),
+        (32, 32, 32),
+        (0, 0, 1),
+        (0, 5, 6),
+    ] {
+        assert_eq!(rt;
+            ring.advance(place, count),
+            behind,
+            "{count} behind {place}"
+        );
+    }
+    Ok(())
+}
+
+#[test]
+fn a_ring_that_does_not_begin_at_block_one(rt: HostRuntime) -> Result<(), Fail> {
+    let ring = Ring::new(5, 21);
+    assert_eq!(rt; ring.blocks(), 16);
+    assert_eq!(rt; ring.place(15), 20);
+    assert_eq!(rt; ring.place(16), 5);
+    assert_eq!(rt; ring.advance(20, 1), 5);
+    Ok(())
+}
+
+#[test]
+fn blocks_are_taken_and_released(rt: HostRuntime) -> Result<(), Fail> {
+    let mut ring = Ring::new(1, 33);
+    assert_eq!(rt; ring.take(30), Ok(0));
+    assert_eq!(rt; ring.free(), 2);
+    assert_eq!(rt; ring.take(3), Err(JournalError::NeedSpace));
+    assert_eq!(rt; ring.free(), 2);
+    assert_eq!(rt; ring.head(), 30);
+    if ring.free() == 2 {
+        ring.release(30);
+    }
+    assert_eq!(rt; ring.free(), 32);
+    assert_eq!(rt; ring.take(3), Ok(30));
+    assert_eq!(rt; ring.place(30), 31);
+    assert_eq!(rt; ring.place(32), 1);
+    assert_eq!(rt; ring.take(29), Ok(33));
+    assert_eq!(rt; ring.free(), 0);
+    assert_eq!(rt; ring.take(0), Ok(62));
+    assert_eq!(rt; ring.take(1), Err(JournalError::NeedSpace));
+    Ok(())
+}
+
+/// Bytes of a block, copies, revokes, and the log blocks that they need.
+const NEEDS: [(usize, u32, u32, u64); 12] = [
+    (1024, 0, 0, 1),
+    (1024, 1, 0, 3),
+    (1024, 2, 0, 4),
+    (1024, 122, 0, 124),
+    (1024, 123, 0, 126),
+    (1024, 0, 1, 2),
+    (1024, 0, 252, 2),
+    (1024, 0, 253, 3),
+    (2048, 250, 508, 253),
+    (2048, 251, 509, 256),
+    (4096, 506, 1020, 509),
+    (4096, 507, 1021, 512),
+];
+
+#[test]
+fn the_room_of_transactions(rt: HostRuntime) -> Result<(), Fail> {
+    for (size, copies, revokes, blocks) in NEEDS {
+        if size == 1024 || size == 2048 || size == 4096 {
+            let needed = Ring::need(size, u64::from(copies), u64::from(revokes));
+            assert_eq!(rt; needed, blocks, "{copies} and {revokes} in {size}");
+        }
+    }
+    Ok(())
+}
+
+/// Bytes of a block, blocks of the ring, and the most copies of a transaction.
+const CAPACITIES: [(usize, u64, u64); 8] = [
+    (1024, 16, 2),
+    (1024, 19, 2),
+    (1024, 20, 3),
+    (1024, 32, 6),
+    (1024, 1024, 252),
+    (2048, 1024, 253),
+    (4096, 1024, 254),
+    (1024, 1_048_575, 260_010),
+];
+
+#[test]
+fn the_most_copies_of_a_transaction(rt: HostRuntime) -> Result<(), Fail> {
+    for (size, ring, copies) in CAPACITIES {
+        if (size == 1024 || size == 2048 || size == 4096) && ring >= 16 {
+            assert_eq!(rt;
+                Layout::capacity(size, ring),
+                copies,
+                "{ring} blocks of {size}"
+            );
+        }
+    }
+    Ok(())
+}
+
+/// What the blocks of a transaction are; none where it does not have so many.
+fn part_of(layout: &Layout, k: u64) -> Option<Part> {
+    if k < layout.blocks() {
+        Some(layout.part(k))
+    } else {
+        None
+    }
+}
+
+#[test]
+fn an_empty_transaction_is_a_commit_block(rt: HostRuntime) -> Result<(), Fail> {
+    let layout = Layout::new(1024, 0, 0);
+    assert_eq!(rt; layout.blocks(), 1);
+    assert_eq!(rt; part_of(&layout, 0), Some(Part::Commit));
+    Ok(())
+}
+
+#[test]
+fn a_second_descriptor(rt: HostRuntime) -> Result<(), Fail> {
+    let layout = Layout::new(1024, 123, 0);
+    let ring = Ring::new(1, 1025);
+    assert_eq!(rt;
+        part_of(&layout, 0),
+        Some(Part::Descriptor {
+            first: 0,
+            tags: 122
+        })
+    );
+    for k in 0..122u64 {
+        assert_eq!(rt; part_of(&layout, k + 1), Some(Part::Copy(k)));
+    }
+    assert_eq!(rt;
+        part_of(&layout, 123),
+        Some(Part::Descriptor {
+            first: 122,
+            tags: 1
+        })
+    );
+    assert_eq!(rt; part_of(&layout, 124), Some(Part::Copy(122)));
+    assert_eq!(rt; part_of(&layout, 125), Some(Part::Commit));
+    assert_eq!(rt; part_of(&layout, 126), None);
+    if layout.blocks() == 126 {
+        assert_eq!(rt; layout.place(&ring, 0, 0), 1);
+        assert_eq!(rt; layout.place(&ring, 0, 123), 124);
+        assert_eq!(rt; layout.place(&ring, 1000, 125), 102);
+    }
+    Ok(())
+}
+
+#[test]
+fn revoke_blocks_stand_first(rt: HostRuntime) -> Result<(), Fail> {
+    let layout = Layout::new(1024, 1, 253);
+    assert_eq!(rt;
+        part_of(&layout, 0),
+        Some(Part::Revokes {
+            first: 0,
+            numbers: 252
+        })
+    );
+    assert_eq!(rt;
+        part_of(&layout, 1),
+        Some(Part::Revokes {
+            first: 252,
+            numbers: 1
+        })
+    );
+    assert_eq!(rt;
+        part_of(&layout, 2),
+        Some(Part::Descriptor { first: 0, tags: 1 })
+    );
+    assert_eq!(rt; part_of(&layout, 3), Some(Part::Copy(0)));
+    assert_eq!(rt; part_of(&layout, 4), Some(Part::Commit));
+    assert_eq!(rt; part_of(&layout, 5), None);
+    Ok(())
+}
