@@ -6,7 +6,7 @@ use Rattle.std.proofs.lemmas.List.{append-nil}
 use Rattle.std.proofs.lemmas.List.Sums.{fold_push}
 use Rattle.journal_model.specs.declared.number.Area.{Area}
 use Rattle.journal_model.specs.declared.number.Area.TheVariants.{Log, Home}
-use Rattle.journal_model.specs.Disk.{IsOneOf, Cell, Disk, same_area, with_cell, written, held}
+use Rattle.journal_model.specs.Disk.{IsOneOf, Cell, Disk, same_area, held}
 use Rattle.block_device.specs.Memory.{counted, writes_of, Moments, after_call, after_calls, blank, unflushed, unflushed_after, durable, oldest, kept_value}
 use Rattle.block_device.specs.MemInvariant.{wrote_block, newest_from, newest, or_else, settled, survivors, survives_crash, is_kept, flushed_in, FillsBlock, Indexes, IsNumbered, NumberedFrom, IsLeft, flushed_after, flushed_number, Forgets, Remembers, renoted}
 use Rattle.block_device.specs.MemIndex.{noted_in}

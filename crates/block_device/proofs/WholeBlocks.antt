@@ -7,7 +7,6 @@ use Rattle.journal_model.specs.declared.number.Area.{Area}
 use Rattle.journal_model.specs.Disk.{Cell, IsOneOf, held, same_area}
 use Rattle.block_device.specs.Memory.{Moments, after_call, blank}
 use Rattle.block_device.specs.MemInvariant.{FillsBlock}
-use Rattle.block_device.specs.declared.memory.Write.{Write}
 use Rattle.block_device.specs.declared.memory.Call.{Call}
 use Rattle.block_device.specs.declared.memory.Call.TheVariants.{Wrote, Flushed}
 use Rattle.block_device.proofs.Calls.{left_disk, new_disk}
@@ -20,15 +19,15 @@ IsWhole size c = (v : List ℕ) → IsOneOf (held c) v → length v ≡ size
 abbrev pub AreWhole : ℕ → Moments → Type 0
 AreWhole size m = (a : Area) (n : ℕ) → IsWhole size (m.disk a n)
 
-one_of_two : (size : ℕ) (b : Bool) (x y : Cell) → IsWhole size x → IsWhole size y → IsWhole size (if b then x else y)
+pub one_of_two : (size : ℕ) (b : Bool) (x y : Cell) → IsWhole size x → IsWhole size y → IsWhole size (if b then x else y)
 one_of_two size true x y hx hy = hx
 one_of_two size false x y hx hy = hy
 
 -- a value alone, and one more value over those that are held
-alone : (size : ℕ) (v : List ℕ) → length v ≡ size → IsWhole size (record { reads = v; others = [] })
+pub alone : (size : ℕ) (v : List ℕ) → length v ≡ size → IsWhole size (record { reads = v; others = [] })
 alone size v e u one = ⊎_elim (λ same. ap length same ∙ e) (λ none. absurd none) one
 
-over : (size : ℕ) (v : List ℕ) (c : Cell) → length v ≡ size → IsWhole size c → IsWhole size (record { reads = v; others = held c })
+pub over : (size : ℕ) (v : List ℕ) (c : Cell) → length v ≡ size → IsWhole size c → IsWhole size (record { reads = v; others = held c })
 over size v c e h u one = ⊎_elim (λ same. ap length same ∙ e) (λ before. h u before) one
 
 -- one more call leaves each block whole

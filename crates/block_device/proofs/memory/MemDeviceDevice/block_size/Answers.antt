@@ -1,4 +1,4 @@
-use Rattle.std.proofs.Common.{ℕ, subst}
+use Rattle.std.proofs.Common.{subst}
 use Rattle.block_device.specs.Memory.{MemState, state_of, blank}
 use Rattle.block_device.specs.State.{HoldsWholeBlocks}
 use Rattle.block_device.proofs.WholeBlocks.{whole_calls, whole_blank}
