@@ -64,6 +64,15 @@ impl From<JournalError> for Fault {
     }
 }
 
+impl From<log_dump::Fault> for Fault {
+    fn from(fault: log_dump::Fault) -> Fault {
+        match fault {
+            log_dump::Fault::Refused(e) => Fault::Refused(e),
+            log_dump::Fault::Output(e) => Fault::from(e),
+        }
+    }
+}
+
 impl From<AllocError> for Fault {
     fn from(_e: AllocError) -> Fault {
         Fault::Refused(JournalError::Memory)

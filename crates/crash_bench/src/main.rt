@@ -1,11 +1,13 @@
 //! `jbench`: runs a script of journal operations over a device in memory that stops at one of its writes, opens what the
-//! stop left, and judges it. Words and files are read here alone; each command is a function over readers and writers.
+//! stop left, and judges it; makes logs in files, and prints them. Words and files are opened here and in `files` alone; each
+//! command is a function over devices, readers and writers.
 #![tactic(auto)]
 
 mod blocks;
-mod dump;
 mod fault;
+mod files;
 mod interpreter;
+mod logs;
 mod measures;
 mod order;
 mod outcome;
@@ -19,7 +21,7 @@ mod verdict;
 mod words;
 
 use crate::fault::{Fault, Status};
-use crate::words::RunWords;
+use crate::words::{FormatWords, RunWords, Words};
 use clap::error::ErrorKind;
 use journal_model::JournalError;
 use std::process::ExitCode;
@@ -44,7 +46,9 @@ fn jbench(rt: &HostRuntime) -> io::Result<Status> {
     let alloc = rt.alloc();
     let words: Vec<String> = env::args(rt)?.collect(alloc)?;
     match words::parse(alloc, &words) {
-        Ok(words) => run_file(rt, &words),
+        Ok(Words::Run(words)) => run_file(rt, &words),
+        Ok(Words::Format(words)) => format_files(rt, &words),
+        Ok(Words::Dump(path)) => dump_file(rt, path),
         Err(e) => report_words(rt, &e),
     }
 }
@@ -67,9 +71,42 @@ fn report_words(rt: &HostRuntime, e: &clap::Error) -> io::Result<Status> {
 fn run_file(rt: &HostRuntime, words: &RunWords<'_>) -> io::Result<Status> {
     match fs::open(rt, words.script) {
         Ok(file) => run::run(rt.alloc(), words, file, io::writer(rt), rt.stderr()),
-        Err(e) => {
-            fault::report(&mut rt.stderr(), words.script, &Fault::of_file(e))?;
-            Ok(Status::Refused)
-        }
+        Err(e) => refuse_file(rt, words.script, e),
     }
+}
+
+/// Makes an empty log of two files, both of which are opened before either is changed.
+fn format_files(rt: &HostRuntime, words: &FormatWords<'_>) -> io::Result<Status> {
+    let log = match files::open_or_make(rt, words.log) {
+        Ok(file) => file,
+        Err(e) => return refuse_file(rt, words.log, e),
+    };
+    let home = match files::open_home(rt, words.home, &log) {
+        Ok(file) => file,
+        Err(e) => return refuse_file(rt, words.home, e),
+    };
+    match files::make_device(&words.measures, log, home) {
+        Ok(device) => logs::format(
+            words.log,
+            &words.measures,
+            device,
+            io::writer(rt),
+            rt.stderr(),
+        ),
+        Err(e) => refuse_file(rt, words.log, e),
+    }
+}
+
+/// Prints the log in a file.
+fn dump_file(rt: &HostRuntime, path: &str) -> io::Result<Status> {
+    match files::open_log(rt, path) {
+        Ok(device) => logs::dump(rt.alloc(), path, device, io::writer(rt), rt.stderr()),
+        Err(e) => refuse_file(rt, path, e),
+    }
+}
+
+/// Says that a file can't be opened, or memory ran out.
+fn refuse_file(rt: &HostRuntime, path: &str, e: io::Error) -> io::Result<Status> {
+    fault::report(&mut rt.stderr(), path, &Fault::of_file(e))?;
+    Ok(Status::Refused)
 }

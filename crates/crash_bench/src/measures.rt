@@ -1,8 +1,12 @@
-//! The measures of a run's device, as a script's keys give them, and the device.
+//! The measures of a device, as a script's keys or words give them, their limits, and the disk of a run.
+ghost use Rattle.std.specs.Prelude.{◌↔◌, IsTrue};
+ghost use Rattle.log_format.specs.Size.{IsBlockSize};
+
 use block_device::{MemDevice, StopAt};
+use hex::FromHexError;
 use journal_model::JournalError;
 use recovery::format;
-use std::alloc::Global;
+use std::alloc::{AllocError, Global};
 
 /// What `StopAt` takes for no stop.
 const NEVER: u64 = 0;
@@ -20,13 +24,35 @@ pub struct Measures {
     pub uuid: [u8; 16],
 }
 
-/// The measures of a script that gives none.
+/// The fewest and the most blocks of a log.
+pub const LENGTHS: (u32, u32) = (17, 1_048_576);
+
+/// The fewest and the most blocks of a home area.
+pub const HOMES: (u32, u32) = (1, 1_048_576);
+
+/// The measures of a script or of words that give none.
 pub const DEFAULTS: Measures = Measures {
     block_size: 1024,
     log_blocks: 33,
     home_blocks: 64,
     uuid: [0xaa; 16],
 };
+
+/// Whether a block may have so many bytes.
+pub fn is_block_size(bytes: u64) -> bool
+    ensures { IsTrue result ↔ IsBlockSize bytes }
+{
+    bytes == 1024 || bytes == 2048 || bytes == 4096
+}
+
+/// The UUID that 32 hex digits give, or `None` where the text is another. It fails where memory runs out.
+pub fn uuid_of(alloc: Global, digits: &str) -> Result<Option<[u8; 16]>, AllocError> {
+    match hex::decode(alloc, digits) {
+        Ok(bytes) => Ok(<[u8; 16]>::try_from(bytes.as_slice()).ok()),
+        Err(FromHexError::OutOfMemory) => Err(AllocError),
+        Err(_) => Ok(None),
+    }
+}
 
 impl Measures {
     /// A disk in memory with these measures and an empty log, which stops at write `stop`, counted from now on, or never.

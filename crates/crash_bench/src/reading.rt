@@ -3,7 +3,7 @@ ghost use Rattle.std.specs.Prelude.{◌≡◌, ◌≤◌, IfOk, length};
 ghost use Rattle.crash_bench.specs.Measures.{AreLimited};
 
 use crate::fault::Fault;
-use crate::measures::{DEFAULTS, Measures};
+use crate::measures::{DEFAULTS, HOMES, LENGTHS, Measures, is_block_size, uuid_of};
 use crate::order;
 use crate::script::{HandleName, MOST_OPERATIONS, Operation, Script};
 use hex::FromHexError;
@@ -13,11 +13,6 @@ use std::alloc::{AllocError, Global};
 
 /// The keys of a script.
 const KEYS: [&str; 5] = ["ops", "block", "length", "home", "uuid"];
-
-/// The fewest and the most blocks of a log, and of a home area.
-const LENGTHS: (u64, u64) = (17, 1_048_576);
-
-const HOMES: (u64, u64) = (1, 1_048_576);
 
 /// Reads a script.
 ///
@@ -63,7 +58,7 @@ fn read_measures(alloc: Global, members: &Map<String, Value>) -> Result<Measures
     ensures { IfOk result (λ measures. AreLimited measures) }
 {
     let block_size = read_number(members, "block", DEFAULTS.block_size as u64, (1024, 4096))?;
-    if block_size != 1024 && block_size != 2048 && block_size != 4096 {
+    if !is_block_size(block_size) {
         return Err(Fault::BadScript);
     }
     Ok(Measures {
@@ -79,7 +74,7 @@ fn read_number(
     members: &Map<String, Value>,
     key: &str,
     default: u64,
-    limits: (u64, u64),
+    limits: (u32, u32),
 ) -> Result<u64, Fault>
     requires least { limits.0 ≤ default }
     requires most { default ≤ limits.1 }
@@ -90,7 +85,7 @@ fn read_number(
         return Ok(default);
     };
     let number = number_of(value)?;
-    if number < limits.0 || number > limits.1 {
+    if number < u64::from(limits.0) || number > u64::from(limits.1) {
         return Err(Fault::BadScript);
     }
     Ok(number)
@@ -101,8 +96,8 @@ fn read_uuid(alloc: Global, members: &Map<String, Value>) -> Result<[u8; 16], Fa
     let Some(value) = members.get("uuid") else {
         return Ok(DEFAULTS.uuid);
     };
-    let bytes = bytes_of(alloc, value, 16)?;
-    <[u8; 16]>::try_from(bytes.as_slice()).map_err(|_| Fault::BadScript)
+    let digits = value.as_str().ok_or(Fault::BadScript)?;
+    uuid_of(alloc, digits)?.ok_or(Fault::BadScript)
 }
 
 /// The list of operations of a script.

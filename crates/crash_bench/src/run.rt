@@ -9,7 +9,6 @@ ghost use Rattle.block_device.specs.State.{Stays};
 ghost use Rattle.crash_bench.specs.Verdict.{IsVerdict};
 
 use crate::blocks::read_block;
-use crate::dump::dump;
 use crate::fault::{self, Fault, Status};
 use crate::interpreter::Interpreter;
 use crate::outcome::Outcome;
@@ -19,6 +18,7 @@ use crate::verdict::Record;
 use crate::words::RunWords;
 use block_device::{Device, MemDevice};
 use journal_model::{Area, JournalError};
+use log_dump::dump;
 use recovery::{Opened, open};
 use std::alloc::Global;
 use std::collections::BTreeSet;

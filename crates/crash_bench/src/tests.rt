@@ -10,6 +10,7 @@ use std::test::Fail;
 
 mod bad_scripts;
 mod faults;
+mod log_files;
 mod refusals;
 mod sizes;
 mod verdicts;

@@ -1,11 +1,33 @@
-use crate::words::parse;
+use crate::measures::{DEFAULTS, Measures};
+use crate::words::{Words, parse};
 use std::test::Fail;
 
 /// Words behind the program's name that are refused.
-const REFUSED: [&[&str]; 25] = [
+const REFUSED: [&[&str]; 40] = [
     &[],
-    &["format", "log", "home"],
-    &["dump", "log"],
+    &["format"],
+    &["format", "log"],
+    &["format", "log", "home", "more"],
+    &["format", "log", "home", "--block", "512"],
+    &["format", "log", "home", "--block", "3072"],
+    &["format", "log", "home", "--block", "x"],
+    &["format", "log", "home", "--length", "16"],
+    &["format", "log", "home", "--length", "1048577"],
+    &["format", "log", "home", "--length", "33", "--length", "34"],
+    &["format", "log", "home", "--home", "0"],
+    &["format", "log", "home", "--home", "1048577"],
+    &["format", "log", "home", "--uuid", "aa"],
+    &[
+        "format",
+        "log",
+        "home",
+        "--uuid",
+        "aaaaaaaaaaaaaaaaaaaaaaaaaaaaaaag",
+    ],
+    &["format", "log", "home", "--stop", "1"],
+    &["dump"],
+    &["dump", "log", "home"],
+    &["dump", "log", "--block", "1024"],
     &["help"],
     &["a.json"],
     &["--version"],
@@ -49,7 +71,14 @@ const TAKEN: [(&[&str], Option<u64>, &[u64]); 6] = [
 ];
 
 /// Words that ask for help.
-const HELP: [&[&str]; 4] = [&["--help"], &["-h"], &["run", "--help"], &["run", "-h"]];
+const HELP: [&[&str]; 6] = [
+    &["--help"],
+    &["-h"],
+    &["run", "--help"],
+    &["run", "-h"],
+    &["format", "--help"],
+    &["dump", "--help"],
+];
 
 #[test]
 fn words_are_refused(rt: HostRuntime) -> Result<(), Fail> {
@@ -71,10 +100,14 @@ fn words_are_taken(rt: HostRuntime) -> Result<(), Fail> {
         let mut all = Vec::new(rt.alloc());
         all.push("jbench")?;
         all.extend_from_slice(words)?;
-        let told = parse(rt.alloc(), &all)?;
-        assert_eq!(rt; told.script, "a.json", "{words:?}");
-        assert_eq!(rt; told.stop, stop, "{words:?}");
-        assert_eq!(rt; told.keep.as_slice(), keep, "{words:?}");
+        match parse(rt.alloc(), &all)? {
+            Words::Run(told) => {
+                assert_eq!(rt; told.script, "a.json", "{words:?}");
+                assert_eq!(rt; told.stop, stop, "{words:?}");
+                assert_eq!(rt; told.keep.as_slice(), keep, "{words:?}");
+            }
+            _ => panic!(rt; "{words:?} is another command"),
+        }
     }
     Ok(())
 }
@@ -88,6 +121,57 @@ fn help_is_no_refusal(rt: HostRuntime) -> Result<(), Fail> {
         match parse(rt.alloc(), &all) {
             Ok(_) => panic!(rt; "{words:?} asks for help"),
             Err(e) => assert!(rt; !e.use_stderr(), "{words:?}"),
+        }
+    }
+    Ok(())
+}
+
+/// Words of `format`, and what they say is made.
+const FORMATS: [(&[&str], Measures); 3] = [
+    (&["format", "log", "home"], DEFAULTS),
+    (
+        &[
+            "format", "log", "home", "--block", "4096", "--length", "17", "--home", "1",
+        ],
+        Measures {
+            block_size: 4096,
+            log_blocks: 17,
+            home_blocks: 1,
+            uuid: [0xaa; 16],
+        },
+    ),
+    (
+        &[
+            "format",
+            "--uuid",
+            "5C5c5c5c5c5c5c5c5c5c5c5c5c5c5c5c",
+            "log",
+            "--length=1048576",
+            "home",
+            "--home=1048576",
+        ],
+        Measures {
+            block_size: 1024,
+            log_blocks: 1_048_576,
+            home_blocks: 1_048_576,
+            uuid: [0x5c; 16],
+        },
+    ),
+];
+
+#[test]
+fn words_of_format(rt: HostRuntime) -> Result<(), Fail> {
+    for (words, measures) in FORMATS {
+        let mut all = Vec::new(rt.alloc());
+        all.push("jbench")?;
+        all.extend_from_slice(words)?;
+        match parse(rt.alloc(), &all)? {
+            Words::Format(told) => {
+                assert_eq!(rt; told.log, "log", "{words:?}");
+                assert_eq!(rt; told.home, "home", "{words:?}");
+                assert_eq!(rt; told.measures, measures, "{words:?}");
+            }
+            _ => panic!(rt; "{words:?} is another command"),
         }
     }
     Ok(())

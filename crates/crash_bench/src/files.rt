@@ -1,0 +1,93 @@
+//! Opens the files of logs.
+ghost use Rattle.std.specs.Prelude.{IfOk};
+ghost use Rattle.log_format.specs.Size.{IsBlockSize};
+
+use crate::measures::{Measures, is_block_size};
+use block_device::{FileDevice, UnknownContents};
+use std::fs::{File, OpenOptions};
+use std::io::ErrorKind;
+use std::os::unix::fs::{FileExt, MetadataExt};
+use std::{fs, io};
+
+/// A device over files that may hold anything.
+pub type Files = FileDevice<UnknownContents>;
+
+/// Where the superblock says how many bytes a block has.
+const BLOCK_SIZE_PLACE: u64 = 0x0c;
+
+/// Opens a log to be read. A block has as many bytes as its superblock says, where a block may have so many, else 1024.
+pub fn open_log(rt: &HostRuntime, path: &str) -> io::Result<Files> {
+    let log = fs::open(rt, path)?;
+    check_file(&log)?;
+    FileDevice::new(UnknownContents, block_size_of(&log)?, log, None)
+}
+
+/// Opens a file to be written, and makes it where there is none. What it holds stays.
+pub fn open_or_make(rt: &HostRuntime, path: &str) -> io::Result<File> {
+    let file = OpenOptions::new()
+        .read(true)
+        .write(true)
+        .create(true)
+        .open(rt, path)?;
+    check_file(&file)?;
+    Ok(file)
+}
+
+/// Opens the file of a home area to be written, which is not that of its log, and makes it where there is none.
+pub fn open_home(rt: &HostRuntime, path: &str, log: &File) -> io::Result<File> {
+    let home = open_or_make(rt, path)?;
+    if are_one(log, &home)? {
+        return Err(io::Error::from(ErrorKind::InvalidInput));
+    }
+    Ok(home)
+}
+
+/// Whether two files are one.
+fn are_one(log: &File, home: &File) -> io::Result<bool> {
+    let log = log.metadata()?;
+    let home = home.metadata()?;
+    Ok(log.dev() == home.dev() && log.ino() == home.ino())
+}
+
+/// Makes the files as long as these measures say, all zeros, and a device of them.
+pub fn make_device(measures: &Measures, log: File, home: File) -> io::Result<Files> {
+    let size = measures.block_size as u64;
+    if !is_block_size(size) {
+        return Err(io::Error::from(ErrorKind::InvalidInput));
+    }
+    clear(&log, u64::from(measures.log_blocks).saturating_mul(size))?;
+    clear(&home, measures.home_blocks.saturating_mul(size))?;
+    FileDevice::new(UnknownContents, measures.block_size, log, Some(home))
+}
+
+/// Takes all that a file holds, and gives it so many zero bytes.
+fn clear(file: &File, bytes: u64) -> io::Result<()> {
+    file.set_len(0)?;
+    file.set_len(bytes)
+}
+
+/// What is no regular file holds no log.
+fn check_file(file: &File) -> io::Result<()> {
+    if file.metadata()?.is_file() {
+        Ok(())
+    } else {
+        Err(io::Error::from(ErrorKind::InvalidInput))
+    }
+}
+
+/// How many bytes a block of the log in this file has.
+fn block_size_of(log: &File) -> io::Result<usize>
+    ensures { IfOk result IsBlockSize }
+{
+    let mut bytes = [0; 4];
+    match log.read_exact_at(&mut bytes, BLOCK_SIZE_PLACE) {
+        Ok(()) => {}
+        Err(e) if e.kind() == ErrorKind::UnexpectedEof => return Ok(1024),
+        Err(e) => return Err(e),
+    }
+    Ok(match u32::from_be_bytes(bytes) {
+        2048 => 2048,
+        4096 => 4096,
+        _ => 1024,
+    })
+}

@@ -1,0 +1,86 @@
+//! The commands `format` and `dump`, over devices.
+use crate::fault::{self, Fault, Status};
+use crate::measures::Measures;
+use block_device::Device;
+use journal_model::Area;
+use std::alloc::Global;
+use std::io;
+use std::io::{BufWriter, Write};
+
+/// Makes an empty log on a device, which has these measures, and prints what it made. `path` names the log's file. Where it
+/// can't go on, one line on `err` says why.
+///
+/// # Errors
+///
+/// The output can't be written.
+pub fn format<D: Device + Drop, W: Write + Drop, E: Write + Drop>(
+    path: &str,
+    measures: &Measures,
+    device: D,
+    out: W,
+    err: E,
+) -> io::Result<Status> {
+    end(path, format_device(measures, device, out), err)
+}
+
+/// Makes an empty log, and makes home durable.
+fn format_device<D: Device + Drop, W: Write + Drop>(
+    measures: &Measures,
+    device: D,
+    out: W,
+) -> Result<(), Fault> {
+    let mut device = device;
+    let mut out = out;
+    recovery::format(&mut device, measures.log_blocks, &measures.uuid)?;
+    device
+        .flush(Area::Home)
+        .map_err(|e| Fault::Refused(e.into()))?;
+    writeln!(
+        out,
+        "formatted {} blocks of {}",
+        measures.log_blocks, measures.block_size
+    )?;
+    Ok(())
+}
+
+/// Prints the log of a device. `path` names its file. Where the log is refused nothing is printed, and one line on `err` says
+/// why.
+///
+/// # Errors
+///
+/// The output can't be written.
+pub fn dump<D: Device + Drop, W: Write + Drop, E: Write + Drop>(
+    alloc: Global,
+    path: &str,
+    device: D,
+    out: W,
+    err: E,
+) -> io::Result<Status> {
+    end(path, dump_device(alloc, device, out), err)
+}
+
+/// Prints the log of a device.
+fn dump_device<D: Device + Drop, W: Write + Drop>(
+    alloc: Global,
+    device: D,
+    out: W,
+) -> Result<(), Fault> {
+    let mut device = device;
+    let mut out = BufWriter::new(alloc, out)?;
+    log_dump::dump(alloc, &mut device, &mut out)?;
+    out.flush()?;
+    Ok(())
+}
+
+/// How a command ends, and the line that says why it couldn't go on.
+fn end<E: Write + Drop>(path: &str, done: Result<(), Fault>, err: E) -> io::Result<Status> {
+    let mut err = err;
+    match done {
+        Ok(()) => Ok(Status::Fine),
+        Err(Fault::Output(e)) => Err(e),
+        Err(fault) => {
+            fault::report(&mut err, path, &fault)?;
+            Ok(Status::Refused)
+        }
+    }
+}

@@ -1,0 +1,73 @@
+-- One step of the first way over a log.
+use Rattle.std.proofs.Common.{◌≡◌, ℕ, ◌+◌, ◌∙◌, subst, ap, arith}
+use Rattle.journal_model.specs.declared.refusal.JournalError.{JournalError}
+use Rattle.journal_model.specs.declared.refusal.JournalError.TheVariants.{Damage}
+use Rattle.journal_model.specs.Chain.{lap, place_from}
+use Rattle.journal_model.specs.Disk.{Disk, Image, reading}
+use Rattle.journal_model.specs.Opening.{layout_of, ring_of}
+use Rattle.journal_model.specs.Superblock.{Super}
+use Rattle.block_device.specs.State.{DeviceState, Stays}
+use Rattle.log_dump.specs.declared.finding.Found.{Found}
+use Rattle.log_dump.specs.declared.finding.Found.TheVariants.{RevokeBlock, Descriptor, CommitBlock, Malformed, Nothing}
+use Rattle.log_dump.specs.Dumping.{IsCounted, IsDamageOf}
+use Rattle.log_dump.specs.Finding.{FinderValue, IsFound, blocks_from, every_block}
+use Rattle.log_dump.proofs.SoFar.{ReadSoFar, so-far-chain, so-far-count, so-far-damaged, so-far-none, so-far-piece, so-far-text, so-far-undamaged}
+
+-- two calls that changed nothing, one after the other
+pub stays-joins : (s t u : DeviceState) → Stays s t → Stays t u → Stays s u
+stays-joins s t u first second = record {
+  shape = second.shape ∙ first.shape;
+  disk = second.disk ∙ first.disk;
+  past = second.past ∙ first.past;
+}
+
+-- what was found in a device whose blocks are those of another, where a block of this number is due
+pub found-there : (s : Super) (old mid : DeviceState) (number due position : ℕ) (f : FinderValue) (found : Found) → number ≡ due → Stays old mid →
+    IsFound (layout_of s) every_block number (blocks_from s (reading mid.disk) position) f found → IsFound (layout_of s) every_block due (blocks_from s (reading old.disk) position) f found
+found-there s old mid number due position f found same stays is =
+    subst (λ (d : Disk). IsFound (layout_of s) every_block due (blocks_from s (reading d) position) f found) stays.disk
+    (subst (λ (n : ℕ). IsFound (layout_of s) every_block n (blocks_from s (reading mid.disk) position) f found) same is)
+
+-- what stands before a position of the log
+abbrev pub ReadAt : Super → Image → ℕ → ℕ → Type 0
+ReadAt s image count position = ReadSoFar (layout_of s) every_block s.s_sequence (lap (ring_of s) image s.s_start) count position
+
+-- at the beginning
+pub read-none : (s : Super) (image : Image) → ReadAt s image 0 0
+read-none s image = so-far-none (layout_of s) every_block s.s_sequence (lap (ring_of s) image s.s_start)
+
+module _ (s : Super) (image : Image) (count position : ℕ) (f : FinderValue) (so : ReadAt s image count position) where
+  -- behind a revoke block
+  pub read-revokes : (n : ℕ) → IsFound (layout_of s) every_block (s.s_sequence + count) (blocks_from s image position) f (RevokeBlock n) → ReadAt s image count (position + 1)
+  read-revokes n is =
+      so-far-piece (layout_of s) every_block s.s_sequence (omega arith) (lap (ring_of s) image s.s_start) count position so _ 1 (position + 1) (omega arith) is.begins
+
+  -- behind a descriptor and its copies
+  pub read-descriptor : (n : ℕ) → IsFound (layout_of s) every_block (s.s_sequence + count) (blocks_from s image position) f (Descriptor n) →
+      ReadAt s image count (position + (1 + n))
+  read-descriptor n is =
+      so-far-piece (layout_of s) every_block s.s_sequence (omega arith) (lap (ring_of s) image s.s_start) count position so _ (1 + n) (position + (1 + n)) (omega arith) is.begins
+
+  -- behind a commit block
+  pub read-commit : IsFound (layout_of s) every_block (s.s_sequence + count) (blocks_from s image position) f CommitBlock → ReadAt s image (count + 1) (position + 1)
+  read-commit is = so-far-text (layout_of s) every_block s.s_sequence (omega arith) (lap (ring_of s) image s.s_start) count position so is
+
+  -- at a malformed block
+  pub read-malformed : (e : JournalError) (place : ℕ) → e ≡ Damage place → place ≡ place_from (ring_of s) s.s_start position →
+      IsFound (layout_of s) every_block (s.s_sequence + count) (blocks_from s image position) f Malformed → IsDamageOf s image e
+  read-malformed e place is at bad = record {
+    k = position;
+    damaged = so-far-damaged (layout_of s) every_block s.s_sequence (omega arith) (lap (ring_of s) image s.s_start) count position so bad;
+    refusal = is ∙ ap Damage at;
+  }
+
+  -- where nothing more stands
+  pub read-all : IsFound (layout_of s) every_block (s.s_sequence + count) (blocks_from s image position) f Nothing → IsCounted s image count
+  read-all nothing = record {
+    texts = so.texts;
+    are = record {
+      chain = so-far-chain (layout_of s) every_block s.s_sequence (omega arith) (lap (ring_of s) image s.s_start) count position so nothing;
+      undamaged = so-far-undamaged (layout_of s) every_block s.s_sequence (omega arith) (lap (ring_of s) image s.s_start) count position so nothing;
+    };
+    number = so-far-count (layout_of s) every_block s.s_sequence (omega arith) (lap (ring_of s) image s.s_start) count position so nothing;
+  }

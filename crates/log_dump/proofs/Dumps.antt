@@ -1,0 +1,188 @@
+-- The whole text of a dump, and why there is none.
+use Rattle.std.proofs.Common.{◌≡◌, ℕ, ◌+◌, List, [], ◌∷◌, ◌++◌, Option, length, sym, ◌∙◌, ap, ap₂, subst, arith, inl, inr, append-nil}
+use Rattle.std.specs.Prelude.{◌≢◌, ◌==◌, Bool, true, false, if◌then◌else◌, Some, Result, Ok, Err, OnErr, codes}
+use Rattle.std.specs.Fmt.{decimal}
+use Rattle.std.specs.Io.KnownBytes.{Appends}
+use Rattle.std.specs.List.{AllByRecursion}
+use Rattle.std.proofs.lemmas.Bool.Decides.{nat_tests}
+use Rattle.std.proofs.lemmas.Grind.{flat_map-append}
+use Rattle.journal_model.specs.declared.log.Text.{Text}
+use Rattle.journal_model.specs.declared.refusal.JournalError.{JournalError}
+use Rattle.journal_model.specs.declared.refusal.JournalError.TheVariants.{BadLength, Device}
+use Rattle.journal_model.specs.Disk.{Disk, Image, reading}
+use Rattle.journal_model.specs.Dump.{IsDump, IsDumpRefused, block_lines, dump_shape, dump_text, end_line, super_line, texts_captions}
+use Rattle.journal_model.specs.Dump.IsDump.{OfChain, OfClean}
+use Rattle.journal_model.specs.Dump.IsDumpRefused.{ByDamage, BySuperblock}
+use Rattle.journal_model.specs.Opening.{HasChain, IsStarted, super_of}
+use Rattle.journal_model.specs.Superblock.{Shape, Super, first_failed, super_refusal, super_tests}
+use Rattle.block_device.specs.State.{DeviceState, one_more_fault}
+use Rattle.log_dump.specs.declared.fault.Fault.{Fault}
+use Rattle.log_dump.specs.declared.fault.Fault.TheVariants.{Refused, Output}
+use Rattle.log_dump.specs.Dumping.{AreTextsOf, DumpRefused, HasDump, IsCounted, IsCountRefused, IsDamageOf, IsDumpFault, IsLogRefused, IsPrintRefused, IsReadLog, shape_of}
+use Rattle.log_dump.specs.Finding.{every_block}
+use Rattle.log_dump.specs.Lines.{ended, placed_lines}
+use Rattle.log_dump.proofs.Written.{appends-joins, appends-same}
+
+-- the lines of a clean log are its dump
+text-clean : (s : Super) → s.s_start ≡ 0 → ended (super_line s) ++ ended (codes "empty sequence=" ++ decimal s.s_sequence) ≡ dump_text s []
+unfolding dump_text
+text-clean s clean =
+    let test : (s.s_start == 0) ≡ true = grind (arith, nat_tests) in
+    rw test (ap (λ (text : List ℕ). ended (super_line s) ++ text) (sym (append-nil (ended (codes "empty sequence=" ++ decimal s.s_sequence)))))
+
+-- the lines of a log that is not
+text-chain : (s : Super) (texts : List Text) → s.s_start ≢ 0 →
+    ended (super_line s) ++ (placed_lines s 0 (texts_captions s.s_sequence texts) ++ ended (end_line s texts)) ≡ dump_text s texts
+unfolding dump_text
+text-chain s texts started =
+    let test : (s.s_start == 0) ≡ false = grind (arith, nat_tests) in
+    rw test
+    (ap (λ (text : List ℕ). ended (super_line s) ++ text)
+    (ap (λ (text : List ℕ). placed_lines s 0 (texts_captions s.s_sequence texts) ++ text) (sym (append-nil (ended (end_line s texts))))
+    ∙ sym (flat_map-append ended (block_lines s texts) (end_line s texts ∷ []))))
+
+-- the two lines of a clean log were written
+pub written-clean : (s : Super) (old mid new : Option (List ℕ)) → s.s_start ≡ 0 → Appends old mid (ended (super_line s)) →
+    Appends mid new (ended (codes "empty sequence=" ++ decimal s.s_sequence)) → Appends old new (dump_text s [])
+written-clean s old mid new clean first second = appends-same old new _ (dump_text s []) (text-clean s clean) (appends-joins old mid new _ _ first second)
+
+-- the first line, those of the blocks, and the last line were written
+pub written-chain : (s : Super) (texts : List Text) (first count : ℕ) (old mid behind new : Option (List ℕ)) → s.s_start ≢ 0 → first ≡ s.s_sequence → count ≡ length texts →
+    Appends old mid (ended (super_line s)) → Appends mid behind (placed_lines s 0 (texts_captions s.s_sequence texts)) →
+    Appends behind new (ended (codes "end sequence=" ++ decimal (first + count) ++ codes " transactions=" ++ decimal count)) → Appends old new (dump_text s texts)
+written-chain s texts first count old mid behind new started number all one two three =
+    let last = appends-same behind new _ (ended (end_line s texts))
+    (ap₂ (λ (f n : ℕ). ended (codes "end sequence=" ++ decimal (f + n) ++ codes " transactions=" ++ decimal n)) number all) three in
+    appends-same old new _ (dump_text s texts) (text-chain s texts started) (appends-joins old mid new _ _ one (appends-joins mid behind new _ _ two last))
+
+-- the refusal of tests that are not the device's is not the device's
+not-device : (tests : List (Bool × JournalError)) (e : JournalError) → AllByRecursion (λ t. t.1 ≢ Device) tests → first_failed tests ≡ Some e → e ≢ Device
+not-device [] e all refused = cc
+not-device ((true, f) ∷ tests) e all refused = not-device tests e all.1 refused
+not-device ((false, f) ∷ tests) e all refused = λ is. all.0 (cc)
+
+-- a refused superblock is not a failure of the device
+pub refused-other : (shape : Shape) (block : List ℕ) (e : JournalError) → super_refusal shape block ≡ Some e → e ≢ Device
+refused-other shape block e refused = either (shape.log_blocks == 0) refused
+  where
+    others : AllByRecursion (λ t. t.1 ≢ Device) (super_tests shape block)
+    others = ((λ e. cc), ((λ e. cc), ((λ e. cc), ((λ e. cc), ((λ e. cc), ((λ e. cc), ((λ e. cc), ((λ e. cc), tt))))))))
+
+    either : (none : Bool) → (if none then Some BadLength else first_failed (super_tests shape block)) ≡ Some e → e ≢ Device
+    either true is = λ other. cc
+    either false is = not-device (super_tests shape block) e others is
+
+-- what the tests say of a block says so of the device's measures
+pub tested-for : (size blocks length_is count : ℕ) (block other : List ℕ) (answer : Option JournalError) → length_is ≡ size → count ≡ blocks → block ≡ other →
+    (let s : Shape = record { block_size = length_is; log_blocks = count; home_blocks = every_block } in super_refusal s block ≡ answer) →
+    super_refusal (dump_shape size blocks) other ≡ answer
+tested-for size blocks length_is count block other answer long many same tested =
+    subst (λ (b : List ℕ). super_refusal (dump_shape size blocks) b ≡ answer) same
+    (subst (λ (s : Shape). super_refusal s block ≡ answer)
+    (ap₂ (λ (a b : ℕ). let s : Shape = record { block_size = a; log_blocks = b; home_blocks = every_block } in s) long many) tested)
+
+-- why the superblock is refused is why the log is
+pub log-refused : (honest unwritten : Type 0) (old new : DeviceState) (e : JournalError) → unwritten → IsLogRefused honest old new e → DumpRefused honest unwritten old new e
+log-refused honest unwritten old new e nothing (inl (inl failed)) = record {
+  device = λ is. failed.1;
+  no_fault = λ other. absurd (other failed.0);
+  memory = λ is. nothing;
+  content = λ other more h. absurd (other failed.0);
+}
+log-refused honest unwritten old new e nothing (inl (inr failed)) = record {
+  device = λ is. let wrong = failed.0 in absurd (cc);
+  no_fault = λ other. failed.1;
+  memory = λ is. nothing;
+  content = λ other more h. absurd (more failed.0);
+}
+log-refused honest unwritten old new e nothing (inr refused) = record {
+  device = λ is. absurd (refused.0 is);
+  no_fault = λ other. refused.1;
+  memory = λ is. nothing;
+  content = λ other more h. (BySuperblock e (refused.2 h), nothing);
+}
+
+module _ (size blocks : ℕ) (image : Image) (s : Super) (read : IsReadLog (dump_shape size blocks) image s) where
+  -- a clean log has a dump
+  pub clean-dump : s.s_start ≡ 0 → IsDump (dump_shape size blocks) image (dump_text s [])
+  clean-dump clean =
+      subst (λ (t : Super). IsDump (dump_shape size blocks) image (dump_text t [])) (sym read.same)
+      (OfClean (record { accepted = read.accepted; clean = ap (λ (t : Super). t.s_start) (sym read.same) ∙ clean }))
+
+  module _ (started : s.s_start ≢ 0) where
+    -- the image is accepted, and not clean
+    image-started : IsStarted (dump_shape size blocks) image
+    image-started = record { accepted = read.accepted; started = λ clean. started (ap (λ (t : Super). t.s_start) read.same ∙ clean) }
+
+    -- its texts are its chain
+    chain-of : (texts : List Text) → AreTextsOf (super_of image) image texts → HasChain (dump_shape size blocks) image texts
+    chain-of texts are = record { started = image-started; chain = are.chain; undamaged = λ k damaged. are.undamaged k damaged.damaged }
+
+    -- so it has a dump
+    pub chain-dump : (texts : List Text) → AreTextsOf s image texts → IsDump (dump_shape size blocks) image (dump_text s texts)
+    chain-dump texts are =
+        subst (λ (t : Super). IsDump (dump_shape size blocks) image (dump_text t texts)) (sym read.same)
+        (OfChain texts (chain-of texts (subst (λ (t : Super). AreTextsOf t image texts) read.same are)))
+
+    -- a damaged block is why it has none
+    pub damage-refused : (e : JournalError) → IsDamageOf s image e → IsDumpRefused (dump_shape size blocks) image e
+    damage-refused e damage = by (subst (λ (t : Super). IsDamageOf t image e) read.same damage)
+      where
+        by : IsDamageOf (super_of image) image e → IsDumpRefused (dump_shape size blocks) image e
+        by d =
+            subst (IsDumpRefused (dump_shape size blocks) image) (sym d.refusal)
+            (ByDamage d.k (record { started = image-started; damaged = d.damaged }))
+
+-- why the transactions are not counted is why the log is refused
+pub count-refused : (honest unwritten : Type 0) (s : Super) (old mid new : DeviceState) (e : JournalError) → unwritten → s.s_start ≢ 0 → mid.faults ≡ old.faults → mid.disk ≡ old.disk →
+    (honest → IsReadLog (shape_of old) (reading old.disk) s) → IsCountRefused honest s mid new e → DumpRefused honest unwritten old new e
+count-refused honest unwritten s old mid new e nothing started faults disk read (inl failed) = record {
+  device = λ is. failed.1 ∙ ap one_more_fault faults;
+  no_fault = λ other. absurd (other failed.0);
+  memory = λ is. nothing;
+  content = λ other more h. absurd (other failed.0);
+}
+count-refused honest unwritten s old mid new e nothing started faults disk read (inr refused) = record {
+  device = λ is. absurd (refused.0 is);
+  no_fault = λ other. refused.2 ∙ faults;
+  memory = λ is. nothing;
+  content =
+      λ other more h. (
+        damage-refused old.shape.block_size old.shape.log_blocks (reading old.disk) s (read h) started e
+            (subst (λ (d : Disk). IsDamageOf s (reading d) e) disk (refused.3 h)),
+        nothing,
+      );
+}
+
+-- why the counted transactions are not printed
+pub print-refused : (honest unwritten impossible : Type 0) (old mid new : DeviceState) (e : Fault) → mid.faults ≡ old.faults → (honest → HasDump (shape_of old) (reading old.disk)) →
+    (honest → impossible → ⊥) → IsPrintRefused honest impossible mid new e → IsDumpFault honest unwritten old new e
+print-refused honest unwritten impossible old mid new (Output e) faults has never refused = (refused ∙ faults, has)
+print-refused honest unwritten impossible old mid new (Refused e) faults has never (inl failed) = record {
+  device = λ is. failed.1 ∙ ap one_more_fault faults;
+  no_fault = λ other. absurd (other failed.0);
+  memory = λ is. let wrong = failed.0 in absurd (cc);
+  content = λ other more h. absurd (other failed.0);
+}
+print-refused honest unwritten impossible old mid new (Refused e) faults has never (inr refused) = record {
+  device = λ is. absurd (refused.0 is);
+  no_fault = λ other. refused.2 ∙ faults;
+  memory = λ is. absurd (refused.1 is);
+  content = λ other more h. absurd (never h (refused.3 h));
+}
+
+-- what holds holds where a call failed
+pub on-err : {T E : Type 0} {P : Type 0} (r : Result T E) → P → OnErr r P
+on-err (Ok x) p = tt
+on-err (Err e) p = p
+
+-- what the test of s_start says
+pub test-clean : (start : ℕ) → true ≡ (start == 0) → start ≡ 0
+test-clean start test = grind (arith, nat_tests)
+
+pub test-started : (start : ℕ) → false ≡ (start == 0) → start ≢ 0
+test-started start test = λ clean. grind (arith, nat_tests)
+
+-- a log whose texts were counted has a dump
+pub counted-dump : (size blocks : ℕ) (image : Image) (s : Super) (count : ℕ) → IsReadLog (dump_shape size blocks) image s → s.s_start ≢ 0 → IsCounted s image count → HasDump (dump_shape size blocks) image
+counted-dump size blocks image s count read started counted = (dump_text s counted.texts, chain-dump size blocks image s read started counted.texts counted.are)

@@ -1,0 +1,28 @@
+-- What a block that was read says of itself says what stands at its position of the lap.
+use Rattle.std.proofs.Common.{◌≡◌, ℕ, suc, ◌-◌, ◌<◌, List, ◌∷◌, ◌++◌, length, take, sym, ◌∙◌, ap, subst, arith}
+use Rattle.std.proofs.Math.Seq.{take-append_seam}
+use Rattle.journal_model.specs.declared.number.Area.TheVariants.{Log}
+use Rattle.journal_model.specs.Chain.{place_from}
+use Rattle.journal_model.specs.Disk.{Image}
+use Rattle.journal_model.specs.Layout.{narrow}
+use Rattle.journal_model.specs.Opening.{layout_of, ring_of}
+use Rattle.journal_model.specs.Superblock.{Super}
+use Rattle.log_dump.specs.declared.finding.Found.{Found}
+use Rattle.log_dump.specs.Finding.{FinderValue, IsFound, Says, blocks_from, every_block}
+use Rattle.log_dump.proofs.Found.{found-says}
+use Rattle.log_dump.proofs.Laps.{from-within, length-from}
+
+-- a buffer that was read into over its whole length is what was read
+pub whole-buffer : {X : Type 0} (n : ℕ) (read behind : List X) → n ≡ length read → take n (read ++ behind) ≡ read
+whole-buffer n read behind size = ap (λ (k : ℕ). take k (read ++ behind)) size ∙ take-append_seam read behind
+
+-- what the block at a position says of itself
+pub found-at : (s : Super) (image : Image) (sequence position behind : ℕ) (block : List ℕ) (f : FinderValue) (found : Found) → position < (ring_of s).blocks →
+    behind ≡ (ring_of s).blocks - position - 1 → length block ≡ s.s_blocksize → block ≡ image Log (place_from (ring_of s) s.s_start position) →
+    Says (narrow (length block)) every_block sequence behind block f found → IsFound (layout_of s) every_block sequence (blocks_from s image position) f found
+found-at s image sequence position behind block f found below rest size is says =
+    let left : behind ≡ length (blocks_from s image (suc position)) = let all = length-from s image (suc position) in omega arith in
+    found-says (layout_of s) every_block sequence (blocks_from s image position) block (blocks_from s image (suc position))
+    (from-within s image position below ∙ ap (λ (b : List ℕ). b ∷ blocks_from s image (suc position)) (sym is)) f found
+    (subst (λ (n : ℕ). Says (layout_of s) every_block sequence n block f found) left
+    (subst (λ (n : ℕ). Says (narrow n) every_block sequence behind block f found) size says))

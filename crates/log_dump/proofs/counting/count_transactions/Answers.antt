@@ -1,0 +1,94 @@
+use Rattle.std.proofs.Common.{ℕ, ◌+◌, refl, ap, ◌∙◌, arith, inr}
+use Rattle.journal_model.specs.Disk.{reading}
+use Rattle.log_dump.specs.declared.finding.Found.TheVariants.{CommitBlock, Descriptor, Malformed, Nothing, RevokeBlock}
+use Rattle.log_dump.proofs.CountingSteps.{found-there, read-all, read-commit, read-descriptor, read-malformed, read-none, read-revokes, stays-joins}
+use Rattle.log_dump.proofs.counting.count_transactions.Goals as goal
+
+-- nothing is read yet
+pub loop-position-init : goal.loop-position-init
+loop-position-init g c = record {
+  within = omega arith;
+  few = omega arith;
+  size = refl;
+  stays = record { shape = refl; disk = refl; past = refl };
+  faults = refl;
+  honest = λ h. h;
+  read = λ h. read-none c.args.log.now (reading (g.D.Device.state c.args.device.now).disk);
+}
+
+-- a revoke block
+pub loop-position-preserved-in-RevokeBlock : goal.loop-position-preserved-in-RevokeBlock
+loop-position-preserved-in-RevokeBlock g c =
+    let before = c.loop-position.invariant in
+    let fits = rw c.in-RevokeBlock.is at c.in_ok-look.ensures.fits in record {
+      within = omega (arith, fits.1);
+      few = omega arith;
+      size = c.look.ensures.size ∙ before.size;
+      stays = stays-joins _ _ _ before.stays c.look.ensures.stays;
+      faults = c.in_ok-look.ensures.faults ∙ before.faults;
+      honest = λ h. before.honest (c.look.ensures.honest h);
+      read =
+          λ h. read-revokes c.args.log.now (reading (g.D.Device.state c.args.device.now).disk) c.loop-position.count c.loop-position.position c.look.new.self
+          (before.read (c.look.ensures.honest h)) c.in-RevokeBlock.field-0
+          (found-there c.args.log.now (g.D.Device.state c.args.device.now) (g.D.Device.state c.loop-position.device) _ _ c.loop-position.position c.look.new.self (RevokeBlock c.in-RevokeBlock.field-0)
+          (ap (λ (n : ℕ). n + c.loop-position.count) c.first_number.ensures.value) before.stays (rw c.in-RevokeBlock.is at (c.in_ok-look.ensures.found h)));
+    }
+
+-- a descriptor and its copies
+pub loop-position-preserved-in-Descriptor : goal.loop-position-preserved-in-Descriptor
+loop-position-preserved-in-Descriptor g c =
+    let before = c.loop-position.invariant in
+    let fits = rw c.in-Descriptor.is at c.in_ok-look.ensures.fits in record {
+      within = omega (arith, fits.1);
+      few = omega arith;
+      size = c.look.ensures.size ∙ before.size;
+      stays = stays-joins _ _ _ before.stays c.look.ensures.stays;
+      faults = c.in_ok-look.ensures.faults ∙ before.faults;
+      honest = λ h. before.honest (c.look.ensures.honest h);
+      read =
+          λ h. read-descriptor c.args.log.now (reading (g.D.Device.state c.args.device.now).disk) c.loop-position.count c.loop-position.position c.look.new.self
+          (before.read (c.look.ensures.honest h)) c.in-Descriptor.tags
+          (found-there c.args.log.now (g.D.Device.state c.args.device.now) (g.D.Device.state c.loop-position.device) _ _ c.loop-position.position c.look.new.self (Descriptor c.in-Descriptor.tags)
+          (ap (λ (n : ℕ). n + c.loop-position.count) c.first_number.ensures.value) before.stays (rw c.in-Descriptor.is at (c.in_ok-look.ensures.found h)));
+    }
+
+-- a commit block
+pub loop-position-preserved : goal.loop-position-preserved
+loop-position-preserved g c =
+    let before = c.loop-position.invariant in
+    let fits = rw c.in-CommitBlock.is at c.in_ok-look.ensures.fits in record {
+      within = fits;
+      few = omega arith;
+      size = c.look.ensures.size ∙ before.size;
+      stays = stays-joins _ _ _ before.stays c.look.ensures.stays;
+      faults = c.in_ok-look.ensures.faults ∙ before.faults;
+      honest = λ h. before.honest (c.look.ensures.honest h);
+      read =
+          λ h. read-commit c.args.log.now (reading (g.D.Device.state c.args.device.now).disk) c.loop-position.count c.loop-position.position c.look.new.self
+          (before.read (c.look.ensures.honest h))
+          (found-there c.args.log.now (g.D.Device.state c.args.device.now) (g.D.Device.state c.loop-position.device) _ _ c.loop-position.position c.look.new.self CommitBlock
+          (ap (λ (n : ℕ). n + c.loop-position.count) c.first_number.ensures.value) before.stays (rw c.in-CommitBlock.is at (c.in_ok-look.ensures.found h)));
+    }
+
+-- a malformed block
+pub returns-in-Malformed-clause-refused : goal.returns-in-Malformed-clause-refused
+returns-in-Malformed-clause-refused g c =
+    let before = c.loop-position.invariant in
+    inr (
+      λ e. cc,
+      λ e. cc,
+      c.in_ok-look.ensures.faults ∙ before.faults,
+      λ h. read-malformed c.args.log.now (reading (g.D.Device.state c.args.device.now).disk) c.loop-position.count c.loop-position.position c.look.new.self
+          (before.read (c.look.ensures.honest h)) _ c.place.result refl c.place.ensures.place
+          (found-there c.args.log.now (g.D.Device.state c.args.device.now) (g.D.Device.state c.loop-position.device) _ _ c.loop-position.position c.look.new.self Malformed
+          (ap (λ (n : ℕ). n + c.loop-position.count) c.first_number.ensures.value) before.stays (rw c.in-Malformed.is at (c.in_ok-look.ensures.found h))),
+    )
+
+-- nothing more
+pub returns-in-Nothing-clause-counted : goal.returns-in-Nothing-clause-counted
+returns-in-Nothing-clause-counted g c = λ h.
+    let before = c.loop-position.invariant in
+    read-all c.args.log.now (reading (g.D.Device.state c.args.device.now).disk) c.loop-position.count c.loop-position.position c.look.new.self
+    (before.read (c.look.ensures.honest h))
+    (found-there c.args.log.now (g.D.Device.state c.args.device.now) (g.D.Device.state c.loop-position.device) _ _ c.loop-position.position c.look.new.self Nothing
+    (ap (λ (n : ℕ). n + c.loop-position.count) c.first_number.ensures.value) before.stays (rw c.in-Nothing.is at (c.in_ok-look.ensures.found h)))

@@ -1,0 +1,113 @@
+use Rattle.std.proofs.Common.{◌≡◌, [], refl, ap, sym, ◌∙◌, inr, subst}
+use Rattle.std.specs.Io.KnownBytes.{Appends}
+use Rattle.std.proofs.lemmas.Result.{IfErr-weaker, err_from_is_err_and, on_ok_weaker}
+use Rattle.journal_model.specs.Disk.{Disk, reading}
+use Rattle.journal_model.specs.Dump.{dump_text}
+use Rattle.journal_model.specs.Superblock.{Super}
+use Rattle.log_dump.specs.Dumping.{AreTextsOf, HasDump, IsCounted, IsReadLog, shape_of}
+use Rattle.log_dump.proofs.Dumps.{chain-dump, clean-dump, count-refused, counted-dump, log-refused, on-err, print-refused, test-clean, test-started}
+use Rattle.log_dump.proofs.dumping.dump.Given.{Over}
+use Rattle.log_dump.proofs.dumping.dump.Goals as goal
+use Rattle.log_dump.proofs.dumping.dump.Goals.{After-drop-finder-inside-4, After-from_residual-in_err-write_clean}
+
+-- the superblock can't be read, or is refused
+pub returns-in_err-log-clause-refused : goal.returns-in_err-log-clause-refused
+returns-in_err-log-clause-refused g c =
+    let p = err_from_is_err_and c.from_residual.result c.from_residual.ensures.1 in
+    rw (p.1, p.2)
+    (log-refused (g.D.Device.honest c.read_log.new.device) (c.args.out.now ≡ c.args.out.now) (g.D.Device.state c.args.device.now) (g.D.Device.state c.read_log.new.device)
+    c.in_err-log.field-0.0 refl c.in_err-log.ensures.faults)
+
+-- a clean log has a dump
+has-clean : (g : Over) (c : After-from_residual-in_err-write_clean g) → g.D.Device.honest c.read_log.new.device →
+    HasDump (shape_of (g.D.Device.state c.args.device.now)) (reading (g.D.Device.state c.args.device.now).disk)
+has-clean g c h = (
+  dump_text c.in_ok-log.log [],
+  clean-dump (g.D.Device.state c.args.device.now).shape.block_size (g.D.Device.state c.args.device.now).shape.log_blocks (reading (g.D.Device.state c.args.device.now).disk)
+      c.in_ok-log.log (c.in_ok-log.ensures.read h) (test-clean c.in_ok-log.log.s_start c.if-is_clean.ensures),
+)
+
+-- it can't be written
+pub returns-in_err-write_clean-clause-refused : goal.returns-in_err-write_clean-clause-refused
+returns-in_err-write_clean-clause-refused g c =
+    let p = err_from_is_err_and c.from_residual-in_err-write_clean.result c.from_residual-in_err-write_clean.ensures.1 in
+    rw (p.1, p.2) (c.in_ok-log.ensures.faults, λ h. has-clean g c h)
+
+pub returns-in_err-write_clean-clause-tested : goal.returns-in_err-write_clean-clause-tested
+returns-in_err-write_clean-clause-tested g c = on-err c.from_residual-in_err-write_clean.result (inr (λ h. has-clean g c h))
+
+-- it is printed
+pub returns-then-is_clean-clause-printed : goal.returns-then-is_clean-clause-printed
+returns-then-is_clean-clause-printed g c = λ h.
+    let clean = test-clean c.in_ok-log.log.s_start c.if-is_clean.ensures in record {
+      text = dump_text c.in_ok-log.log [];
+      is_dump =
+          clean-dump (g.D.Device.state c.args.device.now).shape.block_size (g.D.Device.state c.args.device.now).shape.log_blocks (reading (g.D.Device.state c.args.device.now).disk)
+          c.in_ok-log.log (c.in_ok-log.ensures.read h) clean;
+      written =
+          subst (λ (s : Super). Appends (g.W.Write.contents c.args.out.now) (g.W.Write.contents c.write_clean.new.out) (dump_text s [])) c.fields.ensures
+          (c.in_ok-write_clean.ensures (ap (λ (s : Super). s.s_start) c.fields.ensures ∙ clean));
+    }
+
+-- a block is damaged, or the device failed
+pub returns-in_err-transactions-clause-refused : goal.returns-in_err-transactions-clause-refused
+returns-in_err-transactions-clause-refused g c =
+    let p = err_from_is_err_and c.from_residual-in_err-transactions.result c.from_residual-in_err-transactions.ensures.1 in
+    rw (p.1, p.2)
+    (count-refused (g.D.Device.honest c.count_transactions.new.device) (c.args.out.now ≡ c.args.out.now) c.in_ok-log.log
+    (g.D.Device.state c.args.device.now) (g.D.Device.state c.read_log.new.device) (g.D.Device.state c.count_transactions.new.device)
+    c.in_err-transactions.field-0.0 refl (test-started c.in_ok-log.log.s_start c.if-is_clean.ensures) c.in_ok-log.ensures.faults c.read_log.ensures.stays.disk
+    (λ h. c.in_ok-log.ensures.read (c.count_transactions.ensures.honest h)) c.in_err-transactions.ensures.refused)
+
+-- the texts that were counted
+counted : (g : Over) (c : After-drop-finder-inside-4 g) → g.D.Device.honest c.write_log.new.device →
+    IsCounted c.in_ok-log.log (reading (g.D.Device.state c.args.device.now).disk) c.in_ok-transactions.transactions
+counted g c h =
+    subst (λ (d : Disk). IsCounted c.in_ok-log.log (reading d) c.in_ok-transactions.transactions) c.read_log.ensures.stays.disk
+    (c.in_ok-transactions.ensures.counted (c.write_log.ensures.honest h))
+
+-- the superblock that was read
+read : (g : Over) (c : After-drop-finder-inside-4 g) → g.D.Device.honest c.write_log.new.device →
+    IsReadLog (shape_of (g.D.Device.state c.args.device.now)) (reading (g.D.Device.state c.args.device.now).disk) c.in_ok-log.log
+read g c h = c.in_ok-log.ensures.read (c.count_transactions.ensures.honest (c.write_log.ensures.honest h))
+
+-- the log has a dump
+has-chain : (g : Over) (c : After-drop-finder-inside-4 g) → g.D.Device.honest c.write_log.new.device →
+    HasDump (shape_of (g.D.Device.state c.args.device.now)) (reading (g.D.Device.state c.args.device.now).disk)
+has-chain g c h =
+    counted-dump (g.D.Device.state c.args.device.now).shape.block_size (g.D.Device.state c.args.device.now).shape.log_blocks (reading (g.D.Device.state c.args.device.now).disk)
+    c.in_ok-log.log c.in_ok-transactions.transactions (read g c h) (test-started c.in_ok-log.log.s_start c.if-is_clean.ensures) (counted g c h)
+
+-- the disk is as it was when the printing begins
+same : (g : Over) (c : After-drop-finder-inside-4 g) → (g.D.Device.state c.args.device.now).disk ≡ (g.D.Device.state c.count_transactions.new.device).disk
+same g c = sym (c.count_transactions.ensures.stays.disk ∙ c.read_log.ensures.stays.disk)
+
+-- all is printed
+pub returns-clause-printed : goal.returns-clause-printed
+returns-clause-printed g c =
+    let started = test-started c.in_ok-log.log.s_start c.if-is_clean.ensures in
+    on_ok_weaker c.write_log.result
+    (λ printed h.
+    let these = counted g c h in record {
+      text = dump_text c.in_ok-log.log these.texts;
+      is_dump =
+          chain-dump (g.D.Device.state c.args.device.now).shape.block_size (g.D.Device.state c.args.device.now).shape.log_blocks (reading (g.D.Device.state c.args.device.now).disk)
+          c.in_ok-log.log (read g c h) started these.texts these.are;
+      written = printed h these.texts started (subst (λ (d : Disk). AreTextsOf c.in_ok-log.log (reading d) these.texts) (same g c) these.are) these.number;
+    })
+    c.write_log.ensures.printed
+
+-- the device failed; what was counted can be printed
+pub returns-clause-refused : goal.returns-clause-refused
+returns-clause-refused g c =
+    IfErr-weaker c.write_log.result _ _
+    (λ e refused.
+    print-refused (g.D.Device.honest c.write_log.new.device) (c.write_log.new.out ≡ c.args.out.now) _
+    (g.D.Device.state c.args.device.now) (g.D.Device.state c.count_transactions.new.device) (g.D.Device.state c.write_log.new.device) e
+    (c.in_ok-transactions.ensures.faults ∙ c.in_ok-log.ensures.faults) (λ h. has-chain g c h)
+    (λ h never. let these = counted g c h in never these.texts (subst (λ (d : Disk). AreTextsOf c.in_ok-log.log (reading d) these.texts) (same g c) these.are) these.number)
+    refused)
+    c.write_log.ensures.refused
+
+pub returns-clause-tested : goal.returns-clause-tested
+returns-clause-tested g c = on-err c.write_log.result (inr (λ h. has-chain g c h))

@@ -1,0 +1,30 @@
+use Rattle.std.proofs.Common.{length, ap, ◌∙◌, inr}
+use Rattle.std.specs.Prelude.{None, Some}
+use Rattle.std.proofs.lemmas.Result.{err_from_is_err_and}
+use Rattle.journal_model.specs.Superblock.{super_in}
+use Rattle.log_dump.specs.Finding.{every_block}
+use Rattle.log_dump.proofs.Dumps.{refused-other, tested-for}
+use Rattle.log_dump.proofs.dumping.read_log.Goals as goal
+
+-- the superblock is refused
+pub returns-in_err-fields-clause-faults : goal.returns-in_err-fields-clause-faults
+returns-in_err-fields-clause-faults g c =
+    let p = err_from_is_err_and c.from_residual-in_err-fields.result c.from_residual-in_err-fields.ensures.1 in
+    rw (p.1, p.2)
+    (inr (
+      refused-other (record { block_size = length c.deref.result.now; log_blocks = c.blocks-log_blocks.result; home_blocks = every_block }) c.deref.result.now c.in_err-fields.field-0.0 (c.in_err-fields.ensures.tests every_block),
+      c.in_ok-superblock.ensures.faults,
+      λ h. tested-for (g.D.Device.state c.args.device.now).shape.block_size (g.D.Device.state c.args.device.now).shape.log_blocks (length c.deref.result.now) c.blocks-log_blocks.result
+          c.deref.result.now _ (Some c.in_err-fields.field-0.0) (ap length c.deref.ensures.value ∙ c.in_ok-superblock.ensures.size) c.blocks-log_blocks.ensures
+          (c.deref.ensures.value ∙ c.in_ok-superblock.ensures.read h) (c.in_err-fields.ensures.tests every_block),
+    ))
+
+-- it is accepted
+pub returns-clause-read : goal.returns-clause-read
+returns-clause-read g c = λ h. record {
+  accepted =
+      tested-for (g.D.Device.state c.args.device.now).shape.block_size (g.D.Device.state c.args.device.now).shape.log_blocks (length c.deref.result.now) c.blocks-log_blocks.result
+      c.deref.result.now _ None (ap length c.deref.ensures.value ∙ c.in_ok-superblock.ensures.size) c.blocks-log_blocks.ensures
+      (c.deref.ensures.value ∙ c.in_ok-superblock.ensures.read h) (c.in_ok-fields.ensures.tests every_block);
+  same = c.new.ensures ∙ c.in_ok-fields.ensures.fields ∙ ap super_in (c.deref.ensures.value ∙ c.in_ok-superblock.ensures.read h);
+}

@@ -1,0 +1,38 @@
+use Rattle.std.proofs.Common.{◌≡◌, ℕ, ◌-◌, List, ◌++◌, take, drop, length, ap, ◌∙◌, arith, subst}
+use Rattle.journal_model.specs.declared.number.Area.TheVariants.{Log}
+use Rattle.journal_model.specs.Layout.{narrow}
+use Rattle.journal_model.specs.Superblock.{Super}
+use Rattle.journal_model.specs.Disk.{reading}
+use Rattle.journal_model.specs.Opening.{layout_of}
+use Rattle.log_dump.specs.Finding.{FinderValue, Says, every_block}
+use Rattle.log_dump.proofs.Found.{found-none}
+use Rattle.log_dump.proofs.Laps.{from-end}
+use Rattle.log_dump.proofs.Looking.{found-at, whole-buffer}
+use Rattle.log_dump.proofs.finding.Finder.look.Goals as goal
+
+-- the ring ends
+pub returns-then-position-blocks-clause-found : goal.returns-then-position-blocks-clause-found
+returns-then-position-blocks-clause-found g c = λ honest.
+    found-none (layout_of c.args.log.now) every_block c.args.sequence _ c.args.self.now
+    (from-end c.args.log.now (reading (g.D.Device.state c.args.device.now).disk) c.args.position (omega arith))
+
+-- the block at the position was read, where the device is honest
+pub returns-clause-found : goal.returns-clause-found
+returns-clause-found g c = λ honest.
+    let s : Super = c.args.log.now in
+    let block : List ℕ = c.read.new.into in
+    let into : take c.self.inside.block.len (c.read.new.into ++ drop (length c.read.new.into) c.self.inside.block.items) ≡ block =
+    whole-buffer c.self.inside.block.len block _ (let new = c.read.auto.into in let old = c.deref_mut.ensures.len in omega arith) in
+    let says : Says (narrow (length block)) every_block c.args.sequence (c.blocks-3.result - c.args.position - 1) block c.parse.new.self c.parse.result =
+    subst (λ (b : List ℕ). Says (narrow (length b)) every_block c.args.sequence (c.blocks-3.result - c.args.position - 1) b c.parse.new.self c.parse.result) into c.parse.ensures.says in
+    let size : length block ≡ s.s_blocksize =
+    let new = c.read.auto.into in
+    let old = c.deref_mut.ensures.len in
+    let own = ap length c.deref_mut.ensures.value in
+    let seen = ap (λ (f : FinderValue). length f.block) c.self.view_is in
+    let asked = c.requires.size in
+    let said = c.requires.accepted.size in
+    omega arith in
+    found-at s (reading (g.D.Device.state c.args.device.now).disk) c.args.sequence c.args.position (c.blocks-3.result - c.args.position - 1) block c.parse.new.self c.parse.result
+    (omega arith) (omega arith) size
+    (c.in_ok-read.ensures.bytes honest ∙ ap (λ (place : ℕ). ((g.D.Device.state c.args.device.now).disk Log place).reads) c.place.ensures.place) says

@@ -1,0 +1,13 @@
+use Rattle.std.proofs.Common.{append_assoc, subst}
+use Rattle.std.specs.Prelude.{OnOk}
+use Rattle.std.specs.Io.KnownBytes.{Appends}
+use Rattle.journal_model.specs.Dump.{super_line}
+use Rattle.journal_model.specs.Superblock.{Super}
+use Rattle.log_dump.specs.Lines.{ended}
+use Rattle.log_dump.proofs.lines.write_super.Goals as goal
+
+-- the parts of the line in a row
+pub returns : goal.returns
+returns g c =
+    subst (λ (s : Super). OnOk c.writeln.result (Appends (g.W.Write.contents c.args.out.now) (g.W.Write.contents c.writeln.new.self) (ended (super_line s))))
+    c.fields.view_is (simp append_assoc c.writeln.ensures.bytes)

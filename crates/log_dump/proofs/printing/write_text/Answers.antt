@@ -1,0 +1,105 @@
+use Rattle.std.proofs.Common.{ℕ, ◌+◌, ◌++◌, List, [], map, refl, ◌∙◌, arith, inl, inr, subst}
+use Rattle.std.specs.Prelude.{codes}
+use Rattle.std.specs.Fmt.{decimal}
+use Rattle.std.specs.Io.KnownBytes.{Appends}
+use Rattle.std.specs.List.{join_with_byte}
+use Rattle.journal_model.specs.declared.log.Tag.{Tag}
+use Rattle.journal_model.specs.declared.log.Piece.TheVariants.{Revokes}
+use Rattle.journal_model.specs.Disk.{reading}
+use Rattle.journal_model.specs.Dump.{comma, piece_captions}
+use Rattle.log_dump.specs.declared.finding.Found.TheVariants.{CommitBlock, Descriptor, Malformed, Nothing, RevokeBlock}
+use Rattle.log_dump.specs.Lines.{placed_lines, tags_captions}
+use Rattle.log_dump.proofs.CountingSteps.{found-there, stays-joins}
+use Rattle.log_dump.proofs.PrintingSteps.{line-placed, printed-none, printed-piece, printed-text, unprinted-malformed, unprinted-nothing}
+use Rattle.log_dump.proofs.printing.write_text.Goals as goal
+
+-- nothing is printed yet
+pub loop-numbers-init : goal.loop-numbers-init
+loop-numbers-init g c = record {
+  low = omega arith;
+  within = c.requires.within;
+  size = refl;
+  stays = record { shape = refl; disk = refl; past = refl };
+  faults = refl;
+  honest = λ h. h;
+  printed = λ h. printed-none c.args.log.now (reading (g.D.Device.state c.args.device.now).disk) c.args.sequence (g.W.Write.contents c.args.out.now) c.args.start;
+}
+
+-- a revoke block
+pub loop-numbers-preserved-in-RevokeBlock : goal.loop-numbers-preserved-in-RevokeBlock
+loop-numbers-preserved-in-RevokeBlock g c =
+    let before = c.loop-numbers.invariant in
+    let fits = rw c.in-RevokeBlock.is at c.in_ok-numbers.ensures.fits in
+    let line =
+    subst (λ (ns : List ℕ). Appends (g.W.Write.contents c.loop-numbers.out) (g.W.Write.contents c.write_revokes.new.out) (placed_lines c.args.log.now c.loop-numbers.position (piece_captions c.args.sequence (Revokes [] ns))))
+    c.numbers.ensures
+    (line-placed c.args.log.now c.loop-numbers.position c.place-place.result
+    (codes "revoke " ++ decimal c.args.sequence ++ codes " blocks=" ++ join_with_byte comma (map decimal c.numbers.result.now))
+    (g.W.Write.contents c.loop-numbers.out) (g.W.Write.contents c.write_revokes.new.out) c.place-place.ensures.place c.in_ok-write_revokes-in-RevokeBlock.ensures) in record {
+      low = let low = before.low in omega arith;
+      within = fits.1;
+      size = c.look.ensures.size ∙ before.size;
+      stays = stays-joins _ _ _ before.stays c.look.ensures.stays;
+      faults = c.in_ok-numbers.ensures.faults ∙ before.faults;
+      honest = λ h. before.honest (c.look.ensures.honest h);
+      printed =
+          λ h. let is = found-there c.args.log.now (g.D.Device.state c.args.device.now) (g.D.Device.state c.loop-numbers.device) c.args.sequence c.args.sequence c.loop-numbers.position c.look.new.self
+          (RevokeBlock c.in-RevokeBlock.numbers) refl before.stays (rw c.in-RevokeBlock.is at (c.in_ok-numbers.ensures.found h)) in
+          printed-piece c.args.log.now (reading (g.D.Device.state c.args.device.now).disk) c.args.sequence (g.W.Write.contents c.args.out.now) (g.W.Write.contents c.loop-numbers.out)
+          c.args.start c.loop-numbers.position (before.printed (c.look.ensures.honest h)) (g.W.Write.contents c.write_revokes.new.out) _ 1 (c.loop-numbers.position + 1) refl is.begins line;
+    }
+
+-- a descriptor and its copies
+pub loop-numbers-preserved : goal.loop-numbers-preserved
+loop-numbers-preserved g c =
+    let before = c.loop-numbers.invariant in
+    let fits = rw c.in-Descriptor.is at c.in_ok-numbers.ensures.fits in
+    let line =
+    subst (λ (ts : List Tag). Appends (g.W.Write.contents c.loop-numbers.out) (g.W.Write.contents c.write_copies.new.out) (placed_lines c.args.log.now c.loop-numbers.position (tags_captions c.args.sequence ts)))
+    c.tags.ensures c.in_ok-write_copies-in-Descriptor.ensures in record {
+      low = let low = before.low in omega arith;
+      within = let low = fits.1 in omega arith;
+      size = c.look.ensures.size ∙ before.size;
+      stays = stays-joins _ _ _ before.stays c.look.ensures.stays;
+      faults = c.in_ok-numbers.ensures.faults ∙ before.faults;
+      honest = λ h. before.honest (c.look.ensures.honest h);
+      printed =
+          λ h. let is = found-there c.args.log.now (g.D.Device.state c.args.device.now) (g.D.Device.state c.loop-numbers.device) c.args.sequence c.args.sequence c.loop-numbers.position c.look.new.self
+          (Descriptor c.in-Descriptor.tags) refl before.stays (rw c.in-Descriptor.is at (c.in_ok-numbers.ensures.found h)) in
+          printed-piece c.args.log.now (reading (g.D.Device.state c.args.device.now).disk) c.args.sequence (g.W.Write.contents c.args.out.now) (g.W.Write.contents c.loop-numbers.out)
+          c.args.start c.loop-numbers.position (before.printed (c.look.ensures.honest h)) (g.W.Write.contents c.write_copies.new.out) _ (1 + c.in-Descriptor.tags)
+          (c.loop-numbers.position + (1 + c.in-Descriptor.tags)) refl is.begins line;
+    }
+
+-- the commit block
+pub returns-in-CommitBlock-clause-printed : goal.returns-in-CommitBlock-clause-printed
+returns-in-CommitBlock-clause-printed g c = λ h.
+    let before = c.loop-numbers.invariant in
+    printed-text c.args.log.now (reading (g.D.Device.state c.args.device.now).disk) c.args.sequence (g.W.Write.contents c.args.out.now) (g.W.Write.contents c.loop-numbers.out)
+    c.args.start c.loop-numbers.position (before.printed (c.look.ensures.honest h)) (g.W.Write.contents c.write_commit.new.out)
+    (found-there c.args.log.now (g.D.Device.state c.args.device.now) (g.D.Device.state c.loop-numbers.device) c.args.sequence c.args.sequence c.loop-numbers.position c.look.new.self
+    CommitBlock refl before.stays (rw c.in-CommitBlock.is at (c.in_ok-numbers.ensures.found h)))
+    (line-placed c.args.log.now c.loop-numbers.position c.place-place.result (codes "commit " ++ decimal c.args.sequence)
+    (g.W.Write.contents c.loop-numbers.out) (g.W.Write.contents c.write_commit.new.out) c.place-place.ensures.place c.in_ok-write_commit-in-CommitBlock.ensures)
+
+-- a malformed block, or nothing of the transaction
+pub returns-in-Malformed-clause-refused : goal.returns-in-Malformed-clause-refused
+returns-in-Malformed-clause-refused g c =
+    let before = c.loop-numbers.invariant in
+    inr (
+      λ e. cc,
+      λ e. cc,
+      c.in_ok-numbers.ensures.faults ∙ before.faults,
+      λ h. elim c.in-Malformed.is [
+        | inl bad ↦
+            unprinted-malformed c.args.log.now (reading (g.D.Device.state c.args.device.now).disk) c.args.sequence (g.W.Write.contents c.args.out.now) (g.W.Write.contents c.loop-numbers.out)
+            c.args.start c.loop-numbers.position (before.printed (c.look.ensures.honest h))
+            (found-there c.args.log.now (g.D.Device.state c.args.device.now) (g.D.Device.state c.loop-numbers.device) c.args.sequence c.args.sequence c.loop-numbers.position c.look.new.self
+            Malformed refl before.stays (rw bad at (c.in_ok-numbers.ensures.found h)))
+        | inr nothing ↦
+            unprinted-nothing c.args.log.now (reading (g.D.Device.state c.args.device.now).disk) c.args.sequence (g.W.Write.contents c.args.out.now) (g.W.Write.contents c.loop-numbers.out)
+            c.args.start c.loop-numbers.position (before.printed (c.look.ensures.honest h))
+            (found-there c.args.log.now (g.D.Device.state c.args.device.now) (g.D.Device.state c.loop-numbers.device) c.args.sequence c.args.sequence c.loop-numbers.position c.look.new.self
+            Nothing refl before.stays (rw nothing at (c.in_ok-numbers.ensures.found h)))
+      ],
+    )

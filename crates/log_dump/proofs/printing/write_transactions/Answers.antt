@@ -1,0 +1,59 @@
+use Rattle.std.proofs.Common.{ℕ, ◌+◌, refl, ap, ◌∙◌, arith, subst}
+use Rattle.std.proofs.lemmas.Result.{err_from_is_err_and}
+use Rattle.journal_model.specs.Disk.{Disk, reading}
+use Rattle.journal_model.specs.Opening.{layout_of}
+use Rattle.journal_model.specs.ReadingLog.{NoTextBegins}
+use Rattle.log_dump.specs.Dumping.{IsPrinted}
+use Rattle.log_dump.specs.Finding.{blocks_from, every_block}
+use Rattle.log_dump.proofs.CountingSteps.{stays-joins}
+use Rattle.log_dump.proofs.PrintingSteps.{refused-through, texts-all, texts-no-more, texts-printed, texts-unprinted}
+use Rattle.log_dump.proofs.printing.write_transactions.Goals as goal
+
+-- nothing is printed yet
+pub loop-k-init : goal.loop-k-init
+loop-k-init g c = record {
+  within = omega arith;
+  size = refl;
+  stays = record { shape = refl; disk = refl; past = refl };
+  faults = refl;
+  honest = λ h. h;
+  printed = λ h. texts-unprinted c.args.log.now (reading (g.D.Device.state c.args.device.now).disk) (g.W.Write.contents c.args.out.now);
+}
+
+-- one more text
+pub loop-k-preserved : goal.loop-k-preserved
+loop-k-preserved g c =
+    let before = c.loop-k.invariant in record {
+      within = c.in_ok-position.ensures.within.1;
+      size = c.write_text.ensures.size ∙ before.size;
+      stays = stays-joins _ _ _ before.stays c.write_text.ensures.stays;
+      faults = c.in_ok-position.ensures.faults ∙ before.faults;
+      honest = λ h. before.honest (c.write_text.ensures.honest h);
+      printed =
+          λ h. texts-printed c.args.log.now (reading (g.D.Device.state c.args.device.now).disk) (g.W.Write.contents c.args.out.now) (g.W.Write.contents c.loop-k.out)
+          c.loop-k.k c.loop-k.position (before.printed (c.write_text.ensures.honest h)) (c.first_number.result + c.loop-k.k) c.in_ok-position.position (g.W.Write.contents c.write_text.new.out)
+          (ap (λ (n : ℕ). n + c.loop-k.k) c.first_number.ensures.value)
+          (subst (λ (d : Disk). IsPrinted c.args.log.now (reading d) (c.first_number.result + c.loop-k.k) (g.W.Write.contents c.loop-k.out) (g.W.Write.contents c.write_text.new.out) c.loop-k.position c.in_ok-position.position)
+          before.stays.disk (c.in_ok-position.ensures.printed h));
+    }
+
+-- all are printed
+pub returns-clause-printed : goal.returns-clause-printed
+returns-clause-printed g c = λ h texts are all.
+    texts-all c.args.log.now (reading (g.D.Device.state c.args.device.now).disk) (g.W.Write.contents c.args.out.now) (g.W.Write.contents c.loop-k.out)
+    c.loop-k.k c.loop-k.position (c.loop-k.invariant.printed h) texts (omega arith) are
+
+-- a text is not there, or the device or the output failed
+pub returns-in_err-position-clause-refused : goal.returns-in_err-position-clause-refused
+returns-in_err-position-clause-refused g c =
+    let before = c.loop-k.invariant in
+    let p = err_from_is_err_and c.from_residual.result c.from_residual.ensures.1 in
+    rw (p.1, p.2)
+    (refused-through (g.D.Device.honest c.write_text.new.device) _ _ (g.D.Device.state c.args.device.now) (g.D.Device.state c.loop-k.device) (g.D.Device.state c.write_text.new.device)
+    c.in_err-position.field-0.0
+    (λ h none texts are all.
+    texts-no-more c.args.log.now (reading (g.D.Device.state c.args.device.now).disk) (g.W.Write.contents c.args.out.now) (g.W.Write.contents c.loop-k.out)
+    c.loop-k.k c.loop-k.position (before.printed (c.write_text.ensures.honest h)) (c.first_number.result + c.loop-k.k) texts
+    (ap (λ (n : ℕ). n + c.loop-k.k) c.first_number.ensures.value) (omega arith)
+    (subst (λ (d : Disk). NoTextBegins (layout_of c.args.log.now) every_block (c.first_number.result + c.loop-k.k) (blocks_from c.args.log.now (reading d) c.loop-k.position)) before.stays.disk none) are)
+    before.faults c.in_err-position.ensures.refused)

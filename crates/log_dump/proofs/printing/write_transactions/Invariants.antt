@@ -1,0 +1,17 @@
+use Rattle.std.proofs.Common.{◌≡◌, ◌≤◌, length}
+use Rattle.journal_model.specs.Disk.{reading}
+use Rattle.journal_model.specs.Opening.{ring_of}
+use Rattle.block_device.specs.State.{Stays}
+use Rattle.log_dump.proofs.PrintingSteps.{PrintedTexts}
+use Rattle.log_dump.proofs.printing.write_transactions.Given as goal
+
+-- the texts before the position are printed
+abbrev pub invariant-loop-k : goal.invariant-loop-k
+invariant-loop-k g l = record {
+  within : l.position ≤ (ring_of l.log).blocks;
+  size : length l.finder.block ≡ length l.fn.finder.block;
+  stays : Stays (g.D.Device.state l.fn.device) (g.D.Device.state l.device);
+  faults : (g.D.Device.state l.device).faults ≡ (g.D.Device.state l.fn.device).faults;
+  honest : g.D.Device.honest l.device → g.D.Device.honest l.fn.device;
+  printed : g.D.Device.honest l.device → PrintedTexts l.log (reading (g.D.Device.state l.fn.device).disk) (g.W.Write.contents l.fn.out) (g.W.Write.contents l.out) l.k l.position;
+}

@@ -1,0 +1,103 @@
+-- What a dump makes of a device, and why there is none.
+use Rattle.std.specs.Prelude.{◌≡◌, ◌≢◌, ◌⊎◌, ℕ, ◌+◌, List, length, Option, Some, None}
+use Rattle.std.specs.Io.KnownBytes.{Appends}
+use Rattle.journal_model.specs.declared.log.Text.{Text}
+use Rattle.journal_model.specs.declared.number.Area.TheVariants.{Log}
+use Rattle.journal_model.specs.declared.refusal.JournalError.{JournalError}
+use Rattle.journal_model.specs.declared.refusal.JournalError.TheVariants.{Damage, Device, Memory}
+use Rattle.journal_model.specs.Chain.{IsChain, IsDamaged, lap, place_from}
+use Rattle.journal_model.specs.Disk.{Image, reading}
+use Rattle.journal_model.specs.Dump.{IsDump, IsDumpRefused, dump_shape, text_captions}
+use Rattle.journal_model.specs.Opening.{layout_of, ring_of, super_of}
+use Rattle.journal_model.specs.ReadingLog.{TextBegins}
+use Rattle.journal_model.specs.Superblock.{Shape, Super, super_refusal}
+use Rattle.block_device.specs.State.{DeviceState, one_more_fault}
+use Rattle.log_dump.specs.Finding.{blocks_from, every_block}
+use Rattle.log_dump.specs.Lines.{placed_lines}
+use Rattle.log_dump.specs.declared.fault.Fault.{Fault}
+use Rattle.log_dump.specs.declared.fault.Fault.TheVariants.{Refused, Output}
+
+-- the device failed, and counted that
+abbrev pub IsDeviceFailure : DeviceState → DeviceState → JournalError → Type 0
+IsDeviceFailure old new e = (e ≡ Device) × (new.faults ≡ one_more_fault old.faults)
+
+-- these are the texts of a log that is not clean, and no block behind them is malformed
+pub record AreTextsOf (s : Super) (image : Image) (texts : List Text) : Type 0 where
+  pub chain : IsChain (layout_of s) every_block s.s_sequence (lap (ring_of s) image s.s_start) texts
+  pub undamaged : (k : ℕ) → IsDamaged (layout_of s) every_block s.s_sequence (lap (ring_of s) image s.s_start) k → ⊥
+
+-- so many texts has the log
+pub record IsCounted (s : Super) (image : Image) (count : ℕ) : Type 0 where
+  pub texts : List Text
+  pub are : AreTextsOf s image texts
+  pub number : count ≡ length texts
+
+-- a block of the log is damaged, and this is the refusal
+pub record IsDamageOf (s : Super) (image : Image) (e : JournalError) : Type 0 where
+  pub k : ℕ
+  pub damaged : IsDamaged (layout_of s) every_block s.s_sequence (lap (ring_of s) image s.s_start) k
+  pub refusal : e ≡ Damage (place_from (ring_of s) s.s_start k)
+
+-- why the texts are not counted: the device failed, or a block is damaged
+abbrev pub IsCountRefused : (honest : Type 0) → Super → DeviceState → DeviceState → JournalError → Type 0
+IsCountRefused honest s old new e =
+    IsDeviceFailure old new e
+    ⊎ ((e ≢ Device) × (e ≢ Memory) × (new.faults ≡ old.faults) × (honest → IsDamageOf s (reading old.disk) e))
+
+-- the lines of the text that begins at a position of the lap were printed, up to the position behind it
+pub record IsPrinted (s : Super) (image : Image) (sequence : ℕ) (old new : Option (List ℕ)) (start end : ℕ) : Type 0 where
+  pub text : Text
+  pub taken : ℕ
+  pub begins : TextBegins (layout_of s) every_block sequence (blocks_from s image start) text taken
+  pub behind : end ≡ start + taken
+  pub written : Appends old new (placed_lines s start (text_captions sequence text))
+
+-- why texts are not printed: the output can't be written, the device failed, or, where each read gave what the disk
+-- reads, what can't be
+abbrev pub IsPrintRefused : (honest impossible : Type 0) → DeviceState → DeviceState → Fault → Type 0
+IsPrintRefused honest impossible old new (Refused e) =
+    IsDeviceFailure old new e
+    ⊎ ((e ≢ Device) × (e ≢ Memory) × (new.faults ≡ old.faults) × (honest → impossible))
+IsPrintRefused honest impossible old new (Output e) = new.faults ≡ old.faults
+
+-- the shape that a dump tests the log of a device with: its home area is not known
+abbrev pub shape_of : DeviceState → Shape
+shape_of d = dump_shape d.shape.block_size d.shape.log_blocks
+
+-- the image has a dump
+abbrev pub HasDump : Shape → Image → Type 0
+HasDump shape image = (text : List ℕ) × IsDump shape image text
+
+-- what a writer holds has grown by the dump of the image
+pub record PrintsDump (shape : Shape) (image : Image) (old new : Option (List ℕ)) : Type 0 where
+  pub text : List ℕ
+  pub is_dump : IsDump shape image text
+  pub written : Appends old new text
+
+-- Why a log is refused: the device failed; memory ran out, and nothing was written; or else nothing was written, and what
+-- was read is refused for what stands in it.
+pub record DumpRefused (honest unwritten : Type 0) (old new : DeviceState) (e : JournalError) : Type 0 where
+  pub device : e ≡ Device → new.faults ≡ one_more_fault old.faults
+  pub no_fault : e ≢ Device → new.faults ≡ old.faults
+  pub memory : e ≡ Memory → unwritten
+  pub content : e ≢ Device → e ≢ Memory → honest → IsDumpRefused (shape_of old) (reading old.disk) e × unwritten
+
+-- why there is no dump, or only a part of one: the log is refused; or the output can't be written, and the log has a dump
+abbrev pub IsDumpFault : (honest unwritten : Type 0) → DeviceState → DeviceState → Fault → Type 0
+IsDumpFault honest unwritten old new (Refused e) = DumpRefused honest unwritten old new e
+IsDumpFault honest unwritten old new (Output e) = (new.faults ≡ old.faults) × (honest → HasDump (shape_of old) (reading old.disk))
+
+-- the device failed, or memory ran out and the device did not fail
+abbrev pub IsFailure : DeviceState → DeviceState → JournalError → Type 0
+IsFailure old new e = IsDeviceFailure old new e ⊎ ((e ≡ Memory) × (new.faults ≡ old.faults))
+
+-- the superblock can't be read, or is refused
+abbrev pub IsLogRefused : (honest : Type 0) → DeviceState → DeviceState → JournalError → Type 0
+IsLogRefused honest old new e =
+    IsFailure old new e
+    ⊎ ((e ≢ Device) × (new.faults ≡ old.faults) × (honest → super_refusal (shape_of old) (old.disk Log 0).reads ≡ Some e))
+
+-- the superblock is accepted, and these are its fields
+pub record IsReadLog (shape : Shape) (image : Image) (s : Super) : Type 0 where
+  pub accepted : super_refusal shape (image Log 0) ≡ None
+  pub same : s ≡ super_of image

@@ -1,0 +1,132 @@
+//! Printing the log of a device.
+ghost use Rattle.std.specs.Prelude.{◌≡◌, ◌≢◌, ◌⊎◌, ℕ, ◌<◌, ◌≤◌, List, [], length, IfOk, IfErr, OnOk, OnErr, MatchResult};
+ghost use Rattle.std.specs.Io.KnownBytes.{Appends};
+ghost use Rattle.journal_model.specs.declared.log.Text.{Text};
+ghost use Rattle.journal_model.specs.declared.number.Area.TheVariants.{Log as LogArea};
+ghost use Rattle.journal_model.specs.declared.refusal.JournalError.TheVariants.{Memory};
+ghost use Rattle.journal_model.specs.Disk.{reading};
+ghost use Rattle.journal_model.specs.Dump.{dump_text};
+ghost use Rattle.journal_model.specs.Opening.{ring_of};
+ghost use Rattle.block_device.specs.State.{Stays};
+ghost use Rattle.log_format.specs.Accepted.{IsAccepted};
+ghost use Rattle.log_format.specs.Size.{IsBlockSize};
+ghost use Rattle.log_dump.specs.Dumping.{AreTextsOf, HasDump, IsDumpFault, IsFailure, IsLogRefused, IsPrintRefused, IsReadLog, PrintsDump, shape_of};
+
+use crate::counting::count_transactions;
+use crate::fault::Fault;
+use crate::finding::Finder;
+use crate::lines::{write_empty, write_end, write_super};
+use crate::log::Log;
+use crate::printing::write_transactions;
+use block_device::Device;
+use journal_model::{Area, JournalError};
+use log_format::Super;
+use std::alloc::Global;
+use std::io;
+use std::io::Write;
+
+/// Prints the dump of the log that the device's log area holds: the fields of its superblock, one line for each block of
+/// its complete transactions, and the number behind the last of them. A transaction without a commit block is not printed.
+/// `docs/FORMATS.md` has the lines.
+///
+/// The home area is not known, so block numbers are not tested, and neither is what is left in the ring from earlier laps,
+/// nor whether a number is left for a further transaction. All other tests of an opening are made, and nothing is written
+/// before all have passed. Memory is taken for one block of the log, and for the tags and numbers that one block can hold.
+/// No block is read more than twice, and the device is not written.
+/// Source: fs/jbd2/recovery.c by behaviour; the refusals and the lines are this project's own.
+///
+/// # Errors
+///
+/// `BadMagic` to `ErrnoSet` and `BadLength`: the superblock is refused, or there is none. `Damage`: a descriptor or revoke
+/// block behind the complete transactions, of the number that is due there, is malformed, and stands at this place of the
+/// log area. `Memory`. At these nothing was written. `Device`: a read failed, and the first lines may have been written.
+/// `Fault::Output`: the log is not refused and the output can't be written; a part of the dump may have been. The device is
+/// as it was in each case.
+pub fn dump<D: Device, W: Write>(alloc: Global, device: &mut D, out: &mut W) -> Result<(), Fault>
+    ensures printed { OnOk result (D.honest device.new → PrintsDump (shape_of (D.state device.old)) (reading (D.state device.old).disk) (W.contents out.old) (W.contents out.new)) }
+    ensures refused { IfErr result (IsDumpFault (D.honest device.new) (out.new ≡ out.old) (D.state device.old) (D.state device.new)) }
+    ensures tested { OnErr result ((out.new ≡ out.old) ⊎ (D.honest device.new → HasDump (shape_of (D.state device.old)) (reading (D.state device.old).disk))) }
+    ensures no_fault { OnOk result ((D.state device.new).faults ≡ (D.state device.old).faults) }
+    ensures stays { Stays (D.state device.old) (D.state device.new) }
+    ensures honest { D.honest device.new → D.honest device.old }
+{
+    let log = read_log(alloc, device)?;
+    if log.is_clean() {
+        write_clean(out, log.fields())?;
+        return Ok(());
+    }
+    let mut finder = make_finder(alloc, device)?;
+    let transactions = count_transactions(device, &log, &mut finder)?;
+    write_log(device, &log, &mut finder, transactions, out)
+}
+
+/// A finder for the blocks of this device.
+fn make_finder<D: Device>(alloc: Global, device: &D) -> Result<Finder, JournalError>
+    requires { IsBlockSize (D.state device.now).shape.block_size }
+    ensures size { IfOk result (λ finder. length finder.block ≡ (D.state device.now).shape.block_size) }
+    ensures memory { IfErr result (λ e. e ≡ Memory) }
+{
+    Ok(Finder::new(alloc, device.block_size())?)
+}
+
+/// Reads and tests the superblock.
+fn read_log<D: Device>(alloc: Global, device: &mut D) -> Result<Log, JournalError>
+    ensures accepted { IfOk result (λ log. IsAccepted (D.state device.old).shape.block_size (D.state device.old).shape.log_blocks log) }
+    ensures read { IfOk result (λ log. D.honest device.new → IsReadLog (shape_of (D.state device.old)) (reading (D.state device.old).disk) log) }
+    ensures faults { MatchResult result (λ _. (D.state device.new).faults ≡ (D.state device.old).faults) (IsLogRefused (D.honest device.new) (D.state device.old) (D.state device.new)) }
+    ensures stays { Stays (D.state device.old) (D.state device.new) }
+    ensures honest { D.honest device.new → D.honest device.old }
+{
+    let log_blocks = device.blocks(Area::Log);
+    if log_blocks == 0 {
+        return Err(JournalError::BadLength);
+    }
+    let superblock = read_superblock(alloc, device)?;
+    let fields = Super::read(&superblock, log_blocks)?;
+    Ok(Log::new(fields))
+}
+
+/// Reads block 0 of the log.
+fn read_superblock<D: Device>(alloc: Global, device: &mut D) -> Result<Vec<u8>, JournalError>
+    requires { 0 < (D.state device.old).shape.log_blocks }
+    ensures size { IfOk result (λ block. length block.items ≡ (D.state device.old).shape.block_size) }
+    ensures read { IfOk result (λ block. D.honest device.new → block.items ≡ reading (D.state device.old).disk LogArea 0) }
+    ensures faults { MatchResult result (λ _. (D.state device.new).faults ≡ (D.state device.old).faults) (IsFailure (D.state device.old) (D.state device.new)) }
+    ensures stays { Stays (D.state device.old) (D.state device.new) }
+    ensures honest { D.honest device.new → D.honest device.old }
+{
+    let mut superblock = vec![in alloc; 0; device.block_size()]?;
+    device.read(Area::Log, 0, &mut superblock)?;
+    Ok(superblock)
+}
+
+/// Prints the dump of a clean log.
+fn write_clean<W: Write>(out: &mut W, fields: &Super) -> io::Result<()>
+    ensures { OnOk result (fields.now.s_start ≡ 0 → Appends (W.contents out.old) (W.contents out.new) (dump_text fields.now [])) }
+{
+    write_super(out, fields)?;
+    write_empty(out, fields.s_sequence)
+}
+
+/// Prints the dump of a log that is not clean, of whose complete transactions so many were counted.
+fn write_log<D: Device, W: Write>(
+    device: &mut D,
+    log: &Log,
+    finder: &mut Finder,
+    transactions: u64,
+    out: &mut W,
+) -> Result<(), Fault>
+    requires size { length finder.old.block ≡ (D.state device.old).shape.block_size }
+    requires accepted { IsAccepted (D.state device.old).shape.block_size (D.state device.old).shape.log_blocks log.now }
+    requires few { transactions ≤ (ring_of log.now).blocks }
+    ensures printed { OnOk result (D.honest device.new → (texts : List Text) → log.now.s_start ≢ 0 → AreTextsOf log.now (reading (D.state device.old).disk) texts → transactions ≡ length texts → Appends (W.contents out.old) (W.contents out.new) (dump_text log.now texts)) }
+    ensures refused { IfErr result (IsPrintRefused (D.honest device.new) ((texts : List Text) → AreTextsOf log.now (reading (D.state device.old).disk) texts → transactions ≡ length texts → ⊥) (D.state device.old) (D.state device.new)) }
+    ensures faults { OnOk result ((D.state device.new).faults ≡ (D.state device.old).faults) }
+    ensures stays { Stays (D.state device.old) (D.state device.new) }
+    ensures honest { D.honest device.new → D.honest device.old }
+{
+    write_super(out, log.fields())?;
+    write_transactions(device, log, finder, transactions, out)?;
+    write_end(out, log.first_number() + transactions, transactions)?;
+    Ok(())
+}

@@ -1,0 +1,181 @@
+//! What stands at one place of a log.
+ghost use Rattle.std.specs.Prelude.{◌≡◌, ℕ, ◌+◌, ◌-◌, ◌<◌, ◌≤◌, length, take, IfOk, MatchResult, OnOk};
+ghost use Rattle.journal_model.specs.Disk.{reading};
+ghost use Rattle.journal_model.specs.Layout.{narrow, HasHeader, descriptor_type, revoke_type, sequence_in};
+ghost use Rattle.journal_model.specs.Opening.{layout_of, ring_of};
+ghost use Rattle.block_device.specs.State.{Stays};
+ghost use Rattle.log_format.specs.Accepted.{IsAccepted};
+ghost use Rattle.log_format.specs.Size.{IsBlockSize};
+ghost use Rattle.log_dump.specs.Finding.{Fits, IsFound, Says, blocks_from, every_block};
+ghost use Rattle.log_dump.specs.Dumping.{IsDeviceFailure};
+
+use crate::log::Log;
+use block_device::Device;
+use journal_model::{Area, BlockNo, JournalError, Tag};
+use log_format::{Descriptor, Header, RevokeBlock};
+use std::alloc::{AllocError, Global};
+use std::marker::Model;
+
+/// The home area is not known: each number of four bytes may be that of a home block.
+const EVERY_BLOCK: u64 = 0x1_0000_0000;
+
+/// The types of a descriptor, a commit block and a revoke block.
+const DESCRIPTOR_TYPE: u32 = 1;
+
+const COMMIT_TYPE: u32 = 2;
+
+const REVOKE_TYPE: u32 = 5;
+
+/// Bytes before the first tag of a descriptor, and the fewest bytes of a tag.
+const HEADER_BYTES: usize = 12;
+
+const TAG_BYTES: usize = 8;
+
+/// Bytes before the first number of a revoke block, and of a number.
+const REVOKE_HEADER_BYTES: usize = 16;
+
+const NUMBER_BYTES: usize = 4;
+
+/// A tag of no block, which is written over.
+const NO_TAG: Tag = Tag {
+    block: BlockNo(0),
+    escaped: false,
+    same_uuid: false,
+    last: false,
+};
+
+/// What stands at a place of the log, where a block of one transaction is due.
+#[derive(Clone, Copy, Debug, PartialEq, Eq)]
+pub(crate) enum Found {
+    /// A revoke block with so many numbers.
+    RevokeBlock(usize),
+    /// A descriptor with so many tags, and in the ring as many copies behind it.
+    Descriptor(usize),
+    /// The commit block of the transaction.
+    CommitBlock,
+    /// A descriptor or revoke block of the transaction that is not well formed.
+    Malformed,
+    /// No block of the transaction, or a descriptor whose copies don't fit into the ring, or the ring ends.
+    Nothing,
+}
+
+/// Reads blocks of a log one by one into a buffer of one block, and says what stands there.
+#[derive(Drop)]
+pub(crate) struct Finder {
+    block: Vec<u8>,
+    tags: Vec<Tag>,
+    numbers: Vec<BlockNo>,
+}
+
+impl Model for Finder {
+    ghost use Rattle.std.specs.Prelude.{◌≤◌, length};
+    ghost use Rattle.journal_model.specs.Layout.{narrow, numbers_of};
+    ghost use Rattle.log_format.specs.Size.{IsBlockSize, most_tags};
+    ghost use Rattle.log_dump.specs.Finding.{FinderValue};
+
+    ghost Value = { FinderValue };
+
+    ghost view = { λ f. record { block = f.block.items; tags = f.tags.items; numbers = f.numbers.items } };
+
+    ghost invariant = { λ f. IsBlockSize (length f.block.items)
+        × (most_tags (narrow (length f.block.items)) ≤ length f.tags.items)
+        × (numbers_of (narrow (length f.block.items)) ≤ length f.numbers.items) };
+}
+
+impl Finder {
+    /// A finder in blocks of 1024, 2048 or 4096 bytes. It fails where memory runs out, and takes none later.
+    pub(crate) fn new(alloc: Global, block_size: usize) -> Result<Self, AllocError>
+        requires { IsBlockSize block_size }
+        ensures { IfOk result (λ f. length f.block ≡ block_size) }
+    {
+        Ok(Finder {
+            block: vec![in alloc; 0; block_size]?,
+            tags: vec![in alloc; NO_TAG; (block_size - HEADER_BYTES) / TAG_BYTES]?,
+            numbers: vec![in alloc; BlockNo(0); (block_size - REVOKE_HEADER_BYTES) / NUMBER_BYTES]?,
+        })
+    }
+
+    /// The tags of the descriptor that was found last.
+    pub(crate) fn tags(&self, count: usize) -> &[Tag]
+        requires { count ≤ length self.now.tags }
+        ensures { result.now ≡ take count self.now.tags }
+    {
+        &self.tags[..count]
+    }
+
+    /// The numbers of the revoke block that was found last.
+    pub(crate) fn numbers(&self, count: usize) -> &[BlockNo]
+        requires { count ≤ length self.now.numbers }
+        ensures { result.now ≡ take count self.now.numbers }
+    {
+        &self.numbers[..count]
+    }
+
+    /// Reads the block at this position of the lap, and says what it is to the transaction `sequence`.
+    pub(crate) fn look<D: Device>(
+        &mut self,
+        device: &mut D,
+        log: &Log,
+        position: u64,
+        sequence: u64,
+    ) -> Result<Found, JournalError>
+        requires size { length self.old.block ≡ (D.state device.old).shape.block_size }
+        requires accepted { IsAccepted (D.state device.old).shape.block_size (D.state device.old).shape.log_blocks log.now }
+        ensures size { length self.new.block ≡ length self.old.block }
+        ensures fits { IfOk result (Fits (ring_of log.now).blocks position self.new) }
+        ensures found { IfOk result (λ found. D.honest device.new → IsFound (layout_of log.now) every_block sequence (blocks_from log.now (reading (D.state device.old).disk) position) self.new found) }
+        ensures faults { MatchResult result (λ _. (D.state device.new).faults ≡ (D.state device.old).faults) (IsDeviceFailure (D.state device.old) (D.state device.new)) }
+        ensures stays { Stays (D.state device.old) (D.state device.new) }
+        ensures honest { D.honest device.new → D.honest device.old }
+    {
+        if position >= log.blocks() {
+            return Ok(Found::Nothing);
+        }
+        device.read(Area::Log, log.place(position), &mut self.block)?;
+        Ok(self.parse(sequence, log.blocks() - position - 1))
+    }
+
+    /// What the block is to the transaction `sequence`, where so many blocks stand behind it in the ring.
+    fn parse(&mut self, sequence: u64, behind: u64) -> Found
+        ensures says { Says (narrow (length self.old.block)) every_block sequence behind self.old.block self.new result }
+        ensures block { self.new.block ≡ self.old.block }
+    {
+        let Some(header) = Header::read(&self.block) else {
+            return Found::Nothing;
+        };
+        if u64::from(header.sequence) != sequence {
+            return Found::Nothing;
+        }
+        match header.block_type {
+            DESCRIPTOR_TYPE => self.parse_descriptor(behind),
+            COMMIT_TYPE => Found::CommitBlock,
+            REVOKE_TYPE => self.parse_revokes(),
+            _ => Found::Nothing,
+        }
+    }
+
+    /// What the block is, which has the header of a descriptor.
+    fn parse_descriptor(&mut self, behind: u64) -> Found
+        requires { HasHeader descriptor_type (sequence_in self.old.block) self.old.block }
+        ensures says { Says (narrow (length self.old.block)) every_block (sequence_in self.old.block) behind self.old.block self.new result }
+        ensures block { self.new.block ≡ self.old.block }
+    {
+        match Descriptor::read(&self.block, EVERY_BLOCK, &mut self.tags) {
+            Ok(tags) if tags as u64 <= behind => Found::Descriptor(tags),
+            Ok(_) => Found::Nothing,
+            Err(_) => Found::Malformed,
+        }
+    }
+
+    /// What the block is, which has the header of a revoke block.
+    fn parse_revokes(&mut self) -> Found
+        requires { HasHeader revoke_type (sequence_in self.old.block) self.old.block }
+        ensures says { (behind : ℕ) → Says (narrow (length self.old.block)) every_block (sequence_in self.old.block) behind self.old.block self.new result }
+        ensures block { self.new.block ≡ self.old.block }
+    {
+        match RevokeBlock::read(&self.block, EVERY_BLOCK, &mut self.numbers) {
+            Ok(numbers) => Found::RevokeBlock(numbers),
+            Err(_) => Found::Malformed,
+        }
+    }
+}

@@ -1,0 +1,24 @@
+//! Prints the log of a device: its superblock, and one line for each block of its complete transactions.
+//!
+//! It goes over the log twice. The first time it tests all that stands there and finds how many transactions are complete,
+//! and the second time it prints them. So it holds one block of the log, whatever the log's length, and writes nothing
+//! before all tests have passed. No block is read more than twice, and copies are not read at all: the tags of their
+//! descriptor say what is printed of them.
+//!
+//! `finding` says what stands at one place; `counting` goes over the log for the first time and `printing` for the second,
+//! `lines` has the form of each line, and `dumping` puts them together. What a dump is, and why there is none, is said by
+//! the definitions of `journal_model`, `specs/Dump.antt`.
+#![tactic(auto)]
+
+mod counting;
+mod dumping;
+mod fault;
+mod finding;
+mod lines;
+mod log;
+mod printing;
+#[cfg(test)]
+mod tests;
+
+pub use dumping::dump;
+pub use fault::Fault;

@@ -1,0 +1,109 @@
+//! The lines of a dump.
+ghost use Rattle.std.specs.Prelude.{◌≡◌, ◌+◌, ◌++◌, ◌∷◌, [], OnOk, codes, length, map};
+ghost use Rattle.std.specs.Fmt.{decimal};
+ghost use Rattle.std.specs.Io.KnownBytes.{Appends};
+ghost use Rattle.std.specs.List.{join_with_byte};
+ghost use Rattle.journal_model.specs.Dump.{comma, copy_caption, super_line};
+ghost use Rattle.log_dump.specs.Lines.{ended, listed, placed_line};
+
+use journal_model::{BlockNo, Tag};
+use log_format::Super;
+use std::io;
+use std::io::Write;
+
+/// Prints the line of the superblock.
+pub(crate) fn write_super<W: Write>(out: &mut W, fields: &Super) -> io::Result<()>
+    ensures { OnOk result (Appends (W.contents out.old) (W.contents out.new) (ended (super_line fields.now))) }
+{
+    writeln!(
+        out,
+        "super blocksize={} maxlen={} first={} sequence={} start={}",
+        fields.s_blocksize, fields.s_maxlen, fields.s_first, fields.s_sequence, fields.s_start
+    )
+}
+
+/// Prints the last line of a clean log: its s_sequence.
+pub(crate) fn write_empty<W: Write>(out: &mut W, sequence: u32) -> io::Result<()>
+    ensures { OnOk result (Appends (W.contents out.old) (W.contents out.new) (ended (codes "empty sequence=" ++ decimal sequence))) }
+{
+    writeln!(out, "empty sequence={sequence}")
+}
+
+/// Prints the last line of a log that is not clean: the number behind its last complete transaction, and how many it has.
+pub(crate) fn write_end<W: Write>(out: &mut W, sequence: u64, transactions: u64) -> io::Result<()>
+    ensures { OnOk result (Appends (W.contents out.old) (W.contents out.new) (ended (codes "end sequence=" ++ decimal sequence ++ codes " transactions=" ++ decimal transactions))) }
+{
+    writeln!(out, "end sequence={sequence} transactions={transactions}")
+}
+
+/// Prints the line of the commit block at this place.
+pub(crate) fn write_commit<W: Write>(out: &mut W, place: u64, sequence: u64) -> io::Result<()>
+    ensures { OnOk result (Appends (W.contents out.old) (W.contents out.new) (ended (placed_line place (codes "commit " ++ decimal sequence)))) }
+{
+    writeln!(out, "{place} commit {sequence}")
+}
+
+/// Prints the line of the descriptor at this place, which has so many tags.
+pub(crate) fn write_descriptor<W: Write>(
+    out: &mut W,
+    place: u64,
+    sequence: u64,
+    tags: usize,
+) -> io::Result<()>
+    ensures { OnOk result (Appends (W.contents out.old) (W.contents out.new) (ended (placed_line place (codes "descriptor " ++ decimal sequence ++ codes " tags=" ++ decimal tags)))) }
+{
+    writeln!(out, "{place} descriptor {sequence} tags={tags}")
+}
+
+/// Prints the line of the copy at this place, which the tag names.
+pub(crate) fn write_copy<W: Write>(
+    out: &mut W,
+    place: u64,
+    sequence: u64,
+    tag: &Tag,
+) -> io::Result<()>
+    ensures { OnOk result (Appends (W.contents out.old) (W.contents out.new) (ended (placed_line place (copy_caption sequence tag.now)))) }
+{
+    let escaped = if tag.escaped { " escaped" } else { "" };
+    writeln!(
+        out,
+        "{place} copy {sequence} block={}{escaped}",
+        tag.block.0
+    )
+}
+
+/// Prints the line of the revoke block at this place, which has these numbers.
+pub(crate) fn write_revokes<W: Write>(
+    out: &mut W,
+    place: u64,
+    sequence: u64,
+    numbers: &[BlockNo],
+) -> io::Result<()>
+    ensures { OnOk result (Appends (W.contents out.old) (W.contents out.new) (ended (placed_line place (codes "revoke " ++ decimal sequence ++ codes " blocks=" ++ join_with_byte comma (map decimal numbers.now))))) }
+{
+    write!(out, "{place} revoke {sequence} blocks=")?;
+    write_numbers(out, numbers)?;
+    writeln!(out)
+}
+
+/// Prints numbers, with a comma between each two.
+fn write_numbers<W: Write>(out: &mut W, numbers: &[BlockNo]) -> io::Result<()>
+    ensures { OnOk result (Appends (W.contents out.old) (W.contents out.new) (join_with_byte comma (map decimal numbers.now))) }
+{
+    for i in 0..numbers.len() {
+        let number = numbers[i];
+        write_listed(out, i, number.0)?;
+    }
+    Ok(())
+}
+
+/// Prints a number of a list, with a comma before it unless it is the first.
+fn write_listed<W: Write>(out: &mut W, i: usize, number: u64) -> io::Result<()>
+    ensures { OnOk result (Appends (W.contents out.old) (W.contents out.new) (listed i number)) }
+{
+    if i == 0 {
+        write!(out, "{number}")
+    } else {
+        write!(out, ",{number}")
+    }
+}

@@ -1,0 +1,615 @@
+//! Dumps of logs that were made by hand.
+ghost use Rattle.std.specs.Prelude.{◌≡◌, OnOk, OnErr};
+ghost use Rattle.block_device.specs.State.{one_more_fault, with_own_faults};
+
+use crate::{Fault, dump};
+use block_device::{Device, DeviceFault, MemDevice};
+use journal_model::{Area, JournalError};
+use std::alloc::Global;
+use std::test::Fail;
+
+/// The first four bytes of a log block, and those of the UUID.
+const MAGIC: u32 = 0xc03b_3998;
+
+const UUID: u32 = 0xaaaa_aaaa;
+
+/// Flags of a tag: escaped, same UUID, last.
+const ESCAPED: u32 = 1;
+
+const SAME: u32 = 2;
+
+const LAST: u32 = 8;
+
+/// The words that a block of the log begins with, four bytes each, and its place. Behind them are zeros.
+type Placed<'a> = (u64, &'a [u32]);
+
+/// The superblock of a log of blocks of 1024 bytes, of these s_maxlen, s_sequence and s_start.
+fn superblock(maxlen: u32, sequence: u32, start: u32) -> [u32; 17] {
+    superblock_of(1024, maxlen, sequence, start)
+}
+
+/// The superblock of a log of blocks of this size.
+fn superblock_of(size: u32, maxlen: u32, sequence: u32, start: u32) -> [u32; 17] {
+    [
+        MAGIC, 4, 0, size, maxlen, 1, sequence, start, 0, 0, 1, 0, UUID, UUID, UUID, UUID, 1,
+    ]
+}
+
+/// A descriptor with one tag, which has these flags and the UUID behind it.
+fn descriptor(sequence: u32, block: u32, flags: u32) -> [u32; 9] {
+    [MAGIC, 1, sequence, block, flags, UUID, UUID, UUID, UUID]
+}
+
+/// A commit block.
+fn commit(sequence: u32) -> [u32; 3] {
+    [MAGIC, 2, sequence]
+}
+
+/// A device whose log has these blocks, and zeros elsewhere.
+fn device_of(
+    alloc: Global,
+    size: usize,
+    log: u64,
+    blocks: &[Placed<'_>],
+) -> Result<MemDevice, JournalError> {
+    let mut device = MemDevice::new(alloc, size, log, 1);
+    for (place, words) in blocks {
+        write_words(alloc, &mut device, *place, words)?;
+    }
+    Ok(device)
+}
+
+/// Writes the block that begins with these words.
+fn write_words<D: Device>(
+    alloc: Global,
+    device: &mut D,
+    place: u64,
+    words: &[u32],
+) -> Result<(), JournalError> {
+    let mut bytes = vec![in alloc; 0; device.block_size()]?;
+    for (four, word) in bytes.chunks_exact_mut(4).zip(words) {
+        four.copy_from_slice(&word.to_be_bytes());
+    }
+    if place >= device.blocks(Area::Log) {
+        return Err(JournalError::BadBlock);
+    }
+    device.write(Area::Log, place, &bytes)?;
+    Ok(())
+}
+
+/// What a dump of the device prints.
+fn printed(alloc: Global, device: MemDevice) -> Result<Vec<u8>, Fault> {
+    let mut device = device;
+    let mut out = Vec::new(alloc);
+    dump(alloc, &mut device, &mut out)?;
+    Ok(out)
+}
+
+/// Why there is no dump of the device, and how many bytes were written nevertheless.
+fn refused(alloc: Global, device: MemDevice) -> (Option<JournalError>, usize) {
+    let mut device = device;
+    let mut out = Vec::new(alloc);
+    match dump(alloc, &mut device, &mut out) {
+        Err(Fault::Refused(e)) => (Some(e), out.len()),
+        Err(Fault::Output(_)) | Ok(()) => (None, out.len()),
+    }
+}
+
+#[test]
+fn a_formatted_log(rt: HostRuntime) -> Result<(), Fail> {
+    let device = device_of(rt.alloc(), 1024, 33, &[(0, &superblock(33, 1, 0))])?;
+    let text = printed(rt.alloc(), device)?;
+    let expected = "super blocksize=1024 maxlen=33 first=1 sequence=1 start=0\n\
+        empty sequence=1\n";
+    assert_eq!(rt; text.as_slice(), expected.as_bytes());
+    Ok(())
+}
+
+#[test]
+fn a_copy_and_then_a_revoke(rt: HostRuntime) -> Result<(), Fail> {
+    let device = device_of(
+        rt.alloc(),
+        1024,
+        33,
+        &[
+            (0, &superblock(33, 2, 1)),
+            (1, &descriptor(2, 8, LAST)),
+            (2, &[0xaa00_0000]),
+            (3, &commit(2)),
+            (4, &[MAGIC, 5, 3, 20, 8]),
+            (5, &commit(3)),
+        ],
+    )?;
+    let text = printed(rt.alloc(), device)?;
+    let expected = "super blocksize=1024 maxlen=33 first=1 sequence=2 start=1\n\
+        1 descriptor 2 tags=1\n\
+        2 copy 2 block=8\n\
+        3 commit 2\n\
+        4 revoke 3 blocks=8\n\
+        5 commit 3\n\
+        end sequence=4 transactions=2\n";
+    assert_eq!(rt; text.as_slice(), expected.as_bytes());
+    Ok(())
+}
+
+#[test]
+fn a_transaction_over_the_end_of_the_ring(rt: HostRuntime) -> Result<(), Fail> {
+    let device = device_of(
+        rt.alloc(),
+        1024,
+        33,
+        &[
+            (0, &superblock(33, 12, 31)),
+            (31, &descriptor(12, 5, LAST)),
+            (32, &[0x0b00_0000]),
+            (1, &commit(12)),
+            (2, &descriptor(3, 5, LAST)),
+        ],
+    )?;
+    let text = printed(rt.alloc(), device)?;
+    let expected = "super blocksize=1024 maxlen=33 first=1 sequence=12 start=31\n\
+        31 descriptor 12 tags=1\n\
+        32 copy 12 block=5\n\
+        1 commit 12\n\
+        end sequence=13 transactions=1\n";
+    assert_eq!(rt; text.as_slice(), expected.as_bytes());
+    Ok(())
+}
+
+#[test]
+fn tags_and_numbers_of_each_kind(rt: HostRuntime) -> Result<(), Fail> {
+    let three_tags = [
+        MAGIC,
+        1,
+        7,
+        20,
+        ESCAPED,
+        UUID,
+        UUID,
+        UUID,
+        UUID,
+        21,
+        SAME,
+        0xffff_ffff,
+        SAME | LAST | ESCAPED,
+    ];
+    let device = device_of(
+        rt.alloc(),
+        1024,
+        33,
+        &[
+            (0, &superblock(33, 7, 1)),
+            (1, &[MAGIC, 5, 7, 16]),
+            (2, &[MAGIC, 5, 7, 28, 3, 1, 4]),
+            (3, &three_tags),
+            (7, &commit(7)),
+            (8, &commit(8)),
+        ],
+    )?;
+    let text = printed(rt.alloc(), device)?;
+    let expected = "super blocksize=1024 maxlen=33 first=1 sequence=7 start=1\n\
+        1 revoke 7 blocks=\n\
+        2 revoke 7 blocks=3,1,4\n\
+        3 descriptor 7 tags=3\n\
+        4 copy 7 block=20 escaped\n\
+        5 copy 7 block=21\n\
+        6 copy 7 block=4294967295 escaped\n\
+        7 commit 7\n\
+        8 commit 8\n\
+        end sequence=9 transactions=2\n";
+    assert_eq!(rt; text.as_slice(), expected.as_bytes());
+    Ok(())
+}
+
+#[test]
+fn what_is_not_complete_is_not_printed(rt: HostRuntime) -> Result<(), Fail> {
+    let device = device_of(
+        rt.alloc(),
+        1024,
+        33,
+        &[
+            (0, &superblock(33, 2, 1)),
+            (1, &commit(2)),
+            (2, &[MAGIC, 5, 3, 20, 8]),
+            (3, &descriptor(3, 5, LAST)),
+            (5, &commit(4)),
+        ],
+    )?;
+    let text = printed(rt.alloc(), device)?;
+    let expected = "super blocksize=1024 maxlen=33 first=1 sequence=2 start=1\n\
+        1 commit 2\n\
+        end sequence=3 transactions=1\n";
+    assert_eq!(rt; text.as_slice(), expected.as_bytes());
+    Ok(())
+}
+
+#[test]
+fn the_last_number_of_four_bytes(rt: HostRuntime) -> Result<(), Fail> {
+    let device = device_of(
+        rt.alloc(),
+        1024,
+        33,
+        &[
+            (0, &superblock(33, 0xffff_ffff, 1)),
+            (1, &commit(0xffff_ffff)),
+            (2, &commit(0)),
+        ],
+    )?;
+    let text = printed(rt.alloc(), device)?;
+    let expected = "super blocksize=1024 maxlen=33 first=1 sequence=4294967295 start=1\n\
+        1 commit 4294967295\n\
+        end sequence=4294967296 transactions=1\n";
+    assert_eq!(rt; text.as_slice(), expected.as_bytes());
+    Ok(())
+}
+
+#[test]
+fn blocks_of_each_size(rt: HostRuntime) -> Result<(), Fail> {
+    for (size, first) in [
+        (
+            1024,
+            "super blocksize=1024 maxlen=17 first=1 sequence=2 start=16\n",
+        ),
+        (
+            2048,
+            "super blocksize=2048 maxlen=17 first=1 sequence=2 start=16\n",
+        ),
+        (
+            4096,
+            "super blocksize=4096 maxlen=17 first=1 sequence=2 start=16\n",
+        ),
+    ] {
+        let device = device_of(
+            rt.alloc(),
+            size as usize,
+            20,
+            &[
+                (0, &superblock_of(size, 17, 2, 16)),
+                (16, &descriptor(2, 9, ESCAPED | LAST)),
+                (2, &commit(2)),
+            ],
+        )?;
+        let text = printed(rt.alloc(), device)?;
+        let rest = "16 descriptor 2 tags=1\n\
+            1 copy 2 block=9 escaped\n\
+            2 commit 2\n\
+            end sequence=3 transactions=1\n";
+        let (head, tail) = text.split_at(first.len().min(text.len()));
+        assert_eq!(rt; head, first.as_bytes());
+        assert_eq!(rt; tail, rest.as_bytes());
+    }
+    Ok(())
+}
+
+#[test]
+fn a_full_ring(rt: HostRuntime) -> Result<(), Fail> {
+    let fourteen_tags = [
+        MAGIC,
+        1,
+        2,
+        0,
+        0,
+        UUID,
+        UUID,
+        UUID,
+        UUID,
+        1,
+        SAME,
+        2,
+        SAME,
+        3,
+        SAME,
+        4,
+        SAME,
+        5,
+        SAME,
+        6,
+        SAME,
+        7,
+        SAME,
+        8,
+        SAME,
+        9,
+        SAME,
+        10,
+        SAME,
+        11,
+        SAME,
+        12,
+        SAME,
+        13,
+        SAME | LAST,
+    ];
+    let device = device_of(
+        rt.alloc(),
+        1024,
+        17,
+        &[
+            (0, &superblock(17, 2, 1)),
+            (1, &fourteen_tags),
+            (16, &commit(2)),
+        ],
+    )?;
+    let text = printed(rt.alloc(), device)?;
+    let expected = "super blocksize=1024 maxlen=17 first=1 sequence=2 start=1\n\
+        1 descriptor 2 tags=14\n\
+        2 copy 2 block=0\n\
+        3 copy 2 block=1\n\
+        4 copy 2 block=2\n\
+        5 copy 2 block=3\n\
+        6 copy 2 block=4\n\
+        7 copy 2 block=5\n\
+        8 copy 2 block=6\n\
+        9 copy 2 block=7\n\
+        10 copy 2 block=8\n\
+        11 copy 2 block=9\n\
+        12 copy 2 block=10\n\
+        13 copy 2 block=11\n\
+        14 copy 2 block=12\n\
+        15 copy 2 block=13\n\
+        16 commit 2\n\
+        end sequence=3 transactions=1\n";
+    assert_eq!(rt; text.as_slice(), expected.as_bytes());
+    Ok(())
+}
+
+#[test]
+fn more_copies_than_the_ring_has(rt: HostRuntime) -> Result<(), Fail> {
+    let sixteen_tags = [
+        MAGIC,
+        1,
+        2,
+        0,
+        0,
+        UUID,
+        UUID,
+        UUID,
+        UUID,
+        1,
+        SAME,
+        2,
+        SAME,
+        3,
+        SAME,
+        4,
+        SAME,
+        5,
+        SAME,
+        6,
+        SAME,
+        7,
+        SAME,
+        8,
+        SAME,
+        9,
+        SAME,
+        10,
+        SAME,
+        11,
+        SAME,
+        12,
+        SAME,
+        13,
+        SAME,
+        14,
+        SAME,
+        15,
+        SAME | LAST,
+    ];
+    let device = device_of(
+        rt.alloc(),
+        1024,
+        17,
+        &[(0, &superblock(17, 2, 1)), (1, &sixteen_tags)],
+    )?;
+    let text = printed(rt.alloc(), device)?;
+    let expected = "super blocksize=1024 maxlen=17 first=1 sequence=2 start=1\n\
+        end sequence=2 transactions=0\n";
+    assert_eq!(rt; text.as_slice(), expected.as_bytes());
+    Ok(())
+}
+
+#[test]
+fn damage_is_refused_before_a_byte_is_written(rt: HostRuntime) -> Result<(), Fail> {
+    for (name, place, block) in [
+        (
+            "a tag with flag 4",
+            4,
+            [MAGIC, 1, 3, 5, 4, UUID, UUID, UUID, UUID].as_slice(),
+        ),
+        ("used bytes no multiple", 4, [MAGIC, 5, 3, 17, 0].as_slice()),
+        ("used bytes too few", 4, [MAGIC, 5, 3, 12].as_slice()),
+        ("used bytes too many", 4, [MAGIC, 5, 3, 1028].as_slice()),
+        ("in the first transaction", 1, [MAGIC, 5, 2, 15].as_slice()),
+    ] {
+        let device = device_of(
+            rt.alloc(),
+            1024,
+            33,
+            &[
+                (0, &superblock(33, 2, 1)),
+                (1, &descriptor(2, 8, LAST)),
+                (3, &commit(2)),
+                (place, block),
+            ],
+        )?;
+        let (e, bytes) = refused(rt.alloc(), device);
+        assert_eq!(rt; e, Some(JournalError::Damage(place)), "{name}");
+        assert_eq!(rt; bytes, 0, "{name}");
+    }
+    Ok(())
+}
+
+#[test]
+fn damage_behind_pieces_over_the_end_of_the_ring(rt: HostRuntime) -> Result<(), Fail> {
+    let device = device_of(
+        rt.alloc(),
+        1024,
+        17,
+        &[
+            (0, &superblock(17, 2, 15)),
+            (15, &descriptor(2, 8, LAST)),
+            (1, &[MAGIC, 5, 2, 13]),
+        ],
+    )?;
+    let (e, bytes) = refused(rt.alloc(), device);
+    assert_eq!(rt; e, Some(JournalError::Damage(1)));
+    assert_eq!(rt; bytes, 0);
+    Ok(())
+}
+
+#[test]
+fn each_refusal_of_a_superblock(rt: HostRuntime) -> Result<(), Fail> {
+    let good = superblock(33, 1, 0);
+    for (word, value, expected) in [
+        (0, 0xc03b_3999, JournalError::BadMagic),
+        (1, 3, JournalError::BadType),
+        (3, 2048, JournalError::BadBlockSize),
+        (4, 34, JournalError::BadLength),
+        (5, 18, JournalError::BadFirst),
+        (10, 3, JournalError::BadFeature),
+        (7, 33, JournalError::BadStart),
+        (8, 5, JournalError::ErrnoSet),
+    ] {
+        let mut words = good;
+        if let Some(w) = words.get_mut(word) {
+            *w = value;
+        }
+        let device = device_of(rt.alloc(), 1024, 33, &[(0, &words)])?;
+        let (e, bytes) = refused(rt.alloc(), device);
+        assert_eq!(rt; e, Some(expected));
+        assert_eq!(rt; bytes, 0);
+    }
+    let none = device_of(rt.alloc(), 1024, 0, &[])?;
+    let (e, bytes) = refused(rt.alloc(), none);
+    assert_eq!(rt; e, Some(JournalError::BadLength));
+    assert_eq!(rt; bytes, 0);
+    Ok(())
+}
+
+/// A device that counts how often each block of its log is read, and from read `fails_at` on fails. With 0 it never does.
+#[derive(Drop)]
+struct CountedReads<D> {
+    device: D,
+    counts: [u8; 40],
+    fails_at: u64,
+    faults: u64,
+}
+
+impl<D: Device> CountedReads<D> {
+    /// Fails where its time has come.
+    fn running(&mut self) -> Result<(), DeviceFault>
+        ensures ok { OnOk result ((self.new.device ≡ self.old.device) × (self.new.faults ≡ self.old.faults)) }
+        ensures err { OnErr result ((self.new.device ≡ self.old.device) × (self.new.faults ≡ one_more_fault self.old.faults)) }
+    {
+        if self.fails_at == 1 {
+            self.faults = self.faults.saturating_add(1);
+            return Err(DeviceFault);
+        }
+        self.fails_at = self.fails_at.saturating_sub(1);
+        Ok(())
+    }
+}
+
+impl<D: Device> Device for CountedReads<D> {
+    ghost state = { λ r. with_own_faults (D.state r.device) r.faults };
+
+    ghost honest = { λ r. D.honest r.device };
+
+    fn read(&mut self, area: Area, n: u64, into: &mut [u8]) -> Result<(), DeviceFault> {
+        self.running()?;
+        if let Some(count) = self.counts.get_mut(n as usize) {
+            *count = count.saturating_add(1);
+        }
+        self.device.read(area, n, into)
+    }
+
+    fn write(&mut self, area: Area, n: u64, bytes: &[u8]) -> Result<(), DeviceFault> {
+        self.device.write(area, n, bytes)
+    }
+
+    fn flush(&mut self, area: Area) -> Result<(), DeviceFault> {
+        self.device.flush(area)
+    }
+
+    fn blocks(&self, area: Area) -> u64 {
+        self.device.blocks(area)
+    }
+
+    fn block_size(&self) -> usize {
+        self.device.block_size()
+    }
+}
+
+/// A log with two transactions: two revoke blocks, a descriptor with three copies and a commit block, and then a commit
+/// block alone. Read `fails_at` and those behind it fail, or none, where that is 0.
+fn counted(alloc: Global, fails_at: u64) -> Result<CountedReads<MemDevice>, JournalError> {
+    let three_tags = [MAGIC, 1, 7, 20, SAME, 21, SAME, 22, SAME | LAST];
+    let device = device_of(
+        alloc,
+        1024,
+        33,
+        &[
+            (0, &superblock(33, 7, 1)),
+            (1, &[MAGIC, 5, 7, 16]),
+            (2, &[MAGIC, 5, 7, 20, 3]),
+            (3, &three_tags),
+            (7, &commit(7)),
+            (8, &commit(8)),
+        ],
+    )?;
+    Ok(CountedReads {
+        device,
+        counts: [0; 40],
+        fails_at,
+        faults: 0,
+    })
+}
+
+#[test]
+fn no_block_is_read_more_than_twice_and_no_copy_at_all(rt: HostRuntime) -> Result<(), Fail> {
+    let mut device = counted(rt.alloc(), 0)?;
+    let mut out = Vec::new(rt.alloc());
+    dump(rt.alloc(), &mut device, &mut out)?;
+    assert_eq!(rt;
+        &device.counts[..12],
+        [1, 2, 2, 2, 0, 0, 0, 2, 2, 1, 0, 0].as_slice()
+    );
+    assert!(rt; device.counts[12..].iter().all(|count| *count == 0));
+    Ok(())
+}
+
+#[test]
+fn each_read_fails_in_turn(rt: HostRuntime) -> Result<(), Fail> {
+    for k in 1..=12 {
+        let mut device = counted(rt.alloc(), k)?;
+        let mut out = Vec::new(rt.alloc());
+        let refused = match dump(rt.alloc(), &mut device, &mut out) {
+            Err(Fault::Refused(e)) => Some(e),
+            Err(Fault::Output(_)) | Ok(()) => None,
+        };
+        assert_eq!(rt; refused, Some(JournalError::Device), "read {k}");
+        assert_eq!(rt; out.is_empty(), k <= 7, "read {k}");
+    }
+    let mut device = counted(rt.alloc(), 13)?;
+    let mut out = Vec::new(rt.alloc());
+    dump(rt.alloc(), &mut device, &mut out)?;
+    assert_eq!(rt;
+        out.ends_with(b"8 commit 8\nend sequence=9 transactions=2\n"),
+        true
+    );
+    Ok(())
+}
+
+#[test]
+fn output_that_has_no_room(rt: HostRuntime) -> Result<(), Fail> {
+    let mut device = counted(rt.alloc(), 0)?;
+    let mut room = [0; 20];
+    let mut out = room.as_mut_slice();
+    let failed = match dump(rt.alloc(), &mut device, &mut out) {
+        Err(Fault::Output(_)) => true,
+        Err(Fault::Refused(_)) | Ok(()) => false,
+    };
+    assert!(rt; failed);
+    Ok(())
+}
