@@ -11,10 +11,10 @@ row-same : (a b m n : ℕ) → a ≡ b → m ≡ n → range_with_len a m ≡ ra
 row-same a b m n begins long = ap₂ range_with_len begins long
 
 -- behind the first so many of a row stands a row
-drop-row : (b m a : ℕ) → drop a (range_with_len b m) ≡ range_with_len (b + a) (m - a)
-drop-row b m zero = row-same b (b + 0) m (m - 0) (omega arith) (omega arith)
-drop-row b zero (suc a) = row-same (b + suc a) (b + suc a) 0 (0 - suc a) refl (omega arith)
-drop-row b (suc m) (suc a) = drop-row (b + 1) m a ∙ row-same (b + 1 + a) (b + suc a) (m - a) (suc m - suc a) (omega arith) (omega arith)
+row-dropped : (b m a : ℕ) → drop a (range_with_len b m) ≡ range_with_len (b + a) (m - a)
+row-dropped b m zero = row-same b (b + 0) m (m - 0) (omega arith) (omega arith)
+row-dropped b zero (suc a) = row-same (b + suc a) (b + suc a) 0 (0 - suc a) refl (omega arith)
+row-dropped b (suc m) (suc a) = row-dropped (b + 1) m a ∙ row-same (b + 1 + a) (b + suc a) (m - a) (suc m - suc a) (omega arith) (omega arith)
 
 -- the first so many of a row are one
 take-row : (n b m : ℕ) → take n (range_with_len b m) ≡ range_with_len b (min n m)
@@ -26,7 +26,7 @@ take-row (suc n) b (suc m) =
 -- a part of a row
 pub part-row : (n a c : ℕ) → take n (drop a (range_with_len 0 c)) ≡ range_with_len a (min n (c - a))
 part-row n a c =
-    ap (take n) (drop-row 0 c a) ∙ take-row n (0 + a) (c - a) ∙ row-same (0 + a) a (min n (c - a)) (min n (c - a)) (omega arith) refl
+    ap (take n) (row-dropped 0 c a) ∙ take-row n (0 + a) (c - a) ∙ row-same (0 + a) a (min n (c - a)) (min n (c - a)) (omega arith) refl
 
 -- group k of a list
 pub group-at : {X : Type 0} (n k : ℕ) (xs : List X) → k < ceil_div (length xs) n → slice_get (groups n xs) k ≡ Some (take n (drop (n * k) xs))
