@@ -8,6 +8,8 @@ use journal_model::{Area, JournalError};
 use std::alloc::Global;
 use std::test::Fail;
 
+mod foreign_logs;
+
 /// The first four bytes of a log block, and those of the UUID.
 const MAGIC: u32 = 0xc03b_3998;
 
