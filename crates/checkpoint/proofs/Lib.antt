@@ -1,0 +1,9 @@
+pub mod Chaining
+pub mod Committing
+pub mod Kept
+pub mod Listed
+pub mod Newest
+pub mod Ordered
+pub mod Released
+pub mod Releasing
+pub mod Withdrawn

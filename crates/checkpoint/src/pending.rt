@@ -1,0 +1,143 @@
+ghost use Rattle.std.specs.Prelude.{◌≡◌, ℕ, ◌+◌, ◌<◌, ◌≤◌, List, [], None, Some, IfNone, IfOk, IfSome, length, map, drop, nat_eq, slice_get};
+ghost use Rattle.std.specs.List.{AllByRecursion, IsDistinct};
+ghost use Rattle.journal_model.specs.OwnText.{copied};
+ghost use Rattle.checkpoint.specs.Pending.{ArePending, IsCommitted, IsOldest, IsReleased, newest_of};
+
+#[cfg(test)]
+mod tests;
+
+use crate::copies::Copies;
+use crate::steps::{drop_released, list_copies, push_listed, skip_dead, withdraw_touched};
+use crate::{HomeCopy, Version};
+use journal_model::{BlockNo, Entry, Tid};
+use std::alloc::{AllocError, Global};
+use std::marker::Model;
+
+/// The pending copies, and which of them are not yet written home. Only `new` takes memory.
+///
+/// `next` and `oldest` take constant time, and `lookup` does where block numbers fall evenly into as many buckets as there
+/// is room for copies. A commit of k entries takes in the order of k log k, for it sorts its copies by block. A release
+/// takes time in proportion to the copies that it drops. Besides, `commit`, `wrote` and `release` pass over copies that
+/// were replaced: over each of them twice in its whole life.
+#[derive(Debug, Drop)]
+pub struct Pending {
+    /// The copies that were committed and not released, by transaction and then block.
+    copies: Copies,
+    /// The blocks of the copies that a commit adds, with their places among its entries.
+    added: Vec<(BlockNo, usize)>,
+    /// The place of the first live copy, or the end.
+    front: usize,
+    /// The place of the first live copy that is not written home, or the end.
+    unwritten: usize,
+}
+
+impl Model for Pending {
+    ghost use Rattle.checkpoint.specs.Pending.{PendingValue, pending_code};
+
+    ghost Value = { PendingValue };
+
+    ghost coded = { pending_code };
+
+    ghost use Rattle.checkpoint.specs.PendingView.{KeepsPending, pending_of};
+
+    ghost view = { pending_of };
+
+    ghost invariant = { KeepsPending };
+}
+
+impl Pending {
+    /// No pending copies, with room for so many copies that are committed and not released. It fails where memory runs
+    /// out. It is the only call that takes memory.
+    pub fn new(alloc: Global, room: usize) -> Result<Self, AllocError>
+        ensures newest { IfOk result (λ pending. (b : ℕ) → newest_of pending b ≡ None) }
+        ensures queue { IfOk result (λ pending. pending.queue ≡ []) }
+        ensures unwritten { IfOk result (λ pending. pending.unwritten ≡ []) }
+        ensures room { IfOk result (λ pending. pending.room ≡ room) }
+        ensures kept { IfOk result ArePending }
+    {
+        Ok(Pending {
+            copies: Copies::new(alloc, room)?,
+            added: Vec::with_capacity(alloc, room)?,
+            front: 0,
+            unwritten: 0,
+        })
+    }
+
+    /// Adds the copies of a committed transaction. Each entry replaces the pending copy of its block, where there is one:
+    /// a copy is pending in its place, and a revoke leaves none.
+    /// Source: fs/jbd2/commit.c by behaviour (a buffer of a newer transaction leaves the older one's checkpoint list).
+    pub fn commit(&mut self, entries: &[(BlockNo, Entry)], tid: Tid)
+        requires distinct { IsDistinct nat_eq (map (λ e. e.0) entries.now) }
+        requires later { AllByRecursion (λ k. k.0 < tid) self.old.queue }
+        requires room { length self.old.queue + length (copied entries.now) ≤ self.old.room }
+        ensures committed { IsCommitted self.old entries.now tid self.new }
+        ensures kept { ArePending self.new }
+    {
+        withdraw_touched(&mut self.copies, entries);
+        list_copies(&mut self.added, entries);
+        self.added.sort_unstable();
+        push_listed(&mut self.copies, &self.added, tid);
+        self.front = skip_dead(&self.copies, self.front);
+        self.unwritten = skip_dead(&self.copies, self.unwritten);
+    }
+
+    /// The first copy that is to be written home, by transaction and then block, where its transaction is at most `bound`.
+    pub fn next(&self, bound: Tid) -> Option<HomeCopy>
+        ensures bound { IfSome result (λ copy. copy.version.tid ≤ bound) }
+        ensures first { IfSome result (λ copy. slice_get self.now.unwritten 0 ≡ Some (copy.version.tid, copy.block)) }
+        ensures newest { IfSome result (λ copy. newest_of self.now copy.block ≡ Some copy.version) }
+        ensures none { IfNone result ((t b : ℕ) → slice_get self.now.unwritten 0 ≡ Some (t, b) → bound < t) }
+        ensures kept { ArePending self.now }
+    {
+        if self.unwritten >= self.copies.len() {
+            return None;
+        }
+        let copy = self.copies.at(self.unwritten);
+        if copy.tid > bound {
+            return None;
+        }
+        Some(HomeCopy {
+            block: copy.block,
+            version: copy.version(),
+        })
+    }
+
+    /// Notes that the first copy that was to be written home is written.
+    pub fn wrote(&mut self)
+        requires { 0 < length self.old.unwritten }
+        ensures written { self.new ≡ record self.old { unwritten = drop 1 self.old.unwritten } }
+        ensures kept { ArePending self.new }
+    {
+        self.unwritten = skip_dead(&self.copies, self.unwritten + 1);
+    }
+
+    /// Releases the copies of the transactions up to `bound`: they are known to be durable at home, or were replaced.
+    pub fn release(&mut self, bound: Tid)
+        ensures released { IsReleased self.old bound self.new }
+        ensures kept { ArePending self.new }
+    {
+        let dropped = drop_released(&mut self.copies, bound);
+        self.front = skip_dead(&self.copies, self.front.saturating_sub(dropped));
+        self.unwritten = skip_dead(&self.copies, self.unwritten.saturating_sub(dropped));
+    }
+
+    /// The lowest transaction of which a copy is pending, where one is.
+    pub fn oldest(&self) -> Option<Tid>
+        ensures some { IfSome result (IsOldest self.now) }
+        ensures none { IfNone result ((b : ℕ) → newest_of self.now b ≡ None) }
+        ensures kept { ArePending self.now }
+    {
+        if self.front >= self.copies.len() {
+            return None;
+        }
+        Some(self.copies.at(self.front).tid)
+    }
+
+    /// Where the pending copy of a block stands, where it has one.
+    pub fn lookup(&self, block: BlockNo) -> Option<Version>
+        ensures newest { result ≡ newest_of self.now block }
+        ensures kept { ArePending self.now }
+    {
+        self.copies.newest(block)
+    }
+}
