@@ -1,11 +1,11 @@
 //! Runs the operations of a script on a journal.
 ghost use Rattle.std.specs.Prelude.{◌≡◌, ◌≤◌, IfOk, length};
 
-use crate::outcome::Outcome;
+use crate::outcome::{Outcome, PRINTED_BYTES};
 use crate::script::{HandleName, Operation};
 use crate::slots::{Slot, Slots};
 use block_device::{MemDevice, StopAt};
-use group_commit::{Handle, Journal, Parts, Seat, Status, Ticket, Turn};
+use group_commit::{CheckTurn, Handle, Journal, Parts, Seat, Status, Ticket, Turn};
 use journal_model::{BlockNo, JournalError, Tid};
 use recovery::open;
 use std::alloc::{AllocError, Global};
@@ -60,9 +60,13 @@ impl Interpreter {
         match operation {
             Operation::Start(name, credits) => self.start(*name, *credits),
             Operation::Write(name, block, bytes) => self.write(*name, *block, bytes),
+            Operation::Read(name, block) => self.read(*name, *block),
             Operation::Stop(name) => self.stop(*name),
             Operation::Request(name) => self.request(*name),
+            Operation::Turn => self.turn(),
             Operation::Commit => self.commit(),
+            Operation::CheckpointTurn => self.checkpoint_turn(),
+            Operation::Check => self.check(),
             Operation::Status(name) => self.status(*name),
             Operation::Wait(name) => self.wait(*name),
         }
@@ -142,6 +146,39 @@ impl Interpreter {
         self.journal.write(handle, block, &bytes)
     }
 
+    /// Reads a block through a handle.
+    fn read(&mut self, name: HandleName, block: BlockNo) -> Outcome {
+        match self.slots.take(name) {
+            Slot::Open(mut handle) => {
+                let answer = self.read_block(&mut handle, block);
+                self.slots.put(name, Slot::Open(handle));
+                match answer {
+                    Ok(bytes) => Outcome::Begins(bytes),
+                    Err(e) => Outcome::Refused(e),
+                }
+            }
+            other => {
+                self.slots.put(name, other);
+                Outcome::Skipped
+            }
+        }
+    }
+
+    /// How a block begins that a handle reads.
+    fn read_block(
+        &mut self,
+        handle: &mut Handle,
+        block: BlockNo,
+    ) -> Result<[u8; PRINTED_BYTES], JournalError> {
+        let mut bytes = vec![in self.alloc; 0; self.journal.block_size()]?;
+        self.journal.read(handle, block, &mut bytes)?;
+        let mut begins = [0; PRINTED_BYTES];
+        for (place, byte) in begins.iter_mut().zip(&bytes) {
+            *place = *byte;
+        }
+        Ok(begins)
+    }
+
     /// Stops a handle.
     fn stop(&mut self, name: HandleName) -> Outcome {
         match self.slots.take(name) {
@@ -168,6 +205,34 @@ impl Interpreter {
             Some(Slot::Waited(_)) => Outcome::Done,
             _ => Outcome::Skipped,
         }
+    }
+
+    /// Takes one commit turn.
+    fn turn(&mut self) -> Outcome {
+        match self.journal.commit_turn() {
+            Ok(turn) => Outcome::Turn(turn),
+            Err(e) => Outcome::Refused(e),
+        }
+    }
+
+    /// Takes one checkpoint turn.
+    fn checkpoint_turn(&mut self) -> Outcome {
+        match self.journal.checkpoint_turn() {
+            Ok(turn) => Outcome::CheckTurn(turn),
+            Err(e) => Outcome::Refused(e),
+        }
+    }
+
+    /// Takes checkpoint turns until one has nothing to do.
+    fn check(&mut self) -> Outcome {
+        for _ in 0..MOST_TURNS {
+            match self.journal.checkpoint_turn() {
+                Ok(CheckTurn::Idle) => break,
+                Ok(CheckTurn::Step | CheckTurn::Released(_)) => {}
+                Err(e) => return Outcome::Refused(e),
+            }
+        }
+        Outcome::CheckTurn(CheckTurn::Idle)
     }
 
     /// Takes commit turns until one has nothing to do.

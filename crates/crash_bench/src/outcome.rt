@@ -1,6 +1,10 @@
 //! What an operation came to, as the right side of its line says it.
+use group_commit::{CheckTurn, Turn};
 use journal_model::{JournalError, Tid};
 use std::fmt;
+
+/// How many bytes of a home block are printed.
+pub const PRINTED_BYTES: usize = 8;
 
 /// What an operation came to.
 #[derive(Clone, Copy, Debug, PartialEq, Eq)]
@@ -9,6 +13,12 @@ pub enum Outcome {
     Transaction(Tid),
     /// It is accepted.
     Done,
+    /// It is accepted, and the block begins so.
+    Begins([u8; PRINTED_BYTES]),
+    /// What a commit turn did.
+    Turn(Turn),
+    /// What a checkpoint turn did.
+    CheckTurn(CheckTurn),
     /// The transaction is committed.
     Committed,
     /// The transaction is not committed.
@@ -24,10 +34,41 @@ impl fmt::Display for Outcome {
         match self {
             Outcome::Transaction(tid) => write!(f, "{}", tid.0),
             Outcome::Done => f.write_str("ok"),
+            Outcome::Begins(bytes) => write_hex(f, bytes),
+            Outcome::Turn(turn) => write_turn(f, *turn),
+            Outcome::CheckTurn(turn) => write_check_turn(f, *turn),
             Outcome::Committed => f.write_str("committed"),
             Outcome::Open => f.write_str("open"),
             Outcome::Skipped => f.write_str("skipped"),
             Outcome::Refused(e) => write!(f, "refused {} {e}", e.number()),
         }
+    }
+}
+
+/// Writes bytes in hex digits.
+pub fn write_hex<W: fmt::Write>(f: &mut fmt::Formatter<W>, bytes: &[u8]) -> fmt::Result {
+    for byte in bytes {
+        write!(f, "{byte:02x}")?;
+    }
+    Ok(())
+}
+
+/// Writes what a commit turn did.
+fn write_turn<W: fmt::Write>(f: &mut fmt::Formatter<W>, turn: Turn) -> fmt::Result {
+    match turn {
+        Turn::Idle => f.write_str("idle"),
+        Turn::Waiting => f.write_str("waiting"),
+        Turn::Step => f.write_str("step"),
+        Turn::Sealed(tid) => write!(f, "sealed {}", tid.0),
+        Turn::Committed(tid) => write!(f, "committed {}", tid.0),
+    }
+}
+
+/// Writes what a checkpoint turn did.
+fn write_check_turn<W: fmt::Write>(f: &mut fmt::Formatter<W>, turn: CheckTurn) -> fmt::Result {
+    match turn {
+        CheckTurn::Idle => f.write_str("idle"),
+        CheckTurn::Step => f.write_str("step"),
+        CheckTurn::Released(tid) => write!(f, "released {}", tid.0),
     }
 }

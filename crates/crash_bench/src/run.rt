@@ -11,7 +11,7 @@ ghost use Rattle.crash_bench.specs.Verdict.{IsVerdict};
 use crate::blocks::read_block;
 use crate::fault::{self, Fault, Status};
 use crate::interpreter::Interpreter;
-use crate::outcome::Outcome;
+use crate::outcome::{Outcome, PRINTED_BYTES};
 use crate::reading;
 use crate::script::Script;
 use crate::verdict::Record;
@@ -24,9 +24,6 @@ use std::alloc::Global;
 use std::collections::BTreeSet;
 use std::io;
 use std::io::{BufWriter, Read, Write};
-
-/// How many bytes of a home block are printed.
-const PRINTED_BYTES: usize = 8;
 
 /// What is left of a run when the device has stopped.
 #[derive(Drop)]

@@ -24,12 +24,20 @@ pub enum Operation {
     Start(HandleName, u64),
     /// Writes a home block: these bytes, and zeros behind them.
     Write(HandleName, BlockNo, Vec<u8>),
+    /// Reads a home block, as its handle's transaction sees it.
+    Read(HandleName, BlockNo),
     /// Stops a handle.
     Stop(HandleName),
     /// Asks for the commit of a stopped handle's transaction.
     Request(HandleName),
+    /// Takes one commit turn.
+    Turn,
     /// Takes commit turns until nothing is left to do.
     Commit,
+    /// Takes one checkpoint turn.
+    CheckpointTurn,
+    /// Takes checkpoint turns until every committed transaction is released.
+    Check,
     /// Asks whether a stopped handle's transaction is committed.
     Status(HandleName),
     /// Takes a stopped handle's receipt, where its transaction is committed.
@@ -71,18 +79,20 @@ impl Operation {
         match self {
             Operation::Start(handle, _)
             | Operation::Write(handle, _, _)
+            | Operation::Read(handle, _)
             | Operation::Stop(handle)
             | Operation::Request(handle)
             | Operation::Status(handle)
             | Operation::Wait(handle) => Some(*handle),
-            Operation::Commit => None,
+            Operation::Turn | Operation::Commit | Operation::CheckpointTurn | Operation::Check =>
+                None,
         }
     }
 
     /// The home block that it names.
     pub fn block(&self) -> Option<BlockNo> {
         match self {
-            Operation::Write(_, block, _) => Some(*block),
+            Operation::Write(_, block, _) | Operation::Read(_, block) => Some(*block),
             _ => None,
         }
     }
@@ -115,9 +125,13 @@ impl fmt::Display for Operation {
         match self {
             Operation::Start(handle, credits) => write!(f, "start {handle} {credits}"),
             Operation::Write(handle, block, _) => write!(f, "write {handle} {}", block.0),
+            Operation::Read(handle, block) => write!(f, "read {handle} {}", block.0),
             Operation::Stop(handle) => write!(f, "stop {handle}"),
             Operation::Request(handle) => write!(f, "request {handle}"),
+            Operation::Turn => f.write_str("turn"),
             Operation::Commit => f.write_str("commit"),
+            Operation::CheckpointTurn => f.write_str("ckturn"),
+            Operation::Check => f.write_str("check"),
             Operation::Status(handle) => write!(f, "status {handle}"),
             Operation::Wait(handle) => write!(f, "wait {handle}"),
         }

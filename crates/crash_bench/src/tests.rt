@@ -9,6 +9,7 @@ use std::str::from_utf8;
 use std::test::Fail;
 
 mod bad_scripts;
+mod checkpoints;
 mod faults;
 mod log_files;
 mod refusals;

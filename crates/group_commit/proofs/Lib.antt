@@ -1,11 +1,7 @@
 -- The lemmas of this crate.
-pub mod Calls
-pub mod Copies
-pub mod Ledgers
-pub mod Running
+pub mod Reading
+pub mod Rounding
 pub mod Sealing
-pub mod Stepping
-pub mod Tags
-pub mod TextBlocks
 pub mod Touches
 pub mod Turning
+pub mod Unfinished

@@ -1,6 +1,6 @@
 -- The batch of a transaction whose steps are good ones, and a front and an engine that still agree after each step.
 use Rattle.std.proofs.Common.{arith, refl, sym, ap, ap₂, subst, ◌∙◌, length-append}
-use Rattle.std.specs.Prelude.{◌≡◌, ◌≢◌, ℕ, ◌+◌, ◌<◌, ◌==◌, Bool, true, false, if◌then◌else◌, List, [], ◌∷◌, ◌++◌, length, Option, Some, None, option_map, option_to_list, nat_eq}
+use Rattle.std.specs.Prelude.{◌≡◌, ◌≢◌, ℕ, suc, ◌+◌, ◌<◌, ◌≤◌, ◌==◌, Bool, true, false, if◌then◌else◌, List, [], ◌∷◌, ◌++◌, length, Option, Some, None, option_map, option_to_list, nat_eq}
 use Rattle.std.specs.List.{AllByRecursion, IsDistinct, filter_map}
 use Rattle.std.proofs.lemmas.Bool.Decides.{nat_tests}
 use Rattle.std.proofs.lemmas.List.Elements.{All-from_recursion}
@@ -16,26 +16,32 @@ use Rattle.journal_model.specs.declared.transaction.Op.TheVariants.{Write, Revok
 use Rattle.journal_model.specs.declared.transaction.Step.{Step}
 use Rattle.journal_model.specs.Block.{IsAllowedBlock}
 use Rattle.journal_model.specs.Layout.{narrow}
-use Rattle.journal_model.specs.OwnText.{copied}
+use Rattle.journal_model.specs.OwnText.{copied, revoked}
+use Rattle.journal_model.specs.Room.{need}
 use Rattle.journal_model.specs.Superblock.{Shape}
+use Rattle.journal_model.specs.Text.{text_blocks}
 use Rattle.journal_model.specs.Transaction.{Transaction, effect, entries, entry_of, later, touched}
 use Rattle.journal_model.proofs.Effects.{entries-blocks, touched-distinct}
 use Rattle.journal_model.proofs.OwnTextEach.{each-append}
+use Rattle.journal_model.proofs.OwnTextWhole.{length_own_text}
 use Rattle.journal_world.specs.declared.stage.Stage.{Stage}
 use Rattle.journal_world.specs.declared.stage.Stage.TheVariants.{Idle, SuperblockWrite, SuperblockFlush, Blocks, CommitWrite, CommitFlush}
 use Rattle.block_device.specs.State.{DeviceState}
-use Rattle.journal_world.specs.Engine.{AreBatchesOf, CommitSteps, Engine, IsBatch, stepped_from}
+use Rattle.journal_world.specs.Call.{Call}
+use Rattle.journal_world.specs.Engine.{AreBatchesOf, CommitSteps, Engine, HasRoom, IsBatch, call_due, call_in, stepped_from, text_of}
 use Rattle.journal_world.specs.Front.{Front, finishing, sealing, write_step, writing}
 use Rattle.journal_world.specs.Journal.{batch_of}
 use Rattle.journal_world.proofs.Batches.{batches-last}
 use Rattle.journal_world.specs.Sound.{IsPlain, StageAgrees}
-use Rattle.group_commit.specs.Engine.{MayAccept, StepRefused}
-use Rattle.group_commit.specs.Engine.StepRefused.{WasAborted, DeviceFailed}
-use Rattle.group_commit.specs.Journal.TurnRefused.{DeviceFailed as FailedTurn}
+use Rattle.journal_world.proofs.Positions.{tail-start}
+use Rattle.journal_world.proofs.Superblocks.{accepted-layout, names-superblock}
+use Rattle.log_engine.specs.Engine.{AcceptRefused, MayHandOver, StepRefused}
+use Rattle.log_engine.specs.Engine.AcceptRefused.{AfterFailure, MemoryIsShort, RingIsShort}
+use Rattle.log_engine.specs.Engine.StepRefused.{WasAborted, DeviceFailed}
+use Rattle.log_engine.specs.Text.{AreCopies, IsWholeCopy}
+use Rattle.group_commit.specs.Journal.TurnRefused.{DeviceFailed as FailedTurn, MemoryIsShort as NoMemory}
 use Rattle.group_commit.specs.Journal.{Agrees, FinishesCommit, HasRoomFor, IsGoodStep, IsWholeWrite, SealIsDue, TurnRefused}
-use Rattle.group_commit.specs.Text.{AreCopies, IsWholeCopy}
-use Rattle.group_commit.proofs.Running.{due-one}
-use Rattle.group_commit.proofs.Stepping.{busy}
+use Rattle.group_commit.specs.Values.{JournalValue}
 use Rattle.group_commit.proofs.Turning.{Keeps, fault-keeps, step-keeps}
 
 -- an entry that a transaction of good steps may have
@@ -103,6 +109,7 @@ copies-good shape [] all = tt
 copies-good shape ((b, Copy v) ∷ es) all = (all.0.whole, copies-good shape es all.1)
 copies-good shape ((b, Revoke) ∷ es) all = absurd all.0.whole
 
+-- a weaker fact of each element
 each-weaker : {X : Type 0} (P Q : X → Type 0) → ((x : X) → P x → Q x) → (xs : List X) → AllByRecursion P xs → AllByRecursion Q xs
 each-weaker P Q weaker [] all = tt
 each-weaker P Q weaker (x ∷ xs) all = (weaker x all.0, each-weaker P Q weaker xs all.1)
@@ -125,6 +132,51 @@ batch-copies shape t all =
       whole = All-from_recursion _ (entries t.steps) (each-weaker (IsGoodEntry shape) _ (λ p is. is.whole) (entries t.steps) good);
       spelled = All-from_recursion _ (entries t.steps) (each-weaker (IsGoodEntry shape) _ (λ p is. is.allowed.spelled) (entries t.steps) good);
     }
+
+-- the copy that good steps leave of a block is a whole one
+pub copy-good : (shape : Shape) (b : ℕ) (ss : List Step) (v : List ℕ) → AllByRecursion (IsGoodStep shape) ss → effect b ss ≡ Some (Copy v) → length v ≡ shape.block_size
+copy-good shape b ss v all leaves = (effect-good shape b ss (Copy v) all leaves).whole
+
+-- good entries have as many copies as there are
+length-copied : (shape : Shape) (es : List (ℕ × Entry)) → AllByRecursion (IsGoodEntry shape) es → length (copied es) ≡ length es
+length-copied shape [] all = refl
+length-copied shape ((b, Copy v) ∷ es) all = ap (λ (n : ℕ). suc n) (length-copied shape es all.1)
+length-copied shape ((b, Revoke) ∷ es) all = absurd all.0.whole
+
+-- and revoke nothing
+nothing-revoked : (shape : Shape) (es : List (ℕ × Entry)) → AllByRecursion (IsGoodEntry shape) es → revoked es ≡ []
+nothing-revoked shape [] all = refl
+nothing-revoked shape ((b, Copy v) ∷ es) all = nothing-revoked shape es all.1
+nothing-revoked shape ((b, Revoke) ∷ es) all = absurd all.0.whole
+
+-- so the ring has room for their batch where it has the blocks that so many copies need
+pub room-good : (e : Engine) (t : Transaction) → IsPlain e → AllByRecursion (IsGoodStep e.shape) t.steps →
+    e.start + need (narrow e.shape.block_size) (length (entries t.steps)) 0 ≤ e.tail + e.ring.blocks → HasRoom e (batch_of t)
+room-good e t plain all room =
+    let good = entries-good e.shape t.steps all in
+    let layout = accepted-layout e.shape e.superblock (names-superblock e e.started e.superblock plain.names).accepted in
+    let blocks : length (text_blocks (text_of e (batch_of t))) ≡ need (narrow e.shape.block_size) (length (entries t.steps)) 0 =
+    length_own_text (narrow e.shape.block_size) e.uuid t.tid (entries t.steps) layout
+    ∙ ap₂ (λ (c r : ℕ). need (narrow e.shape.block_size) c r)
+    (length-copied e.shape (entries t.steps) good) (ap length (nothing-revoked e.shape (entries t.steps) good)) in
+    omega arith
+
+-- where a call is due, a transaction is being committed
+busy : (e : Engine) (call : Call) → call_due e ≡ Some call → e.stage ≢ Idle
+busy e call due idle = none-some call (sym (ap (call_in e) idle) ∙ due)
+
+-- and one transaction more is accepted than is committed
+due-one : (e : Engine) (stage : Stage) → StageAgrees e stage → stage ≢ Idle → length e.accepted ≡ e.committed + 1
+due-one e Idle agrees busy = absurd (busy refl)
+due-one e SuperblockWrite agrees busy = agrees.0
+due-one e SuperblockFlush agrees busy = agrees.0
+due-one e (Blocks k) agrees busy = agrees.0
+due-one e CommitWrite agrees busy = agrees.0
+due-one e CommitFlush agrees busy = agrees.0
+
+-- else as many are
+idle-all : (e : Engine) → IsPlain e → e.stage ≡ Idle → length e.accepted ≡ e.committed
+idle-all e plain idle = (subst (StageAgrees e) idle plain.stage).0
 
 -- a step that leaves a call due commits nothing
 pub counts-same : (e : Engine) (stage : Stage) → (stepped_from e stage).stage ≢ Idle → (stepped_from e stage).committed ≡ e.committed
@@ -196,21 +248,34 @@ agrees-sealed f old new agrees first committed accepted = record {
   locked = λ is. absurd (true≢false (sym is));
 }
 
--- the engine may take the batch of a transaction that is due to be sealed
-pub may-accept : (f : Front) (e : Engine) → Agrees (record { front = f; engine = e }) → IsPlain e → SealIsDue (record { front = f; engine = e }) →
-    HasRoomFor (record { front = f; engine = e }) → MayAccept e (batch_of f.running)
-may-accept f e agrees plain due room = record {
-  running = due.running;
+-- the engine may be handed the batch of a transaction that is due to be sealed
+pub may-hand_over : (f : Front) (e : Engine) → Agrees (record { front = f; engine = e }) → IsPlain e → SealIsDue (record { front = f; engine = e }) →
+    HasRoomFor (record { front = f; engine = e }) → MayHandOver e (batch_of f.running)
+may-hand_over f e agrees plain due room = record {
   idle = due.idle;
-  number = agrees.number ∙ ap (λ (n : ℕ). e.first + n) (idle-all e.stage due.idle plain.stage);
+  number = agrees.number ∙ ap (λ (n : ℕ). e.first + n) (idle-all e plain due.idle);
   left = agrees.joined (agrees.locked due.locked);
   batch = batch-good e.shape f.running agrees.steps;
   copies = batch-copies e.shape f.running agrees.steps;
-  room = room;
+  few = let order : e.tail ≤ e.start = tail-start e plain in omega arith;
 }
-  where
-    idle-all : (stage : Stage) → stage ≡ Idle → StageAgrees e stage → length e.accepted ≡ e.committed
-    idle-all stage idle agrees = (subst (StageAgrees e) idle agrees).0
+
+-- such a transaction is the first that is not told to be committed
+pub all-told : (f : Front) (e : Engine) → Agrees (record { front = f; engine = e }) → IsPlain e → e.stage ≡ Idle → f.mark + 1 ≡ f.running.tid
+all-told f e agrees plain idle =
+    let count = idle-all e plain idle in
+    let mark = agrees.mark in
+    let number = agrees.number in
+    omega arith
+
+-- the engine refuses it where memory runs out
+pub refused-seal : {D : Type 0} (state : D → DeviceState) (f : Front) (d : D) (e : Engine) (new : JournalValue D) (r : JournalError) →
+    Agrees (record { front = f; engine = e }) → IsPlain e → SealIsDue (record { front = f; engine = e }) → HasRoomFor (record { front = f; engine = e }) →
+    AcceptRefused e (batch_of f.running) r → new ≡ record { device = d; journal = record { front = f; engine = e } } →
+    TurnRefused state (record { device = d; journal = record { front = f; engine = e } }) new r
+refused-seal state f d e new r agrees plain due room (AfterFailure is) same = absurd (true≢false (sym is ∙ due.running))
+refused-seal state f d e new r agrees plain due room (RingIsShort running none) same = absurd (none (room-good e f.running plain agrees.steps room))
+refused-seal state f d e new r agrees plain due room (MemoryIsShort running has) same = NoMemory due room same
 
 -- front and engine agree after a step that was refused
 pub agrees-refused : (f : Front) (old new : Engine) (before after : DeviceState) (e : JournalError) → Agrees (record { front = f; engine = old }) →
@@ -268,7 +333,7 @@ finishes-commit state f front d other old new tid agrees step idle number told =
 }
 
 -- a transaction that is being committed lies before the running one
-pub mark-below : (f : Front) (e : Engine) → Agrees (record { front = f; engine = e }) → IsPlain e → e.stage ≢ Idle → f.mark < f.running.tid
+pub mark-below : (f : Front) (e : Engine) → Agrees (record { front = f; engine = e }) → IsPlain e → e.stage ≢ Idle → f.mark + 1 < f.running.tid
 mark-below f e agrees plain going =
     let one = due-one e e.stage plain.stage going in
     let mark = agrees.mark in

@@ -1,5 +1,5 @@
 -- The entries of a transaction, as a map in the order of the first touches has them: look-ups, and one more write.
-use Rattle.std.proofs.Common.{◌≡◌, inl, inr, ℕ, ◌==◌, false, if◌then◌else◌, List, [], ◌∷◌, ◌++◌, map, Option, Some, None, refl, sym, ◌∙◌, ap, ap₂, subst, arith, nat_eq, eq-eqb, Bool, Bor, IsTrue, not, ◌↔◌, is_some, Result, Ok, Err, OnOk, true≢false}
+use Rattle.std.proofs.Common.{◌≡◌, inl, inr, ℕ, ◌==◌, false, if◌then◌else◌, List, [], ◌∷◌, ◌++◌, map, Option, Some, None, refl, sym, ◌∙◌, ap, ap₂, subst, arith, nat_eq, eq-eqb, Bool, Bor, IsTrue, not, ◌↔◌, is_some, Result, Ok, Err, OnOk, IfErr, true≢false}
 use Rattle.std.proofs.lemmas.Bool.{cases_eq}
 use Rattle.std.proofs.lemmas.Bool.Decides.{nat_tests}
 use Rattle.std.proofs.lemmas.Map.Entries.{lookup_from_place, place_from_lookup}
@@ -111,3 +111,13 @@ nothing-given (Some e) none o copied some = (λ is. grind (arith), λ empty. abs
 pub on_ok-at : {T E P : Type 0} (r : Result T E) → IsOk r → OnOk r P → P
 on_ok-at (Ok x) is p = p
 on_ok-at (Err e) is p = absurd (true≢false (sym is))
+
+-- what follows from what a call ensures where it succeeds
+pub ok-map : {T E P Q : Type 0} (r : Result T E) → (P → Q) → OnOk r P → OnOk r Q
+ok-map (Ok x) f p = f p
+ok-map (Err e) f p = tt
+
+-- and from what it ensures of a refusal
+pub err-map : {T E : Type 0} {P Q : E → Type 0} (r : Result T E) → ((e : E) → P e → Q e) → IfErr r P → IfErr r Q
+err-map (Ok x) f p = tt
+err-map (Err e) f p = f e p

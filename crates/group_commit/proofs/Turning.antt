@@ -9,16 +9,22 @@ use Rattle.journal_model.specs.Room.{IsCapacity}
 use Rattle.journal_model.specs.Superblock.{Shape}
 use Rattle.journal_model.specs.Transaction.{History}
 use Rattle.block_device.specs.State.{DeviceState, EachMoment}
+use Rattle.block_device.proofs.Moments.{each-stays}
 use Rattle.journal_world.specs.declared.stage.Stage.{Stage}
 use Rattle.journal_world.specs.declared.stage.Stage.TheVariants.{Idle, SuperblockWrite, SuperblockFlush, Blocks, CommitWrite, CommitFlush}
+use Rattle.journal_world.specs.declared.round.Round.{Round}
+use Rattle.journal_world.specs.declared.round.Round.TheVariants.{Idle as NoRound, Copies, TailWrite, TailFlush}
+use Rattle.journal_world.specs.Call.{Call}
+use Rattle.journal_world.specs.Checkpoint.{RoundCall, RoundFaults, RoundSteps, begun, begun_from}
+use Rattle.journal_world.specs.Checkpoint.RoundCall.{CopyHome, FlushHome, WriteTail, FlushTail}
 use Rattle.journal_world.specs.Engine.{AreBatchesOf, CommitFaults, CommitSteps, Engine, stepped_from}
 use Rattle.journal_world.specs.Front.{Front, fresh_front}
 use Rattle.journal_world.specs.Journal.{IsFresh, Journal, fresh_engine}
 use Rattle.journal_world.specs.Sound.{OpensBetween}
 use Rattle.journal_world.proofs.Batches.{same-length}
-use Rattle.group_commit.specs.Engine.{IsDuringCommit, IsOneMoment}
-use Rattle.group_commit.specs.Journal.{Agrees, IsDuringTurn, OpensNow, OpensOver}
-use Rattle.group_commit.proofs.Calls.{each-one}
+use Rattle.log_engine.specs.Call.{IsOneMoment}
+use Rattle.log_engine.specs.Engine.{IsDuringCommit, IsDuringRound}
+use Rattle.group_commit.specs.Journal.{Agrees, IsDuringCheckTurn, IsDuringTurn, OpensNow, OpensOver}
 
 -- what opens over the batches opens over the transactions that they are of
 pub opens-over : (shape : Shape) (ts : History) (accepted : List Batch) (low : ℕ) (disk : Disk) → AreBatchesOf ts accepted →
@@ -36,11 +42,15 @@ pub opens-now : (j : Journal) (disk : Disk) → Agrees j →
     OpensBetween j.engine.shape j.engine.accepted j.engine.committed (length j.engine.accepted) disk → OpensNow j disk
 opens-now j disk agrees opens = opens-over j.engine.shape j.front.sealed j.engine.accepted j.engine.committed disk agrees.batches opens
 
--- where the device does nothing, what holds now holds at the one moment
+-- where the device does nothing, that is at most one moment
+pub same-moment : (state : DeviceState) → IsOneMoment state state
+same-moment state = IsOneMoment.Same (record { shape = refl; disk = refl; past = refl })
+
+-- and what holds now holds at the one moment
 pub each-stay : (j : Journal) (state : DeviceState) → OpensNow j state.disk → EachMoment (IsDuringTurn j state.disk) state state
 each-stay j state opens =
     let here : IsDuringTurn j state.disk state.disk = record { home = record { same = λ b. refl }; opens = opens } in
-    each-one (IsDuringTurn j state.disk) state state (IsOneMoment.Same (record { shape = refl; disk = refl; past = refl })) here here
+    each-stays (IsDuringTurn j state.disk) state state (record { shape = refl; disk = refl; past = refl }) here
 
 -- what holds of each disk of a list, where something stronger does
 all-weaker : (P Q : Disk → Type 0) → ((disk : Disk) → P disk → Q disk) → (disks : List Disk) → AllByRecursion P disks → AllByRecursion Q disks
@@ -57,7 +67,17 @@ each-turn j before after agrees each =
     turned : (disk : Disk) → IsDuringCommit j.engine before.disk disk → IsDuringTurn j before.disk disk
     turned disk during = record { home = during.home; opens = opens-now j disk agrees during.opens }
 
--- what a step of a commit leaves as it was
+-- each moment of a step of a round is one of the checkpoint turn
+pub each-check : (j : Journal) (before after : DeviceState) → Agrees j → EachMoment (IsDuringRound j.engine before.disk) before after →
+    EachMoment (IsDuringCheckTurn j before.disk) before after
+each-check j before after agrees each =
+    let weaker = λ (disk : Disk) (during : IsDuringRound j.engine before.disk disk). checked disk during in
+    record { since = each.since; past = each.past; each = all-weaker _ _ weaker each.since each.each; now = weaker after.disk each.now }
+  where
+    checked : (disk : Disk) → IsDuringRound j.engine before.disk disk → IsDuringCheckTurn j before.disk disk
+    checked disk during = record { home = during.home; opens = opens-now j disk agrees during.opens }
+
+-- what a step of a commit or of a round leaves as it was
 pub record Keeps (old new : Engine) : Type 0 where
   pub shape : new.shape ≡ old.shape
   pub accepted : new.accepted ≡ old.accepted
@@ -76,6 +96,36 @@ step-keeps old new disk after step = subst (Keeps old) (sym step.engine) (keeps-
 
 pub fault-keeps : (old new : Engine) (disk after : Disk) → CommitFaults old disk new after → Keeps old new
 fault-keeps old new disk after fault = subst (Keeps old) (sym fault.engine) (record { shape = refl; accepted = refl; first = refl })
+
+-- where a round begins
+begun-keeps : (e : Engine) (round : Round) → Keeps e (begun_from e round) × ((begun_from e round).committed ≡ e.committed)
+begun-keeps e NoRound = (record { shape = refl; accepted = refl; first = refl }, refl)
+begun-keeps e (Copies transaction block) = (record { shape = refl; accepted = refl; first = refl }, refl)
+begun-keeps e TailWrite = (record { shape = refl; accepted = refl; first = refl }, refl)
+begun-keeps e TailFlush = (record { shape = refl; accepted = refl; first = refl }, refl)
+
+-- by each call of a round
+call-keeps : (e : Engine) (round : Round) (call : Call) (new : Engine) → RoundCall e round call new → Keeps e new × (new.committed ≡ e.committed)
+call-keeps e round call new (CopyHome transaction block i b v next) = (record { shape = refl; accepted = refl; first = refl }, refl)
+call-keeps e round call new (FlushHome transaction block none) = (record { shape = refl; accepted = refl; first = refl }, refl)
+call-keeps e round call new WriteTail = (record { shape = refl; accepted = refl; first = refl }, refl)
+call-keeps e round call new FlushTail = (record { shape = refl; accepted = refl; first = refl }, refl)
+
+-- a step of a round commits nothing
+pub round-keeps : (old new : Engine) (disk after : Disk) → RoundSteps old disk new after → Keeps old new × (new.committed ≡ old.committed)
+round-keeps old new disk after step =
+    let begins = begun-keeps old old.round in
+    let calls = call-keeps (begun old) (begun old).round step.call new step.due in (
+      record { shape = calls.0.shape ∙ begins.0.shape; accepted = calls.0.accepted ∙ begins.0.accepted; first = calls.0.first ∙ begins.0.first },
+      calls.1 ∙ begins.1,
+    )
+
+-- nor does one that fails
+pub round-fault-keeps : (old new : Engine) (disk after : Disk) → RoundFaults old disk new after → Keeps old new × (new.committed ≡ old.committed)
+round-fault-keeps old new disk after fault =
+    let begins = begun-keeps old old.round in
+    subst (λ (e : Engine). Keeps old e × (e.committed ≡ old.committed)) (sym fault.engine)
+    (record { shape = begins.0.shape; accepted = begins.0.accepted; first = begins.0.first }, begins.1)
 
 -- front and engine of a journal that was just made agree
 pub fresh-agrees : (shape : Shape) (superblock : List ℕ) (next capacity : ℕ) (j : Journal) → j.engine ≡ fresh_engine shape superblock next →

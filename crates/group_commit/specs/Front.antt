@@ -1,8 +1,9 @@
 -- The front as contracts see it: the transaction that handles join, and what it keeps for them.
-use Rattle.std.specs.Prelude.{◌≡◌, ℕ, ◌+◌, ◌^◌, ◌<◌, ◌≤◌, true, false, length}
+use Rattle.std.specs.Prelude.{◌≡◌, ℕ, ◌+◌, ◌-◌, ◌^◌, ◌<◌, ◌≤◌, true, false, [], ◌∷◌, ◌++◌, length, drop}
 use Rattle.journal_model.specs.declared.refusal.JournalError.{JournalError}
 use Rattle.journal_model.specs.declared.refusal.JournalError.TheVariants.{Full, Memory, NotRunning, SequenceEnd, TooMany}
 use Rattle.journal_model.specs.Opening.{greatest_number}
+use Rattle.journal_model.specs.Transaction.{History}
 use Rattle.journal_world.specs.Front.{Front, next_handle}
 
 -- what a front keeps true: no more credits are held than a transaction may have, no more numbers are given out than there
@@ -13,6 +14,10 @@ pub record IsFront (f : Front) : Type 0 where
   pub given : f.given < 2 ^ 64
   pub joined : f.locked ≡ true → 0 < length f.running.handles
   pub number : f.running.tid ≤ greatest_number + 1
+
+-- the transactions that are not told to be committed, the running one last
+abbrev pub unfinished : Front → History
+unfinished f = drop (f.mark + 1 + length f.sealed - f.running.tid) (f.sealed ++ f.running ∷ [])
 
 -- why credits are not granted: a transaction can never have so many, or the credits held leave fewer
 pub data ReserveRefused (f : Front) (n : ℕ) : JournalError → Type 0 where

@@ -1,6 +1,8 @@
 -- What the calls of a journal do, each as one step of the pure machine, and why they are refused.
-use Rattle.std.specs.Prelude.{◌≡◌, ◌≢◌, ℕ, ◌+◌, ◌-◌, ◌<◌, ◌≤◌, true, false, length}
+use Rattle.std.specs.Prelude.{◌≡◌, ◌≢◌, ℕ, ◌+◌, ◌-◌, ◌<◌, ◌≤◌, true, false, List, [], ◌∷◌, ◌++◌, length, Some, Ok}
 use Rattle.std.specs.List.{AllByRecursion}
+use Rattle.journal_model.specs.declared.entry.Entry.{Entry}
+use Rattle.journal_model.specs.declared.number.Area.TheVariants.{Home}
 use Rattle.journal_model.specs.declared.refusal.JournalError.{JournalError}
 use Rattle.journal_model.specs.declared.refusal.JournalError.TheVariants.{Aborted, BadBlock, Device, Memory, NeedSpace, NoCredit}
 use Rattle.journal_model.specs.declared.transaction.Op.{Op}
@@ -10,21 +12,26 @@ use Rattle.journal_model.specs.Block.{IsAllowedBlock}
 use Rattle.journal_model.specs.Disk.{Disk, Image, Leaves}
 use Rattle.journal_model.specs.Layout.{narrow}
 use Rattle.journal_model.specs.Opening.{Opens, IsCountOf, greatest_number}
+use Rattle.journal_model.specs.Reading.{seen}
 use Rattle.journal_model.specs.Room.{need}
 use Rattle.journal_model.specs.Superblock.{Shape}
-use Rattle.journal_model.specs.Transaction.{History, entries}
-use Rattle.block_device.specs.State.{DeviceState, one_more_fault}
+use Rattle.journal_model.specs.Transaction.{History, entries, last_effect}
+use Rattle.block_device.specs.State.{DeviceState, Stays, one_more_fault}
+use Rattle.journal_world.specs.declared.round.Round.TheVariants.{Idle as NoRound}
 use Rattle.journal_world.specs.declared.stage.Stage.TheVariants.{Idle}
-use Rattle.journal_world.specs.Engine.{AreBatchesOf}
+use Rattle.journal_world.specs.Checkpoint.{IsPending}
+use Rattle.journal_world.specs.Engine.{AreBatchesOf, Engine}
 use Rattle.journal_world.specs.Front.{Front, IsFirstTouch}
 use Rattle.journal_world.specs.Journal.{Event, Happens, Journal}
-use Rattle.journal_world.specs.Journal.Event.{CommitFault, CommitStep, Finish, Lock, Seal}
-use Rattle.journal_world.specs.Sound.{KeepsHome}
+use Rattle.journal_world.specs.Journal.Event.{CheckpointFault, CheckpointStep, CommitFault, CommitStep, Finish, Lock, ReadFault, Seal}
+use Rattle.journal_world.specs.Sound.{CopiesHome, KeepsHome}
 use Rattle.group_commit.specs.declared.handle.Status.{Status}
 use Rattle.group_commit.specs.declared.handle.Status.TheVariants.{Committed as IsCommitted, Open}
+use Rattle.group_commit.specs.declared.journal.CheckTurn.{CheckTurn}
+use Rattle.group_commit.specs.declared.journal.CheckTurn.TheVariants.{Idle as IdleCheck, Step as StepCheck, Released}
 use Rattle.group_commit.specs.declared.journal.Turn.{Turn}
 use Rattle.group_commit.specs.declared.journal.Turn.TheVariants.{Idle as IdleTurn, Waiting, Step, Sealed, Committed}
-use Rattle.group_commit.specs.Front.{JoinRefused}
+use Rattle.group_commit.specs.Front.{JoinRefused, unfinished}
 use Rattle.group_commit.specs.Values.{HandleValue, JournalValue}
 
 -- the journal and the disk of its device go from old to new by this one step
@@ -66,6 +73,26 @@ pub data WriteRefused (j : Journal) (left b : ℕ) : JournalError → Type 0 whe
   WithoutCredit : j.engine.aborted ≡ false → MayTouch j b → IsFirstTouch j.front b → left ≡ 0 → WriteRefused j left b NoCredit
   WithoutMemory : j.engine.aborted ≡ false → MayTouch j b → WriteRefused j left b Memory
 
+-- how many transactions since the opening are told to be committed
+abbrev pub finished : Journal → ℕ
+finished j = j.front.mark + 1 - j.engine.first
+
+-- a read of the block answers these bytes
+abbrev pub IsSeen : Journal → Disk → ℕ → List ℕ → Type 0
+IsSeen j disk b v = seen (j.front.sealed ++ j.front.running ∷ []) (finished j) b (disk Home b).reads ≡ Ok v
+
+-- a copy of the block is kept: a transaction that is not told to be committed has an entry of it, or one is pending
+pub data HasCopyKept (j : Journal) (b : ℕ) : Type 0 where
+  OfUnfinished : (e : Entry) → last_effect b (unfinished j.front) ≡ Some e → HasCopyKept j b
+  OfPending : (i : ℕ) (v : List ℕ) → IsPending j.engine i b v → HasCopyKept j b
+
+-- why a read is refused: the device failed before, the block is none that may be touched, or the device failed in the read
+pub data ReadRefused {D : Type 0} (state : D → DeviceState) (old : JournalValue D) (b : ℕ) (new : JournalValue D) : JournalError → Type 0 where
+  ReadAborted : old.journal.engine.aborted ≡ true → new ≡ old → ReadRefused state old b new Aborted
+  ReadOutside : old.journal.engine.aborted ≡ false → (MayTouch old.journal b → ⊥) → new ≡ old → ReadRefused state old b new BadBlock
+  ReadFailed : Does state old ReadFault new → (state new.device).faults ≡ one_more_fault (state old.device).faults →
+      ReadRefused state old b new Device
+
 -- what a write leaves of the handle: a first touch takes one of its credits, any other write none
 pub record Spends (f : Front) (b : ℕ) (old new : HandleValue) : Type 0 where
   pub first : IsFirstTouch f b → (0 < old.left) × (new ≡ record old { left = old.left - 1 })
@@ -83,10 +110,10 @@ abbrev pub StatusIs : Status → ℕ → Front → Type 0
 StatusIs IsCommitted tid f = tid ≤ f.mark
 StatusIs Open tid f = f.mark < tid
 
--- what is left of the ring is enough for the running transaction
+-- the ring has as many free blocks as the running transaction needs
 abbrev pub HasRoomFor : Journal → Type 0
 HasRoomFor j =
-    j.engine.head + need (narrow j.engine.shape.block_size) (length (entries j.front.running.steps)) 0 ≤ j.engine.ring.blocks
+    j.engine.start + need (narrow j.engine.shape.block_size) (length (entries j.front.running.steps)) 0 ≤ j.engine.tail + j.engine.ring.blocks
 
 -- nothing is being committed, and the running transaction takes no further handles and has no open one
 pub record SealIsDue (j : Journal) : Type 0 where
@@ -138,6 +165,27 @@ pub data TurnRefused {D : Type 0} (state : D → DeviceState) (old new : Journal
   DeviceFailed : Does state old CommitFault new → (state new.device).faults ≡ one_more_fault (state old.device).faults →
       TurnRefused state old new Device
 
+-- no round is under way, and every committed transaction is released
+pub record NothingToRelease (e : Engine) : Type 0 where
+  pub running : e.aborted ≡ false
+  pub idle : e.round ≡ NoRound
+  pub released : e.released ≡ e.committed
+
+-- what a checkpoint turn did: the round is over behind its last step
+abbrev pub CheckTurnDid : {D : Type 0} → (D → DeviceState) → CheckTurn → JournalValue D → JournalValue D → Type 0
+CheckTurnDid state IdleCheck old new =
+    NothingToRelease old.journal.engine × (new.journal ≡ old.journal) × ((state new.device).disk ≡ (state old.device).disk)
+CheckTurnDid state StepCheck old new = Does state old CheckpointStep new × (new.journal.engine.round ≢ NoRound)
+CheckTurnDid state (Released tid) old new =
+    Does state old CheckpointStep new × (new.journal.engine.round ≡ NoRound) × (tid + 1 ≡ new.journal.engine.first + new.journal.engine.released)
+
+-- why a checkpoint turn is refused: the device failed before, or in this turn
+pub data CheckTurnRefused {D : Type 0} (state : D → DeviceState) (old new : JournalValue D) : JournalError → Type 0 where
+  CheckAborted : old.journal.engine.aborted ≡ true → new.journal ≡ old.journal → Stays (state old.device) (state new.device) →
+      (state new.device).faults ≡ (state old.device).faults → CheckTurnRefused state old new Aborted
+  CheckFailed : Does state old CheckpointFault new → (state new.device).faults ≡ one_more_fault (state old.device).faults →
+      CheckTurnRefused state old new Device
+
 -- every image that a crash of the disk may leave opens, to a number of these transactions from low to high
 pub record OpensOver (shape : Shape) (ts : History) (low high : ℕ) (disk : Disk) : Type 0 where
   pub each : (image : Image) → Leaves disk image → (n : ℕ) × (low ≤ n) × (n ≤ high) × Opens shape ts n image × IsCountOf shape image ts n
@@ -149,4 +197,9 @@ OpensNow j disk = OpensOver j.engine.shape j.front.sealed j.engine.committed (le
 -- a moment of a turn: home is as it was, and what a stop leaves opens
 pub record IsDuringTurn (j : Journal) (old disk : Disk) : Type 0 where
   pub home : KeepsHome old disk
+  pub opens : OpensNow j disk
+
+-- a moment of a checkpoint turn: home has changed by newest committed copies alone, and what a stop leaves opens
+pub record IsDuringCheckTurn (j : Journal) (old disk : Disk) : Type 0 where
+  pub home : CopiesHome j.engine old disk
   pub opens : OpensNow j disk

@@ -1,6 +1,5 @@
 -- What contracts see of the journal's values.
 use Rattle.std.specs.Prelude.{ℕ}
-use Rattle.journal_world.specs.Engine.{Engine}
 use Rattle.journal_world.specs.Journal.{Journal}
 
 -- a handle: its number, that of its transaction, and how many credits it has left
@@ -13,11 +12,6 @@ pub record HandleValue : Type 0 where
 pub record TicketValue : Type 0 where
   pub handle : ℕ
   pub tid : ℕ
-
--- an engine and its device
-pub record EngineValue (D : Type 0) : Type 0 where
-  pub device : D
-  pub engine : Engine
 
 -- a journal and its device
 pub record JournalValue (D : Type 0) : Type 0 where

@@ -1,10 +1,11 @@
 //! The transaction that handles join and write to, the ones that are sealed, and the credits.
-ghost use Rattle.std.specs.Prelude.{◌≡◌, ◌+◌, ◌<◌, ◌≤◌, ◌↔◌, true, IsTrue, length, OnOk, OnErr, IfOk, IfErr};
+ghost use Rattle.std.specs.Prelude.{◌≡◌, ◌+◌, ◌<◌, ◌≤◌, ◌↔◌, true, IsTrue, length, Some, None, IfSome, IfNone, OnOk, OnErr, IfOk, IfErr};
+ghost use Rattle.journal_model.specs.declared.entry.Entry.TheVariants.{Copy};
 ghost use Rattle.journal_model.specs.Opening.{greatest_number};
-ghost use Rattle.journal_model.specs.Transaction.{entries};
+ghost use Rattle.journal_model.specs.Transaction.{entries, last_effect};
 ghost use Rattle.journal_world.specs.Front.{IsFirstTouch, MayJoin, empty_transaction, finishing, fresh_front, giving_back, joining, locking, next_handle, reserving, sealing, stopping, writing};
 ghost use Rattle.journal_world.specs.Journal.{batch_of};
-ghost use Rattle.group_commit.specs.Front.{JoinRefused, ReserveRefused};
+ghost use Rattle.group_commit.specs.Front.{JoinRefused, ReserveRefused, unfinished};
 
 use indexmap::IndexMap;
 use journal_model::{
@@ -32,6 +33,8 @@ pub(crate) struct Front {
     running: Sealed,
     /// What its steps leave of each block that they touch, in the order of the first touches.
     entries: IndexMap<BlockNo, Entry>,
+    /// The entries of the last sealed transaction, while it is not told to be committed.
+    committing: IndexMap<BlockNo, Entry>,
     /// How many of its handles have not stopped.
     open_handles: u64,
     /// It takes no further handles.
@@ -78,6 +81,7 @@ impl Front {
             sealed: Vec::new(alloc),
             running: empty_transaction(alloc, first),
             entries: IndexMap::new(alloc),
+            committing: IndexMap::new(alloc),
             open_handles: 0,
             locked: false,
             given: 0,
@@ -131,6 +135,22 @@ impl Front {
         ensures { IsTrue result ↔ IsFirstTouch self.now block }
     {
         self.entries.get(&block).is_none()
+    }
+
+    /// The last copy of a block in the running transaction or, where that has none, in the sealed one that is not told to
+    /// be committed.
+    pub(crate) fn copy_of(&self, block: BlockNo) -> Option<&[u8]>
+        ensures copy { IfSome result (λ copy. last_effect block (unfinished self.now) ≡ Some (Copy copy.now)) }
+        ensures none { IfNone result (last_effect block (unfinished self.now) ≡ None) }
+    {
+        let entry = match self.entries.get(&block) {
+            Some(entry) => entry,
+            None => self.committing.get(&block)?,
+        };
+        match entry {
+            Entry::Copy(copy) => Some(copy.bytes()),
+            Entry::Revoke => None,
+        }
     }
 
     /// Notes a write. Where memory runs out nothing is noted.
@@ -224,11 +244,13 @@ impl Front {
     pub(crate) fn seal(&mut self)
         requires locked { self.old.locked ≡ true }
         requires number { self.old.running.tid ≤ greatest_number }
+        requires finished { self.old.mark + 1 ≡ self.old.running.tid }
         ensures { self.new ≡ sealing self.old }
     {
         let next = Tid(self.running.tid.0 + 1);
         let sealed = std::mem::replace(&mut self.running, empty_transaction(self.alloc, next));
         self.held = self.held.saturating_sub(self.entries.len() as u64);
+        std::mem::swap(&mut self.entries, &mut self.committing);
         self.entries.clear();
         self.sealed.push_reserved(sealed);
         self.locked = false;
@@ -236,10 +258,11 @@ impl Front {
 
     /// One more transaction is told to be committed.
     pub(crate) fn finish(&mut self)
-        requires { self.old.mark < self.old.running.tid }
+        requires { self.old.mark + 1 < self.old.running.tid }
         ensures { self.new ≡ finishing self.old }
     {
         self.mark += 1;
+        self.committing.clear();
     }
 
     /// The sealed transactions.
@@ -254,6 +277,7 @@ impl Front {
             sealed,
             running: _,
             entries: _,
+            committing: _,
             open_handles: _,
             locked: _,
             given: _,

@@ -1,9 +1,9 @@
 //! The journal that callers hold: a front and an engine.
 ghost use Rattle.std.specs.Prelude.{◌≡◌, ◌<◌, ◌≤◌, ◌≢◌, ◌↔◌, ℕ, IsTrue, true, false, length, [], IfOk, IfErr, OnOk, Contains};
-ghost use Rattle.journal_model.specs.declared.refusal.JournalError.TheVariants.{Aborted, Memory};
+ghost use Rattle.journal_model.specs.declared.refusal.JournalError.TheVariants.{Aborted, Device as DeviceFailed, Memory};
 ghost use Rattle.journal_model.specs.Block.{IsAllowedBlock};
 ghost use Rattle.journal_model.specs.Layout.{narrow};
-ghost use Rattle.block_device.specs.State.{EachMoment};
+ghost use Rattle.block_device.specs.State.{EachMoment, Stays};
 ghost use Rattle.journal_world.specs.declared.stage.Stage.TheVariants.{Idle};
 ghost use Rattle.journal_world.specs.Front.{next_handle, writing};
 ghost use Rattle.journal_world.specs.Sound.{IsPlain};
@@ -12,13 +12,14 @@ ghost use Rattle.journal_world.specs.Journal.Event.{GiveBack, Join, Reserve, Sto
 ghost use Rattle.journal_world.specs.World.{Begins};
 ghost use Rattle.journal_world.specs.World.Phase.{Running};
 ghost use Rattle.group_commit.specs.Front.{ReserveRefused};
-ghost use Rattle.group_commit.specs.Journal.{Does, IsDuringTurn, OpensNow, Requests, SealIsDue, Spends, StatusIs, TryJoinRefused, TurnDid, TurnRefused, WriteRefused};
+ghost use Rattle.log_engine.specs.Call.{IsOneMoment};
+ghost use Rattle.group_commit.specs.Journal.{CheckTurnDid, CheckTurnRefused, Does, HasCopyKept, IsDuringCheckTurn, IsDuringTurn, IsSeen, MayTouch, OpensNow, ReadRefused, Requests, SealIsDue, Spends, StatusIs, TryJoinRefused, TurnDid, TurnRefused, WriteRefused};
 
-use crate::engine::{Engine, Progress};
 use crate::front::Front;
 use crate::handle::{Credits, Handle, Receipt, Seat, Status, Ticket};
 use block_device::Device;
 use journal_model::{BlockNo, JournalError, Sealed, Tid};
+use log_engine::{Engine, Progress};
 use log_ring::Layout;
 use recovery::Opened;
 use std::alloc::Global;
@@ -44,6 +45,17 @@ pub enum Turn {
     Sealed(Tid),
     /// The last step of a commit: this transaction is committed.
     Committed(Tid),
+}
+
+/// What a checkpoint turn did.
+#[derive(Clone, Copy, Debug, PartialEq, Eq)]
+pub enum CheckTurn {
+    /// Nothing: every committed transaction is released.
+    Idle,
+    /// One step of a checkpoint round.
+    Step,
+    /// The last step of a round: the transactions up to this one are released.
+    Released(Tid),
 }
 
 /// What is left of a journal at its end.
@@ -193,6 +205,49 @@ impl<D: Device> Journal<D> {
         Ok(())
     }
 
+    /// Reads a block of the home area into a buffer of one block: the running transaction's copy, else that of the one that
+    /// is being committed, else the newest committed copy, else what home reads. Isolation between handles is left to the
+    /// caller. A block with a copy that is not home for good is read without a device call, any other with one.
+    ///
+    /// # Errors
+    ///
+    /// `Aborted` after a device failure; `BadBlock` where home has no such block, or its number is not below 2^32: nothing
+    /// changes. `Device` where the device failed: the journal is aborted, and the buffer's bytes are unspecified.
+    /// Source: journalling.rst (handles see the running transaction).
+    pub fn read(
+        &mut self,
+        _handle: &mut Handle,
+        block: BlockNo,
+        into: &mut [u8],
+    ) -> Result<(), JournalError>
+        requires { length into.old ≡ (D.state self.old.device).shape.block_size }
+        ensures may { OnOk result ((self.old.journal.engine.aborted ≡ false) × MayTouch self.old.journal block) }
+        ensures seen { OnOk result (D.honest self.new.device → IsSeen self.old.journal (D.state self.old.device).disk block into.new) }
+        ensures same { OnOk result (self.new.journal ≡ self.old.journal) }
+        // Where a copy is kept there is no device call.
+        ensures kept { OnOk result (HasCopyKept self.old.journal block → self.new ≡ self.old) }
+        ensures err { IfErr result (λ e. ReadRefused D.state self.old block self.new e) }
+        ensures untouched { IfErr result (λ e. e ≢ DeviceFailed → into.new ≡ into.old) }
+        ensures stays { Stays (D.state self.old.device) (D.state self.new.device) }
+        ensures no_fault { OnOk result ((D.state self.new.device).faults ≡ (D.state self.old.device).faults) }
+        ensures honest { D.honest self.new.device → D.honest self.old.device }
+        ensures length { length into.new ≡ length into.old }
+        ensures handle { _handle.new ≡ _handle.old }
+    {
+        if self.engine.is_aborted() {
+            return Err(JournalError::Aborted);
+        }
+        let home_blocks = self.engine.home_blocks();
+        if !is_allowed(block, home_blocks) {
+            return Err(JournalError::BadBlock);
+        }
+        if let Some(copy) = self.front.copy_of(block) {
+            into.copy_from_slice(copy);
+            return Ok(());
+        }
+        self.engine.read(block, into)
+    }
+
     /// Ends a handle. Its credits that are left come back. It always succeeds, after a device failure too.
     /// Source: journalling.rst (`journal_stop`).
     pub fn stop(&mut self, handle: Handle) -> Ticket
@@ -281,6 +336,7 @@ impl<D: Device> Journal<D> {
         ensures shape { (D.state self.new.device).shape ≡ (D.state self.old.device).shape }
         ensures moments { D.honest self.old.device →
             EachMoment (IsDuringTurn self.old.journal (D.state self.old.device).disk) (D.state self.old.device) (D.state self.new.device) }
+        ensures one { IsOneMoment (D.state self.old.device) (D.state self.new.device) }
         ensures honest { D.honest self.new.device → D.honest self.old.device }
     {
         if self.engine.is_aborted() {
@@ -309,6 +365,7 @@ impl<D: Device> Journal<D> {
         ensures shape { (D.state self.new.device).shape ≡ (D.state self.old.device).shape }
         ensures moments { D.honest self.old.device →
             EachMoment (IsDuringTurn self.old.journal (D.state self.old.device).disk) (D.state self.old.device) (D.state self.new.device) }
+        ensures one { IsOneMoment (D.state self.old.device) (D.state self.new.device) }
         ensures honest { D.honest self.new.device → D.honest self.old.device }
     {
         match self.engine.commit_step()? {
@@ -334,9 +391,36 @@ impl<D: Device> Journal<D> {
         }
         let tid = self.front.tid();
         let batch = self.front.batch()?;
-        self.engine.accept(batch)?;
+        if let Err(refused) = self.engine.accept(batch) {
+            return Err(refused.1);
+        }
         self.front.seal();
         Ok(Turn::Sealed(tid))
+    }
+
+    /// Takes the next step of a checkpoint round: at most one device call. A round writes committed copies home, and frees
+    /// the log blocks of the transactions that were committed when it began.
+    ///
+    /// # Errors
+    ///
+    /// `Aborted` after a device failure. `Device` where the device failed: the journal is aborted, until the device is
+    /// opened again.
+    /// Source: fs/jbd2/checkpoint.c by behaviour; that each step is one device call is this project's own.
+    pub fn checkpoint_turn(&mut self) -> Result<CheckTurn, JournalError>
+        ensures ok { IfOk result (λ turn. CheckTurnDid D.state turn self.old self.new) }
+        ensures err { IfErr result (λ e. CheckTurnRefused D.state self.old self.new e) }
+        ensures no_fault { OnOk result ((D.state self.new.device).faults ≡ (D.state self.old.device).faults) }
+        ensures shape { (D.state self.new.device).shape ≡ (D.state self.old.device).shape }
+        ensures moments { D.honest self.old.device →
+            EachMoment (IsDuringCheckTurn self.old.journal (D.state self.old.device).disk) (D.state self.old.device) (D.state self.new.device) }
+        ensures one { IsOneMoment (D.state self.old.device) (D.state self.new.device) }
+        ensures honest { D.honest self.new.device → D.honest self.old.device }
+    {
+        match self.engine.checkpoint_step()? {
+            Progress::Idle => Ok(CheckTurn::Idle),
+            Progress::Step => Ok(CheckTurn::Step),
+            Progress::Done(tid) => Ok(CheckTurn::Released(tid)),
+        }
     }
 
     /// Ends the journal: the device, what was sealed, and how many transactions of it are committed.

@@ -3,17 +3,15 @@
 //! a stop at any moment leaves.
 //!
 //! It is one plain value: its calls take `&mut self`, and there is no lock or thread. Two parts know each other by one
-//! contract each: `engine` commits batches to the log, and `front`, with the `journal` around both, turns handles and their
-//! writes into batches.
+//! contract each: the engine (`log_engine`) commits batches to the log and writes them home, and `front`, with the `journal`
+//! around both, turns handles and their writes into batches.
 #![tactic(auto)]
 
-mod engine;
 mod front;
 mod handle;
 mod journal;
 #[cfg(test)]
 mod tests;
-mod text;
 
 pub use handle::{Credits, Handle, Receipt, Seat, Status, Ticket};
-pub use journal::{Journal, Parts, Turn};
+pub use journal::{CheckTurn, Journal, Parts, Turn};

@@ -1,6 +1,8 @@
 -- An engine that takes a batch stays sound.
-use Rattle.std.proofs.Common.{refl, sym, ◌∙◌, ap, subst, arith, inl, inr, length-append}
-use Rattle.std.specs.Prelude.{◌≡◌, ◌⊎◌, ℕ, suc, ◌+◌, ◌≤◌, Bool, true, false, List, [], ◌∷◌, ◌++◌, length, map}
+use Rattle.std.proofs.Common.{refl, sym, ◌∙◌, ap, subst, arith, inl, inr, ⊎_elim, length-append}
+use Rattle.std.specs.Prelude.{◌≡◌, ◌⊎◌, ℕ, suc, ◌+◌, ◌*◌, ◌≤◌, Bool, true, false, List, [], ◌∷◌, ◌++◌, length, map}
+use Rattle.std.proofs.lemmas.List.{take-append-le}
+use Rattle.journal_model.proofs.ListElements.{get-front}
 use Rattle.journal_model.proofs.OwnTextEach.{each-append}
 use Rattle.journal_model.specs.declared.entry.Batch.{Batch}
 use Rattle.journal_model.specs.Chain.{texts_blocks}
@@ -11,8 +13,10 @@ use Rattle.journal_world.specs.declared.stage.Stage.{Stage}
 use Rattle.journal_world.specs.declared.stage.Stage.TheVariants.{Idle, SuperblockWrite, Blocks}
 use Rattle.journal_world.specs.Engine.{Engine, Accepts, HasRoom, IsBatch, accepting, block_at, committed_texts, due_blocks, text_of}
 use Rattle.journal_world.specs.Opening.{IsBehind}
-use Rattle.journal_world.specs.Sound.{AreNumberedFrom, IsOwnBlock, IsPlain, MayBeSuperblock, Names, Sound, StageAgrees, StageHolds}
+use Rattle.journal_world.specs.Sound.{AreNumberedFrom, IsOwnBlock, IsPlain, KeepsHome, MayBeSuperblock, Sound, StageAgrees, StageHolds, position}
 use Rattle.journal_world.proofs.Elements.{get-last, take-before}
+use Rattle.journal_world.proofs.Kept.{HasThose, agrees-kept, home-kept, may-kept, names-kept, round-kept}
+use Rattle.journal_world.proofs.Positions.{tail-start}
 use Rattle.journal_world.proofs.Texts.{due-of, due-some}
 
 -- numbered batches with one more
@@ -40,13 +44,32 @@ taken-due e b stage all = due-of (taken e b stage) b (get-last e.accepted b e.co
 pub taken-one : (e : Engine) (b : Batch) → length e.accepted ≡ e.committed → length (e.accepted ++ b ∷ []) ≡ e.committed + 1
 taken-one e b all = omega (arith, length-append e.accepted (b ∷ []))
 
+-- the transactions before it have taken as many blocks as before
+taken-position : (e : Engine) (b : Batch) (stage : Stage) (n : ℕ) → n ≤ length e.accepted → position (taken e b stage) n ≡ position e n
+taken-position e b stage n fits = ap (λ (bs : List Batch). length (texts_blocks (map (text_of e) bs))) (take-append-le n e.accepted (b ∷ []) fits)
+
+-- its blocks are at most one lap more
+taken-laps : (e : Engine) (b : Batch) (stage : Stage) → IsPlain (record e { stage = Idle }) → MayTake e b →
+    e.start + length (due_blocks (taken e b stage)) ≤ length (e.accepted ++ b ∷ []) * e.ring.blocks
+taken-laps e b stage plain may =
+    let all : length e.accepted ≡ e.committed = plain.stage.0 in
+    let due : length (due_blocks (taken e b stage)) ≡ length (text_blocks (text_of e b)) = ap length (taken-due e b stage all) in
+    let room : e.start + length (text_blocks (text_of e b)) ≤ e.tail + e.ring.blocks = may.room in
+    let laps : e.start + length (due_blocks e) ≤ length e.accepted * e.ring.blocks = plain.laps in
+    let order : e.tail ≤ e.start = tail-start (record e { stage = Idle }) plain in
+    let more : length (e.accepted ++ b ∷ []) * e.ring.blocks ≡ (length e.accepted + 1) * e.ring.blocks =
+    ap (λ n. n * e.ring.blocks) (length-append e.accepted (b ∷ [])) in
+    omega arith
+
 -- it keeps of itself what it kept
 pub taken-plain : (e : Engine) (b : Batch) (stage : Stage) → IsPlain (record e { stage = Idle }) → MayTake e b →
     StageAgrees (taken e b stage) stage → IsPlain (taken e b stage)
 taken-plain e b stage plain may agrees =
     let all : length e.accepted ≡ e.committed = plain.stage.0 in
+    let below : e.released ≤ e.bound = plain.order.0 in
+    let above : e.bound ≤ e.committed = plain.order.1 in
     record {
-      names = plain.names;
+      names = names-kept (record e { stage = Idle }) (e.accepted ++ b ∷ []) e.committed e.start stage e.aborted e.started e.superblock plain.names;
       uuid = plain.uuid;
       batches = each-append (IsBatch e.shape) e.accepted (b ∷ []) plain.batches (may.batch, tt);
       numbered = numbered-last e.first e.accepted b plain.numbered (may.number ∙ ap (λ n. e.first + n) (sym all));
@@ -55,9 +78,14 @@ taken-plain e b stage plain may agrees =
           let number : b.tid ≡ e.first + e.committed = may.number in
           let left : b.tid ≤ greatest_number = may.left in
           omega arith;
-      head = plain.head ∙ ap (λ (bs : List Batch). length (texts_blocks (map (text_of e) bs))) (sym (take-before e.accepted b e.committed all));
-      room = subst (λ (bs : List (List ℕ)). e.head + length bs ≤ e.ring.blocks) (sym (taken-due e b stage all)) may.room;
+      start = plain.start ∙ sym (taken-position e b stage e.committed (omega arith));
+      tail = plain.tail ∙ sym (taken-position e b stage e.released (omega arith));
+      bound_position = plain.bound_position ∙ sym (taken-position e b stage e.bound (omega arith));
+      order = plain.order;
+      room = subst (λ (bs : List (List ℕ)). e.start + length bs ≤ e.tail + e.ring.blocks) (sym (taken-due e b stage all)) may.room;
+      laps = taken-laps e b stage plain may;
       stage = agrees;
+      round = agrees-kept (record e { stage = Idle }) (e.accepted ++ b ∷ []) e.committed e.start stage e.aborted e.round plain.round;
     }
 
 -- what was behind the committed transactions stays so: none of the new one's blocks is handed to the device
@@ -70,19 +98,39 @@ taken-behind e b stage k v (inr own) = let below = own.handed_over in absurd (om
 taken-texts : (e : Engine) (b : Batch) (stage : Stage) → length e.accepted ≡ e.committed → committed_texts (taken e b stage) ≡ committed_texts e
 taken-texts e b stage all = ap (map (text_of e)) (take-before e.accepted b e.committed all)
 
+-- the committed transactions are the same
+taken-those : (e : Engine) (b : Batch) → length e.accepted ≡ e.committed → HasThose (record e { stage = Idle }) (e.accepted ++ b ∷ []) e.committed
+taken-those e b all = record { same = λ j below. get-front e.accepted (b ∷ []) j (omega arith); more = omega arith }
+
+-- and a crash leaves the same of block 0
+taken-may : (e : Engine) (b : Batch) (stage : Stage) (v : List ℕ) → MayBeSuperblock (record e { stage = Idle }) v → MayBeSuperblock (taken e b stage) v
+taken-may e b stage v may =
+    may-kept (record e { stage = Idle }) (e.accepted ++ b ∷ []) e.committed e.start stage e.aborted v
+    (λ clean. ⊎_elim (λ off. inl off) (λ on. cc) clean) may
+
 -- the engine with the batch is sound, at a stage that agrees with it
 taken-sound : (e : Engine) (b : Batch) (stage : Stage) (disk : Disk) → Sound (record e { stage = Idle }) disk → MayTake e b →
-    StageAgrees (taken e b stage) stage → ((v : List ℕ) → Names e.started e.shape e.ring e.first v → MayBeSuperblock (taken e b stage) stage v) →
-    StageHolds (taken e b stage) disk stage → Sound (taken e b stage) disk
-taken-sound e b stage disk sound may agrees superblock holds = record {
-  plain = taken-plain e b stage sound.plain may agrees;
-  superblock = λ v one. superblock v (sound.superblock v one);
-  durable =
-      λ k below. sound.durable k below
-      ∙ ap (λ ts. record { reads = block_at (texts_blocks ts) k; others = [] }) (sym (taken-texts e b stage sound.plain.stage.0));
-  behind = λ k v low high one. taken-behind e b stage k v (sound.behind k v low high one);
-  stage = holds;
-}
+    StageAgrees (taken e b stage) stage → StageHolds (taken e b stage) disk stage → Sound (taken e b stage) disk
+taken-sound e b stage disk sound may agrees holds =
+    let below : e.released ≤ e.bound = sound.plain.order.0 in
+    let above : e.bound ≤ e.committed = sound.plain.order.1 in
+    let those : HasThose (record e { stage = Idle }) (e.accepted ++ b ∷ []) e.committed = taken-those e b sound.plain.stage.0 in
+    let home : KeepsHome disk disk = record { same = λ n. refl } in
+    record {
+      plain = taken-plain e b stage sound.plain may agrees;
+      superblock = λ v one. taken-may e b stage v (sound.superblock v one);
+      durable =
+          λ k low below. sound.durable k low below
+          ∙ ap (λ ts. record { reads = block_at (texts_blocks ts) k; others = [] }) (sym (taken-texts e b stage sound.plain.stage.0));
+      behind = λ k v low high one. taken-behind e b stage k v (sound.behind k v low high one);
+      stage = holds;
+      home =
+          home-kept (record e { stage = Idle }) (e.accepted ++ b ∷ []) e.committed e.start stage e.aborted those disk disk home
+          e.released (omega arith) sound.home;
+      round =
+          round-kept (record e { stage = Idle }) (e.accepted ++ b ∷ []) e.committed e.start stage e.aborted those disk disk home
+          e.round sound.plain.order.1 refl sound.round;
+    }
 
 -- the stage of a batch that was just taken depends on whether the superblock says where the log begins
 accepts-by : (e : Engine) (started : Bool) (b : Batch) (disk : Disk) → Sound (record e { started = started; stage = Idle }) disk → MayTake e b →
@@ -91,12 +139,12 @@ accepts-by e true b disk sound may =
     let one : length (e.accepted ++ b ∷ []) ≡ e.committed + 1 = taken-one e b sound.plain.stage.0 in
     taken-sound (record e { started = true }) b (Blocks 0) disk sound
     (record { number = may.number; left = may.left; batch = may.batch; room = may.room })
-    (one, refl, due-some (taken e b (Blocks 0)) one) (λ v names. names) (λ j below. absurd (omega arith))
+    (one, refl, due-some (taken e b (Blocks 0)) one) (λ j below. absurd (omega arith))
 accepts-by e false b disk sound may =
     let one : length (e.accepted ++ b ∷ []) ≡ e.committed + 1 = taken-one e b sound.plain.stage.0 in
     taken-sound (record e { started = false }) b SuperblockWrite disk sound
     (record { number = may.number; left = may.left; batch = may.batch; room = may.room })
-    (one, refl, sound.plain.stage.1 refl) (λ v names. inl names) tt
+    (one, refl, sound.plain.stage.1 refl) tt
 
 -- an engine that takes a batch stays sound
 pub accepts-sound : (old : Engine) (b : Batch) (new : Engine) (disk : Disk) → Sound old disk → Accepts old b new → Sound new disk

@@ -11,32 +11,34 @@ use Rattle.journal_world.specs.Call.{after_success}
 use Rattle.journal_world.specs.Call.Call.{Flush}
 use Rattle.journal_world.specs.Engine.{Engine, block_at, due_blocks, write_block}
 use Rattle.journal_world.specs.Sound.{IsDurable, IsPlain, Sound}
-use Rattle.journal_world.proofs.Changes.{IsDueWrite, at, due-other, due-sound, flush-sound, read-flushed}
+use Rattle.journal_world.proofs.Changes.{IsDueWrite, at, due-other, due-sound, flush-sound, may-at, read-flushed}
 use Rattle.journal_world.proofs.Places.{is_write-written, written-there}
+use Rattle.journal_world.proofs.Positions.{tail-start}
 use Rattle.journal_world.proofs.Texts.{due-some}
 
 -- the disk after the write of block i of those that are due
 abbrev pub due_written : Engine → Disk → ℕ → Disk
-due_written e disk i = written disk Log (ring_place e.ring (e.head + i)) (block_at (due_blocks e) i)
+due_written e disk i = written disk Log (ring_place e.ring (e.start + i)) (block_at (due_blocks e) i)
 
 -- it is a write of that block
 pub due-written : (e : Engine) (disk : Disk) (i : ℕ) → i < length (due_blocks e) → IsDueWrite e disk (due_written e disk i) i
-due-written e disk i within = record { write = is_write-written disk (ring_place e.ring (e.head + i)) (block_at (due_blocks e) i); within = within }
+due-written e disk i within = record { write = is_write-written disk (ring_place e.ring (e.start + i)) (block_at (due_blocks e) i); within = within }
 
 -- it is read there
-due-read : (e : Engine) (disk : Disk) (i : ℕ) → (due_written e disk i Log (ring_place e.ring (e.head + i))).reads ≡ block_at (due_blocks e) i
-due-read e disk i = ap (λ (c : Cell). c.reads) (written-there disk (ring_place e.ring (e.head + i)) (block_at (due_blocks e) i))
+due-read : (e : Engine) (disk : Disk) (i : ℕ) → (due_written e disk i Log (ring_place e.ring (e.start + i))).reads ≡ block_at (due_blocks e) i
+due-read e disk i = ap (λ (c : Cell). c.reads) (written-there disk (ring_place e.ring (e.start + i)) (block_at (due_blocks e) i))
 
 -- such a write leaves the cells of the other due blocks
 pub due-apart : (e : Engine) (old new : Disk) (i j : ℕ) → IsPlain e → IsDueWrite e old new i → j < length (due_blocks e) → (j ≡ i → ⊥) →
-    new Log (ring_place e.ring (e.head + j)) ≡ old Log (ring_place e.ring (e.head + j))
+    new Log (ring_place e.ring (e.start + j)) ≡ old Log (ring_place e.ring (e.start + j))
 due-apart e old new i j plain due below other =
-    let room : e.head + length (due_blocks e) ≤ e.ring.blocks = plain.room in
-    due-other e old new i (e.head + j) plain due (omega arith) (λ same. other (omega arith))
+    let room : e.start + length (due_blocks e) ≤ e.tail + e.ring.blocks = plain.room in
+    let order : e.tail ≤ e.start = tail-start e plain in
+    due-other e old new i (e.start + j) plain due (omega arith) (omega arith) (λ same. other (omega arith))
 
 -- the blocks up to the one that was written are read
 blocks-read : (e : Engine) (a : Bool) (disk : Disk) (k j : ℕ) → Sound (at e (Blocks k) a) disk → k + 1 < length (due_blocks e) → j < k + 1 →
-    (due_written e disk k Log (ring_place e.ring (e.head + j))).reads ≡ block_at (due_blocks e) j
+    (due_written e disk k Log (ring_place e.ring (e.start + j))).reads ≡ block_at (due_blocks e) j
 blocks-read e a disk k j sound more below =
     elim (cases_eq j k) [
       | inl same ↦ rw same (due-read e disk k)
@@ -51,14 +53,14 @@ block-sound : (e : Engine) (a : Bool) (disk : Disk) (k : ℕ) → Sound (at e (B
     Sound (at e (Blocks (k + 1)) a) (due_written e disk k)
 block-sound e a disk k sound more =
     due-sound e (Blocks k) (Blocks (k + 1)) a a disk (due_written e disk k) k sound (due-written (at e (Blocks k) a) disk k (omega arith))
-    (omega arith) (omega arith) (λ v may. may) (sound.plain.stage.0, sound.plain.stage.1, more) (λ j below. blocks-read e a disk k j sound more below)
+    (omega arith) (omega arith) (λ flush. cc) (sound.plain.stage.0, sound.plain.stage.1, more) (λ j below. blocks-read e a disk k j sound more below)
 
 -- where it fails too
 pub block-fails : (e : Engine) (a b : Bool) (disk after : Disk) (k : ℕ) → Sound (at e (Blocks k) a) disk → k + 1 < length (due_blocks e) →
     IsDueWrite (at e (Blocks k) a) disk after k → Sound (at e (Blocks k) b) after
 block-fails e a b disk after k sound more due =
     due-sound e (Blocks k) (Blocks k) a b disk after k sound due
-    (omega arith) (omega arith) (λ v may. may) sound.plain.stage
+    (omega arith) (omega arith) (λ flush. cc) sound.plain.stage
     (λ j below. ap (λ (c : Cell). c.reads) (due-apart (at e (Blocks k) a) disk after k j sound.plain due (omega arith) (λ same. omega arith))
     ∙ sound.stage j below)
 
@@ -67,8 +69,10 @@ all-flushed : (e : Engine) (a : Bool) (disk : Disk) (k : ℕ) → Sound (at e (B
     Sound (at e CommitWrite a) (flushed disk Log)
 all-flushed e a disk k sound last =
     let below : k < length (due_blocks e) = sound.plain.stage.2 in
-    flush-sound e (Blocks k) CommitWrite a a disk sound (omega arith) (λ v is. sound.superblock v (inl is)) (sound.plain.stage.0, sound.plain.stage.1)
-    (λ j below. read-flushed e disk (e.head + j) (block_at (due_blocks e) j) (sound.stage j (omega arith)))
+    flush-sound e (Blocks k) CommitWrite a a disk sound (omega arith)
+    (λ v is. may-at e (Blocks k) CommitWrite a a v (λ flush. cc) (sound.superblock v (inl is)))
+    (sound.plain.stage.0, sound.plain.stage.1)
+    (λ j below. read-flushed e disk (e.start + j) (block_at (due_blocks e) j) (sound.stage j (omega arith)))
 
 -- whichever of the two is due
 pub blocks-sound : (e : Engine) (a : Bool) (disk : Disk) (k : ℕ) (b : Bool) → Sound (at e (Blocks k) a) disk →
@@ -80,7 +84,7 @@ blocks-sound e a disk k false sound test = all-flushed e a disk k sound (grind (
 -- the write of the commit block leaves the others durable
 commit-durable : (e : Engine) (a : Bool) (disk after : Disk) (j : ℕ) → Sound (at e CommitWrite a) disk →
     IsDueWrite (at e CommitWrite a) disk after (length (due_blocks e) - 1) → j + 1 < length (due_blocks e) →
-    IsDurable e after (e.head + j) (block_at (due_blocks e) j)
+    IsDurable e after (e.start + j) (block_at (due_blocks e) j)
 commit-durable e a disk after j sound due below =
     due-apart (at e CommitWrite a) disk after (length (due_blocks e) - 1) j sound.plain due (omega arith) (λ same. omega arith) ∙ sound.stage j below
 
@@ -91,7 +95,7 @@ commit-sound e a disk sound =
     let i : ℕ = length (due_blocks e) - 1 in
     let some : 0 < length (due_blocks e) = due-some e sound.plain.stage.0 in
     let due : IsDueWrite (at e CommitWrite a) disk (due_written e disk i) i = due-written (at e CommitWrite a) disk i (omega arith) in
-    due-sound e CommitWrite CommitFlush a a disk (due_written e disk i) i sound due (omega arith) (omega arith) (λ v may. may) sound.plain.stage
+    due-sound e CommitWrite CommitFlush a a disk (due_written e disk i) i sound due (omega arith) (omega arith) (λ flush. cc) sound.plain.stage
     (λ j below. commit-durable e a disk (due_written e disk i) j sound due below, due-read e disk i)
 
 -- where it fails too
@@ -99,5 +103,5 @@ pub commit-fails : (e : Engine) (a b : Bool) (disk after : Disk) → Sound (at e
     IsDueWrite (at e CommitWrite a) disk after (length (due_blocks e) - 1) → Sound (at e CommitWrite b) after
 commit-fails e a b disk after sound due =
     let some : 0 < length (due_blocks e) = due-some e sound.plain.stage.0 in
-    due-sound e CommitWrite CommitWrite a b disk after (length (due_blocks e) - 1) sound due (omega arith) (omega arith) (λ v may. may) sound.plain.stage
+    due-sound e CommitWrite CommitWrite a b disk after (length (due_blocks e) - 1) sound due (omega arith) (omega arith) (λ flush. cc) sound.plain.stage
     (λ j below. commit-durable e a disk after j sound due below)

@@ -1,6 +1,6 @@
 -- A call of a commit that fails keeps the engine sound.
 use Rattle.std.proofs.Common.{refl, sym, subst, arith}
-use Rattle.std.specs.Prelude.{◌≡◌, ℕ, ◌+◌, ◌-◌, ◌<◌, nat_lt, Bool, true, false, if◌then◌else◌, length, Some, List}
+use Rattle.std.specs.Prelude.{◌≡◌, ℕ, ◌+◌, ◌-◌, ◌<◌, nat_lt, Bool, true, false, if◌then◌else◌, length, Some}
 use Rattle.std.proofs.lemmas.Bool.{ltb-true}
 use Rattle.std.proofs.lemmas.Option.{none-some, same_Some}
 use Rattle.journal_model.specs.declared.number.Area.TheVariants.{Log}
@@ -11,31 +11,56 @@ use Rattle.journal_world.specs.declared.stage.Stage.TheVariants.{Idle, Superbloc
 use Rattle.journal_world.specs.Call.{Call, IsAfterFault}
 use Rattle.journal_world.specs.Call.Call.{Flush}
 use Rattle.journal_world.specs.Engine.{Engine, CommitFaults, block_at, call_in, due_blocks, started_superblock, write_block}
-use Rattle.journal_world.specs.Sound.{MayBeSuperblock, Sound, StageAgrees, StageHolds}
+use Rattle.journal_world.specs.Sound.{Sound, StageAgrees, StageHolds}
 use Rattle.journal_world.proofs.Blocks.{block-fails, commit-fails}
-use Rattle.journal_world.proofs.Changes.{IsDueWrite, at, behind-later, plain-at}
+use Rattle.journal_world.proofs.Changes.{IsDueWrite, at, behind-later, home-at, may-at, plain-at, round-at}
 use Rattle.journal_world.proofs.Places.{flush-fault, is_write-fault}
 use Rattle.journal_world.proofs.Starting.{start-fails}
 use Rattle.journal_world.proofs.Texts.{due-some}
 
 -- on a disk that did not change, the engine is sound at the same stage
 same-sound : (e : Engine) (stage : Stage) (a b : Bool) (disk : Disk) → Sound (at e stage a) disk → StageAgrees (at e stage b) stage →
-    ((v : List ℕ) → MayBeSuperblock (at e stage a) stage v → MayBeSuperblock (at e stage b) stage v) →
     StageHolds (at e stage b) disk stage → Sound (at e stage b) disk
-same-sound e stage a b disk sound agrees may holds = record {
+same-sound e stage a b disk sound agrees holds = record {
   plain = plain-at e stage stage a b sound.plain agrees;
-  superblock = λ v one. may v (sound.superblock v one);
+  superblock = λ v one. may-at e stage stage a b v (λ flush. flush) (sound.superblock v one);
   durable = sound.durable;
   behind = λ k v low high one. behind-later e stage stage a b k v (omega arith) (sound.behind k v low high one);
   stage = holds;
+  home = home-at e stage stage a b disk disk sound (record { same = λ n. refl });
+  round = round-at e stage stage a b disk disk sound (record { same = λ n. refl }) refl;
 }
+
+-- which call is due does not depend on whether the device has failed
+agrees-either : (e : Engine) (stage : Stage) (a b : Bool) → StageAgrees (at e stage a) stage → StageAgrees (at e stage b) stage
+agrees-either e Idle a b agrees = agrees
+agrees-either e SuperblockWrite a b agrees = agrees
+agrees-either e SuperblockFlush a b agrees = agrees
+agrees-either e (Blocks k) a b agrees = agrees
+agrees-either e CommitWrite a b agrees = agrees
+agrees-either e CommitFlush a b agrees = agrees
+
+-- nor does what is written by then
+holds-either : (e : Engine) (stage : Stage) (a b : Bool) (disk : Disk) → StageHolds (at e stage a) disk stage → StageHolds (at e stage b) disk stage
+holds-either e Idle a b disk holds = holds
+holds-either e SuperblockWrite a b disk holds = holds
+holds-either e SuperblockFlush a b disk holds = holds
+holds-either e (Blocks k) a b disk holds = holds
+holds-either e CommitWrite a b disk holds = holds
+holds-either e CommitFlush a b disk holds = holds
+
+-- so an engine stays sound where it is aborted by a call that leaves the disk as it is
+pub abort-sound : (e : Engine) (disk : Disk) → Sound e disk → Sound (record e { aborted = true }) disk
+abort-sound e disk sound =
+    same-sound e e.stage e.aborted true disk sound (agrees-either e e.stage e.aborted true sound.plain.stage)
+    (holds-either e e.stage e.aborted true disk sound.stage)
 
 -- the flush behind the superblock fails
 started-fails : (e : Engine) (a b : Bool) (disk after : Disk) → Sound (at e SuperblockFlush a) disk → IsAfterFault (Flush Log) disk after →
     Sound (at e SuperblockFlush b) after
 started-fails e a b disk after sound fault =
     subst (λ (d : Disk). Sound (at e SuperblockFlush b) d) (sym (flush-fault disk after fault))
-    (same-sound e SuperblockFlush a b disk sound sound.plain.stage (λ v may. may) sound.stage)
+    (same-sound e SuperblockFlush a b disk sound sound.plain.stage sound.stage)
 
 -- the write of a block before the commit block fails, or the flush of them
 blocks-fails : (e : Engine) (a b : Bool) (disk after : Disk) (k : ℕ) (more : Bool) → Sound (at e (Blocks k) a) disk →
@@ -44,13 +69,13 @@ blocks-fails : (e : Engine) (a b : Bool) (disk after : Disk) (k : ℕ) (more : B
 blocks-fails e a b disk after k true sound test fault =
     let below : k + 1 < length (due_blocks e) = ltb-true _ _ test in
     let due : IsDueWrite (at e (Blocks k) a) disk after k = record {
-      write = is_write-fault disk after (ring_place e.ring (e.head + k)) (block_at (due_blocks e) k) fault;
+      write = is_write-fault disk after (ring_place e.ring (e.start + k)) (block_at (due_blocks e) k) fault;
       within = omega arith;
     } in
     block-fails e a b disk after k sound below due
 blocks-fails e a b disk after k false sound test fault =
     subst (λ (d : Disk). Sound (at e (Blocks k) b) d) (sym (flush-fault disk after fault))
-    (same-sound e (Blocks k) a b disk sound sound.plain.stage (λ v may. may) sound.stage)
+    (same-sound e (Blocks k) a b disk sound sound.plain.stage sound.stage)
 
 -- the write of the commit block fails
 commit_write-fails : (e : Engine) (a b : Bool) (disk after : Disk) → Sound (at e CommitWrite a) disk →
@@ -60,7 +85,7 @@ commit_write-fails e a b disk after sound fault =
     let i : ℕ = length (due_blocks e) - 1 in
     let some : 0 < length (due_blocks e) = due-some e sound.plain.stage.0 in
     let due : IsDueWrite (at e CommitWrite a) disk after i = record {
-      write = is_write-fault disk after (ring_place e.ring (e.head + i)) (block_at (due_blocks e) i) fault;
+      write = is_write-fault disk after (ring_place e.ring (e.start + i)) (block_at (due_blocks e) i) fault;
       within = omega arith;
     } in
     commit-fails e a b disk after sound due
@@ -70,7 +95,7 @@ commit_flush-fails : (e : Engine) (a b : Bool) (disk after : Disk) → Sound (at
     Sound (at e CommitFlush b) after
 commit_flush-fails e a b disk after sound fault =
     subst (λ (d : Disk). Sound (at e CommitFlush b) d) (sym (flush-fault disk after fault))
-    (same-sound e CommitFlush a b disk sound sound.plain.stage (λ v may. may) sound.stage)
+    (same-sound e CommitFlush a b disk sound sound.plain.stage sound.stage)
 
 -- what failed is the call that is due
 due-fault : (disk after : Disk) (call due : Call) → Some due ≡ Some call → IsAfterFault call disk after → IsAfterFault due disk after

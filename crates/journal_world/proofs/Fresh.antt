@@ -11,6 +11,7 @@ use Rattle.journal_model.specs.Superblock.{Shape, Super, super_in, super_refusal
 use Rattle.journal_world.specs.Journal.{fresh_engine}
 use Rattle.journal_world.specs.Opening.{IsBehind, IsOpenedLog, NamesNothing}
 use Rattle.journal_world.specs.Sound.{IsPlain, Sound}
+use Rattle.journal_world.specs.Sound.MayBeSuperblock.{Clean}
 use Rattle.journal_world.proofs.Places.{held-durable}
 use Rattle.journal_world.proofs.Superblocks.{accepted-ring, accepted-size}
 
@@ -40,9 +41,14 @@ fresh-plain shape superblock next named number = record {
   batches = tt;
   numbered = tt;
   numbers = omega arith;
-  head = refl;
+  start = refl;
+  tail = refl;
+  bound_position = refl;
+  order = (omega arith, omega arith);
   room = omega arith;
+  laps = omega arith;
   stage = (refl, λ clean. refl);
+  round = refl;
 }
 
 -- the engine of an opened log is sound
@@ -50,8 +56,13 @@ pub fresh-sound : (shape : Shape) (disk : Disk) (superblock : List ℕ) (next : 
     Sound (fresh_engine shape superblock next) disk
 fresh-sound shape disk superblock next log = record {
   plain = fresh-plain shape superblock next log.named log.number;
-  superblock = λ v one. subst (NamesNothing shape (ring_of (super_in superblock)) next) (sym (held-durable disk 0 superblock v log.durable one)) log.named;
-  durable = λ k below. absurd (omega arith);
+  superblock =
+      λ v one.
+      Clean (inl refl)
+      (subst (NamesNothing shape (ring_of (super_in superblock)) next) (sym (held-durable disk 0 superblock v log.durable one)) log.named);
+  durable = λ k low below. absurd (omega arith);
   behind = λ k v low high one. inl (fresh-behind shape disk superblock next k v log one);
   stage = tt;
+  home = λ i b v newest below. absurd (omega arith);
+  round = tt;
 }

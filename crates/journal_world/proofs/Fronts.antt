@@ -1,18 +1,16 @@
--- The front agrees with the engine, and each step of either keeps that.
-use Rattle.std.proofs.Common.{refl, sym, ap, subst, arith, length-append}
-use Rattle.std.specs.Prelude.{◌≡◌, ℕ, suc, ◌+◌, ◌<◌, ◌≤◌, Bool, true, List, [], ◌∷◌, ◌++◌, length, Contains}
+-- The front agrees with the engine, and each step of the front keeps that, as does whatever step the engine goes on by.
+use Rattle.std.proofs.Common.{sym, ap, subst, arith, length-append}
+use Rattle.std.specs.Prelude.{◌≡◌, ℕ, suc, ◌+◌, ◌<◌, ◌≤◌, Bool, List, [], ◌∷◌, ◌++◌, length, Contains}
 use Rattle.std.specs.List.{AllByRecursion}
 use Rattle.journal_model.specs.declared.entry.Batch.{Batch}
-use Rattle.journal_model.specs.Disk.{Disk}
 use Rattle.journal_model.specs.Superblock.{Shape}
-use Rattle.journal_world.specs.declared.stage.Stage.{Stage}
-use Rattle.journal_world.specs.declared.stage.Stage.TheVariants.{Idle, SuperblockWrite, SuperblockFlush, Blocks, CommitWrite, CommitFlush}
-use Rattle.journal_world.specs.Engine.{Engine, Accepts, AreBatchesOf, CommitFaults, CommitSteps, stepped, stepped_from}
+use Rattle.journal_world.specs.Engine.{Engine, Accepts, AreBatchesOf}
 use Rattle.journal_world.specs.Front.{Front, MaySeal, finishing, fresh_front, joining, sealing, write_step, writing}
 use Rattle.journal_world.specs.Journal.{batch_of, fresh_engine}
 use Rattle.journal_world.proofs.Batches.{batches-last}
 use Rattle.journal_world.proofs.Elements.{all-weaker}
 use Rattle.journal_world.proofs.Handles.{HasHandles, handles-begin, handles-empty, handles-join, handles-step}
+use Rattle.journal_world.proofs.Onward.{GoesOn}
 
 -- What the front keeps true beside the engine: the sealed transactions are those that the engine has, the running one
 -- has the next number, and none is told committed that is not. (With number 0 for the first one nothing is ever sealed.)
@@ -99,14 +97,8 @@ seal-agrees f old new answered may accepts agrees =
       handles = handles-begin f.given (f.sealed ++ f.running ∷ []) (suc f.running.tid) agrees.handles;
     })
 
--- what of an engine the front agrees with: its transactions stay, and those that are committed stay so
-record GoesOn (old new : Engine) : Type 0 where
-  first : new.first ≡ old.first
-  accepted : new.accepted ≡ old.accepted
-  committed : old.committed ≤ new.committed
-
 -- a front agrees with an engine that goes on
-goes-on : (f : Front) (old new : Engine) (answered : List ℕ) → GoesOn old new → FrontAgrees f old answered → FrontAgrees f new answered
+pub goes-on : (f : Front) (old new : Engine) (answered : List ℕ) → GoesOn old new → FrontAgrees f old answered → FrontAgrees f new answered
 goes-on f old new answered on agrees =
     let first : new.first ≡ old.first = on.first in
     let size : length new.accepted ≡ length old.accepted = ap (λ (bs : List Batch). length bs) on.accepted in
@@ -118,25 +110,3 @@ goes-on f old new answered on agrees =
       told = agrees.told;
       handles = agrees.handles;
     }
-
--- an engine goes on by each call that succeeds
-stepped-on : (e : Engine) (stage : Stage) → GoesOn e (stepped_from e stage)
-stepped-on e Idle = record { first = refl; accepted = refl; committed = omega arith }
-stepped-on e SuperblockWrite = record { first = refl; accepted = refl; committed = omega arith }
-stepped-on e SuperblockFlush = record { first = refl; accepted = refl; committed = omega arith }
-stepped-on e (Blocks k) = record { first = refl; accepted = refl; committed = omega arith }
-stepped-on e CommitWrite = record { first = refl; accepted = refl; committed = omega arith }
-stepped-on e CommitFlush = record { first = refl; accepted = refl; committed = omega arith }
-
--- a step of a commit
-pub step-agrees : (f : Front) (old new : Engine) (disk after : Disk) (answered : List ℕ) → CommitSteps old disk new after → FrontAgrees f old answered →
-    FrontAgrees f new answered
-step-agrees f old new disk after answered step agrees =
-    subst (λ (e : Engine). FrontAgrees f e answered) (sym step.engine) (goes-on f old (stepped old) answered (stepped-on old old.stage) agrees)
-
--- one that fails
-pub fault-agrees : (f : Front) (old new : Engine) (disk after : Disk) (answered : List ℕ) → CommitFaults old disk new after → FrontAgrees f old answered →
-    FrontAgrees f new answered
-fault-agrees f old new disk after answered fault agrees =
-    subst (λ (e : Engine). FrontAgrees f e answered) (sym fault.engine)
-    (goes-on f old (record old { aborted = true }) answered (record { first = refl; accepted = refl; committed = omega arith }) agrees)

@@ -13,7 +13,7 @@ use Rattle.journal_world.specs.Engine.{Engine, CommitFaults, CommitSteps, call_i
 use Rattle.journal_world.specs.Sound.{KeepsHome}
 
 -- a call to the log
-abbrev IsLogCall : Call → Type 0
+abbrev pub IsLogCall : Call → Type 0
 IsLogCall (Write area n v) = area ≡ Log
 IsLogCall (Flush area) = area ≡ Log
 
@@ -38,7 +38,7 @@ success-home (Flush Log) disk b log = refl
 success-home (Flush Home) disk b log = cc
 
 -- and where it fails
-fault-same : (call : Call) (old new : Disk) (b : ℕ) → IsLogCall call → IsAfterFault call old new → new Home b ≡ old Home b
+pub fault-same : (call : Call) (old new : Disk) (b : ℕ) → IsLogCall call → IsAfterFault call old new → new Home b ≡ old Home b
 fault-same call old new b log (Undone c x y same) = ap (λ (d : Disk). d Home b) same
 fault-same (Write Log n v) old new b log (Whole a m w x y same) = ap (λ (d : Disk). d Home b) same
 fault-same (Write Home n v) old new b log (Whole a m w x y same) = cc

@@ -1,304 +1,273 @@
 -- Every image that a crash of a sound disk may leave opens, to the committed transactions or to one more.
-use Rattle.std.proofs.Common.{◌≡◌, ◌⊎◌, inl, inr, ℕ, ◌+◌, ◌-◌, ◌<◌, ◌≤◌, Bool, true, false, List, [], ◌++◌, length, length-append, take, Some, arith, refl, sym, ◌∙◌, subst, ap}
-use Rattle.std.specs.Prelude.{map, unwrap_or}
-use Rattle.std.specs.List.{slice_get}
+use Rattle.std.proofs.Common.{◌≡◌, inl, inr, ℕ, ◌+◌, ◌-◌, ◌<◌, ◌≤◌, false, true≢false, List, ◌++◌, length, length-append, length-drop, take, drop, arith, refl, sym, ◌∙◌, subst, ap}
 use Rattle.std.proofs.lemmas.Bool.{cases_eq, cases_lt}
-use Rattle.std.proofs.lemmas.Option.{slice_get_within}
-use Rattle.journal_model.specs.declared.log.Text.{Text}
-use Rattle.journal_model.specs.declared.number.Area.TheVariants.{Log}
+use Rattle.journal_model.specs.declared.number.Area.TheVariants.{Log, Home}
 use Rattle.journal_model.specs.Chain.{texts_blocks, ring_place}
 use Rattle.journal_model.specs.Disk.{Disk, Image, Leaves}
 use Rattle.journal_model.specs.Layout.{IsLayout, narrow}
+use Rattle.journal_model.specs.Opening.{numbered_below}
+use Rattle.journal_model.specs.Opening.HasLimit.{OfChain}
+use Rattle.journal_model.specs.Transaction.{bytes_of, content_of, last_effect}
 use Rattle.journal_world.specs.declared.stage.Stage.{Stage}
 use Rattle.journal_world.specs.declared.stage.Stage.TheVariants.{Idle, SuperblockWrite, SuperblockFlush, Blocks, CommitWrite, CommitFlush}
-use Rattle.journal_world.specs.Engine.{Engine, block_at, committed_texts, due_blocks, text_of}
+use Rattle.journal_world.specs.Engine.{Engine, IsBatch, block_at, committed_texts, due_blocks}
 use Rattle.journal_world.specs.Opening.{IsBehind, NamesNothing}
-use Rattle.journal_world.specs.Sound.{IsDurable, IsOwnBlock, IsPlain, MayBeSuperblock, Names, NamesFirst, OpensBetween, OpensTo, Sound, StageAgrees, StageHolds, handed}
-use Rattle.journal_world.proofs.Batches.{texts_of}
+use Rattle.journal_world.specs.Sound.{HomeHas, MayBeSuperblock, MovesTail, BeginsAt, OpensBetween, OpensTo, RoundHolds, Sound, StageAgrees, handed, position}
+use Rattle.journal_world.specs.Sound.MayBeSuperblock.{Clean, Old, New}
+use Rattle.journal_world.proofs.Batches.{count-below, texts_of}
 use Rattle.journal_world.proofs.Chains.{IsNotDue}
-use Rattle.journal_world.proofs.Due.{behind-not_due, committed-behind, due-inner, due-numbered}
-use Rattle.journal_world.proofs.Elements.{all-at}
-use Rattle.journal_world.proofs.Openings.{HoldsTexts, chain-opens, clean-opens}
-use Rattle.journal_world.proofs.Places.{held-durable}
+use Rattle.journal_world.proofs.Due.{behind-not_due, due-inner}
+use Rattle.journal_world.proofs.Lasts.{bytes-left}
+use Rattle.journal_world.proofs.Left.{AreDurable, HasCommit, HasNoCommit, Progress, around-left, behind-left, committed-left, due-left, each-left, more-left, more-rest, part-before, part-none, part-without, place_of_commit, progress}
+use Rattle.journal_world.proofs.Left.Progress.{Before, Ending}
+use Rattle.journal_world.proofs.Openings.{ChainOpens, HoldsTexts, chain-opens, clean-opens}
+use Rattle.journal_world.proofs.Positions.{between_blocks, committed-few, first-split, first_blocks, position-more, position-grows, position-split}
+use Rattle.journal_world.proofs.Suffixes.{all-drop, batches-drop, numbered-drop}
 use Rattle.journal_world.proofs.Superblocks.{accepted-layout}
-use Rattle.journal_world.proofs.Texts.{block-behind, block-front, block-there, committed-more, due-more}
+use Rattle.journal_world.proofs.Texts.{block-behind, committed-more, due-more}
 
--- the committed transactions are among the accepted ones
-committed-few : (e : Engine) (stage : Stage) → StageAgrees e stage → e.committed ≤ length e.accepted
-committed-few e Idle agrees = let count = agrees.0 in omega arith
-committed-few e SuperblockWrite agrees = let count = agrees.0 in omega arith
-committed-few e SuperblockFlush agrees = let count = agrees.0 in omega arith
-committed-few e (Blocks k) agrees = let count = agrees.0 in omega arith
-committed-few e CommitWrite agrees = let count = agrees.0 in omega arith
-committed-few e CommitFlush agrees = let count = agrees.0 in omega arith
+-- what block 0 of an image says: that the log is clean, and then nothing was handed over; or where it begins, and then
+-- the transactions before are home
+data Found (e : Engine) (disk : Disk) (v : List ℕ) : Type 0 where
+  FindsNothing : NamesNothing e.shape e.ring e.first v → e.committed ≡ 0 → handed e.stage (length (due_blocks e)) ≡ 0 → Found e disk v
+  FindsTail : (r : ℕ) → e.released ≤ r → r ≤ e.committed → BeginsAt e.shape e.ring (e.first + r) (position e r) v → HomeHas e disk r →
+      Found e disk v
 
--- what block 0 of an image says: that the log is clean, and then nothing was handed over, or where it begins
-data Found (e : Engine) (stage : Stage) (v : List ℕ) : Type 0 where
-  FindsNothing : NamesNothing e.shape e.ring e.first v → e.committed ≡ 0 → handed stage (length (due_blocks e)) ≡ 0 → Found e stage v
-  FindsFirst : NamesFirst e.shape e.ring e.first v → Found e stage v
+-- where the log is not started nothing is committed, and nothing of the transaction that is due was handed over
+clean-unstarted : (e : Engine) (stage : Stage) → StageAgrees e stage → e.started ≡ false →
+    (e.committed ≡ 0) × (handed stage (length (due_blocks e)) ≡ 0)
+clean-unstarted e Idle agrees clean = (agrees.1 clean, refl)
+clean-unstarted e SuperblockWrite agrees clean = (agrees.2, refl)
+clean-unstarted e SuperblockFlush agrees clean = (agrees.2, refl)
+clean-unstarted e (Blocks k) agrees clean = absurd (true≢false (sym agrees.1 ∙ clean))
+clean-unstarted e CommitWrite agrees clean = absurd (true≢false (sym agrees.1 ∙ clean))
+clean-unstarted e CommitFlush agrees clean = absurd (true≢false (sym agrees.1 ∙ clean))
 
--- what block 0 says where no transaction is being committed
-found-idle : (e : Engine) (v : List ℕ) (started : Bool) → (started ≡ false → e.committed ≡ 0) → Names started e.shape e.ring e.first v → Found e Idle v
-found-idle e v true none names = FindsFirst names
-found-idle e v false none names = FindsNothing names (none refl) refl
+-- so it is where its first superblock is not flushed
+clean-unflushed : (e : Engine) (stage : Stage) → StageAgrees e stage → stage ≡ SuperblockFlush →
+    (e.committed ≡ 0) × (handed stage (length (due_blocks e)) ≡ 0)
+clean-unflushed e stage agrees flush =
+    let flushes : StageAgrees e SuperblockFlush = subst (StageAgrees e) flush agrees in
+    (flushes.2, ap (λ (s : Stage). handed s (length (due_blocks e))) flush)
 
--- what block 0 says, at each stage
-found : (e : Engine) (stage : Stage) (v : List ℕ) → StageAgrees e stage → MayBeSuperblock e stage v → Found e stage v
-found e Idle v agrees may = found-idle e v e.started agrees.1 may
-found e SuperblockWrite v agrees (inl names) = FindsNothing names agrees.2 refl
-found e SuperblockWrite v agrees (inr names) = FindsFirst names
-found e SuperblockFlush v agrees (inl names) = FindsNothing names agrees.2 refl
-found e SuperblockFlush v agrees (inr names) = FindsFirst names
-found e (Blocks k) v agrees may = FindsFirst may
-found e CommitWrite v agrees may = FindsFirst may
-found e CommitFlush v agrees may = FindsFirst may
+-- where a round moves the tail, its transactions are home
+moved-home : (e : Engine) (disk : Disk) → MovesTail e → RoundHolds e disk e.round → HomeHas e disk e.bound
+moved-home e disk (inl writes) holds = subst (RoundHolds e disk) writes holds
+moved-home e disk (inr flushes) holds = (subst (RoundHolds e disk) flushes holds).0
 
--- how far a commit is: the commit block was not handed over, or all other blocks are durable
-data Progress (e : Engine) (disk : Disk) (stage : Stage) : Type 0 where
-  Before : handed stage (length (due_blocks e)) ≤ length (due_blocks e) - 1 → Progress e disk stage
-  Ending : ((j : ℕ) → j + 1 < length (due_blocks e) → IsDurable e disk (e.head + j) (block_at (due_blocks e) j)) → Progress e disk stage
+-- what block 0 says
+found : (e : Engine) (disk : Disk) (v : List ℕ) → Sound e disk → MayBeSuperblock e v → Found e disk v
+found e disk v sound (Clean (inl clean) names) =
+    let both = clean-unstarted e e.stage sound.plain.stage clean in FindsNothing names both.0 both.1
+found e disk v sound (Clean (inr flush) names) =
+    let both = clean-unflushed e e.stage sound.plain.stage flush in FindsNothing names both.0 both.1
+found e disk v sound (Old names) =
+    let low : e.released ≤ e.bound = sound.plain.order.0 in
+    let high : e.bound ≤ e.committed = sound.plain.order.1 in
+    FindsTail e.released (omega arith) (omega arith)
+    (subst (λ p. BeginsAt e.shape e.ring (e.first + e.released) p v) sound.plain.tail names) sound.home
+found e disk v sound (New moves names) =
+    FindsTail e.bound sound.plain.order.0 sound.plain.order.1
+    (subst (λ p. BeginsAt e.shape e.ring (e.first + e.bound) p v) sound.plain.bound_position names)
+    (moved-home e disk moves sound.round)
 
--- how far a commit is, at each stage
-progress : (e : Engine) (disk : Disk) (stage : Stage) → StageHolds e disk stage → Progress e disk stage
-progress e disk Idle holds = Before (omega arith)
-progress e disk SuperblockWrite holds = Before (omega arith)
-progress e disk SuperblockFlush holds = Before (omega arith)
-progress e disk (Blocks k) holds = Before (omega arith)
-progress e disk CommitWrite holds = Ending holds
-progress e disk CommitFlush holds = Ending holds.0
+-- the log of the image has the texts of transactions r to n, and behind them, in the lap from the tail on, nothing that is due
+record HoldsFirst (e : Engine) (image : Image) (r n : ℕ) : Type 0 where
+  committed : e.committed ≤ n
+  few : n ≤ length e.accepted
+  fits : position e n ≤ e.tail + e.ring.blocks
+  front : (k : ℕ) → position e r ≤ k → k < position e n → image Log (ring_place e.ring k) ≡ block_at (first_blocks e n) k
+  rest : (k : ℕ) → position e n ≤ k → k < e.tail + e.ring.blocks →
+      IsNotDue (narrow e.shape.block_size) e.shape.home_blocks (e.first + n) (image Log (ring_place e.ring k))
 
--- a crash leaves a durable block as it is
-durable-left : (e : Engine) (disk : Disk) (image : Image) (k : ℕ) (v : List ℕ) → Leaves disk image → IsDurable e disk k v → image Log (ring_place e.ring k) ≡ v
-durable-left e disk image k v leaves durable =
-    held-durable disk (ring_place e.ring k) v (image Log (ring_place e.ring k)) durable (leaves.each Log (ring_place e.ring k))
+module _ (e : Engine) (disk : Disk) (image : Image) (sound : Sound e disk) (leaves : Leaves disk image) (r : ℕ) (low : e.released ≤ r) (high : r ≤ e.committed) (names : BeginsAt e.shape e.ring (e.first + r) (position e r) (image Log 0)) (home : HomeHas e disk r) where
+  -- the layout is one that texts are made in
+  layout-left : IsLayout (narrow e.shape.block_size)
+  layout-left = accepted-layout e.shape (image Log 0) names.is_superblock.accepted
 
--- what an image has at a ring block is behind the number that is due, or is a block that is due and not the last of these
-abbrev IsPartial : Engine → List ℕ → Type 0
-IsPartial e v = IsBehind (e.first + e.committed) v ⊎ ((i : ℕ) × (slice_get (due_blocks e) i ≡ Some v) × (i + 1 < length (due_blocks e)))
+  -- the log begins behind what is released
+  tail-below : e.tail ≤ position e r
+  tail-below =
+      let tail : e.tail ≡ position e e.released = sound.plain.tail in
+      let rises : position e e.released ≤ position e r = position-grows e e.released r low in
+      omega arith
 
--- the ring block where the commit block that is due belongs
-abbrev place_of_commit : Engine → ℕ
-place_of_commit e = e.head + (length (due_blocks e) - 1)
+  -- and not behind what is committed
+  start-above : position e r ≤ e.start
+  start-above =
+      let start : e.start ≡ position e e.committed = sound.plain.start in
+      let rises : position e r ≤ position e e.committed = position-grows e r e.committed high in
+      omega arith
 
-module _ (e : Engine) (disk : Disk) (image : Image) (sound : Sound e disk) (leaves : Leaves disk image) where
-  -- what a crash leaves behind the committed transactions
-  behind-left : (k : ℕ) → e.head ≤ k → k < e.ring.blocks →
-      IsBehind (e.first + e.committed) (image Log (ring_place e.ring k)) ⊎ IsOwnBlock e k (image Log (ring_place e.ring k))
-  behind-left k low high = sound.behind k (image Log (ring_place e.ring k)) low high (leaves.each Log (ring_place e.ring k))
+  -- the texts stand at their positions, from that of the first on
+  front-left : (m : ℕ) → HoldsFirst e image r (r + m) → (k : ℕ) → k < length (between_blocks e r m) →
+      image Log (ring_place e.ring (position e r + k)) ≡ block_at (between_blocks e r m) k
+  front-left m holds k within =
+      let size : position e (r + m) ≡ position e r + length (between_blocks e r m) = position-split e r m in
+      holds.front (position e r + k) (omega arith) (omega arith)
+      ∙ ap (λ (bs : List (List ℕ)). block_at bs (position e r + k)) (first-split e r m)
+      ∙ block-behind (first_blocks e r) (between_blocks e r m) (position e r + k) k refl
 
-  -- the committed transactions are left whole
-  committed-left : (k : ℕ) → k < e.head → image Log (ring_place e.ring k) ≡ block_at (texts_blocks (committed_texts e)) k
-  committed-left k below = durable-left e disk image k (block_at (texts_blocks (committed_texts e)) k) leaves (sound.durable k below)
-
-  -- no ring block is numbered above the transaction that is due
-  each-left : IsLayout (narrow e.shape.block_size) → (k : ℕ) → k < e.ring.blocks → IsBehind (e.first + e.committed + 1) (image Log (ring_place e.ring k))
-  each-left layout k within =
-      let plain : IsPlain e = sound.plain in
-      let head : e.head ≡ length (texts_blocks (committed_texts e)) = sound.plain.head in
-      let few : e.committed ≤ length e.accepted = committed-few e e.stage sound.plain.stage in
-      elim (cases_lt k e.head) [
-        | inl below ↦
-            let b : IsBehind (e.first + e.committed) (block_at (texts_blocks (committed_texts e)) k) =
-            all-at (IsBehind (e.first + e.committed)) (texts_blocks (committed_texts e)) k _ (committed-behind e plain layout few)
-            (block-there (texts_blocks (committed_texts e)) k (omega arith)) in
-            let c : IsBehind (e.first + e.committed) (image Log (ring_place e.ring k)) =
-            subst (IsBehind (e.first + e.committed)) (sym (committed-left k below)) b in
-            record { below = λ m. let least = c.below m in omega arith }
-        | inr low ↦
-            elim (behind-left k low within) [
-              | inl b ↦ record { below = λ m. let least = b.below m in omega arith }
-              | inr o ↦
-                  let due = due-numbered e plain layout o.index (image Log (ring_place e.ring k)) o.block in
-                  record { below = λ m. let same = due.number m in omega arith }
-            ]
+  -- behind them nothing is due, as far as the lap goes
+  rest-left : (m : ℕ) → HoldsFirst e image r (r + m) → (k : ℕ) → length (between_blocks e r m) ≤ k → k < e.ring.blocks →
+      IsNotDue (narrow e.shape.block_size) e.shape.home_blocks (e.first + (r + m)) (image Log (ring_place e.ring (position e r + k)))
+  rest-left m holds k behind within =
+      let size : position e (r + m) ≡ position e r + length (between_blocks e r m) = position-split e r m in
+      let most : e.committed ≤ r + m = holds.committed in
+      let above : position e r ≤ e.start = start-above in
+      elim (cases_lt (position e r + k) (e.tail + e.ring.blocks)) [
+        | inl below ↦ holds.rest (position e r + k) (omega arith) below
+        | inr past ↦
+            let b = around-left e disk image sound leaves layout-left (position e r + k) past (omega arith) in
+            behind-not_due e (e.first + (r + m)) (image Log (ring_place e.ring (position e r + k)))
+            (record { below = λ magic. let least = b.below magic in omega arith })
       ]
 
-  -- where no commit block is left, the image opens to the committed transactions
-  opens-before : NamesFirst e.shape e.ring e.first (image Log 0) →
-      ((k : ℕ) → e.head ≤ k → k < e.ring.blocks → IsPartial e (image Log (ring_place e.ring k))) → OpensTo e.shape e.accepted image e.committed
-  opens-before names part =
-      let plain : IsPlain e = sound.plain in
-      let layout : IsLayout (narrow e.shape.block_size) = accepted-layout e.shape (image Log 0) names.is_superblock.accepted in
-      let head : e.head ≡ length (texts_blocks (committed_texts e)) = sound.plain.head in
-      let room : e.head + length (due_blocks e) ≤ e.ring.blocks = sound.plain.room in
-      let few : e.committed ≤ length e.accepted = committed-few e e.stage sound.plain.stage in
-      chain-opens e.shape e.ring e.uuid e.first e.committed e.accepted image names
-      sound.plain.uuid sound.plain.batches sound.plain.numbered sound.plain.numbers few
-      (record {
+  -- so the log has the texts of the batches behind the first r of them
+  texts-left : (m : ℕ) → HoldsFirst e image r (r + m) →
+      HoldsTexts e.shape e.ring image (position e r) (texts_of e.shape e.uuid (take m (drop r e.accepted))) (e.first + r + m)
+  texts-left m holds =
+      let size : position e (r + m) ≡ position e r + length (between_blocks e r m) = position-split e r m in
+      let fits : position e (r + m) ≤ e.tail + e.ring.blocks = holds.fits in
+      let most : e.committed ≤ r + m = holds.committed in
+      let below : e.tail ≤ position e r = tail-below in
+      let number : e.first + (r + m) ≡ e.first + r + m = omega arith in
+      record {
         fits = omega arith;
-        front = λ k h. committed-left k (omega arith);
-        rest = λ k low high. elim (part k (omega arith) high) [
+        front = front-left m holds;
+        rest = λ k behind within.
+            subst (λ s. IsNotDue (narrow e.shape.block_size) e.shape.home_blocks s (image Log (ring_place e.ring (position e r + k)))) number
+            (rest-left m holds k behind within);
+        each = λ k h. let b = each-left e disk image sound leaves layout-left k h in record { below = λ magic. let least = b.below magic in omega arith };
+      }
+
+  -- and their replay is what an opening makes of the image
+  chain-left : (m : ℕ) → HoldsFirst e image r (r + m) → ChainOpens e.shape image (drop r e.accepted) m (e.first + r + m)
+  chain-left m holds =
+      let few : r + m ≤ length e.accepted = holds.few in
+      let size : length (drop r e.accepted) ≡ length e.accepted - r = length-drop r e.accepted in
+      let numbers = sound.plain.numbers in
+      chain-opens e.shape e.ring e.uuid (e.first + r) (position e r) m (drop r e.accepted) image names sound.plain.uuid
+      (all-drop (IsBatch e.shape) r e.accepted sound.plain.batches) (numbered-drop e.first r e.accepted sound.plain.numbered)
+      (omega arith) (omega arith) (texts-left m holds)
+
+  -- so it opens to these and the r before, which are home
+  opens-sum : (m : ℕ) → HoldsFirst e image r (r + m) → OpensTo e.shape e.accepted image (r + m)
+  opens-sum m holds =
+      let most : e.committed ≤ r + m = holds.committed in
+      let chain : ChainOpens e.shape image (drop r e.accepted) m (e.first + r + m) = chain-left m holds in
+      let limit = chain.limit ∙ omega arith in
+      record {
+        opens = λ ts are. record {
+          got = λ b. bytes_of (content_of (last_effect b (take m (drop r ts)))) (image Home b);
+          opens = chain.opens (drop r ts) (batches-drop r ts e.accepted are);
+          recovered = λ b h. bytes-left e disk image r m ts b leaves home high most are;
+        };
+        count = λ ts are. record {
+          limit = _;
+          has = OfChain chain.texts chain.has;
+          count = sym (ap (λ end. numbered_below end ts) limit ∙ count-below e.first (r + m) ts e.accepted holds.few sound.plain.numbered are);
+        };
+      }
+
+  -- in particular to as many as its log has texts up to
+  opens-first : (n : ℕ) → HoldsFirst e image r n → OpensTo e.shape e.accepted image n
+  opens-first n holds =
+      let most : e.committed ≤ n = holds.committed in
+      let sum : r + (n - r) ≡ n = omega arith in
+      subst (λ c. OpensTo e.shape e.accepted image c) sum (opens-sum (n - r) (subst (λ c. HoldsFirst e image r c) (sym sum) holds))
+
+  -- where no commit block is left, the log has the committed transactions
+  holds-before : HasNoCommit e image → HoldsFirst e image r e.committed
+  holds-before part =
+      let start : e.start ≡ position e e.committed = sound.plain.start in
+      let room : e.start + length (due_blocks e) ≤ e.tail + e.ring.blocks = sound.plain.room in
+      let below : e.tail ≤ position e r = tail-below in
+      record {
+        committed = omega arith;
+        few = committed-few e e.stage sound.plain.stage;
+        fits = omega arith;
+        front = λ k from to. committed-left e disk image sound leaves k (omega arith) (omega arith);
+        rest = λ k from to. elim (part k (omega arith) to) [
           | inl b ↦ behind-not_due e (e.first + e.committed) (image Log (ring_place e.ring k)) b
-          | inr (i, stands, before) ↦ (due-inner e plain layout i (image Log (ring_place e.ring k)) stands before).due
+          | inr (i, stands, before) ↦ (due-inner e sound.plain layout-left i (image Log (ring_place e.ring k)) stands before).due
         ];
-        each = λ k h. let b = each-left layout k h in record { below = λ m. let least = b.below m in omega arith };
-      })
+      }
 
-  -- the blocks that are due are left whole, where all but the commit block are durable and the image has that too
-  due-left : ((j : ℕ) → j + 1 < length (due_blocks e) → IsDurable e disk (e.head + j) (block_at (due_blocks e) j)) →
-      IsOwnBlock e (place_of_commit e) (image Log (ring_place e.ring (place_of_commit e))) →
-      (j : ℕ) → j < length (due_blocks e) → image Log (ring_place e.ring (e.head + j)) ≡ block_at (due_blocks e) j
-  due-left durable own j within =
-      elim (cases_lt (j + 1) (length (due_blocks e))) [
-        | inl before ↦ durable-left e disk image (e.head + j) (block_at (due_blocks e) j) leaves (durable j before)
-        | inr last ↦
-            let place : e.head + (length (due_blocks e) - 1) ≡ e.head + own.index = own.place in
-            let index : own.index ≡ j = omega arith in
-            let here : e.head + j ≡ place_of_commit e = omega arith in
-            ap (λ k. image Log (ring_place e.ring k)) here
-            ∙ sym (ap (λ o. unwrap_or o []) own.block)
-            ∙ ap (block_at (due_blocks e)) index
-      ]
-
-  -- so the log begins with the texts of one transaction more
-  more-left : ((j : ℕ) → j < length (due_blocks e) → image Log (ring_place e.ring (e.head + j)) ≡ block_at (due_blocks e) j) →
-      (k : ℕ) → k < length (texts_blocks (committed_texts e) ++ due_blocks e) →
-      image Log (ring_place e.ring k) ≡ block_at (texts_blocks (committed_texts e) ++ due_blocks e) k
-  more-left due k within =
-      let head : e.head ≡ length (texts_blocks (committed_texts e)) = sound.plain.head in
+  -- where it is left, the log has one transaction more
+  holds-behind : AreDurable e disk → HasCommit e image → HoldsFirst e image r (e.committed + 1)
+  holds-behind durable own =
+      let start : e.start ≡ position e e.committed = sound.plain.start in
+      let room : e.start + length (due_blocks e) ≤ e.tail + e.ring.blocks = sound.plain.room in
+      let below : e.tail ≤ position e r = tail-below in
+      let few : e.committed < length e.accepted = due-more e own.index (image Log (ring_place e.ring (place_of_commit e))) own.block in
+      let size : position e (e.committed + 1) ≡ e.start + length (due_blocks e) = position-more e start few in
       let sum : length (texts_blocks (committed_texts e) ++ due_blocks e) ≡ length (texts_blocks (committed_texts e)) + length (due_blocks e) =
       length-append (texts_blocks (committed_texts e)) (due_blocks e) in
-      elim (cases_lt k e.head) [
-        | inl below ↦ committed-left k below ∙ sym (block-front (texts_blocks (committed_texts e)) (due_blocks e) k (omega arith))
-        | inr low ↦
-            ap (λ m. image Log (ring_place e.ring m)) (omega arith)
-            ∙ due (k - length (texts_blocks (committed_texts e))) (omega arith)
-            ∙ sym (block-behind (texts_blocks (committed_texts e)) (due_blocks e) k (k - length (texts_blocks (committed_texts e))) (omega arith))
-      ]
-
-  -- behind them nothing is due
-  more-rest : (k : ℕ) → e.head + length (due_blocks e) ≤ k → k < e.ring.blocks →
-      IsNotDue (narrow e.shape.block_size) e.shape.home_blocks (e.first + (e.committed + 1)) (image Log (ring_place e.ring k))
-  more-rest k low high =
-      elim (behind-left k (omega arith) high) [
-        | inl b ↦
-            behind-not_due e (e.first + (e.committed + 1)) (image Log (ring_place e.ring k)) (record { below = λ m. let least = b.below m in omega arith })
-        | inr o ↦
-            let place : k ≡ e.head + o.index = o.place in
-            let within : o.index < length (due_blocks e) = slice_get_within (due_blocks e) o.index (image Log (ring_place e.ring k)) o.block in
-            absurd (omega arith)
-      ]
-
-  -- where the commit block is left, the image opens to one transaction more
-  opens-behind : NamesFirst e.shape e.ring e.first (image Log 0) →
-      ((j : ℕ) → j + 1 < length (due_blocks e) → IsDurable e disk (e.head + j) (block_at (due_blocks e) j)) →
-      IsOwnBlock e (place_of_commit e) (image Log (ring_place e.ring (place_of_commit e))) →
-      (e.committed + 1 ≤ length e.accepted) × OpensTo e.shape e.accepted image (e.committed + 1)
-  opens-behind names durable own =
-      let layout : IsLayout (narrow e.shape.block_size) = accepted-layout e.shape (image Log 0) names.is_superblock.accepted in
-      let head : e.head ≡ length (texts_blocks (committed_texts e)) = sound.plain.head in
-      let room : e.head + length (due_blocks e) ≤ e.ring.blocks = sound.plain.room in
-      let few : e.committed < length e.accepted = due-more e own.index (image Log (ring_place e.ring (place_of_commit e))) own.block in
-      let most : e.committed + 1 ≤ length e.accepted = omega arith in
-      let texts : List Text = texts_of e.shape e.uuid (take (e.committed + 1) e.accepted) in
-      let blocks : texts_blocks texts ≡ texts_blocks (committed_texts e) ++ due_blocks e = committed-more e few in
-      let size : length (texts_blocks texts) ≡ e.head + length (due_blocks e) =
-      ap length blocks ∙ length-append (texts_blocks (committed_texts e)) (due_blocks e) ∙ ap (λ m. m + length (due_blocks e)) (sym head) in
-      let whole = more-left (due-left durable own) in
-      let front = subst (λ bs. (k : ℕ) → k < length bs → image Log (ring_place e.ring k) ≡ block_at bs k) (sym blocks) whole in
-      let holds : HoldsTexts e.shape e.ring image texts (e.first + (e.committed + 1)) = record {
+      record {
+        committed = omega arith;
+        few = omega arith;
         fits = omega arith;
-        front = front;
-        rest = λ k low high. more-rest k (omega arith) high;
-        each = λ k h. let b = each-left layout k h in record { below = λ m. let least = b.below m in omega arith };
-      } in (
-        most,
-        chain-opens e.shape e.ring e.uuid e.first (e.committed + 1) e.accepted image names
-            sound.plain.uuid sound.plain.batches sound.plain.numbered sound.plain.numbers most holds,
-      )
-
-  -- an own block is handed over, so it is not the last where the commit block is not
-  part-before : handed e.stage (length (due_blocks e)) ≤ length (due_blocks e) - 1 →
-      (k : ℕ) → e.head ≤ k → k < e.ring.blocks → IsPartial e (image Log (ring_place e.ring k))
-  part-before least k low high =
-      elim (behind-left k low high) [
-        | inl b ↦ inl b
-        | inr o ↦ let handed_over = o.handed_over in inr (o.index, o.block, omega arith)
-      ]
-
-  -- nor is it where the image has something else at the place of the commit block
-  part-without : IsBehind (e.first + e.committed) (image Log (ring_place e.ring (place_of_commit e))) →
-      (k : ℕ) → e.head ≤ k → k < e.ring.blocks → IsPartial e (image Log (ring_place e.ring k))
-  part-without none k low high =
-      elim (behind-left k low high) [
-        | inl b ↦ inl b
-        | inr o ↦
-            let place : k ≡ e.head + o.index = o.place in
-            let within : o.index < length (due_blocks e) = slice_get_within (due_blocks e) o.index (image Log (ring_place e.ring k)) o.block in
-            elim (cases_eq k (place_of_commit e)) [
-              | inl same ↦ inl (subst (λ m. IsBehind (e.first + e.committed) (image Log (ring_place e.ring m))) (sym same) none)
-              | inr other ↦ inr (o.index, o.block, omega arith)
-            ]
-      ]
-
-  -- nor where nothing is due
-  part-none : length (due_blocks e) ≡ 0 → (k : ℕ) → e.head ≤ k → k < e.ring.blocks → IsPartial e (image Log (ring_place e.ring k))
-  part-none none k low high =
-      elim (behind-left k low high) [
-        | inl b ↦ inl b
-        | inr o ↦
-            let within : o.index < length (due_blocks e) = slice_get_within (due_blocks e) o.index (image Log (ring_place e.ring k)) o.block in
-            absurd (omega arith)
-      ]
+        front = λ k from to.
+            more-left e disk image sound leaves (due-left e disk image sound leaves durable own) k (omega arith) (omega arith)
+            ∙ ap (λ (bs : List (List ℕ)). block_at bs k) (sym (committed-more e few));
+        rest = λ k from to.
+            let b = more-rest e disk image sound leaves k (omega arith) to in
+            behind-not_due e (e.first + (e.committed + 1)) (image Log (ring_place e.ring k))
+            (record { below = λ magic. let least = b.below magic in omega arith });
+      }
 
   -- the image opens to a number of transactions from the committed ones to all
   abbrev OpensWithin : Type 0
   OpensWithin = (n : ℕ) × (e.committed ≤ n) × (n ≤ length e.accepted) × OpensTo e.shape e.accepted image n
 
-  -- it does where no commit block is left
-  within-before : NamesFirst e.shape e.ring e.first (image Log 0) →
-      ((k : ℕ) → e.head ≤ k → k < e.ring.blocks → IsPartial e (image Log (ring_place e.ring k))) → OpensWithin
-  within-before names part = (e.committed, omega arith, committed-few e e.stage sound.plain.stage, opens-before names part)
-
-  -- and where it is
-  within-behind : NamesFirst e.shape e.ring e.first (image Log 0) →
-      ((j : ℕ) → j + 1 < length (due_blocks e) → IsDurable e disk (e.head + j) (block_at (due_blocks e) j)) →
-      IsOwnBlock e (place_of_commit e) (image Log (ring_place e.ring (place_of_commit e))) → OpensWithin
-  within-behind names durable own = let both = opens-behind names durable own in (e.committed + 1, omega arith, both.0, both.1)
+  -- it does where its log has the transactions up to that number
+  within-holds : (n : ℕ) → HoldsFirst e image r n → OpensWithin
+  within-holds n holds = (n, holds.committed, holds.few, opens-first n holds)
 
   -- so it does where all but the commit block is durable
-  within-ending : NamesFirst e.shape e.ring e.first (image Log 0) →
-      ((j : ℕ) → j + 1 < length (due_blocks e) → IsDurable e disk (e.head + j) (block_at (due_blocks e) j)) → OpensWithin
-  within-ending names durable =
-      let room : e.head + length (due_blocks e) ≤ e.ring.blocks = sound.plain.room in
+  within-ending : AreDurable e disk → OpensWithin
+  within-ending durable =
+      let room : e.start + length (due_blocks e) ≤ e.tail + e.ring.blocks = sound.plain.room in
       elim (cases_eq (length (due_blocks e)) 0) [
-        | inl none ↦ within-before names (part-none none)
+        | inl none ↦ within-holds e.committed (holds-before (part-none e disk image sound leaves none))
         | inr some ↦
-            elim (behind-left (place_of_commit e) (omega arith) (omega arith)) [
-              | inl other ↦ within-before names (part-without other)
-              | inr own ↦ within-behind names durable own
+            elim (behind-left e disk image sound leaves (place_of_commit e) (omega arith) (omega arith)) [
+              | inl other ↦ within-holds e.committed (holds-before (part-without e disk image sound leaves other))
+              | inr own ↦ within-holds (e.committed + 1) (holds-behind durable own)
             ]
       ]
 
-  -- a started log opens, at each point of a commit
-  within-first : NamesFirst e.shape e.ring e.first (image Log 0) → Progress e disk e.stage → OpensWithin
-  within-first names (Before least) = within-before names (part-before least)
-  within-first names (Ending durable) = within-ending names durable
+  -- and at each point of a commit
+  within-progress : Progress e disk e.stage → OpensWithin
+  within-progress (Before least) = within-holds e.committed (holds-before (part-before e disk image sound leaves least))
+  within-progress (Ending durable) = within-ending durable
 
-  -- no ring block of a clean log is ahead
-  clean-left : e.committed ≡ 0 → handed e.stage (length (due_blocks e)) ≡ 0 → (k : ℕ) → k < e.ring.blocks → IsBehind e.first (image Log (ring_place e.ring k))
-  clean-left none unhanded k high =
-      let head : e.head ≡ length (texts_blocks (committed_texts e)) = sound.plain.head in
-      let empty : length (texts_blocks (committed_texts e)) ≡ 0 = ap (λ n. length (texts_blocks (map (text_of e) (take n e.accepted)))) none in
-      elim (behind-left k (omega arith) high) [
-        | inl b ↦ record { below = λ m. let least = b.below m in omega arith }
-        | inr o ↦ let handed_over = o.handed_over in absurd (omega arith)
-      ]
+-- no ring block of a clean log is ahead
+clean-left : (e : Engine) (disk : Disk) (image : Image) → Sound e disk → Leaves disk image →
+    e.committed ≡ 0 → handed e.stage (length (due_blocks e)) ≡ 0 → (k : ℕ) → k < e.ring.blocks → IsBehind e.first (image Log (ring_place e.ring k))
+clean-left e disk image sound leaves none unhanded k high =
+    let start : e.start ≡ position e e.committed = sound.plain.start in
+    let empty : position e e.committed ≡ 0 = ap (position e) none in
+    elim (behind-left e disk image sound leaves k (omega arith) (omega arith)) [
+      | inl b ↦ record { below = λ m. let least = b.below m in omega arith }
+      | inr o ↦ let handed_over = o.handed_over in absurd (omega arith)
+    ]
 
-  -- whatever block 0 says, the image opens
-  within-found : Found e e.stage (image Log 0) → OpensWithin
-  within-found (FindsFirst names) = within-first names (progress e disk e.stage sound.stage)
-  within-found (FindsNothing names none unhanded) = (
-    0,
-    omega arith,
-    omega arith,
-    clean-opens e.shape e.ring e.first e.accepted image names (clean-left none unhanded) sound.plain.numbered,
-  )
+-- whatever block 0 says, the image opens
+within-found : (e : Engine) (disk : Disk) (image : Image) → Sound e disk → Leaves disk image → Found e disk (image Log 0) →
+    (n : ℕ) × (e.committed ≤ n) × (n ≤ length e.accepted) × OpensTo e.shape e.accepted image n
+within-found e disk image sound leaves (FindsTail r low high names home) =
+    within-progress e disk image sound leaves r low high names home (progress e disk e.stage sound.stage)
+within-found e disk image sound leaves (FindsNothing names none unhanded) = (
+  0,
+  omega arith,
+  omega arith,
+  clean-opens e.shape e.ring e.first e.accepted image names (clean-left e disk image sound leaves none unhanded) sound.plain.numbered,
+)
 
 -- every image that a crash of a sound disk may leave opens
 pub images-open : (e : Engine) (disk : Disk) → Sound e disk → OpensBetween e.shape e.accepted e.committed (length e.accepted) disk
 images-open e disk sound = record {
-  each = λ image leaves.
-      within-found e disk image sound leaves
-      (found e e.stage (image Log 0) sound.plain.stage (sound.superblock (image Log 0) (leaves.each Log 0)));
+  each = λ image leaves. within-found e disk image sound leaves (found e disk (image Log 0) sound (sound.superblock (image Log 0) (leaves.each Log 0)));
 }

@@ -1,5 +1,5 @@
--- Images that open: a clean log, and a log that begins with the texts of batches.
-use Rattle.std.proofs.Common.{◌≡◌, ℕ, suc, ◌+◌, ◌-◌, ◌%◌, ◌<◌, ◌≤◌, List, [], ◌++◌, length, length-take, map, take, arith, refl, sym, ◌∙◌, subst, ap, ap₂}
+-- Images that open: a clean log, and a log that has the texts of batches from a position on.
+use Rattle.std.proofs.Common.{◌≡◌, ℕ, suc, ◌+◌, ◌-◌, ◌<◌, ◌≤◌, List, [], ◌++◌, length, length-take, map, take, arith, refl, sym, ◌∙◌, subst, ap, ap₂}
 use Rattle.std.specs.List.{AllByRecursion, range_with_len}
 use Rattle.std.proofs.lemmas.List.{length-map}
 use Rattle.journal_model.specs.declared.entry.Batch.{Batch}
@@ -8,17 +8,18 @@ use Rattle.journal_model.specs.declared.number.Area.TheVariants.{Log, Home}
 use Rattle.journal_model.specs.Chain.{AreTexts, IsAhead, IsChain, IsDamaged, Ring, lap, place_from, texts_blocks, ring_place}
 use Rattle.journal_model.specs.Disk.{Image}
 use Rattle.journal_model.specs.Layout.{IsLayout, Layout, narrow, uuid_bytes}
-use Rattle.journal_model.specs.Opening.{HasChain, IsClean, IsStarted, NothingAhead, greatest_number, layout_of, log_lap, numbered_below, super_of}
-use Rattle.journal_model.specs.Opening.HasLimit.{OfChain, OfClean}
+use Rattle.journal_model.specs.Opening.{HasChain, IsClean, IsStarted, NothingAhead, OpensAs, greatest_number, layout_of, log_lap, super_of}
+use Rattle.journal_model.specs.Opening.HasLimit.{OfClean}
 use Rattle.journal_model.specs.Opening.OpensAs.{Clean, Replayed}
 use Rattle.journal_model.specs.OwnText.{own_text}
 use Rattle.journal_model.specs.Superblock.{Shape}
-use Rattle.journal_model.specs.Transaction.{bytes_of, content_of, last_effect}
-use Rattle.journal_world.specs.Engine.{IsBatch, block_at}
+use Rattle.journal_model.specs.Transaction.{History, bytes_of, content_of, last_effect}
+use Rattle.journal_world.specs.Engine.{AreBatchesOf, IsBatch, block_at}
 use Rattle.journal_world.specs.Opening.{IsBehind, IsSuperblock, NamesNothing}
-use Rattle.journal_world.specs.Sound.{AreNumberedFrom, NamesFirst, OpensTo}
+use Rattle.journal_world.specs.Sound.{AreNumberedFrom, BeginsAt, OpensTo}
 use Rattle.journal_world.proofs.Superblocks.{accepted-block_size, accepted-layout, first-above}
-use Rattle.journal_world.proofs.Batches.{batches-own, batches-take, count-below, none-below, numbered-take, texts_of}
+use Rattle.journal_world.proofs.Around.{place-lap}
+use Rattle.journal_world.proofs.Batches.{batches-own, batches-take, none-below, numbered-take, texts_of}
 use Rattle.journal_world.proofs.Chains.{IsNotDue, chain-of, no-damage}
 use Rattle.journal_world.proofs.Elements.{all-take}
 use Rattle.journal_world.proofs.Laps.{all-range, range-front}
@@ -71,71 +72,77 @@ clean-opens shape r first bs image names each numbered =
       };
     }
 
--- the log of the image begins with these texts; behind them no block is due, and none is above the number next
-pub record HoldsTexts (shape : Shape) (r : Ring) (image : Image) (texts : List Text) (next : ℕ) : Type 0 where
+-- the log of the image has these texts from a position on; behind them no block is due, and none is above the number next
+pub record HoldsTexts (shape : Shape) (r : Ring) (image : Image) (from : ℕ) (texts : List Text) (next : ℕ) : Type 0 where
   pub fits : length (texts_blocks texts) ≤ r.blocks
-  pub front : (k : ℕ) → k < length (texts_blocks texts) → image Log (ring_place r k) ≡ block_at (texts_blocks texts) k
-  pub rest : (k : ℕ) → length (texts_blocks texts) ≤ k → k < r.blocks → IsNotDue (narrow shape.block_size) shape.home_blocks next (image Log (ring_place r k))
+  pub front : (k : ℕ) → k < length (texts_blocks texts) → image Log (ring_place r (from + k)) ≡ block_at (texts_blocks texts) k
+  pub rest : (k : ℕ) → length (texts_blocks texts) ≤ k → k < r.blocks →
+      IsNotDue (narrow shape.block_size) shape.home_blocks next (image Log (ring_place r (from + k)))
   pub each : (k : ℕ) → k < r.blocks → IsBehind (suc next) (image Log (ring_place r k))
 
--- the ring block at a number, counted from the first
-abbrev ring_block : Ring → Image → ℕ → List ℕ
-ring_block r image k = image Log (place_from r r.first k)
+-- the ring block at a number, counted from a position
+abbrev ring_block : Ring → Image → ℕ → ℕ → List ℕ
+ring_block r image from k = image Log (place_from r (ring_place r from) k)
 
--- its place is that of the ring block
-ring-block : (r : Ring) (image : Image) (k : ℕ) → ring_block r image k ≡ image Log (ring_place r k)
-ring-block r image k = ap (λ m. image Log (r.first + m % r.blocks)) (omega arith)
+-- its place is that of the position so far behind
+ring-block : (r : Ring) (image : Image) (from k : ℕ) → ring_block r image from k ≡ image Log (ring_place r (from + k))
+ring-block r image from k = ap (image Log) (place-lap r from k)
 
 -- the blocks of the lap behind so many
-abbrev rest_of : Ring → Image → ℕ → List (List ℕ)
-rest_of r image taken = map (ring_block r image) (range_with_len (0 + taken) (r.blocks - taken))
+abbrev rest_of : Ring → Image → ℕ → ℕ → List (List ℕ)
+rest_of r image from taken = map (ring_block r image from) (range_with_len (0 + taken) (r.blocks - taken))
 
--- the lap from the first ring block on begins with blocks that stand at its places
-lap-split : (r : Ring) (image : Image) (blocks : List (List ℕ)) → length blocks ≤ r.blocks →
-    ((k : ℕ) → k < length blocks → image Log (ring_place r k) ≡ block_at blocks k) → lap r image r.first ≡ blocks ++ rest_of r image (length blocks)
+-- the lap from a position on begins with blocks that stand at its places
+lap-split : (r : Ring) (image : Image) (from : ℕ) (blocks : List (List ℕ)) → length blocks ≤ r.blocks →
+    ((k : ℕ) → k < length blocks → image Log (ring_place r (from + k)) ≡ block_at blocks k) →
+    lap r image (ring_place r from) ≡ blocks ++ rest_of r image from (length blocks)
 unfolding lap
-lap-split r image blocks fits front =
-    range-front [] (ring_block r image) blocks 0 r.blocks fits
-    (λ k h. ap (ring_block r image) (omega arith) ∙ ring-block r image k ∙ front k h)
+lap-split r image from blocks fits front =
+    range-front [] (ring_block r image from) blocks 0 r.blocks fits
+    (λ k h. ap (ring_block r image from) (omega arith) ∙ ring-block r image from k ∙ front k h)
 
 -- none of the blocks behind the texts is due
-rest-not_due : (shape : Shape) (r : Ring) (image : Image) (texts : List Text) (next : ℕ) → HoldsTexts shape r image texts next →
-    AllByRecursion (IsNotDue (narrow shape.block_size) shape.home_blocks next) (rest_of r image (length (texts_blocks texts)))
-rest-not_due shape r image texts next holds =
+rest-not_due : (shape : Shape) (r : Ring) (image : Image) (from : ℕ) (texts : List Text) (next : ℕ) → HoldsTexts shape r image from texts next →
+    AllByRecursion (IsNotDue (narrow shape.block_size) shape.home_blocks next) (rest_of r image from (length (texts_blocks texts)))
+rest-not_due shape r image from texts next holds =
     let fits : length (texts_blocks texts) ≤ r.blocks = holds.fits in
-    all-range (IsNotDue (narrow shape.block_size) shape.home_blocks next) (ring_block r image)
+    all-range (IsNotDue (narrow shape.block_size) shape.home_blocks next) (ring_block r image from)
     (0 + length (texts_blocks texts)) (r.blocks - length (texts_blocks texts))
-    (λ k low high. subst (IsNotDue (narrow shape.block_size) shape.home_blocks next) (sym (ring-block r image k)) (holds.rest k (omega arith) (omega arith)))
+    (λ k low high.
+    subst (IsNotDue (narrow shape.block_size) shape.home_blocks next) (sym (ring-block r image from k)) (holds.rest k (omega arith) (omega arith)))
 
--- the lap of a log that begins with the first transaction
-lap-first : (shape : Shape) (r : Ring) (first : ℕ) (image : Image) → NamesFirst shape r first (image Log 0) → log_lap image ≡ lap r image r.first
-lap-first shape r first image names = ap₂ (λ x place. lap x image place) names.is_superblock.ring_is names.start
+-- the lap of a log that begins at a position
+lap-tail : (shape : Shape) (r : Ring) (first from : ℕ) (image : Image) → BeginsAt shape r first from (image Log 0) →
+    log_lap image ≡ lap r image (ring_place r from)
+lap-tail shape r first from image names = ap₂ (λ x place. lap x image place) names.is_superblock.ring_is names.start
 
 -- such a log is started
-started-first : (shape : Shape) (r : Ring) (first : ℕ) (image : Image) → NamesFirst shape r first (image Log 0) → IsStarted shape image
-started-first shape r first image names =
+started-tail : (shape : Shape) (r : Ring) (first from : ℕ) (image : Image) → BeginsAt shape r first from (image Log 0) → IsStarted shape image
+started-tail shape r first from image names =
     let some : 0 < r.first = first-above shape r (image Log 0) names.is_superblock in
-    let start : (super_of image).s_start ≡ r.first = names.start in
+    let start : (super_of image).s_start ≡ ring_place r from = names.start in
     record { accepted = names.is_superblock.accepted; started = λ none. omega arith }
 
 -- its layout is that of the device's blocks
-layout-first : (shape : Shape) (r : Ring) (first : ℕ) (image : Image) → NamesFirst shape r first (image Log 0) →
+layout-tail : (shape : Shape) (r : Ring) (first from : ℕ) (image : Image) → BeginsAt shape r first from (image Log 0) →
     layout_of (super_of image) ≡ narrow shape.block_size
-layout-first shape r first image names = ap narrow (accepted-block_size shape (image Log 0) names.is_superblock.accepted)
+layout-tail shape r first from image names = ap narrow (accepted-block_size shape (image Log 0) names.is_superblock.accepted)
 
 -- the texts that it holds are its chain, and there is no damage
-holds-chain : (shape : Shape) (r : Ring) (first : ℕ) (image : Image) (texts : List Text) → NamesFirst shape r first (image Log 0) →
-    AreTexts (narrow shape.block_size) shape.home_blocks first texts → HoldsTexts shape r image texts (first + length texts) → HasChain shape image texts
-holds-chain shape r first image texts names are holds =
+holds-chain : (shape : Shape) (r : Ring) (first from : ℕ) (image : Image) (texts : List Text) → BeginsAt shape r first from (image Log 0) →
+    AreTexts (narrow shape.block_size) shape.home_blocks first texts → HoldsTexts shape r image from texts (first + length texts) →
+    HasChain shape image texts
+holds-chain shape r first from image texts names are holds =
     let l : Layout = narrow shape.block_size in
     let blocks : List (List ℕ) = log_lap image in
-    let rest : List (List ℕ) = rest_of r image (length (texts_blocks texts)) in
-    let split : blocks ≡ texts_blocks texts ++ rest = lap-first shape r first image names ∙ lap-split r image (texts_blocks texts) holds.fits holds.front in
-    let none = rest-not_due shape r image texts (first + length texts) holds in
-    let layout : layout_of (super_of image) ≡ l = layout-first shape r first image names in
+    let rest : List (List ℕ) = rest_of r image from (length (texts_blocks texts)) in
+    let split : blocks ≡ texts_blocks texts ++ rest =
+    lap-tail shape r first from image names ∙ lap-split r image from (texts_blocks texts) holds.fits holds.front in
+    let none = rest-not_due shape r image from texts (first + length texts) holds in
+    let layout : layout_of (super_of image) ≡ l = layout-tail shape r first from image names in
     let chain : IsChain l shape.home_blocks first blocks texts = chain-of l shape.home_blocks first blocks texts rest (omega arith) split are none in
     record {
-      started = started-first shape r first image names;
+      started = started-tail shape r first from image names;
       chain =
           subst (λ s. IsChain (layout_of (super_of image)) shape.home_blocks s blocks texts) (sym names.sequence)
           (subst (λ x. IsChain x shape.home_blocks first blocks texts) (sym layout) chain);
@@ -145,11 +152,19 @@ holds-chain shape r first image texts names are holds =
           (subst (λ s. IsDamaged (layout_of (super_of image)) shape.home_blocks s blocks k) names.sequence d.damaged));
     }
 
--- a started log that holds the texts of the first n batches opens to n
-pub chain-opens : (shape : Shape) (r : Ring) (uuid : List ℕ) (first n : ℕ) (bs : List Batch) (image : Image) → NamesFirst shape r first (image Log 0) →
-    length uuid ≡ uuid_bytes → AllByRecursion (IsBatch shape) bs → AreNumberedFrom first bs → first + length bs ≤ greatest_number + 1 → n ≤ length bs →
-    HoldsTexts shape r image (texts_of shape uuid (take n bs)) (first + n) → OpensTo shape bs image n
-chain-opens shape r uuid first n bs image names size each numbered least few holds =
+-- the chain of the image ends before the number next, and its replay makes of home what the first n of these batches do
+pub record ChainOpens (shape : Shape) (image : Image) (bs : List Batch) (n next : ℕ) : Type 0 where
+  pub texts : List Text
+  pub has : HasChain shape image texts
+  pub limit : (super_of image).s_sequence + length texts ≡ next
+  pub opens : (ts : History) → AreBatchesOf ts bs → OpensAs shape image (λ b. bytes_of (content_of (last_effect b (take n ts))) (image Home b))
+
+-- so it is with a started log that holds the texts of the first n batches, the first of which it names
+pub chain-opens : (shape : Shape) (r : Ring) (uuid : List ℕ) (first from n : ℕ) (bs : List Batch) (image : Image) →
+    BeginsAt shape r first from (image Log 0) → length uuid ≡ uuid_bytes → AllByRecursion (IsBatch shape) bs → AreNumberedFrom first bs →
+    first + length bs ≤ greatest_number + 1 → n ≤ length bs → HoldsTexts shape r image from (texts_of shape uuid (take n bs)) (first + n) →
+    ChainOpens shape image bs n (first + n)
+chain-opens shape r uuid first from n bs image names size each numbered least few holds =
     let layout : IsLayout (narrow shape.block_size) = accepted-layout shape (image Log 0) names.is_superblock.accepted in
     let texts : List Text = texts_of shape uuid (take n bs) in
     let taken : length (take n bs) ≡ n = length-take n bs ∙ omega arith in
@@ -157,21 +172,16 @@ chain-opens shape r uuid first n bs image names size each numbered least few hol
     let own = batches-own shape uuid first (take n bs) layout size (all-take (IsBatch shape) n bs each) (numbered-take first n bs numbered) (omega arith) in
     let are : AreTexts (narrow shape.block_size) shape.home_blocks first texts = own-texts (narrow shape.block_size) shape.home_blocks first texts own in
     let has : HasChain shape image texts =
-    holds-chain shape r first image texts names are (subst (λ m. HoldsTexts shape r image texts (first + m)) (sym count) holds) in
+    holds-chain shape r first from image texts names are (subst (λ m. HoldsTexts shape r image from texts (first + m)) (sym count) holds) in
     let sequence : (super_of image).s_sequence ≡ first = names.sequence in
     let limit : (super_of image).s_sequence + length texts ≡ first + n = omega arith in
     record {
-      opens = λ ts are_of. record {
-        got = λ b. bytes_of (content_of (last_effect b (take n ts))) (image Home b);
-        opens = Replayed texts has
-            (nothing-ahead shape r image ((super_of image).s_sequence + length texts) names.is_superblock
-            (λ k h. subst (λ m. IsBehind (suc m) (image Log (ring_place r k))) (sym limit) (holds.each k h)))
-            (own-replayed shape.home_blocks (narrow shape.block_size) uuid (take n ts) (take n bs) (image Home) layout (batches-take n ts bs are_of));
-        recovered = λ b h. refl;
-      };
-      count = λ ts are_of. record {
-        limit = (super_of image).s_sequence + length texts;
-        has = OfChain texts has;
-        count = sym (ap (λ end. numbered_below end ts) limit ∙ count-below first n ts bs few numbered are_of);
-      };
+      texts = texts;
+      has = has;
+      limit = limit;
+      opens = λ ts are_of.
+          Replayed texts has
+          (nothing-ahead shape r image ((super_of image).s_sequence + length texts) names.is_superblock
+          (λ k h. subst (λ m. IsBehind (suc m) (image Log (ring_place r k))) (sym limit) (holds.each k h)))
+          (own-replayed shape.home_blocks (narrow shape.block_size) uuid (take n ts) (take n bs) (image Home) layout (batches-take n ts bs are_of));
     }

@@ -1,8 +1,8 @@
 -- The places of ring blocks, and what a write of a log block leaves of the others, whether it succeeds or fails.
 use Rattle.std.proofs.Common.{refl, sym, ap, subst, arith, inl, inr, ⊎_elim}
-use Rattle.std.specs.Prelude.{◌≡◌, ◌⊎◌, ℕ, ◌+◌, ◌<◌, ◌==◌, ◌&&◌, true, false, if◌then◌else◌, List, ◌∷◌}
-use Rattle.std.proofs.Math.Nat.{mod-eq_of_lt}
-use Rattle.std.proofs.lemmas.Bool.{cases_eq}
+use Rattle.std.specs.Prelude.{◌≡◌, ◌⊎◌, ℕ, ◌+◌, ◌*◌, ◌/◌, ◌%◌, ◌<◌, ◌≤◌, ◌==◌, ◌&&◌, true, false, if◌then◌else◌, List, ◌∷◌}
+use Rattle.std.proofs.Math.Nat.{add-mod_right, div-add-mod, lt_of_mul-lt-mul_left, mod-eq_of_lt, mod-lt}
+use Rattle.std.proofs.lemmas.Bool.{cases_eq, cases_lt}
 use Rattle.std.proofs.lemmas.Bool.Decides.{nat_tests}
 use Rattle.journal_model.specs.declared.number.Area.TheVariants.{Log}
 use Rattle.journal_model.specs.Chain.{Ring, ring_place}
@@ -10,25 +10,53 @@ use Rattle.journal_model.specs.Disk.{Cell, Disk, IsOneOf, flushed, handed_over, 
 use Rattle.journal_world.specs.Call.{IsAfterFault}
 use Rattle.journal_world.specs.Call.IsAfterFault.{Undone, Whole, HandedOver}
 use Rattle.journal_world.specs.Call.Call.{Write, Flush}
-use Rattle.journal_world.specs.Sound.{durable_cell}
+use Rattle.journal_world.specs.Sound.{KeepsHome, durable_cell}
 
--- a ring block below the ring's count stands where it is counted
+-- a position on the first lap stands where it is counted
 pub place-below : (r : Ring) (k : ℕ) → k < r.blocks → ring_place r k ≡ r.first + k
 place-below r k below = ap (λ j. r.first + j) (mod-eq_of_lt below)
 
--- two of them that stand at one place are one
-pub one_place : (r : Ring) (j k : ℕ) → j < r.blocks → k < r.blocks → ring_place r j ≡ ring_place r k → j ≡ k
-one_place r j k below other same =
-    let here : ring_place r j ≡ r.first + j = place-below r j below in
-    let there : ring_place r k ≡ r.first + k = place-below r k other in
+-- each position stands in the ring
+pub place-within : (r : Ring) (k : ℕ) → 0 < r.blocks → ring_place r k < r.first + r.blocks
+place-within r k some = let below : k % r.blocks < r.blocks = mod-lt k some in omega arith
+
+-- one lap on is the same place
+pub next_lap : (r : Ring) (k : ℕ) → ring_place r (k + r.blocks) ≡ ring_place r k
+next_lap r k = ap (λ j. r.first + j) (add-mod_right k r.blocks)
+
+-- less than a lap apart, no two positions have the same rest on different laps
+one_rest : (blocks j k : ℕ) → j < k → k < j + blocks → j % blocks ≡ k % blocks → ⊥
+one_rest blocks j k low high rest =
+    let here : blocks * (j / blocks) + j % blocks ≡ j = div-add-mod j blocks in
+    let there : blocks * (k / blocks) + k % blocks ≡ k = div-add-mod k blocks in
+    let above : j / blocks < k / blocks = lt_of_mul-lt-mul_left blocks (omega arith) in
+    let below : k / blocks < j / blocks + 1 = lt_of_mul-lt-mul_left blocks (omega arith) in
     omega arith
+
+-- so two positions less than a lap apart that stand at one place are one
+pub one_place : (r : Ring) (j k : ℕ) → j ≤ k → k < j + r.blocks → ring_place r j ≡ ring_place r k → j ≡ k
+one_place r j k low high same =
+    elim (cases_lt j k) [
+      | inl apart ↦ absurd (one_rest r.blocks j k apart high (omega arith))
+      | inr equal ↦ omega arith
+    ]
+
+-- and so are two on the lap from a position on
+pub one_within : (r : Ring) (tail j k : ℕ) → tail ≤ j → j < tail + r.blocks → tail ≤ k → k < tail + r.blocks →
+    ring_place r j ≡ ring_place r k → j ≡ k
+one_within r tail j k low high other below same =
+    elim (cases_lt j k) [
+      | inl apart ↦ one_place r j k (omega arith) (omega arith) same
+      | inr equal ↦ sym (one_place r k j equal (omega arith) (sym same))
+    ]
 
 -- none of them is block 0 of the log
 pub place-above : (r : Ring) (k : ℕ) → 0 < r.first → ring_place r k ≡ 0 → ⊥
 place-above r k above same = omega arith
 
--- a write of v at log block n, which may have failed: no other log block changed, and what is held there was held or is v
+-- a write of v at log block n, which may have failed: no other block changed, and what is held there was held or is v
 pub record IsWrite (old new : Disk) (n : ℕ) (v : List ℕ) : Type 0 where
+  pub home : KeepsHome old new
   pub others : (m : ℕ) → (m ≡ n → ⊥) → new Log m ≡ old Log m
   pub there : (w : List ℕ) → IsOneOf (held (new Log n)) w → (w ≡ v) ⊎ IsOneOf (held (old Log n)) w
 
@@ -47,6 +75,7 @@ written-there disk n v = cell-there n _ (disk Log n)
 -- a write that succeeded is one
 pub is_write-written : (disk : Disk) (n : ℕ) (v : List ℕ) → IsWrite disk (written disk Log n v) n v
 is_write-written disk n v = record {
+  home = record { same = λ b. refl };
   others = λ m other. cell-other n m _ (disk Log m) other;
   there = λ w one. subst (λ (c : Cell). IsOneOf (held c) w) (written-there disk n v) one;
 }
@@ -54,6 +83,7 @@ is_write-written disk n v = record {
 -- so is one that failed and was handed over
 is_write-handed_over : (disk : Disk) (n : ℕ) (v : List ℕ) → IsWrite disk (handed_over disk Log n v) n v
 is_write-handed_over disk n v = record {
+  home = record { same = λ b. refl };
   others = λ m other. cell-other n m _ (disk Log m) other;
   there = λ w one. handed_cases (disk Log n) v w (subst (λ (c : Cell). IsOneOf (held c) w) (cell-there n _ (disk Log n)) one);
 }
@@ -65,7 +95,7 @@ is_write-handed_over disk n v = record {
 
 -- and one that changed nothing
 is_write-undone : (disk : Disk) (n : ℕ) (v : List ℕ) → IsWrite disk disk n v
-is_write-undone disk n v = record { others = λ m other. refl; there = λ w one. inr one }
+is_write-undone disk n v = record { home = record { same = λ b. refl }; others = λ m other. refl; there = λ w one. inr one }
 
 -- so is each write that failed
 pub is_write-fault : (old new : Disk) (n : ℕ) (v : List ℕ) → IsAfterFault (Write Log n v) old new → IsWrite old new n v

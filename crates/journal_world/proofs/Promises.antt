@@ -1,4 +1,4 @@
--- What an image keeps of the promise: all that was answered, home as it was, and one thing that an opening makes of it.
+-- What an image keeps of the promise: all that was answered, and one thing that an opening makes of it.
 use Rattle.std.proofs.Common.{◌≡◌, ℕ, zero, suc, ◌+◌, ◌<◌, ◌≤◌, Bool, true, false, List, [], ◌∷◌, length, arith, sym, ◌∙◌, ap, subst}
 use Rattle.std.specs.Prelude.{nat_le, if◌then◌else◌}
 use Rattle.std.specs.List.{AllByRecursion, list_any}
@@ -9,9 +9,7 @@ use Rattle.journal_model.proofs.ReadingTexts.{one_chain_of}
 use Rattle.journal_model.specs.declared.entry.Batch.{Batch}
 use Rattle.journal_model.specs.declared.log.Text.{Text}
 use Rattle.journal_model.specs.declared.number.Area.TheVariants.{Home}
-use Rattle.journal_model.specs.Disk.{Disk, Image, IsOneOf, Leaves, held}
-use Rattle.journal_model.specs.HomeChange.{OthersRightlyHeld}
-use Rattle.journal_model.specs.HomeChange.IsRightlyHeld.{FromOpening}
+use Rattle.journal_model.specs.Disk.{Image}
 use Rattle.journal_model.specs.Opening.{HasChain, OpensAs, layout_of, log_lap, super_of}
 use Rattle.journal_model.specs.Opening.OpensAs.{Clean, Replayed}
 use Rattle.journal_model.specs.Record.{acknowledged}
@@ -19,7 +17,7 @@ use Rattle.journal_model.specs.Replay.{IsReplayed}
 use Rattle.journal_model.specs.Superblock.{Shape}
 use Rattle.journal_model.specs.Transaction.{History, Transaction, Volume}
 use Rattle.journal_world.specs.Engine.{AreBatchesOf}
-use Rattle.journal_world.specs.Sound.{AreNumberedFrom, KeepsHome}
+use Rattle.journal_world.specs.Sound.{AreNumberedFrom}
 use Rattle.journal_world.proofs.Elements.{all-weaker, none-passes}
 
 -- no answer tells of a transaction with a number above all of them
@@ -75,9 +73,3 @@ opens-same shape image one other (Clean clean ahead same) (Replayed texts has no
 opens-same shape image one other (Replayed texts has ahead made) (Clean clean none same) b below = absurd (has.started.started clean.clean)
 opens-same shape image one other (Replayed texts has ahead made) (Replayed others also none made_too) b below =
     same-replay shape image texts others one other has also made made_too b below
-
--- where home is as it was at the opening, a crash leaves what is rightly there
-pub rightly-left : (count n : ℕ) (ts : History) (opening disk : Disk) (image : Image) → KeepsHome opening disk → Leaves disk image →
-    OthersRightlyHeld count opening [] ts n (image Home)
-rightly-left count n ts opening disk image keeps leaves b below direct =
-    FromOpening (subst (λ c. IsOneOf (held c) (image Home b)) (keeps.same b) (leaves.each Home b))

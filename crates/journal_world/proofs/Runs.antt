@@ -1,7 +1,7 @@
 -- What every run of moves keeps of a world.
-use Rattle.std.proofs.Common.{refl, sym, ◌∙◌, subst, arith, inl, inr}
+use Rattle.std.proofs.Common.{refl, sym, ◌∙◌, ap, subst, arith, inl, inr}
 use Rattle.std.proofs.Math.Path.{fun_ext}
-use Rattle.std.specs.Prelude.{◌≡◌, ◌⊎◌, ℕ, ◌<◌, ◌≤◌, Bool, List, [], ◌∷◌, length}
+use Rattle.std.specs.Prelude.{◌≡◌, true, ◌⊎◌, ℕ, ◌<◌, ◌≤◌, Bool, List, [], ◌∷◌, length}
 use Rattle.journal_model.specs.declared.number.Area.TheVariants.{Log, Home}
 use Rattle.journal_model.specs.declared.number.Area.{Area}
 use Rattle.journal_model.specs.Disk.{Disk, Image, Leaves, disk_of, flushed, reading}
@@ -10,32 +10,31 @@ use Rattle.journal_model.specs.Transaction.{Volume}
 use Rattle.journal_world.specs.Engine.{Engine}
 use Rattle.journal_world.specs.Front.{Front}
 use Rattle.journal_world.specs.Journal.{ChangesFront, Event, Happens, Journal, fresh_engine}
-use Rattle.journal_world.specs.Journal.Event.{Reserve, GiveBack, Join, WriteBlock, StopHandle, Lock, Seal, CommitStep, CommitFault, Finish}
+use Rattle.journal_world.specs.Journal.Event.{Reserve, GiveBack, Join, WriteBlock, StopHandle, Lock, Seal, CommitStep, CommitFault, CheckpointStep, CheckpointFault, ReadFault, Finish}
 use Rattle.journal_world.specs.Opening.{OpensAlways}
-use Rattle.journal_world.specs.Sound.{KeepsHome, OpensTo, Sound}
+use Rattle.journal_world.specs.Sound.{OpensTo, Sound}
 use Rattle.journal_world.specs.World.{Answers, Begins, CanBeOpened, IsOpened, Keeps, KeepsPromise, Leads, Move, Moves, Phase, Reopens, Steps, Stops, World}
 use Rattle.journal_world.specs.World.Move.{Step, Answer, Stop, Open}
 use Rattle.journal_world.specs.World.Phase.{Running, Stopped, Reopened}
 use Rattle.journal_world.proofs.Accepted.{accepts-sound}
 use Rattle.journal_world.proofs.Batches.{same-length}
-use Rattle.journal_world.proofs.Faults.{fault-sound}
+use Rattle.journal_world.proofs.Faults.{abort-sound, fault-sound}
 use Rattle.journal_world.proofs.Fresh.{fresh-sound}
-use Rattle.journal_world.proofs.Fronts.{FrontAgrees, answer-agrees, credits-agree, fault-agrees, finish-agrees, fresh-agrees, join-agrees, seal-agrees, step-agrees, write-agrees}
-use Rattle.journal_world.proofs.Homes.{fault-home, step-home}
+use Rattle.journal_world.proofs.Fronts.{FrontAgrees, answer-agrees, credits-agree, finish-agrees, fresh-agrees, goes-on, join-agrees, seal-agrees, write-agrees}
+use Rattle.journal_world.proofs.HomeRights.{HomeRight, abort-right, fault-right, right-first, rightly-left, round-fault-right, round-right, step-right, taken-right}
 use Rattle.journal_world.proofs.Images.{images-open}
-use Rattle.journal_world.proofs.Promises.{acknowledged-few, opens-same, rightly-left}
+use Rattle.journal_world.proofs.Onward.{fault-on, round-fault-on, round-on, step-on}
+use Rattle.journal_world.proofs.Promises.{acknowledged-few, opens-same}
+use Rattle.journal_world.proofs.RoundFaults.{round-fault-sound}
+use Rattle.journal_world.proofs.RoundSteps.{round-sound}
 use Rattle.journal_world.proofs.Steps.{step-sound}
 
--- what a running journal keeps: the engine can rely on the disk, the front agrees with it, and home is as it was at
--- the opening
+-- what a running journal keeps: the engine can rely on the disk, the front agrees with it, and home holds what is rightly
+-- there
 pub record IsRunning (opening : Disk) (journal : Journal) (disk : Disk) (answered : List ℕ) : Type 0 where
   pub sound : Sound journal.engine disk
   pub agrees : FrontAgrees journal.front journal.engine answered
-  pub home : KeepsHome opening disk
-
--- home stays as it was over two steps
-home-on : (opening disk after : Disk) → KeepsHome opening disk → KeepsHome disk after → KeepsHome opening after
-home-on opening disk after one other = record { same = λ b. other.same b ∙ one.same b }
+  pub home : HomeRight opening journal.engine disk
 
 -- a step of the front alone keeps what a running journal keeps, where the new front agrees with the engine
 front-runs : (opening : Disk) (old new : Journal) (disk after : Disk) (answered : List ℕ) (front : Front) → IsRunning opening old disk answered →
@@ -46,7 +45,7 @@ front-runs opening old new disk after answered front runs agrees change =
     (record { sound = runs.sound; agrees = agrees; home = runs.home }))
 
 -- a step of the engine, on what the front then is
-engine-runs : (opening : Disk) (new : Journal) (after : Disk) (answered : List ℕ) (front : Front) → KeepsHome opening after →
+engine-runs : (opening : Disk) (new : Journal) (after : Disk) (answered : List ℕ) (front : Front) → HomeRight opening new.engine after →
     Sound new.engine after → FrontAgrees front new.engine answered → new.front ≡ front → IsRunning opening new after answered
 engine-runs opening new after answered front home sound agrees same =
     record { sound = sound; agrees = subst (λ (f : Front). FrontAgrees f new.engine answered) (sym same) agrees; home = home }
@@ -71,16 +70,35 @@ module _ (opening : Disk) (old new : Journal) (disk after : Disk) (answered : Li
       front-runs opening old new disk after answered _ runs (finish-agrees old.front old.engine answered happens.committed runs.agrees) happens.change
   event-runs Seal happens =
       subst (λ (d : Disk). IsRunning opening new d answered) (sym happens.disk_is)
-      (engine-runs opening new disk answered _ runs.home (accepts-sound old.engine _ new.engine disk runs.sound happens.engine)
+      (engine-runs opening new disk answered _ (taken-right opening old.engine new.engine _ disk happens.engine runs.home)
+      (accepts-sound old.engine _ new.engine disk runs.sound happens.engine)
       (seal-agrees old.front old.engine new.engine answered happens.may happens.engine runs.agrees) happens.front)
   event-runs CommitStep happens =
-      engine-runs opening new after answered _ (home-on opening disk after runs.home (step-home old.engine new.engine disk after happens.engine))
+      engine-runs opening new after answered _ (step-right opening old.engine new.engine disk after happens.engine runs.home)
       (step-sound old.engine new.engine disk after runs.sound happens.engine)
-      (step-agrees old.front old.engine new.engine disk after answered happens.engine runs.agrees) happens.front
+      (goes-on old.front old.engine new.engine answered (step-on old.engine new.engine disk after happens.engine) runs.agrees) happens.front
   event-runs CommitFault happens =
-      engine-runs opening new after answered _ (home-on opening disk after runs.home (fault-home old.engine new.engine disk after happens.engine))
+      engine-runs opening new after answered _ (fault-right opening old.engine new.engine disk after happens.engine runs.home)
       (fault-sound old.engine new.engine disk after runs.sound happens.engine)
-      (fault-agrees old.front old.engine new.engine disk after answered happens.engine runs.agrees) happens.front
+      (goes-on old.front old.engine new.engine answered (fault-on old.engine new.engine disk after happens.engine) runs.agrees) happens.front
+  event-runs ReadFault happens =
+      let same : record old.engine { aborted = true } ≡ new.engine = sym happens.engine in
+      let one : record { front = new.front; engine = record old.engine { aborted = true } } ≡ new = ap (λ (e : Engine). record { front = new.front; engine = e }) same in
+      subst (λ (j : Journal). IsRunning opening j after answered) one
+      (subst (λ (d : Disk). IsRunning opening (record { front = new.front; engine = record old.engine { aborted = true } }) d answered) (sym happens.disk_is)
+      (engine-runs opening (record { front = new.front; engine = record old.engine { aborted = true } }) disk answered _
+      (abort-right opening old.engine disk runs.home)
+      (abort-sound old.engine disk runs.sound)
+      (goes-on old.front old.engine (record old.engine { aborted = true }) answered (record { first = refl; accepted = refl; committed = omega arith }) runs.agrees)
+      happens.front))
+  event-runs CheckpointStep happens =
+      engine-runs opening new after answered _ (round-right opening old.engine new.engine disk after happens.engine runs.home)
+      (round-sound old.engine new.engine disk after runs.sound happens.engine)
+      (goes-on old.front old.engine new.engine answered (round-on old.engine new.engine disk after happens.engine) runs.agrees) happens.front
+  event-runs CheckpointFault happens =
+      engine-runs opening new after answered _ (round-fault-right opening old.engine new.engine disk after happens.engine runs.home)
+      (round-fault-sound old.engine new.engine disk after runs.sound happens.engine)
+      (goes-on old.front old.engine new.engine answered (round-fault-on old.engine new.engine disk after happens.engine) runs.agrees) happens.front
 
 -- what a world keeps in each phase
 abbrev pub HoldsIn : World → Phase → Type 0
@@ -131,7 +149,7 @@ crash-keeps w image n runs leaves low high to =
         high = omega arith;
         count = to.count f.sealed agrees.batches;
         recovered = opens.recovered;
-        others = rightly-left e.shape.home_blocks n f.sealed w.opening w.disk image runs.home leaves;
+        others = rightly-left e e.shape.home_blocks n f.sealed w.opening w.disk image runs.home low agrees.batches leaves;
         handles = agrees.handles.each;
       };
     }
@@ -222,7 +240,7 @@ fresh-runs w begins =
     record {
       sound = subst (λ (x : Engine). Sound x w.disk) (sym begins.journal.engine) sound;
       agrees = subst (λ (x : Engine). FrontAgrees w.journal.front x []) (sym begins.journal.engine) agrees;
-      home = record { same = λ b. refl };
+      home = right-first w.disk w.journal.engine;
     }
 
 -- and holds what each world does

@@ -9,8 +9,12 @@ use Rattle.journal_model.specs.declared.refusal.JournalError.TheVariants.{BadLen
 use Rattle.journal_model.specs.Chain.{Ring}
 use Rattle.journal_model.specs.Layout.{IsLayout, narrow}
 use Rattle.journal_model.specs.Superblock.{Shape, first_failed, greatest_length, is_block_size, least_length, least_ring, super_in, super_refusal, super_tests}
+use Rattle.journal_world.specs.declared.round.Round.{Round}
+use Rattle.journal_world.specs.declared.round.Round.TheVariants.{Idle as NoRound, Copies, TailWrite, TailFlush}
+use Rattle.journal_world.specs.Engine.{Engine}
 use Rattle.journal_world.specs.Opening.{IsSuperblock}
-use Rattle.journal_world.specs.Sound.{Names}
+use Rattle.journal_world.specs.Sound.{MayBeSuperblock, Names, NamesStarted}
+use Rattle.journal_world.specs.Sound.MayBeSuperblock.{Clean, Old, New}
 
 -- where no test fails, each passes
 tests-pass : (tests : List (Bool × JournalError)) → first_failed tests ≡ None → AllByRecursion (λ t. t.0 ≡ true) tests
@@ -85,8 +89,27 @@ first-above shape ring block is =
     let same : (super_in block).s_first ≡ ring.first = first-is shape ring block is in
     omega arith
 
+-- and it has blocks
+pub blocks-some : (shape : Shape) (ring : Ring) (block : List ℕ) → IsSuperblock shape ring block → 16 ≤ ring.blocks
+blocks-some shape ring block is =
+    let blocks : 16 ≤ (super_in block).s_maxlen - (super_in block).s_first = accepted-ring shape block is.accepted in
+    let same : (super_in block).s_maxlen - (super_in block).s_first ≡ ring.blocks = ap (λ (r : Ring). r.blocks) is.ring_is in
+    omega arith
+
+-- whatever is named once the log has begun, it is a superblock
+started-superblock : (e : Engine) (round : Round) (block : List ℕ) → NamesStarted e round block → IsSuperblock e.shape e.ring block
+started-superblock e NoRound block names = names.is_superblock
+started-superblock e (Copies transaction next) block names = names.is_superblock
+started-superblock e TailWrite block names = names.is_superblock
+started-superblock e TailFlush block names = names.is_superblock
+
 -- whatever it names, it is a superblock
-pub names-superblock : (started : Bool) (shape : Shape) (ring : Ring) (first : ℕ) (block : List ℕ) → Names started shape ring first block →
-    IsSuperblock shape ring block
-names-superblock true shape ring first block names = names.is_superblock
-names-superblock false shape ring first block names = names.is_superblock
+pub names-superblock : (e : Engine) (started : Bool) (block : List ℕ) → Names e started block → IsSuperblock e.shape e.ring block
+names-superblock e true block names = started-superblock e e.round block names
+names-superblock e false block names = names.is_superblock
+
+-- whatever a crash leaves of block 0 is a superblock
+pub may-superblock : (e : Engine) (block : List ℕ) → MayBeSuperblock e block → IsSuperblock e.shape e.ring block
+may-superblock e block (Clean may names) = names.is_superblock
+may-superblock e block (Old names) = names.is_superblock
+may-superblock e block (New moves names) = names.is_superblock

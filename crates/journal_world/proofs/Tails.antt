@@ -1,14 +1,15 @@
 -- The superblock that says where the log begins: one with a new tail.
-use Rattle.std.proofs.Common.{◌∙◌, ap₂, arith, inr, length-append, length-take, length-drop}
-use Rattle.std.specs.Prelude.{◌≡◌, ℕ, ◌-◌, ◌≤◌, List, length}
-use Rattle.journal_model.specs.Chain.{Ring}
+use Rattle.std.proofs.Common.{◌∙◌, ap, ap₂, arith, inr, length-append, length-take, length-drop}
+use Rattle.std.specs.Prelude.{◌≡◌, ℕ, ◌+◌, ◌-◌, ◌<◌, ◌≤◌, List, length}
+use Rattle.journal_model.specs.Chain.{Ring, ring_place}
 use Rattle.journal_model.specs.Opening.{greatest_number, ring_of}
 use Rattle.journal_model.specs.Superblock.{Shape, greatest_length, super_in, with_tail}
 use Rattle.log_format.proofs.Accepting.{tail_accepted}
 use Rattle.log_format.proofs.Superblocks.{before_tail, sequence_of_tail, start_of_tail}
 use Rattle.journal_world.specs.Opening.{IsSuperblock}
-use Rattle.journal_world.specs.Sound.{NamesFirst}
-use Rattle.journal_world.proofs.Superblocks.{accepted-length, accepted-ring, accepted-size, first-is}
+use Rattle.journal_world.specs.Sound.{BeginsAt}
+use Rattle.journal_world.proofs.Places.{place-within}
+use Rattle.journal_world.proofs.Superblocks.{accepted-length, accepted-size, blocks-some, first-is}
 
 -- a new tail leaves the length of the block
 pub length-tail : (block : List ℕ) (sequence start : ℕ) → 32 ≤ length block → length (with_tail block sequence start) ≡ length block
@@ -23,31 +24,39 @@ ring-tail block sequence start long =
     (before_tail 0x14 block sequence start (omega arith) long)
     (before_tail 0x10 block sequence start (omega arith) long)
 
--- with the ring's first block in its tail, it is the superblock of the same ring
-tail-superblock : (shape : Shape) (ring : Ring) (block : List ℕ) (sequence : ℕ) → IsSuperblock shape ring block →
-    IsSuperblock shape ring (with_tail block sequence ring.first)
-tail-superblock shape ring block sequence is =
+-- the place of a position is one that a superblock may name
+place-names : (shape : Shape) (ring : Ring) (block : List ℕ) (position : ℕ) → IsSuperblock shape ring block →
+    ((super_in block).s_first ≤ ring_place ring position) × (ring_place ring position < (super_in block).s_maxlen)
+place-names shape ring block position is =
+    let first : (super_in block).s_first ≡ ring.first = first-is shape ring block is in
+    let same : (super_in block).s_maxlen - (super_in block).s_first ≡ ring.blocks = ap (λ (r : Ring). r.blocks) is.ring_is in
+    let some : 16 ≤ ring.blocks = blocks-some shape ring block is in
+    let within : ring_place ring position < ring.first + ring.blocks = place-within ring position (omega arith) in
+    (omega arith, omega arith)
+
+-- with the place of a position in its tail, it is the superblock of the same ring
+tail-superblock : (shape : Shape) (ring : Ring) (block : List ℕ) (sequence position : ℕ) → IsSuperblock shape ring block →
+    IsSuperblock shape ring (with_tail block sequence (ring_place ring position))
+tail-superblock shape ring block sequence position is =
     let size : length block ≡ shape.block_size = is.size in
     let large : 1024 ≤ shape.block_size = accepted-size shape block is.accepted in
-    let first : (super_in block).s_first ≡ ring.first = first-is shape ring block is in
-    let blocks : 16 ≤ (super_in block).s_maxlen - (super_in block).s_first = accepted-ring shape block is.accepted in
     record {
-      accepted = tail_accepted shape block sequence ring.first (omega arith) is.accepted (inr (omega arith, omega arith));
-      size = length-tail block sequence ring.first (omega arith) ∙ size;
-      ring_is = ring-tail block sequence ring.first (omega arith) ∙ is.ring_is;
+      accepted =
+          tail_accepted shape block sequence (ring_place ring position) (omega arith) is.accepted (inr (place-names shape ring block position is));
+      size = length-tail block sequence (ring_place ring position) (omega arith) ∙ size;
+      ring_is = ring-tail block sequence (ring_place ring position) (omega arith) ∙ is.ring_is;
     }
 
--- and names the transaction with this number as the first
-pub tail-names : (shape : Shape) (ring : Ring) (block : List ℕ) (first : ℕ) → IsSuperblock shape ring block → first ≤ greatest_number →
-    NamesFirst shape ring first (with_tail block first ring.first)
-tail-names shape ring block first is small =
+-- and names the transaction with this number, at that position, as the first
+pub tail-names : (shape : Shape) (ring : Ring) (block : List ℕ) (number position : ℕ) → IsSuperblock shape ring block →
+    number ≤ greatest_number + 1 → BeginsAt shape ring number position (with_tail block number (ring_place ring position))
+tail-names shape ring block number position is small =
     let size : length block ≡ shape.block_size = is.size in
     let large : 1024 ≤ shape.block_size = accepted-size shape block is.accepted in
-    let same : (super_in block).s_first ≡ ring.first = first-is shape ring block is in
-    let blocks : 16 ≤ (super_in block).s_maxlen - (super_in block).s_first = accepted-ring shape block is.accepted in
     let most : (super_in block).s_maxlen ≤ greatest_length = accepted-length shape block is.accepted in
+    let within : ring_place ring position < (super_in block).s_maxlen = (place-names shape ring block position is).1 in
     record {
-      is_superblock = tail-superblock shape ring block first is;
-      start = start_of_tail block first ring.first (omega arith) (omega arith);
-      sequence = sequence_of_tail block first ring.first (omega arith) (omega arith);
+      is_superblock = tail-superblock shape ring block number position is;
+      start = start_of_tail block number (ring_place ring position) (omega arith) (omega arith);
+      sequence = sequence_of_tail block number (ring_place ring position) (omega arith) (omega arith);
     }

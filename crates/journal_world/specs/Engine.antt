@@ -1,5 +1,5 @@
--- The engine: the transactions handed to it, how far they are committed, and the one device call that is due. Source:
--- fs/jbd2/commit.c by behaviour; that each step is one device call is this project's own.
+-- The engine: the transactions handed to it, how far they are committed and released, and the one device call of a
+-- commit that is due. Source: fs/jbd2/commit.c by behaviour; that each step is one device call is this project's own.
 use Rattle.std.specs.Prelude.{◌≡◌, ℕ, ◌+◌, ◌-◌, ◌≤◌, nat_lt, nat_eq, Bool, true, false, if◌then◌else◌, List, [], ◌∷◌, ◌++◌, length, map, take, unwrap_or, slice_get, Option, Some, None, All}
 use Rattle.std.specs.List.{IsDistinct}
 use Rattle.journal_model.specs.declared.entry.Batch.{Batch}
@@ -14,6 +14,7 @@ use Rattle.journal_model.specs.OwnText.{copied, own_text}
 use Rattle.journal_model.specs.Superblock.{Shape, with_tail}
 use Rattle.journal_model.specs.Text.{text_blocks}
 use Rattle.journal_model.specs.Transaction.{History, entries}
+use Rattle.journal_world.specs.declared.round.Round.{Round}
 use Rattle.journal_world.specs.declared.stage.Stage.{Stage}
 use Rattle.journal_world.specs.declared.stage.Stage.TheVariants.{Idle, SuperblockWrite, SuperblockFlush, Blocks, CommitWrite, CommitFlush}
 use Rattle.journal_world.specs.Call.{Call, after_success, IsAfterFault}
@@ -28,8 +29,13 @@ pub record Engine : Type 0 where
   pub first : ℕ  -- the number of the first transaction since the opening
   pub accepted : List Batch  -- the transactions handed over since then, in the order of their numbers
   pub committed : ℕ  -- how many of them are committed
-  pub head : ℕ  -- how many ring blocks these have taken
-  pub stage : Stage  -- how far the next one is
+  pub start : ℕ  -- how many ring blocks these have taken, over all laps: the next one begins there, or the one being committed
+  pub released : ℕ  -- how many of the committed ones are home for good, so that their ring blocks are free
+  pub tail : ℕ  -- how many ring blocks these have taken
+  pub bound : ℕ  -- how many are released once the checkpoint round is over; without a round, as many as are released
+  pub bound_position : ℕ  -- how many ring blocks these have taken
+  pub stage : Stage  -- how far the commit of the next one is
+  pub round : Round  -- how far the checkpoint round is
   pub aborted : Bool  -- the device has failed
 
 abbrev pub layout_of : Engine → Layout
@@ -56,11 +62,11 @@ block_at blocks k = unwrap_or (slice_get blocks k) []
 
 -- the write of block k of that transaction
 abbrev pub write_block : Engine → ℕ → Call
-write_block e k = Write Log (ring_place e.ring (e.head + k)) (block_at (due_blocks e) k)
+write_block e k = Write Log (ring_place e.ring (e.start + k)) (block_at (due_blocks e) k)
 
 -- the superblock that says that the log begins with that transaction
 abbrev pub started_superblock : Engine → List ℕ
-started_superblock e = with_tail e.superblock (e.first + e.committed) (ring_place e.ring e.head)
+started_superblock e = with_tail e.superblock (e.first + e.committed) (ring_place e.ring e.start)
 
 -- the device call that is due, if one is
 abbrev pub call_in : Engine → Stage → Option Call
@@ -81,7 +87,7 @@ stepped_from e SuperblockWrite = record e { stage = SuperblockFlush; superblock 
 stepped_from e SuperblockFlush = record e { stage = Blocks 0 }
 stepped_from e (Blocks k) = record e { stage = if nat_lt (k + 1) (length (due_blocks e)) then Blocks (k + 1) else CommitWrite }
 stepped_from e CommitWrite = record e { stage = CommitFlush }
-stepped_from e CommitFlush = record e { stage = Idle; committed = e.committed + 1; head = e.head + length (due_blocks e) }
+stepped_from e CommitFlush = record e { stage = Idle; committed = e.committed + 1; start = e.start + length (due_blocks e) }
 
 abbrev pub stepped : Engine → Engine
 stepped e = stepped_from e e.stage
@@ -92,9 +98,9 @@ pub record IsBatch (shape : Shape) (b : Batch) : Type 0 where
   pub allowed : All (λ p. IsAllowedBlock (narrow shape.block_size) shape.home_blocks p.0) b.entries
   pub whole : All (λ c. length c.1 ≡ shape.block_size) (copied b.entries)
 
--- the ring has as many free blocks as the transaction needs
+-- the ring has as many free blocks as the transaction needs: all but those of the transactions that are not released
 abbrev pub HasRoom : Engine → Batch → Type 0
-HasRoom e b = e.head + length (text_blocks (text_of e b)) ≤ e.ring.blocks
+HasRoom e b = e.start + length (text_blocks (text_of e b)) ≤ e.tail + e.ring.blocks
 
 -- the engine after it took a batch
 abbrev pub accepting : Engine → Batch → Engine

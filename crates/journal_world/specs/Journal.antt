@@ -1,5 +1,5 @@
 -- The journal: a front and an engine, and the atomic steps of both. Source: journalling.rst, fs/jbd2 by behaviour.
-use Rattle.std.specs.Prelude.{◌≡◌, ℕ, ◌+◌, ◌<◌, ◌≤◌, false, List, [], length, Contains}
+use Rattle.std.specs.Prelude.{◌≡◌, ℕ, ◌+◌, ◌<◌, ◌≤◌, true, false, List, [], length, Contains}
 use Rattle.journal_model.specs.declared.entry.Batch.{Batch}
 use Rattle.journal_model.specs.Block.{IsAllowedBlock}
 use Rattle.journal_model.specs.Disk.{Disk}
@@ -8,7 +8,9 @@ use Rattle.journal_model.specs.Opening.{ring_of}
 use Rattle.journal_model.specs.Room.{IsCapacity}
 use Rattle.journal_model.specs.Superblock.{Shape, Super, super_in}
 use Rattle.journal_model.specs.Transaction.{Transaction, entries}
+use Rattle.journal_world.specs.declared.round.Round.TheVariants.{Idle as NoRound}
 use Rattle.journal_world.specs.declared.stage.Stage.TheVariants.{Idle}
+use Rattle.journal_world.specs.Checkpoint.{RoundFaults, RoundSteps}
 use Rattle.journal_world.specs.Engine.{Engine, Accepts, CommitSteps, CommitFaults}
 use Rattle.journal_world.specs.Front.{Front, MayJoin, MaySeal, finishing, fresh_front, giving_back, joining, locking, reserving, sealing, stopping, writing}
 
@@ -27,6 +29,9 @@ pub data Event : Type 0 where
   Seal : Event
   CommitStep : Event
   CommitFault : Event
+  CheckpointStep : Event
+  CheckpointFault : Event
+  ReadFault : Event
   Finish : Event
 
 -- what is handed to the engine for a transaction: its entries
@@ -73,9 +78,24 @@ pub record Commits (old : Journal) (disk : Disk) (new : Journal) (after : Disk) 
   pub front : new.front ≡ old.front
   pub engine : CommitSteps old.engine disk new.engine after
 
-pub record Faults (old : Journal) (disk : Disk) (new : Journal) (after : Disk) : Type 0 where
+pub record CommitFails (old : Journal) (disk : Disk) (new : Journal) (after : Disk) : Type 0 where
   pub front : new.front ≡ old.front
   pub engine : CommitFaults old.engine disk new.engine after
+
+pub record Checkpoints (old : Journal) (disk : Disk) (new : Journal) (after : Disk) : Type 0 where
+  pub front : new.front ≡ old.front
+  pub engine : RoundSteps old.engine disk new.engine after
+
+pub record CheckpointFails (old : Journal) (disk : Disk) (new : Journal) (after : Disk) : Type 0 where
+  pub front : new.front ≡ old.front
+  pub engine : RoundFaults old.engine disk new.engine after
+
+-- A read of home fails: the journal is aborted.
+pub record ReadFails (old : Journal) (disk : Disk) (new : Journal) (after : Disk) : Type 0 where
+  pub running : old.engine.aborted ≡ false
+  pub front : new.front ≡ old.front
+  pub engine : new.engine ≡ record old.engine { aborted = true }
+  pub disk_is : after ≡ disk
 
 -- The front tells of a transaction that the engine has committed.
 pub record Finishes (old : Journal) (disk : Disk) (new : Journal) (after : Disk) : Type 0 where
@@ -92,7 +112,10 @@ Happens old disk (StopHandle left) new after = ChangesFront old disk (stopping o
 Happens old disk Lock new after = Locks old disk new after
 Happens old disk Seal new after = Seals old disk new after
 Happens old disk CommitStep new after = Commits old disk new after
-Happens old disk CommitFault new after = Faults old disk new after
+Happens old disk CommitFault new after = CommitFails old disk new after
+Happens old disk CheckpointStep new after = Checkpoints old disk new after
+Happens old disk CheckpointFault new after = CheckpointFails old disk new after
+Happens old disk ReadFault new after = ReadFails old disk new after
 Happens old disk Finish new after = Finishes old disk new after
 
 -- the engine of an opened log: nothing is accepted yet
@@ -108,8 +131,13 @@ fresh_engine shape superblock next =
       first = next;
       accepted = [];
       committed = 0;
-      head = 0;
+      start = 0;
+      released = 0;
+      tail = 0;
+      bound = 0;
+      bound_position = 0;
       stage = Idle;
+      round = NoRound;
       aborted = false;
     }
 

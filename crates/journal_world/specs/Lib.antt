@@ -1,4 +1,5 @@
 pub mod Call
+pub mod Checkpoint
 pub mod Engine
 pub mod Front
 pub mod Journal

@@ -4,6 +4,8 @@
 #![tactic(auto)]
 
 pub mod laws;
+mod round;
 mod stage;
 
+pub use round::Round;
 pub use stage::Stage;

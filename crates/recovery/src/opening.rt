@@ -109,6 +109,14 @@ impl<D: Device> Opened<D> {
         self.device.block_size()
     }
 
+    /// Block 0 of its log, in the bytes of one block: the superblock of a clean log.
+    pub fn superblock(&self) -> &[u8]
+        ensures block { result.now ≡ self.now.superblock }
+        ensures named { IsNextNamed (D.state self.now.device).shape self.now.superblock self.now.next }
+    {
+        &self.superblock
+    }
+
     /// The device, whose log is clean.
     pub fn into_device(self) -> D
         ensures { result ≡ self.device }

@@ -94,19 +94,19 @@ const BAD_FORMS: [&str; 34] = [
     r#"["start",1,18446744073709551616]"#,
     r#"["stop"]"#,
     r#"["revoke",1,9]"#,
-    r#"["read",1,9]"#,
+    r#"["read",1]"#,
     r#"["extend",1,1]"#,
     r#"["restart",1,1]"#,
     r#"["lock"]"#,
-    r#"["turn"]"#,
-    r#"["ckturn"]"#,
-    r#"["check"]"#,
+    r#"["turn",1]"#,
+    r#"["ckturn",1]"#,
+    r#"["check",1]"#,
     r#"["direct",9,"11"]"#,
     r#"["sync"]"#,
 ];
 
 /// What stands behind `["start",1,1]` and makes the script bad: bad bytes, and handles in the wrong state.
-const BAD_BEHIND_A_START: [&str; 16] = [
+const BAD_BEHIND_A_START: [&str; 19] = [
     r#"["write",1,9]"#,
     r#"["write",1,9,"1"]"#,
     r#"["write",1,9,"1g"]"#,
@@ -116,6 +116,9 @@ const BAD_BEHIND_A_START: [&str; 16] = [
     r#"["write",1,"9","11"]"#,
     r#"["write",1,9,"11",1]"#,
     r#"["write",2,9,"11"]"#,
+    r#"["read",1,9,9]"#,
+    r#"["read",2,9]"#,
+    r#"["stop",1],["read",1,9]"#,
     r#"["start",1,1]"#,
     r#"["request",1]"#,
     r#"["status",1]"#,

@@ -1,8 +1,8 @@
 use Rattle.std.proofs.Common.{sym, subst, ◌≡◌}
 use Rattle.std.specs.Prelude.{false}
 use Rattle.std.proofs.lemmas.Result.{err_from_is_err_and}
-use Rattle.group_commit.specs.declared.engine.Progress.{Progress}
-use Rattle.group_commit.specs.Engine.{StepDid}
+use Rattle.log_engine.specs.declared.engine.Progress.{Progress}
+use Rattle.log_engine.specs.Engine.{StepDid}
 use Rattle.group_commit.specs.Values.{JournalValue}
 use Rattle.group_commit.proofs.Sealing.{agrees-refused, finishes-commit, refused-turn}
 use Rattle.group_commit.proofs.Turning.{each-turn}
@@ -42,3 +42,13 @@ returns-in-Done-clause-ok g c =
 pub returns-in-Done-clause-moments : goal.returns-in-Done-clause-moments
 returns-in-Done-clause-moments g c =
     rw (← c.self.view_is) (λ honest. each-turn _ _ _ c.self.invariant (c.commit_step.ensures.moments honest))
+
+-- there is one moment at most
+pub returns-in_err-commit_step-clause-one : goal.returns-in_err-commit_step-clause-one
+returns-in_err-commit_step-clause-one g c = rw (← c.self.view_is) c.commit_step.ensures.one
+
+pub returns-in-Step-clause-one : goal.returns-in-Step-clause-one
+returns-in-Step-clause-one g c = rw (← c.self.view_is) c.commit_step.ensures.one
+
+pub returns-in-Done-clause-one : goal.returns-in-Done-clause-one
+returns-in-Done-clause-one g c = rw (← c.self.view_is) c.commit_step.ensures.one

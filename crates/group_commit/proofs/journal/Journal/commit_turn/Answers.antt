@@ -1,9 +1,10 @@
 use Rattle.std.proofs.Common.{refl, sym, ap, subst, ◌∙◌}
 use Rattle.block_device.specs.State.{EachMoment}
+use Rattle.log_engine.specs.Call.{IsOneMoment}
 use Rattle.group_commit.specs.Journal.{IsDuringTurn, TurnRefused}
 use Rattle.journal_world.specs.Journal.{Journal}
 use Rattle.group_commit.specs.Values.{JournalValue}
-use Rattle.group_commit.proofs.Turning.{each-stay, opens-now}
+use Rattle.group_commit.proofs.Turning.{each-stay, opens-now, same-moment}
 use Rattle.group_commit.proofs.journal.Journal.commit_turn.Goals as goal
 
 -- an aborted journal refuses
@@ -33,3 +34,19 @@ returns-clause-moments g c =
     let j : Journal = record { front = c.self.inside.front; engine = c.self.inside.engine.engine } in
     rw (← c.self.view_is) (λ honest. subst (λ (d : g.row.D.Denot). EachMoment (IsDuringTurn j before.disk) before (g.D.Device.state d)) (sym device)
     (each-stay j before (opens-now j before.disk c.self.invariant (c.is_aborted.ensures.opens honest))))
+
+-- there is one moment at most
+pub returns-then-is_aborted-clause-one : goal.returns-then-is_aborted-clause-one
+returns-then-is_aborted-clause-one g c = same-moment _
+
+pub returns-then-not-is_locked-clause-one : goal.returns-then-not-is_locked-clause-one
+returns-then-not-is_locked-clause-one g c = same-moment _
+
+pub returns-then-has_open_handles-clause-one : goal.returns-then-has_open_handles-clause-one
+returns-then-has_open_handles-clause-one g c = same-moment _
+
+pub returns-clause-one : goal.returns-clause-one
+returns-clause-one g c =
+    let device = c.seal.ensures.device ∙ sym (ap (λ (v : JournalValue g.row.D.Denot). v.device) c.self.view_is) in
+    let before = g.D.Device.state c.self.inside.engine.device in
+    rw (← c.self.view_is) (subst (λ (d : g.row.D.Denot). IsOneMoment before (g.D.Device.state d)) (sym device) (same-moment before))

@@ -7,10 +7,10 @@ use Rattle.journal_model.specs.Room.{need}
 use Rattle.journal_world.specs.Engine.{Accepts, Engine}
 use Rattle.journal_world.specs.Front.{Front}
 use Rattle.journal_world.specs.Sound.{IsPlain}
-use Rattle.group_commit.specs.Engine.{MayAccept}
+use Rattle.log_engine.specs.Engine.{AcceptRefused, EngineValue, MayHandOver}
 use Rattle.group_commit.specs.Journal.{Agrees, HasRoomFor, SealIsDue, TurnRefused}
-use Rattle.group_commit.specs.Values.{EngineValue, JournalValue}
-use Rattle.group_commit.proofs.Sealing.{agrees-sealed, may-accept}
+use Rattle.group_commit.specs.Values.{JournalValue}
+use Rattle.group_commit.proofs.Sealing.{agrees-sealed, may-hand_over, refused-seal}
 use Rattle.group_commit.proofs.journal.Journal.seal.Goals as goal
 
 -- the ring is too short
@@ -20,7 +20,7 @@ returns-then-not-has_room-clause-err g c =
     let e = c.self.inside.engine.engine in
     let short = λ (room : HasRoomFor (record { front = c.self.inside.front; engine = e })).
     true≢false
-    (sym (c.has_room.ensures.1 (subst (λ (n : ℕ). e.head + need (narrow e.shape.block_size) n 0 ≤ e.ring.blocks) (sym c.touched.ensures) room))
+    (sym (c.has_room.ensures.1 (subst (λ (n : ℕ). e.start + need (narrow e.shape.block_size) n 0 ≤ e.tail + e.ring.blocks) (sym c.touched.ensures) room))
     ∙ c.if-not-has_room.true) in
     rw (← c.self.view_is) (TurnRefused.RingIsShort due short refl)
 
@@ -29,7 +29,7 @@ pub returns-in_err-batch-clause-err : goal.returns-in_err-batch-clause-err
 returns-in_err-batch-clause-err g c =
     let due = subst (λ (v : JournalValue g.row.D.Denot). SealIsDue v.journal) (sym c.self.view_is) c.requires.due in
     let e = c.self.inside.engine.engine in
-    let room = subst (λ (n : ℕ). e.head + need (narrow e.shape.block_size) n 0 ≤ e.ring.blocks) c.touched.ensures (c.has_room.ensures.0 c.if-not-has_room.false) in
+    let room = subst (λ (n : ℕ). e.start + need (narrow e.shape.block_size) n 0 ≤ e.tail + e.ring.blocks) c.touched.ensures (c.has_room.ensures.0 c.if-not-has_room.false) in
     let p = err_from_is_err_and c.from_residual.result c.from_residual.ensures.1 in
     rw (p.1, p.2, ← c.self.view_is) (TurnRefused.MemoryIsShort due room refl)
 
@@ -38,25 +38,27 @@ pub accept-requires : goal.accept-requires
 accept-requires g c =
     let due = subst (λ (v : JournalValue g.row.D.Denot). SealIsDue v.journal) (sym c.self.view_is) c.requires.due in
     let e = c.self.inside.engine.engine in
-    let room = subst (λ (n : ℕ). e.head + need (narrow e.shape.block_size) n 0 ≤ e.ring.blocks) c.touched.ensures (c.has_room.ensures.0 c.if-not-has_room.false) in
+    let room = subst (λ (n : ℕ). e.start + need (narrow e.shape.block_size) n 0 ≤ e.tail + e.ring.blocks) c.touched.ensures (c.has_room.ensures.0 c.if-not-has_room.false) in
     let plain = subst (λ (v : JournalValue g.row.D.Denot). IsPlain v.journal.engine) (sym c.self.view_is) c.requires.plain in
-    subst (MayAccept e) (sym c.in_ok-batch.ensures) (may-accept c.self.inside.front e c.self.invariant plain due room)
+    subst (MayHandOver e) (sym c.in_ok-batch.ensures) (may-hand_over c.self.inside.front e c.self.invariant plain due room)
 
 -- memory ran out for the engine
-pub returns-in_err-accept-clause-err : goal.returns-in_err-accept-clause-err
-returns-in_err-accept-clause-err g c =
+pub returns-in-Err-clause-err : goal.returns-in-Err-clause-err
+returns-in-Err-clause-err g c =
     let due = subst (λ (v : JournalValue g.row.D.Denot). SealIsDue v.journal) (sym c.self.view_is) c.requires.due in
+    let plain = subst (λ (v : JournalValue g.row.D.Denot). IsPlain v.journal.engine) (sym c.self.view_is) c.requires.plain in
+    let f = c.self.inside.front in
     let e = c.self.inside.engine.engine in
-    let room = subst (λ (n : ℕ). e.head + need (narrow e.shape.block_size) n 0 ≤ e.ring.blocks) c.touched.ensures (c.has_room.ensures.0 c.if-not-has_room.false) in
-    let p = err_from_is_err_and c.from_residual-in_err-accept.result c.from_residual-in_err-accept.ensures.1 in
-    let refused = c.in_err-accept.ensures.err in
-    let same = ap (λ (v : EngineValue g.row.D.Denot). record { device = v.device; journal = record { front = c.self.inside.front; engine = v.engine } }) refused.0 in
-    rw (p.1, p.2, refused.1, ← c.self.view_is) (TurnRefused.MemoryIsShort due room same)
+    let room = subst (λ (n : ℕ). e.start + need (narrow e.shape.block_size) n 0 ≤ e.tail + e.ring.blocks) c.touched.ensures (c.has_room.ensures.0 c.if-not-has_room.false) in
+    let refused = c.in-Err.ensures.err in
+    let why = subst (λ (b : Batch). AcceptRefused e b c.in-Err.refused.1) c.in_ok-batch.ensures refused.1 in
+    let same = ap (λ (v : EngineValue g.row.D.Denot). record { device = v.device; journal = record { front = f; engine = v.engine } }) refused.2 in
+    rw (← c.self.view_is) (refused-seal g.D.Device.state f c.self.inside.engine.device e _ c.in-Err.refused.1 c.self.invariant plain due room why same)
 
 -- front and engine agree
 pub invariant_of-self-2 : goal.invariant_of-self-2
 invariant_of-self-2 g c =
-    let taken = subst (λ (b : Batch). Accepts c.self.inside.engine.engine b c.accept.new.self.engine) c.in_ok-batch.ensures c.in_ok-accept.ensures.ok in
+    let taken = subst (λ (b : Batch). Accepts c.self.inside.engine.engine b c.accept.new.self.engine) c.in_ok-batch.ensures c.in_default.ensures.ok in
     subst (λ (f : Front). Agrees (record { front = f; engine = c.accept.new.self.engine })) (sym c.seal.ensures)
     (agrees-sealed c.self.inside.front c.self.inside.engine.engine c.accept.new.self.engine c.self.invariant
     (ap (λ (e : Engine). e.first) taken.after) (ap (λ (e : Engine). e.committed) taken.after) (ap (λ (e : Engine). e.accepted) taken.after))

@@ -1,0 +1,69 @@
+-- A checkpoint turn and a read beside the front: front and engine agree after them, and what refuses them.
+use Rattle.std.proofs.Common.{refl, sym, ap, subst, ◌∙◌}
+use Rattle.std.specs.Prelude.{◌≡◌, ℕ, false, Result, Ok, Err, OnOk, IfErr}
+use Rattle.std.proofs.lemmas.Bool.{true≢false}
+use Rattle.journal_model.specs.declared.refusal.JournalError.{JournalError}
+use Rattle.journal_model.specs.Disk.{Disk}
+use Rattle.block_device.specs.State.{DeviceState, Stays}
+use Rattle.journal_world.specs.Engine.{Engine}
+use Rattle.journal_world.specs.Front.{Front}
+use Rattle.log_engine.specs.declared.engine.Progress.{Progress}
+use Rattle.log_engine.specs.declared.engine.Progress.TheVariants.{Idle as NoProgress, Step, Done}
+use Rattle.log_engine.specs.Engine.{ReadRefused, RoundDid, RoundRefused}
+use Rattle.log_engine.specs.Engine.ReadRefused.{ReadAborted, ReadFailed, ReadOutside}
+use Rattle.log_engine.specs.Engine.RoundRefused.{RoundAborted, RoundFailed}
+use Rattle.group_commit.specs.Journal.{Agrees, CheckTurnRefused, MayTouch, ReadRefused as JournalReadRefused}
+use Rattle.group_commit.specs.Journal.CheckTurnRefused.{CheckAborted, CheckFailed}
+use Rattle.group_commit.specs.Journal.ReadRefused.{ReadFailed as FailedRead}
+use Rattle.group_commit.proofs.Sealing.{agrees-moved}
+use Rattle.group_commit.proofs.Turning.{round-fault-keeps, round-keeps}
+
+-- front and engine agree after a step of a round, whatever it did
+pub agrees-round : (f : Front) (old new : Engine) (disk after : Disk) (p : Progress) → Agrees (record { front = f; engine = old }) →
+    RoundDid p old disk new after → Agrees (record { front = f; engine = new })
+agrees-round f old new disk after NoProgress agrees did = subst (λ (x : Engine). Agrees (record { front = f; engine = x })) (sym did.3) agrees
+agrees-round f old new disk after Step agrees did = let keeps = round-keeps old new disk after did.0 in agrees-moved f old new agrees keeps.0 keeps.1
+agrees-round f old new disk after (Done tid) agrees did = let keeps = round-keeps old new disk after did.0 in agrees-moved f old new agrees keeps.0 keeps.1
+
+-- and after one that was refused
+pub agrees-round_refused : (f : Front) (old new : Engine) (before after : DeviceState) (e : JournalError) → Agrees (record { front = f; engine = old }) →
+    RoundRefused old before new after e → Agrees (record { front = f; engine = new })
+agrees-round_refused f old new before after e agrees (RoundAborted is same stays counted) =
+    subst (λ (x : Engine). Agrees (record { front = f; engine = x })) (sym same) agrees
+agrees-round_refused f old new before after e agrees (RoundFailed fault counted) =
+    let keeps = round-fault-keeps old new before.disk after.disk fault in agrees-moved f old new agrees keeps.0 keeps.1
+
+-- a step of a round that is refused refuses the turn
+pub refused-check : {D : Type 0} (state : D → DeviceState) (f : Front) (d other : D) (old new : Engine) (e : JournalError) →
+    RoundRefused old (state d) new (state other) e →
+    CheckTurnRefused state (record { device = d; journal = record { front = f; engine = old } }) (record { device = other; journal = record { front = f; engine = new } }) e
+refused-check state f d other old new e (RoundAborted is same stays counted) =
+    CheckAborted is (ap (λ (x : Engine). record { front = f; engine = x }) same) stays counted
+refused-check state f d other old new e (RoundFailed fault counted) = CheckFailed (record { front = refl; engine = fault }) counted
+
+-- front and engine agree after a read that was refused
+pub agrees-read_refused : (f : Front) (old new : Engine) (before after : DeviceState) (b : ℕ) (e : JournalError) → Agrees (record { front = f; engine = old }) →
+    ReadRefused old before b new after e → Agrees (record { front = f; engine = new })
+agrees-read_refused f old new before after b e agrees (ReadAborted is same counted) = subst (λ (x : Engine). Agrees (record { front = f; engine = x })) (sym same) agrees
+agrees-read_refused f old new before after b e agrees (ReadOutside running none same counted) =
+    subst (λ (x : Engine). Agrees (record { front = f; engine = x })) (sym same) agrees
+agrees-read_refused f old new before after b e agrees (ReadFailed running same counted) =
+    subst (λ (x : Engine). Agrees (record { front = f; engine = x })) (sym same)
+    (record { batches = agrees.batches; number = agrees.number; mark = agrees.mark; steps = agrees.steps; joined = agrees.joined; locked = agrees.locked })
+
+-- so they do after any read
+pub agrees-read : {T : Type 0} (X : Type 0) (f : Front) (old new : Engine) (before after : DeviceState) (b : ℕ) (r : Result T JournalError) →
+    Agrees (record { front = f; engine = old }) → OnOk r (X × (new ≡ old)) → IfErr r (λ e. ReadRefused old before b new after e) →
+    Agrees (record { front = f; engine = new })
+agrees-read X f old new before after b (Ok x) agrees same refused = subst (λ (e : Engine). Agrees (record { front = f; engine = e })) (sym same.1) agrees
+agrees-read X f old new before after b (Err e) agrees same refused = agrees-read_refused f old new before after b e agrees refused
+
+-- the engine refuses a read of a block that may be touched where the device failed in it
+pub refused-read : {D : Type 0} (state : D → DeviceState) (f : Front) (d other : D) (old new : Engine) (b : ℕ) (e : JournalError) →
+    old.aborted ≡ false → MayTouch (record { front = f; engine = old }) b → Stays (state d) (state other) → ReadRefused old (state d) b new (state other) e →
+    JournalReadRefused state (record { device = d; journal = record { front = f; engine = old } }) b
+    (record { device = other; journal = record { front = f; engine = new } }) e
+refused-read state f d other old new b e running may stays (ReadAborted is same counted) = absurd (true≢false (sym is ∙ running))
+refused-read state f d other old new b e running may stays (ReadOutside on none same counted) = absurd (none may)
+refused-read state f d other old new b e running may stays (ReadFailed on same counted) =
+    FailedRead (record { running = running; front = refl; engine = same; disk_is = stays.disk }) counted

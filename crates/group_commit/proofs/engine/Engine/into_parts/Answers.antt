@@ -1,6 +1,0 @@
-use Rattle.journal_world.proofs.Images.{images-open}
-use Rattle.group_commit.proofs.engine.Engine.into_parts.Goals as goal
-
--- what a stop leaves of the device opens
-pub returns-clause-opens : goal.returns-clause-opens
-returns-clause-opens g c = rw (← c.self.view_is) (λ honest. images-open _ _ (c.self.invariant.2 honest))

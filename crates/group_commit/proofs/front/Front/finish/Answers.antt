@@ -1,0 +1,19 @@
+use Rattle.std.proofs.Common.{arith, ◌<◌, ◌+◌}
+use Rattle.group_commit.proofs.Unfinished.{committing-none, copies-none, one-untold}
+use Rattle.group_commit.proofs.front.Front.finish.Goals as goal
+
+-- no entries of sealed transactions are left
+pub invariant_of-self : goal.invariant_of-self
+invariant_of-self c =
+    let f = c.self.inside in
+    let front = c.self.invariant.front in
+    let less : f.mark + 1 < f.running.tid = rw (← c.self.view_is) at c.requires in
+    let told = one-untold f.sealed.items f.mark f.running.tid f.committing.entries c.self.invariant.committing_are less in
+    record {
+      front = record { credits = front.credits; few = front.few; given = front.given; joined = front.joined; number = front.number };
+      entries_are = c.self.invariant.entries_are;
+      committing_are = committing-none f.sealed.items (f.mark + 1) f.running.tid c.clear.new.self.entries c.clear.ensures.empty (omega arith);
+      copies = c.self.invariant.copies;
+      committing_copies = copies-none c.clear.new.self.entries c.clear.ensures.empty;
+      room = c.self.invariant.room;
+    }

@@ -1,0 +1,67 @@
+-- An engine goes on by each call of a commit or a round: its transactions stay, and those that are committed stay so.
+use Rattle.std.proofs.Common.{refl, sym, ◌∙◌, subst, arith}
+use Rattle.std.specs.Prelude.{◌≡◌, ◌≤◌}
+use Rattle.journal_model.specs.Disk.{Disk}
+use Rattle.journal_world.specs.declared.round.Round.{Round}
+use Rattle.journal_world.specs.declared.round.Round.TheVariants.{Idle as NoRound, Copies, TailWrite, TailFlush}
+use Rattle.journal_world.specs.declared.stage.Stage.{Stage}
+use Rattle.journal_world.specs.declared.stage.Stage.TheVariants.{Idle, SuperblockWrite, SuperblockFlush, Blocks, CommitWrite, CommitFlush}
+use Rattle.journal_world.specs.Call.{Call}
+use Rattle.journal_world.specs.Checkpoint.{RoundCall, RoundFaults, RoundSteps, begun, begun_from}
+use Rattle.journal_world.specs.Checkpoint.RoundCall.{CopyHome, FlushHome, WriteTail, FlushTail}
+use Rattle.journal_world.specs.Engine.{CommitFaults, CommitSteps, Engine, stepped_from}
+
+-- an engine has the transactions of another, and has committed as many or more
+pub record GoesOn (old new : Engine) : Type 0 where
+  pub first : new.first ≡ old.first
+  pub accepted : new.accepted ≡ old.accepted
+  pub committed : old.committed ≤ new.committed
+
+-- it goes on by each call of a commit that succeeds
+stepped-on : (e : Engine) (stage : Stage) → GoesOn e (stepped_from e stage)
+stepped-on e Idle = record { first = refl; accepted = refl; committed = omega arith }
+stepped-on e SuperblockWrite = record { first = refl; accepted = refl; committed = omega arith }
+stepped-on e SuperblockFlush = record { first = refl; accepted = refl; committed = omega arith }
+stepped-on e (Blocks k) = record { first = refl; accepted = refl; committed = omega arith }
+stepped-on e CommitWrite = record { first = refl; accepted = refl; committed = omega arith }
+stepped-on e CommitFlush = record { first = refl; accepted = refl; committed = omega arith }
+
+-- so it does by a step of a commit
+pub step-on : (old new : Engine) (disk after : Disk) → CommitSteps old disk new after → GoesOn old new
+step-on old new disk after step = subst (GoesOn old) (sym step.engine) (stepped-on old old.stage)
+
+-- by one that fails
+pub fault-on : (old new : Engine) (disk after : Disk) → CommitFaults old disk new after → GoesOn old new
+fault-on old new disk after fault = subst (GoesOn old) (sym fault.engine) (record { first = refl; accepted = refl; committed = omega arith })
+
+-- where a round begins
+begun-on : (e : Engine) (round : Round) → GoesOn e (begun_from e round)
+begun-on e NoRound = record { first = refl; accepted = refl; committed = omega arith }
+begun-on e (Copies transaction block) = record { first = refl; accepted = refl; committed = omega arith }
+begun-on e TailWrite = record { first = refl; accepted = refl; committed = omega arith }
+begun-on e TailFlush = record { first = refl; accepted = refl; committed = omega arith }
+
+-- by each call of a round that succeeds
+call-on : (e : Engine) (round : Round) (call : Call) (new : Engine) → RoundCall e round call new → GoesOn e new
+call-on e round call new (CopyHome transaction block i b v next) = record { first = refl; accepted = refl; committed = omega arith }
+call-on e round call new (FlushHome transaction block none) = record { first = refl; accepted = refl; committed = omega arith }
+call-on e round call new WriteTail = record { first = refl; accepted = refl; committed = omega arith }
+call-on e round call new FlushTail = record { first = refl; accepted = refl; committed = omega arith }
+
+-- over two of these
+on-on : (old mid new : Engine) → GoesOn old mid → GoesOn mid new → GoesOn old new
+on-on old mid new one other =
+    let committed : old.committed ≤ mid.committed = one.committed in
+    let more : mid.committed ≤ new.committed = other.committed in
+    record { first = other.first ∙ one.first; accepted = other.accepted ∙ one.accepted; committed = omega arith }
+
+-- by a step of a round
+pub round-on : (old new : Engine) (disk after : Disk) → RoundSteps old disk new after → GoesOn old new
+round-on old new disk after step = on-on old (begun old) new (begun-on old old.round) (call-on (begun old) (begun old).round step.call new step.due)
+
+-- and by one that fails
+pub round-fault-on : (old new : Engine) (disk after : Disk) → RoundFaults old disk new after → GoesOn old new
+round-fault-on old new disk after fault =
+    let begins : GoesOn old (begun old) = begun-on old old.round in
+    subst (GoesOn old) (sym fault.engine)
+    (record { first = begins.first; accepted = begins.accepted; committed = begins.committed })

@@ -1,0 +1,136 @@
+-- A ledger that can run can run after each step of a commit, and with a batch that it took.
+use Rattle.std.proofs.Common.{refl, sym, ap, ap₂, subst, ◌∙◌}
+use Rattle.std.specs.Prelude.{◌≡◌, ◌≢◌, ◌↔◌, ℕ, ◌+◌, ◌≤◌, false, true, length, Some, slice_get}
+use Rattle.journal_model.specs.declared.entry.Batch.{Batch}
+use Rattle.journal_model.specs.declared.number.Area.TheVariants.{Log}
+use Rattle.journal_model.specs.Layout.{narrow}
+use Rattle.journal_model.specs.Room.{need}
+use Rattle.journal_model.specs.Superblock.{Shape}
+use Rattle.checkpoint.specs.Pending.{ArePending, IsCommitted, PendingValue}
+use Rattle.journal_world.specs.declared.stage.Stage.{Stage}
+use Rattle.journal_world.specs.declared.stage.Stage.TheVariants.{Idle, SuperblockWrite, SuperblockFlush, Blocks, CommitWrite, CommitFlush}
+use Rattle.journal_world.specs.Call.{Call}
+use Rattle.journal_world.specs.Call.Call.{Flush}
+use Rattle.journal_world.specs.Engine.{Engine, HasRoom, accepting, call_due, call_in, stepped, stepped_from}
+use Rattle.journal_world.specs.Sound.{StageAgrees}
+use Rattle.log_engine.specs.declared.ledger.Ledger.{Ledger}
+use Rattle.log_engine.specs.Engine.{MayHandOver}
+use Rattle.log_engine.specs.Text.{AreCopies}
+use Rattle.log_engine.specs.Ledger.{CanRun, KeepsPending, Runs, engine_of}
+use Rattle.log_engine.proofs.Ledgers.{batch-taken, batch-there, done-taken, fault-taken, idle-head, taken-alike}
+use Rattle.log_engine.proofs.Pendings.{aborted-keeps, done-keeps, steps-keeps, takes-keeps}
+use Rattle.log_engine.proofs.Running.{need-of, room-of, superblock-of, takes, takes-runs}
+use Rattle.log_engine.proofs.Stepping.{fault-runs, step-runs}
+
+-- a call is due at each stage of a commit
+call-at : (e : Engine) (stage : Stage) → stage ≢ Idle → (call : Call) × (call_in e stage ≡ Some call)
+call-at e Idle busy = absurd (busy refl)
+call-at e SuperblockWrite busy = (_, refl)
+call-at e SuperblockFlush busy = (_, refl)
+call-at e (Blocks k) busy = (_, refl)
+call-at e CommitWrite busy = (_, refl)
+call-at e CommitFlush busy = (_, refl)
+
+-- what is being committed stays, and where it stands
+record Stands (old new : Engine) : Type 0 where
+  start : new.start ≡ old.start
+  uuid : new.uuid ≡ old.uuid
+  accepted : new.accepted ≡ old.accepted
+  committed : new.committed ≡ old.committed
+
+-- up to the last step
+stands-at : (e : Engine) (stage : Stage) → stage ≢ CommitFlush → Stands e (stepped_from e stage)
+stands-at e Idle before = record { start = refl; uuid = refl; accepted = refl; committed = refl }
+stands-at e SuperblockWrite before = record { start = refl; uuid = refl; accepted = refl; committed = refl }
+stands-at e SuperblockFlush before = record { start = refl; uuid = refl; accepted = refl; committed = refl }
+stands-at e (Blocks k) before = record { start = refl; uuid = refl; accepted = refl; committed = refl }
+stands-at e CommitWrite before = record { start = refl; uuid = refl; accepted = refl; committed = refl }
+stands-at e CommitFlush before = absurd (before refl)
+
+-- a step before the last
+pub steps-on : (shape : Shape) (l new : Ledger) → l.stage ≢ Idle → l.stage ≢ CommitFlush → engine_of shape new ≡ stepped (engine_of shape l) →
+    new.ring ≡ l.ring → new.pending ≡ l.pending → Runs shape l → Runs shape new
+steps-on shape l new busy before is ring pending runs =
+    let e = engine_of shape l in
+    let call = call-at e l.stage busy in
+    let stands : Stands e (engine_of shape new) = subst (Stands e) (sym is) (stands-at e l.stage before) in
+    record {
+      can_run = step-runs e (engine_of shape new) call.0 runs.can_run call.1 is;
+      taken = taken-alike shape l new ring stands.start stands.uuid stands.accepted stands.committed runs.taken;
+      pending =
+          subst (λ (p : PendingValue). KeepsPending (engine_of shape new) p) (sym pending)
+          (subst (λ (x : Engine). KeepsPending x l.pending) (sym is) (steps-keeps e l.pending before runs.pending));
+    }
+
+-- the last step
+pub finishes : (shape : Shape) (l new : Ledger) (b : Batch) → l.stage ≡ CommitFlush → slice_get l.accepted.items l.committed ≡ Some b →
+    engine_of shape new ≡ stepped_from (engine_of shape l) CommitFlush → new.ring ≡ l.ring → new.start ≡ l.ring.head →
+    IsCommitted l.pending b.entries (l.first + l.committed) new.pending → ArePending new.pending → Runs shape l → Runs shape new
+finishes shape l new b last stands is ring start commits kept runs =
+    let e = engine_of shape l in
+    let due : call_due e ≡ Some (Flush Log) = ap (call_in e) last in
+    let steps : engine_of shape new ≡ stepped e = is ∙ ap (stepped_from e) (sym last) in
+    let can : CanRun (engine_of shape new) = step-runs e (engine_of shape new) (Flush Log) runs.can_run due steps in
+    record {
+      can_run = can;
+      taken = done-taken shape l new can.plain (ap (λ (x : Engine). x.stage) is) ring start;
+      pending =
+          subst (λ (x : Engine). KeepsPending x new.pending) (sym is)
+          (done-keeps e l.pending new.pending b runs.can_run.plain last stands runs.pending commits kept);
+    }
+
+-- a batch that is taken
+pub takes-on : (shape : Shape) (l new : Ledger) (b : Batch) → l.aborted ≡ false → MayHandOver (engine_of shape l) b → HasRoom (engine_of shape l) b →
+    engine_of shape new ≡ accepting (engine_of shape l) b → new.ring.head ≡ l.ring.head + need (narrow shape.block_size) (length b.entries) 0 →
+    new.pending ≡ l.pending → Runs shape l → Runs shape new
+takes-on shape l new b running may room is head pending runs =
+    let e = engine_of shape l in
+    let can = takes-runs e (engine_of shape new) b runs.can_run may (takes e (engine_of shape new) b running may room is) in
+    let agrees : StageAgrees e Idle = subst (StageAgrees e) may.idle runs.can_run.plain.stage in
+    let stands : slice_get new.accepted.items new.committed ≡ Some b =
+    ap (λ (n : ℕ). slice_get new.accepted.items n) (ap (λ (x : Engine). x.committed) is)
+    ∙ batch-there shape l b new.accepted.items runs may (ap (λ (x : Engine). x.accepted) is) in
+    let start : l.ring.head ≡ new.start = idle-head shape l runs may.idle ∙ sym (ap (λ (x : Engine). x.start) is) in
+    record {
+      can_run = can;
+      taken = batch-taken shape new b can stands (head ∙ ap (λ (n : ℕ). n + need (narrow shape.block_size) (length b.entries) 0) start);
+      pending =
+          subst (λ (p : PendingValue). KeepsPending (engine_of shape new) p) (sym pending)
+          (subst (λ (x : Engine). KeepsPending x l.pending) (sym is) (takes-keeps e b l.pending agrees.0 runs.pending));
+    }
+
+-- where memory ran out the ledger can run as before
+pub same-runs : (shape : Shape) (l new : Ledger) → engine_of shape new ≡ engine_of shape l → new.ring ≡ l.ring → new.pending ≡ l.pending →
+    Runs shape l → Runs shape new
+same-runs shape l new is ring pending runs = record {
+  can_run = subst CanRun (sym is) runs.can_run;
+  taken =
+      taken-alike shape l new ring (ap (λ (x : Engine). x.start) is) (ap (λ (x : Engine). x.uuid) is) (ap (λ (x : Engine). x.accepted) is)
+      (ap (λ (x : Engine). x.committed) is) runs.taken;
+  pending =
+      subst (λ (p : PendingValue). KeepsPending (engine_of shape new) p) (sym pending)
+      (subst (λ (x : Engine). KeepsPending x l.pending) (sym is) runs.pending);
+}
+
+-- the test of the room is one of what the batch needs
+pub room-told : (shape : Shape) (l : Ledger) (b : Batch) (copies : ℕ) (A : Type 0) → copies ≡ length b.entries → Runs shape l →
+    AreCopies shape.block_size b.entries →
+    A ↔ (l.start + need (narrow (length l.superblock.items)) copies 0 ≤ l.ring.tail + l.ring.ring.blocks) → A ↔ HasRoom (engine_of shape l) b
+room-told shape l b copies A count runs are told =
+    let e = engine_of shape l in
+    let size = (superblock-of e runs.can_run.plain).size in
+    let same : need (narrow (length l.superblock.items)) copies 0 ≡ need (narrow shape.block_size) (length b.entries) 0 =
+    ap₂ (λ (size n : ℕ). need (narrow size) n 0) size count in (
+      λ a. room-of e b runs.can_run.plain are (subst (λ (n : ℕ). l.start + n ≤ l.ring.tail + l.ring.ring.blocks) same (told.0 a)),
+      λ room. told.1 (subst (λ (n : ℕ). l.start + n ≤ l.ring.tail + l.ring.ring.blocks) (sym same) (need-of e b runs.can_run.plain are room)),
+    )
+
+-- after a failure it can be asked, on a device whose shape stays
+pub faults-on : (shape after : Shape) (l : Ledger) → after ≡ shape → Runs shape l → Runs after (record l { aborted = true })
+faults-on shape after l same runs = record {
+  can_run = fault-runs (engine_of shape l) after runs.can_run same;
+  taken = fault-taken shape after l same runs.taken;
+  pending =
+      subst (λ (s : Shape). KeepsPending (engine_of s (record l { aborted = true })) l.pending) (sym same)
+      (aborted-keeps (engine_of shape l) l.pending runs.pending);
+}

@@ -1,0 +1,64 @@
+-- What one device call leaves, as the engine's steps speak of it.
+use Rattle.std.proofs.Common.{sym, ap, subst, ◌∙◌}
+use Rattle.std.specs.Prelude.{◌≡◌, ℕ, List, Some, Result, Ok, Err, OnOk, OnErr}
+use Rattle.std.proofs.lemmas.Option.{same_Some}
+use Rattle.journal_model.specs.declared.number.Area.{Area}
+use Rattle.journal_model.specs.Disk.{Disk, flushed}
+use Rattle.block_device.specs.State.{DeviceState, EachMoment, Moves, Stays, Writes}
+use Rattle.block_device.specs.State.Writes.{Undone, Whole, HandedOver}
+use Rattle.block_device.proofs.Moments.{each-moves, each-stays}
+use Rattle.journal_world.specs.Call.{Call, IsAfterFault}
+use Rattle.journal_world.specs.Call.Call.{Write, Flush}
+use Rattle.journal_world.specs.Call.IsAfterFault.{Undone as NotDone, Whole as AllDone, HandedOver as Given}
+use Rattle.log_engine.specs.declared.call.Due.{Due}
+use Rattle.log_engine.specs.declared.call.Due.TheVariants.{Write as WriteDue, Flush as FlushDue}
+use Rattle.log_engine.specs.Call.{IsOneMoment, call_of}
+use Rattle.log_engine.specs.Call.IsOneMoment.{Same, Another}
+
+-- what holds in any case holds where it is asked of a failure
+pub on-err : {T E P : Type 0} (r : Result T E) → P → OnErr r P
+on-err (Ok x) p = tt
+on-err (Err e) p = p
+
+-- what follows from what is known of a failure
+pub err-map : {T E P Q : Type 0} (r : Result T E) → (P → Q) → OnErr r P → OnErr r Q
+err-map (Ok x) f p = tt
+err-map (Err e) f p = f p
+
+-- a write, whether it answered Ok or failed, leaves what a failed one may leave
+pub fault-write : (area : Area) (place : ℕ) (bytes : List ℕ) (old new : DeviceState) → Writes old new area place bytes →
+    IsAfterFault (Write area place bytes) old.disk new.disk
+fault-write area place bytes old new (Undone stays) = NotDone (Write area place bytes) old.disk new.disk stays.disk
+fault-write area place bytes old new (Whole moves) = AllDone area place bytes old.disk new.disk moves.now
+fault-write area place bytes old new (HandedOver moves) = Given area place bytes old.disk new.disk moves.now
+
+-- the same of the call that was due
+pub fault-due : (due : Due) (area : Area) (place : ℕ) (bytes : List ℕ) (call : Call) (old new : DeviceState) → due ≡ WriteDue area place →
+    call_of due bytes ≡ Some call → Writes old new area place bytes → IsAfterFault call old.disk new.disk
+fault-due due area place bytes call old new is named writes =
+    let same : Write area place bytes ≡ call = same_Some (Write area place bytes) call (sym (ap (λ d. call_of d bytes) is) ∙ named) in
+    subst (λ c. IsAfterFault c old.disk new.disk) same (fault-write area place bytes old new writes)
+
+-- and of a flush
+pub fault-flush : (due : Due) (area : Area) (bytes : List ℕ) (call : Call) (old new : DeviceState) → due ≡ FlushDue area →
+    call_of due bytes ≡ Some call → Stays old new → IsAfterFault call old.disk new.disk
+fault-flush due area bytes call old new is named stays =
+    let same : Flush area ≡ call = same_Some (Flush area) call (sym (ap (λ d. call_of d bytes) is) ∙ named) in
+    subst (λ c. IsAfterFault c old.disk new.disk) same (NotDone (Flush area) old.disk new.disk stays.disk)
+
+-- a write is at most one moment
+pub moment-write : (area : Area) (place : ℕ) (bytes : List ℕ) (old new : DeviceState) → Writes old new area place bytes → IsOneMoment old new
+moment-write area place bytes old new (Undone stays) = Same stays
+moment-write area place bytes old new (Whole moves) = Another _ moves
+moment-write area place bytes old new (HandedOver moves) = Another _ moves
+
+-- so is a flush
+pub moment-flush : {T E : Type 0} (r : Result T E) (area : Area) (old new : DeviceState) → OnOk r (Moves old new (flushed old.disk area)) →
+    OnErr r (Stays old new) → IsOneMoment old new
+moment-flush (Ok x) area old new moves stays = Another _ moves
+moment-flush (Err e) area old new moves stays = Same stays
+
+-- what holds of the disk before and of the one behind holds at each moment
+pub each-one : (P : Disk → Type 0) (old new : DeviceState) → IsOneMoment old new → P old.disk → P new.disk → EachMoment P old new
+each-one P old new (Same stays) before after = each-stays P old new stays before
+each-one P old new (Another disk moves) before after = each-moves P old new disk moves before (subst P moves.now after)

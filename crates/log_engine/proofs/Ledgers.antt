@@ -1,0 +1,231 @@
+-- What a ledger that can run on some device knows, whatever else is true of that device.
+use Rattle.std.proofs.Common.{arith, refl, sym, ap, ap₂, subst, ◌∙◌}
+use Rattle.std.proofs.lemmas.Bool.Decides.{nat_tests}
+use Rattle.std.proofs.lemmas.Option.{slice_get_past}
+use Rattle.std.specs.Prelude.{◌≡◌, ◌≢◌, ℕ, ◌+◌, ◌-◌, ◌^◌, ◌<◌, Bool, true, ◌≤◌, List, [], ◌∷◌, ◌++◌, length, Option, Some, None, Result, Ok, Err, IfOk, IfErr, slice_get, map, nat_eq, nat_le, nat_lt, if◌then◌else◌, IsTrue, ◌↔◌}
+use Rattle.journal_model.specs.declared.entry.Batch.{Batch}
+use Rattle.journal_model.specs.declared.refusal.JournalError.{JournalError}
+use Rattle.journal_model.specs.declared.refusal.JournalError.TheVariants.{NeedSpace}
+use Rattle.journal_model.specs.Chain.{ring_place}
+use Rattle.journal_model.specs.Layout.{narrow}
+use Rattle.journal_model.specs.Opening.{greatest_number}
+use Rattle.journal_model.specs.OwnText.{copied, own_text}
+use Rattle.journal_model.specs.Room.{need}
+use Rattle.journal_model.specs.declared.number.Area.TheVariants.{Log}
+use Rattle.journal_model.specs.Superblock.{Shape, with_tail}
+use Rattle.journal_model.specs.Text.{text_blocks}
+use Rattle.log_format.specs.Size.{IsBlockSize}
+use Rattle.journal_world.specs.declared.stage.Stage.TheVariants.{Idle, Blocks, CommitFlush, CommitWrite, SuperblockWrite}
+use Rattle.journal_world.specs.Call.Call.{Write, Flush}
+use Rattle.std.specs.List.{AllByRecursion, IsDistinct}
+use Rattle.log_engine.proofs.Pendings.{may-commit}
+use Rattle.journal_world.specs.Engine.{Engine, HasRoom, IsBatch, blocks_if, call_due, call_in, due_blocks, write_block}
+use Rattle.journal_world.specs.Sound.{IsPlain, StageAgrees}
+use Rattle.log_ring.specs.Ring.{RingValue, free}
+use Rattle.log_engine.specs.declared.ledger.Ledger.{Ledger}
+use Rattle.log_engine.specs.Engine.{MayHandOver}
+use Rattle.log_engine.specs.Ledger.{CanRun, CanRunOn, HasTaken, Runs, engine_of}
+use Rattle.log_engine.specs.Text.{AreCopies}
+use Rattle.journal_world.proofs.Elements.{all-at, get-last}
+use Rattle.journal_world.proofs.Positions.{tail-start}
+use Rattle.journal_world.proofs.Superblocks.{accepted-size}
+use Rattle.journal_world.proofs.Texts.{due-some}
+use Rattle.log_engine.proofs.Running.{HasRing, due-one, head-small, need-of, runs-blocks, runs-few, runs-number, runs-ring, runs-size, superblock-of}
+
+-- the blocks that are due depend on the block size alone
+same-if : (l : Ledger) (shape other : Shape) (o : Option Batch) → shape.block_size ≡ other.block_size →
+    blocks_if (engine_of shape l) o ≡ blocks_if (engine_of other l) o
+same-if l shape other None same = refl
+same-if l shape other (Some b) same = ap (λ (size : ℕ). text_blocks (own_text (narrow size) l.uuid b.tid b.entries)) same
+
+pub same-due : (l : Ledger) (shape other : Shape) → shape.block_size ≡ other.block_size →
+    due_blocks (engine_of shape l) ≡ due_blocks (engine_of other l)
+same-due l shape other same = same-if l shape other (slice_get l.accepted.items l.committed) same
+
+-- where nothing is being committed, no block is due
+pub idle-due : (e : Engine) → IsPlain e → e.stage ≡ Idle → due_blocks e ≡ []
+idle-due e plain idle =
+    let agrees : StageAgrees e Idle = subst (StageAgrees e) idle plain.stage in
+    let past : length e.accepted ≤ e.committed = (let all = agrees.0 in omega arith) in
+    ap (blocks_if e) (slice_get_past e.accepted e.committed past)
+
+-- a test of the room against what is needed is one of their sum against all
+pub room-test : (needed free sum all : ℕ) → (needed ≤ free → sum ≤ all) → (sum ≤ all → needed ≤ free) → IsTrue (nat_le needed free) ↔ (sum ≤ all)
+room-test needed free sum all there back = grind (arith, nat_tests)
+
+-- what is taken does not depend on how far the commit is, nor on what the superblock says
+pub taken-alike : (shape : Shape) (l new : Ledger) → new.ring ≡ l.ring → new.start ≡ l.start → new.uuid ≡ l.uuid → new.accepted.items ≡ l.accepted.items →
+    new.committed ≡ l.committed → HasTaken shape l → HasTaken shape new
+taken-alike shape l new ring start uuid accepted committed taken =
+    let due : due_blocks (engine_of shape new) ≡ due_blocks (engine_of shape l) =
+    ap₂ (λ (bs : List Batch) (n : ℕ). blocks_if (engine_of shape new) (slice_get bs n)) accepted committed
+    ∙ alike (slice_get l.accepted.items l.committed) in
+    record { head = ap (λ (r : RingValue). r.head) ring ∙ taken.head ∙ ap₂ (λ (m n : ℕ). m + n) (sym start) (ap length (sym due)) }
+  where
+    alike : (o : Option Batch) → blocks_if (engine_of shape new) o ≡ blocks_if (engine_of shape l) o
+    alike None = refl
+    alike (Some b) = ap (λ (u : List ℕ). text_blocks (own_text (narrow shape.block_size) u b.tid b.entries)) uuid
+
+-- nor on a fault, on a device whose shape stays
+pub fault-taken : (shape after : Shape) (l : Ledger) → after ≡ shape → HasTaken shape l → HasTaken after (record l { aborted = true })
+fault-taken shape after l same taken =
+    subst (λ (s : Shape). HasTaken s (record l { aborted = true })) (sym same) (taken-alike shape l (record l { aborted = true }) refl refl refl refl refl taken)
+
+-- where no transaction was handed over, nothing is taken
+pub fresh-taken : (shape : Shape) (l : Ledger) → l.accepted.items ≡ [] → l.ring.head ≡ 0 → l.start ≡ 0 → HasTaken shape l
+fresh-taken shape l none head start =
+    let due : length (due_blocks (engine_of shape l)) ≡ 0 =
+    ap (λ (bs : List Batch). length (blocks_if (engine_of shape l) (slice_get bs l.committed))) none in
+    record { head = omega arith }
+
+-- where nothing is being committed, all that is taken is committed
+pub idle-head : (shape : Shape) (l : Ledger) → Runs shape l → l.stage ≡ Idle → l.ring.head ≡ l.start
+idle-head shape l runs idle =
+    let none = ap length (idle-due (engine_of shape l) runs.can_run.plain idle) in
+    let head = runs.taken.head in
+    omega arith
+
+-- the ring has the blocks that a batch needs which may be taken
+pub room-there : (shape : Shape) (l : Ledger) (b : Batch) (count : ℕ) → Runs shape l → MayHandOver (engine_of shape l) b →
+    HasRoom (engine_of shape l) b → count ≡ need (narrow shape.block_size) (length b.entries) 0 → free l.ring < count → ⊥
+room-there shape l b count runs may room needed less =
+    let head = idle-head shape l runs may.idle in
+    let fits = need-of (engine_of shape l) b runs.can_run.plain may.copies room in
+    let order : l.ring.tail ≤ l.start = tail-start (engine_of shape l) runs.can_run.plain in
+    omega arith
+
+-- where it has them, they are taken
+pub took : (r : Result ℕ JournalError) (old new : RingValue) (count : ℕ) →
+    IfOk r (λ position. (count ≤ free old) × (position ≡ old.head) × (new ≡ record old { head = old.head + count })) →
+    IfErr r (λ e. (e ≡ NeedSpace) × (free old < count) × (new ≡ old)) → (free old < count → ⊥) → new ≡ record old { head = old.head + count }
+took (Ok position) old new count ok err there = ok.2
+took (Err e) old new count ok err there = absurd (there err.1)
+
+-- the batch is the one that is to be committed
+pub batch-there : (shape : Shape) (l : Ledger) (b : Batch) (accepted : List Batch) → Runs shape l → MayHandOver (engine_of shape l) b →
+    accepted ≡ l.accepted.items ++ b ∷ [] → slice_get accepted l.committed ≡ Some b
+batch-there shape l b accepted runs may taken =
+    let agrees : StageAgrees (engine_of shape l) Idle = subst (StageAgrees (engine_of shape l)) may.idle runs.can_run.plain.stage in
+    ap (λ (bs : List Batch). slice_get bs l.committed) taken ∙ get-last l.accepted.items b l.committed agrees.0
+
+-- the ring blocks that a batch needs are taken for it
+pub batch-taken : (shape : Shape) (new : Ledger) (b : Batch) → CanRun (engine_of shape new) → slice_get new.accepted.items new.committed ≡ Some b →
+    new.ring.head ≡ new.start + need (narrow shape.block_size) (length b.entries) 0 → HasTaken shape new
+batch-taken shape new b can stands head = record {
+  head = head ∙ ap (λ (n : ℕ). new.start + n) (sym (runs-blocks (engine_of shape new) b can stands));
+}
+
+-- a transaction that is committed has its blocks before the start of the next one
+pub done-taken : (shape : Shape) (l new : Ledger) → IsPlain (engine_of shape new) → new.stage ≡ Idle → new.ring ≡ l.ring → new.start ≡ l.ring.head →
+    HasTaken shape new
+done-taken shape l new plain idle ring start =
+    let none = ap length (idle-due (engine_of shape new) plain idle) in
+    let head = ap (λ (r : RingValue). r.head) ring in
+    record { head = omega arith }
+
+-- the write of a block before the commit block is the call that is due
+pub call-block : (e : Engine) (k : ℕ) → e.stage ≡ Blocks k → k + 1 < length (due_blocks e) → Some (write_block e k) ≡ call_due e
+call-block e k is below =
+    let test : nat_lt (k + 1) (length (due_blocks e)) ≡ true = grind (arith, nat_tests) in
+    ap (λ (b : Bool). Some (if b then write_block e k else Flush Log)) (sym test) ∙ ap (call_in e) (sym is)
+
+-- and so is the write of the commit block
+pub call-commit : (e : Engine) (n : ℕ) → e.stage ≡ CommitWrite → n ≡ length (due_blocks e) → Some (write_block e (n - 1)) ≡ call_due e
+call-commit e n is last = ap (λ (m : ℕ). Some (write_block e (m - 1))) last ∙ ap (call_in e) (sym is)
+
+-- and that of the superblock
+pub call-superblock : (e : Engine) (block : List ℕ) (sequence start : ℕ) → e.stage ≡ SuperblockWrite → block ≡ with_tail e.superblock sequence start →
+    sequence ≡ e.first + e.committed → start ≡ ring_place e.ring e.start → Some (Write Log 0 block) ≡ call_due e
+call-superblock e block sequence start is made number place =
+    ap (λ (v : List ℕ). Some (Write Log 0 v)) (made ∙ ap₂ (with_tail e.superblock) number place) ∙ ap (call_in e) (sym is)
+
+module _ (l : Ledger) (size : ℕ) (on : CanRunOn l size) where
+  -- its blocks have a size that a block may have
+  pub on-size : IsBlockSize size
+  on-size = subst IsBlockSize (sym on.size_is) (runs-size (engine_of on.shape l) on.runs.can_run.plain)
+
+  -- its ring lies behind the superblock, and has not too many blocks
+  pub on-ring : HasRing (engine_of on.shape l)
+  on-ring = runs-ring (engine_of on.shape l) on.runs.can_run.plain
+
+  -- as many bytes as the superblock has
+  pub on-superblock : length l.superblock.items ≡ size
+  on-superblock = (superblock-of (engine_of on.shape l) on.runs.can_run.plain).size ∙ sym on.size_is
+
+  -- and that are enough for all its fields
+  pub on-long : 32 ≤ length l.superblock.items
+  on-long =
+      let is = superblock-of (engine_of on.shape l) on.runs.can_run.plain in
+      let size = accepted-size on.shape l.superblock.items is.accepted in
+      let same = is.size in
+      omega arith
+
+  -- a batch is there where a call is due
+  pub on-due : l.stage ≢ Idle → l.committed < length l.accepted.items
+  on-due busy = let one : length l.accepted.items ≡ l.committed + 1 = due-one (engine_of on.shape l) l.stage on.runs.can_run.plain.stage busy in omega arith
+
+  -- the numbers of all of them fit
+  pub on-numbers : l.first + length l.accepted.items ≤ greatest_number + 1
+  on-numbers = on.runs.can_run.plain.numbers
+
+  -- and then some block is due
+  pub on-some : (shape : Shape) → l.stage ≢ Idle → 0 < length (due_blocks (engine_of shape l))
+  on-some shape busy = due-some (engine_of shape l) (due-one (engine_of on.shape l) l.stage on.runs.can_run.plain.stage busy)
+
+  -- it has copies alone
+  pub on-copies : (b : Batch) → slice_get l.accepted.items l.committed ≡ Some b → AreCopies size b.entries
+  on-copies b stands =
+      subst (λ (n : ℕ). AreCopies n b.entries) (sym on.size_is)
+      (all-at (λ (x : Batch). AreCopies on.shape.block_size x.entries) l.accepted.items l.committed b on.runs.can_run.copies stands)
+
+  -- no more of them than the ring has blocks
+  pub on-few : (b : Batch) → slice_get l.accepted.items l.committed ≡ Some b → length b.entries ≤ 1048576
+  on-few b stands =
+      let few = runs-few (engine_of on.shape l) b on.runs.can_run stands in
+      let ring = on-ring.few in
+      omega arith
+
+  -- and it has the number that is due
+  pub on-number : (b : Batch) → slice_get l.accepted.items l.committed ≡ Some b → b.tid ≡ l.first + l.committed
+  on-number b stands = runs-number (engine_of on.shape l) b on.runs.can_run stands
+
+  -- the blocks that are due are as many as it needs
+  pub on-blocks : (b : Batch) (shape : Shape) → slice_get l.accepted.items l.committed ≡ Some b → shape.block_size ≡ size →
+      need (narrow size) (length b.entries) 0 ≡ length (due_blocks (engine_of shape l))
+  on-blocks b shape stands same =
+      ap (λ (n : ℕ). need (narrow n) (length b.entries) 0) on.size_is
+      ∙ sym (runs-blocks (engine_of on.shape l) b on.runs.can_run stands)
+      ∙ ap length (same-due l on.shape shape (sym on.size_is ∙ sym same))
+
+  -- their positions are far from the end of the numbers of 64 bits
+  pub on-small : (shape : Shape) → shape.block_size ≡ size → l.start + length (due_blocks (engine_of shape l)) + l.ring.ring.blocks ≤ 2 ^ 64 - 1
+  on-small shape same =
+      let small : l.start + length (due_blocks (engine_of on.shape l)) + l.ring.ring.blocks ≤ 2 ^ 64 - 1 = head-small (engine_of on.shape l) on.runs.can_run.plain in
+      let alike : length (due_blocks (engine_of shape l)) ≡ length (due_blocks (engine_of on.shape l)) =
+      ap length (same-due l shape on.shape (same ∙ on.size_is)) in
+      omega arith
+
+  -- the committed transactions begin at the tail, which is not behind their end
+  pub on-tail : l.ring.tail ≤ l.start
+  on-tail = tail-start (engine_of on.shape l) on.runs.can_run.plain
+
+  -- where nothing is being committed, all that is taken is committed
+  pub on-idle : l.stage ≡ Idle → l.ring.head ≡ l.start
+  on-idle idle = idle-head on.shape l on.runs idle
+
+  -- the number of the block that is due is one of theirs
+  pub on-next : (k : ℕ) → l.stage ≡ Blocks k → k + 1 ≤ 2 ^ 64 - 1
+  on-next k is =
+      let agrees : StageAgrees (engine_of on.shape l) (Blocks k) = subst (StageAgrees (engine_of on.shape l)) is on.runs.can_run.plain.stage in
+      let below : k < length (due_blocks (engine_of on.shape l)) = agrees.2 in
+      let small = on-small on.shape (sym on.size_is) in
+      omega arith
+
+  -- the entries of the transaction that is being committed are of different blocks
+  pub on-distinct : (b : Batch) → slice_get l.accepted.items l.committed ≡ Some b → IsDistinct nat_eq (map (λ e. e.0) b.entries)
+  on-distinct b stands = (all-at (IsBatch on.shape) l.accepted.items l.committed b on.runs.can_run.plain.batches stands).once
+
+  -- and may be committed
+  pub on-commit : (b : Batch) → l.stage ≡ CommitFlush → slice_get l.accepted.items l.committed ≡ Some b →
+      AllByRecursion (λ k. k.0 < l.first + l.committed) l.pending.queue × (length l.pending.queue + length (copied b.entries) ≤ l.pending.room)
+  on-commit b last stands = may-commit (engine_of on.shape l) l.pending b on.runs.can_run.plain last stands on.runs.pending

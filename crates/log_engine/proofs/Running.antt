@@ -1,0 +1,165 @@
+-- What an engine that can run knows of its measures and of the transaction that it commits.
+use Rattle.std.proofs.Common.{arith, refl, sym, ap, ap₂, subst, ◌∙◌}
+use Rattle.std.specs.Prelude.{◌≡◌, ◌≢◌, ℕ, ◌+◌, ◌-◌, ◌*◌, ◌^◌, ◌<◌, ◌≤◌, false, List, [], ◌∷◌, length, Some, slice_get}
+use Rattle.journal_model.specs.declared.entry.Batch.{Batch}
+use Rattle.journal_model.specs.Chain.{Ring}
+use Rattle.journal_model.specs.Layout.{narrow}
+use Rattle.journal_model.specs.Room.{need}
+use Rattle.journal_model.specs.Superblock.{Shape, least_ring, super_in}
+use Rattle.journal_model.specs.Text.{text_blocks}
+use Rattle.journal_model.proofs.OwnTextWhole.{length_own_text}
+use Rattle.log_format.specs.Size.{IsBlockSize}
+use Rattle.journal_world.specs.declared.stage.Stage.{Stage}
+use Rattle.journal_world.specs.declared.stage.Stage.TheVariants.{Idle, SuperblockWrite, SuperblockFlush, Blocks, CommitWrite, CommitFlush}
+use Rattle.journal_world.specs.Engine.{Accepts, Engine, HasRoom, accepting, due_blocks, text_of}
+use Rattle.journal_world.specs.Opening.{IsSuperblock}
+use Rattle.journal_world.specs.Sound.{IsPlain, StageAgrees}
+use Rattle.journal_model.proofs.OwnTextEach.{each-append}
+use Rattle.journal_world.proofs.Batches.{number-at}
+use Rattle.journal_world.proofs.Fresh.{fresh-plain}
+use Rattle.journal_world.proofs.Plain.{accepts-plain}
+use Rattle.journal_world.proofs.Positions.{tail-start}
+use Rattle.std.proofs.lemmas.Nat.{mul-le}
+use Rattle.journal_world.specs.Journal.{fresh_engine}
+use Rattle.recovery.specs.Values.{IsNextNamed}
+use Rattle.journal_world.proofs.Superblocks.{accepted-first, accepted-layout, accepted-length, accepted-ring, accepted-size, accepted-within, names-superblock}
+use Rattle.journal_world.proofs.Elements.{all-at}
+use Rattle.journal_world.proofs.Texts.{due-of}
+use Rattle.log_engine.specs.Engine.{MayHandOver}
+use Rattle.log_engine.specs.Ledger.{CanRun}
+use Rattle.log_engine.specs.Text.{AreCopies}
+use Rattle.log_engine.proofs.Copies.{each-whole, length-copied, nothing-revoked}
+
+-- the superblock is one
+pub superblock-of : (e : Engine) → IsPlain e → IsSuperblock e.shape e.ring e.superblock
+superblock-of e plain = names-superblock e e.started e.superblock plain.names
+
+-- the block size is one that a block may have
+pub runs-size : (e : Engine) → IsPlain e → IsBlockSize e.shape.block_size
+runs-size e plain = (accepted-layout e.shape e.superblock (superblock-of e plain).accepted).0
+
+-- the ring has blocks behind the superblock, not too many, and lies within the log area
+pub record HasRing (e : Engine) : Type 0 where
+  pub behind : 0 < e.ring.first
+  pub some : 16 ≤ e.ring.blocks
+  pub few : e.ring.first + e.ring.blocks ≤ 1048576
+  pub within : e.ring.first + e.ring.blocks ≤ e.shape.log_blocks
+
+pub runs-ring : (e : Engine) → IsPlain e → HasRing e
+runs-ring e plain =
+    let is = superblock-of e plain in
+    let first : (super_in e.superblock).s_first ≡ e.ring.first = ap (λ (r : Ring). r.first) is.ring_is in
+    let blocks : (super_in e.superblock).s_maxlen - (super_in e.superblock).s_first ≡ e.ring.blocks = ap (λ (r : Ring). r.blocks) is.ring_is in
+    let above : 0 < (super_in e.superblock).s_first = accepted-first e.shape e.superblock is.accepted in
+    let some : 16 ≤ (super_in e.superblock).s_maxlen - (super_in e.superblock).s_first = accepted-ring e.shape e.superblock is.accepted in
+    let most : (super_in e.superblock).s_maxlen ≤ 1048576 = accepted-length e.shape e.superblock is.accepted in
+    let inside : (super_in e.superblock).s_maxlen ≤ e.shape.log_blocks = accepted-within e.shape e.superblock is.accepted in
+    record { behind = omega arith; some = omega arith; few = omega arith; within = omega arith }
+
+-- where a call is due, one transaction more is accepted than is committed
+pub due-one : (e : Engine) (stage : Stage) → StageAgrees e stage → stage ≢ Idle → length e.accepted ≡ e.committed + 1
+due-one e Idle agrees busy = absurd (busy refl)
+due-one e SuperblockWrite agrees busy = agrees.0
+due-one e SuperblockFlush agrees busy = agrees.0
+due-one e (Blocks k) agrees busy = agrees.0
+due-one e CommitWrite agrees busy = agrees.0
+due-one e CommitFlush agrees busy = agrees.0
+
+-- the text of copies alone takes as many blocks as they need
+length-text : (e : Engine) (b : Batch) → IsPlain e → AreCopies e.shape.block_size b.entries →
+    length (text_blocks (text_of e b)) ≡ need (narrow e.shape.block_size) (length b.entries) 0
+length-text e b plain are =
+    let whole = each-whole e.shape.block_size b.entries are in
+    let layout = accepted-layout e.shape e.superblock (superblock-of e plain).accepted in
+    length_own_text (narrow e.shape.block_size) e.uuid b.tid b.entries layout
+    ∙ ap₂ (λ (c r : ℕ). need (narrow e.shape.block_size) c r)
+    (length-copied e.shape.block_size b.entries whole) (ap length (nothing-revoked e.shape.block_size b.entries whole))
+
+-- the blocks that are due are as many as the transaction needs
+pub runs-blocks : (e : Engine) (b : Batch) → CanRun e → slice_get e.accepted e.committed ≡ Some b →
+    length (due_blocks e) ≡ need (narrow e.shape.block_size) (length b.entries) 0
+runs-blocks e b can stands =
+    ap length (due-of e b stands)
+    ∙ length-text e b can.plain (all-at (λ (x : Batch). AreCopies e.shape.block_size x.entries) e.accepted e.committed b can.copies stands)
+
+-- they fit the ring, so the transaction has no more copies than the ring has blocks
+pub runs-few : (e : Engine) (b : Batch) → CanRun e → slice_get e.accepted e.committed ≡ Some b → length b.entries ≤ e.ring.blocks
+runs-few e b can stands =
+    let blocks = runs-blocks e b can stands in
+    let room = can.plain.room in
+    let order : e.tail ≤ e.start = tail-start e can.plain in
+    omega arith
+
+-- the transaction that is being committed has the number that is due
+pub runs-number : (e : Engine) (b : Batch) → CanRun e → slice_get e.accepted e.committed ≡ Some b → b.tid ≡ e.first + e.committed
+runs-number e b can stands = number-at e.first e.committed e.accepted b can.plain.numbered stands
+
+-- what it needs is what its text takes
+pub room-of : (e : Engine) (b : Batch) → IsPlain e → AreCopies e.shape.block_size b.entries →
+    e.start + need (narrow e.shape.block_size) (length b.entries) 0 ≤ e.tail + e.ring.blocks → HasRoom e b
+room-of e b plain are room = subst (λ (n : ℕ). e.start + n ≤ e.tail + e.ring.blocks) (sym (length-text e b plain are)) room
+
+-- what its text takes is what it needs
+pub need-of : (e : Engine) (b : Batch) → IsPlain e → AreCopies e.shape.block_size b.entries → HasRoom e b →
+    e.start + need (narrow e.shape.block_size) (length b.entries) 0 ≤ e.tail + e.ring.blocks
+need-of e b plain are room = subst (λ (n : ℕ). e.start + n ≤ e.tail + e.ring.blocks) (length-text e b plain are) room
+
+-- an engine that may be handed a batch that there is room for takes it
+pub takes : (e new : Engine) (b : Batch) → e.aborted ≡ false → MayHandOver e b → HasRoom e b → new ≡ accepting e b → Accepts e b new
+takes e new b running may room after = record {
+  running = running;
+  idle = may.idle;
+  number = may.number;
+  left = may.left;
+  batch = may.batch;
+  room = room;
+  after = after;
+}
+
+-- and can run with it
+pub takes-runs : (e new : Engine) (b : Batch) → CanRun e → MayHandOver e b → Accepts e b new → CanRun new
+takes-runs e new b can may accepts = subst CanRun (sym accepts.after) (record {
+  plain = subst IsPlain accepts.after (accepts-plain e b new can.plain accepts);
+  copies = each-append (λ (x : Batch). AreCopies e.shape.block_size x.entries) e.accepted (b ∷ []) can.copies (may.copies, tt);
+})
+
+-- the head of the ring is far from the end of the numbers of 64 bits
+pub head-small : (e : Engine) → IsPlain e → e.start + length (due_blocks e) + e.ring.blocks ≤ 2 ^ 64 - 1
+head-small e plain =
+    let ring = runs-ring e plain in
+    let few : e.ring.blocks ≤ 1048576 = (let first = ring.few in omega arith) in
+    let many : length e.accepted ≤ 4294967296 = (let numbers = plain.numbers in omega arith) in
+    let laps : e.start + length (due_blocks e) ≤ length e.accepted * e.ring.blocks = plain.laps in
+    let product : length e.accepted * e.ring.blocks ≤ 4294967296 * 1048576 = mul-le (length e.accepted) e.ring.blocks 4294967296 1048576 many few in
+    omega arith
+
+-- what the fields of an accepted superblock say of a ring
+pub record HasFields (superblock : List ℕ) : Type 0 where
+  pub long : 1024 ≤ length superblock
+  pub some : 0 < (super_in superblock).s_first
+  pub ring : (super_in superblock).s_first + least_ring ≤ (super_in superblock).s_maxlen
+  pub order : (super_in superblock).s_first ≤ (super_in superblock).s_maxlen
+
+ring-behind : (first maxlen : ℕ) → 16 ≤ maxlen - first → first + least_ring ≤ maxlen
+ring-behind first maxlen some = omega arith
+
+ring-order : (first maxlen : ℕ) → first + least_ring ≤ maxlen → first ≤ maxlen
+ring-order first maxlen some = omega arith
+
+long-enough : (size count : ℕ) → count ≡ size → 1024 ≤ size → 1024 ≤ count
+long-enough size count same long = omega arith
+
+pub named-fields : (shape : Shape) (superblock : List ℕ) (next : ℕ) → IsNextNamed shape superblock next → HasFields superblock
+named-fields shape superblock next named =
+    let is = named.named.is_superblock in
+    let ring = ring-behind (super_in superblock).s_first (super_in superblock).s_maxlen (accepted-ring shape superblock is.accepted) in
+    record {
+      long = long-enough shape.block_size (length superblock) is.size (accepted-size shape superblock is.accepted);
+      some = accepted-first shape superblock is.accepted;
+      ring = ring;
+      order = ring-order (super_in superblock).s_first (super_in superblock).s_maxlen ring;
+    }
+
+-- the engine of an opened log can run
+pub fresh-runs : (shape : Shape) (superblock : List ℕ) (next : ℕ) → IsNextNamed shape superblock next → CanRun (fresh_engine shape superblock next)
+fresh-runs shape superblock next named = record { plain = fresh-plain shape superblock next named.named named.number; copies = tt }

@@ -1,0 +1,171 @@
+-- A step of a commit on a device: what it does to the engine and the disk, and what holds at each of its moments.
+use Rattle.std.proofs.Common.{arith, refl, sym, ap, subst, ◌∙◌}
+use Rattle.std.specs.Prelude.{◌≡◌, ◌≢◌, ℕ, ◌≤◌, true, false, List, length, Some, None, Result, Ok, Err, MatchResult, OnErr, OnOk, is_err}
+use Rattle.std.proofs.lemmas.Option.{none-some}
+use Rattle.std.specs.List.{AllByRecursion}
+use Rattle.journal_model.specs.declared.entry.Batch.{Batch}
+use Rattle.journal_model.specs.Disk.{Disk}
+use Rattle.journal_model.specs.Superblock.{Shape}
+use Rattle.block_device.specs.State.{DeviceState, EachMoment}
+use Rattle.journal_world.specs.declared.stage.Stage.{Stage}
+use Rattle.journal_world.specs.declared.stage.Stage.TheVariants.{Idle, SuperblockWrite, SuperblockFlush, Blocks, CommitWrite, CommitFlush}
+use Rattle.journal_world.specs.Call.{Call, IsAfterFault, after_success}
+use Rattle.journal_world.specs.Engine.{CommitFaults, CommitSteps, Engine, call_due, call_in, stepped, stepped_from}
+use Rattle.journal_world.specs.Sound.{IsPlain, OpensBetween, Sound}
+use Rattle.journal_world.proofs.Faults.{fault-sound}
+use Rattle.journal_world.proofs.Homes.{fault-home, step-home}
+use Rattle.journal_world.proofs.Images.{images-open}
+use Rattle.journal_world.proofs.Changes.{plain-at}
+use Rattle.journal_world.proofs.Plain.{step-plain}
+use Rattle.journal_world.proofs.Steps.{step-sound}
+use Rattle.log_engine.specs.declared.call.Due.{Due}
+use Rattle.log_engine.specs.declared.call.Due.TheVariants.{Nothing, Write as WriteDue, Flush as FlushDue}
+use Rattle.log_engine.specs.declared.engine.Progress.{Progress}
+use Rattle.log_engine.specs.declared.engine.Progress.TheVariants.{Idle as NoProgress, Step, Done}
+use Rattle.log_engine.specs.Text.{AreCopies}
+use Rattle.log_engine.specs.Call.{IsOneMoment, call_of}
+use Rattle.log_engine.specs.Engine.{IsDuringCommit, IsProgress, StepDid}
+use Rattle.log_engine.specs.Ledger.{CanRun}
+use Rattle.log_engine.proofs.Calls.{each-one}
+
+-- a step that is to do something makes a call
+pub call-there : (due : Due) (bytes : List ℕ) → (due ≡ Nothing → ⊥) → (call : Call) × (call_of due bytes ≡ Some call)
+call-there Nothing bytes some = absurd (some refl)
+call-there (WriteDue area place) bytes some = (_, refl)
+call-there (FlushDue area) bytes some = (_, refl)
+
+-- where a call is due, a transaction is being committed
+pub busy : (e : Engine) (call : Call) → call_due e ≡ Some call → e.stage ≢ Idle
+busy e call due idle = none-some call (sym (ap (call_in e) idle) ∙ due)
+
+-- where none is due, none is
+pub idle-at : (e : Engine) (stage : Stage) → call_in e stage ≡ None → stage ≡ Idle
+idle-at e Idle none = refl
+idle-at e SuperblockWrite none = absurd (none-some _ (sym none))
+idle-at e SuperblockFlush none = absurd (none-some _ (sym none))
+idle-at e (Blocks k) none = absurd (none-some _ (sym none))
+idle-at e CommitWrite none = absurd (none-some _ (sym none))
+idle-at e CommitFlush none = absurd (none-some _ (sym none))
+
+-- a sound engine between two steps
+pub during-now : (e : Engine) (disk : Disk) → Sound e disk → IsDuringCommit e disk disk
+during-now e disk sound = record { home = record { same = λ b. refl }; opens = images-open e disk sound }
+
+-- where nothing changed, it holds at the one moment
+pub each-now : (e : Engine) (state : DeviceState) → Sound e state.disk → EachMoment (IsDuringCommit e state.disk) state state
+each-now e state sound =
+    each-one (IsDuringCommit e state.disk) state state (IsOneMoment.Same (record { shape = refl; disk = refl; past = refl })) (during-now e state.disk sound)
+    (during-now e state.disk sound)
+
+-- bounds that are further apart
+opens-wider : (shape : Shape) (accepted : List Batch) (low lower high : ℕ) (disk : Disk) → lower ≤ low → OpensBetween shape accepted low high disk →
+    OpensBetween shape accepted lower high disk
+opens-wider shape accepted low lower high disk less opens = record {
+  each = λ image left. let at = opens.each image left in (at.0, (let above : low ≤ at.0 = at.1 in omega arith), at.2, at.3);
+}
+
+-- the engine keeps its shape and what it accepted, and commits no fewer
+record Advances (old new : Engine) : Type 0 where
+  shape : new.shape ≡ old.shape
+  accepted : new.accepted ≡ old.accepted
+  committed : old.committed ≤ new.committed
+
+advances-at : (e : Engine) (stage : Stage) → Advances e (stepped_from e stage)
+advances-at e Idle = record { shape = refl; accepted = refl; committed = omega arith }
+advances-at e SuperblockWrite = record { shape = refl; accepted = refl; committed = omega arith }
+advances-at e SuperblockFlush = record { shape = refl; accepted = refl; committed = omega arith }
+advances-at e (Blocks k) = record { shape = refl; accepted = refl; committed = omega arith }
+advances-at e CommitWrite = record { shape = refl; accepted = refl; committed = omega arith }
+advances-at e CommitFlush = record { shape = refl; accepted = refl; committed = omega arith }
+
+-- so what a later engine's images open to lies between the old bounds
+opens-before : (old new : Engine) (disk : Disk) → Advances old new → Sound new disk →
+    OpensBetween old.shape old.accepted old.committed (length old.accepted) disk
+opens-before old new disk advances sound =
+    let opens = images-open new disk sound in
+    let shaped = subst (λ (s : Shape). OpensBetween s new.accepted new.committed (length new.accepted) disk) advances.shape opens in
+    let taken = subst (λ (bs : List Batch). OpensBetween old.shape bs new.committed (length bs) disk) advances.accepted shaped in
+    opens-wider old.shape old.accepted new.committed old.committed (length old.accepted) disk advances.committed taken
+
+-- at each moment of a step that succeeds
+pub each-step : (old new : Engine) (before after : DeviceState) → IsOneMoment before after → Sound old before.disk → CommitSteps old before.disk new after.disk →
+    EachMoment (IsDuringCommit old before.disk) before after
+each-step old new before after moment sound step =
+    let advances : Advances old new = subst (Advances old) (sym step.engine) (advances-at old old.stage) in
+    each-one (IsDuringCommit old before.disk) before after moment (during-now old before.disk sound)
+    (record { home = step-home old new before.disk after.disk step; opens = opens-before old new after.disk advances (step-sound old new before.disk after.disk sound step) })
+
+-- and of one that fails
+pub each-fault : (old new : Engine) (before after : DeviceState) → IsOneMoment before after → Sound old before.disk → CommitFaults old before.disk new after.disk →
+    EachMoment (IsDuringCommit old before.disk) before after
+each-fault old new before after moment sound fault =
+    let same : Advances old (record old { aborted = true }) = record { shape = refl; accepted = refl; committed = omega arith } in
+    let advances : Advances old new = subst (Advances old) (sym fault.engine) same in
+    each-one (IsDuringCommit old before.disk) before after moment (during-now old before.disk sound)
+    (record { home = fault-home old new before.disk after.disk fault; opens = opens-before old new after.disk advances (fault-sound old new before.disk after.disk sound fault) })
+
+-- what a step did, by the progress that it made
+pub step-did : (p : Progress) (old new : Engine) (disk after : Disk) → IsProgress p old new → CommitSteps old disk new after → StepDid p old disk new after
+step-did NoProgress old new disk after progress step = absurd progress
+step-did Step old new disk after progress step = (step, progress)
+step-did (Done tid) old new disk after progress step = (step, progress.0, progress.1)
+
+-- what is known of a failure, where the answer is one
+pub at-err : {T E P : Type 0} (r : Result T E) → is_err r ≡ true → OnErr r P → P
+at-err (Ok x) is p = cc
+at-err (Err e) is p = p
+
+-- and of a success
+pub at-ok : {T E P : Type 0} (r : Result T E) → is_err r ≡ false → OnOk r P → P
+at-ok (Ok x) is p = p
+at-ok (Err e) is p = cc
+
+-- how often the device has failed after a failure
+pub count-err : {T E : Type 0} (A B : Type 0) (r : Result T E) → is_err r ≡ true → MatchResult r (λ _. A) (λ _. B) → B
+count-err A B (Ok x) is p = cc
+count-err A B (Err e) is p = p
+
+-- and after a success
+pub count-ok : {T E : Type 0} (A B : Type 0) (r : Result T E) → is_err r ≡ false → MatchResult r (λ _. A) (λ _. B) → A
+count-ok A B (Ok x) is p = p
+count-ok A B (Err e) is p = cc
+
+-- an engine that can run can run when it is aborted, on a device of the same shape
+pub fault-runs : (e : Engine) (shape : Shape) → CanRun e → shape ≡ e.shape → CanRun (record e { shape = shape; aborted = true })
+fault-runs e shape can same =
+    let plain : IsPlain (record e { aborted = true }) = plain-at e e.stage e.stage e.aborted true can.plain can.plain.stage in
+    let here : CanRun (record e { aborted = true }) = record { plain = plain; copies = can.copies } in
+    subst (λ (s : Shape). CanRun (record e { shape = s; aborted = true })) (sym same) here
+
+-- a fault on a device whose shape stays
+pub faults-here : (e : Engine) (shape : Shape) (call : Call) (disk after : Disk) → shape ≡ e.shape → e.aborted ≡ false → call_due e ≡ Some call →
+    IsAfterFault call disk after → CommitFaults e disk (record e { shape = shape; aborted = true }) after
+faults-here e shape call disk after same running due fault = record {
+  running = running;
+  call = call;
+  due = due;
+  engine = ap (λ (s : Shape). record e { shape = s; aborted = true }) same;
+  disk_is = fault;
+}
+
+-- a step on a device whose shape stays
+pub steps-here : (e new : Engine) (call : Call) (disk after : Disk) → e.aborted ≡ false → call_due e ≡ Some call → new ≡ stepped e →
+    after ≡ after_success call disk → CommitSteps e disk new after
+steps-here e new call disk after running due engine is = record { running = running; call = call; due = due; engine = engine; disk_is = is }
+
+-- what the engine took has copies alone, before and after a step
+step-copies : (e : Engine) (stage : Stage) (size : ℕ) → AllByRecursion (λ b. AreCopies size b.entries) e.accepted →
+    AllByRecursion (λ b. AreCopies size b.entries) (stepped_from e stage).accepted
+step-copies e stage size are =
+    subst (λ (bs : List Batch). AllByRecursion (λ b. AreCopies size b.entries) bs) (sym (advances-at e stage).accepted) are
+
+-- an engine that can run can run after a step
+pub step-runs : (e new : Engine) (call : Call) → CanRun e → call_due e ≡ Some call → new ≡ stepped e → CanRun new
+step-runs e new call can due is =
+    let shape : (stepped e).shape ≡ e.shape = (advances-at e e.stage).shape in
+    let here : CanRun (stepped e) = record {
+      plain = step-plain e call can.plain due;
+      copies = subst (λ (s : Shape). AllByRecursion (λ b. AreCopies s.block_size b.entries) (stepped e).accepted) (sym shape)
+          (step-copies e e.stage e.shape.block_size can.copies);
+    } in
+    subst CanRun (sym is) here

@@ -1,0 +1,118 @@
+use Rattle.std.proofs.Common.{refl, sym, ap, subst, ◌∙◌, ◌≡◌, Some, true}
+use Rattle.journal_model.specs.Superblock.{Shape}
+use Rattle.journal_world.specs.Checkpoint.{RoundFaults, RoundSteps}
+use Rattle.journal_world.proofs.RoundFaults.{round-fault-sound}
+use Rattle.journal_world.proofs.RoundSteps.{round-sound}
+use Rattle.log_engine.specs.Call.{call_of}
+use Rattle.log_engine.specs.Engine.{RoundRefused}
+use Rattle.log_engine.specs.Ledger.{Runs, engine_of}
+use Rattle.log_engine.proofs.Rounding.{aborted-runs, each-round, each-round-fault, each-still, round-did, round-faults, round-steps}
+use Rattle.log_engine.proofs.Stepping.{at-err, at-ok, count-err, count-ok}
+use Rattle.log_engine.proofs.engine.Engine.checkpoint_step.Goals as goal
+
+-- an aborted journal refuses, and nothing changes
+pub returns-then-self-clause-err : goal.returns-then-self-clause-err
+returns-then-self-clause-err g c =
+    rw (← c.self.view_is) (RoundRefused.RoundAborted c.if-self.true refl (record { shape = refl; disk = refl; past = refl }) refl)
+
+-- so what holds now holds at the one moment
+pub returns-then-self-clause-moments : goal.returns-then-self-clause-moments
+returns-then-self-clause-moments g c = rw (← c.self.view_is) (λ honest. each-still _ _ (c.self.invariant.2 honest))
+
+-- nor where nothing is to be released
+pub returns-then-not-begin_round-clause-moments : goal.returns-then-not-begin_round-clause-moments
+returns-then-not-begin_round-clause-moments g c = rw (← c.self.view_is) (λ honest. each-still _ _ (c.self.invariant.2 honest))
+
+-- where the device fails the engine is aborted, and can still be asked
+pub invariant_of-self-then-is_err : goal.invariant_of-self-then-is_err
+invariant_of-self-then-is_err g c =
+    let before = g.D.Device.state c.self.inside.device in
+    let after = g.D.Device.state c.make_call.new.device in
+    let l = c.self.inside.ledger in
+    let m = c.begin_round.new.self in
+    let e = engine_of before.shape l in
+    let begun = c.begin_round.ensures.begun c.if-not-begin_round.false before.shape c.self.invariant.0 in
+    let due = c.round_due-due.ensures.due before.shape begun.2 in
+    let is : call_of c.round_due-due.result c.bytes.result.now ≡ Some due.call = ap (call_of c.round_due-due.result) c.bytes.ensures ∙ due.is in
+    let failed = sym c.is_err.ensures.value ∙ c.if-is_err.true in
+    let fault : RoundFaults e before.disk (engine_of after.shape (record m { aborted = true })) after.disk =
+    round-faults before.shape after.shape l m _ _ before.disk after.disk c.make_call.ensures.shape c.if-self.false begun.0 begun.1 due
+    (at-err c.make_call.result failed (c.make_call.ensures.err due.call is)) in (
+      aborted-runs before.shape after.shape m c.make_call.ensures.shape begun.2,
+      c.round_due-due.ensures.size ∙ c.self.invariant.1 ∙ sym (ap (λ (s : Shape). s.block_size) c.make_call.ensures.shape),
+      λ honest. round-fault-sound e _ before.disk after.disk (c.self.invariant.2 (c.make_call.ensures.honest honest)) fault,
+    )
+
+-- that is what the answer says
+pub returns-then-is_err : goal.returns-then-is_err
+returns-then-is_err g c =
+    let before = g.D.Device.state c.self.inside.device in
+    let after = g.D.Device.state c.make_call.new.device in
+    let l = c.self.inside.ledger in
+    let m = c.begin_round.new.self in
+    let e = engine_of before.shape l in
+    let begun = c.begin_round.ensures.begun c.if-not-begin_round.false before.shape c.self.invariant.0 in
+    let due = c.round_due-due.ensures.due before.shape begun.2 in
+    let is : call_of c.round_due-due.result c.bytes.result.now ≡ Some due.call = ap (call_of c.round_due-due.result) c.bytes.ensures ∙ due.is in
+    let failed = sym c.is_err.ensures.value ∙ c.if-is_err.true in
+    let fault : RoundFaults e before.disk (engine_of after.shape (record m { aborted = true })) after.disk =
+    round-faults before.shape after.shape l m _ _ before.disk after.disk c.make_call.ensures.shape c.if-self.false begun.0 begun.1 due
+    (at-err c.make_call.result failed (c.make_call.ensures.err due.call is)) in
+    rw (← c.self.view_is) (record {
+      ok = tt;
+      err = RoundRefused.RoundFailed fault (count-err _ _ c.make_call.result failed c.make_call.ensures.faults);
+      no_fault = tt;
+      shape = c.make_call.ensures.shape;
+      moments = λ honest. each-round-fault e _ before after c.make_call.ensures.moment (c.self.invariant.2 honest) fault;
+      one = c.make_call.ensures.moment;
+      honest = c.make_call.ensures.honest;
+    })
+
+-- where the call succeeds the round is one step further
+pub invariant_of-self-2 : goal.invariant_of-self-2
+invariant_of-self-2 g c =
+    let before = g.D.Device.state c.self.inside.device in
+    let after = g.D.Device.state c.make_call.new.device in
+    let l = c.self.inside.ledger in
+    let m = c.begin_round.new.self in
+    let n = c.advance_round.new.self in
+    let e = engine_of before.shape l in
+    let begun = c.begin_round.ensures.begun c.if-not-begin_round.false before.shape c.self.invariant.0 in
+    let due = c.round_due-due.ensures.due before.shape begun.2 in
+    let is : call_of c.round_due-due.result c.bytes.result.now ≡ Some due.call = ap (call_of c.round_due-due.result) c.bytes.ensures ∙ due.is in
+    let worked = sym c.is_err.ensures.value ∙ c.if-is_err.false in
+    let gone = c.advance_round.ensures.gone after.shape (subst (λ (s : Shape). Runs s m) (sym c.make_call.ensures.shape) begun.2) in
+    let steps : RoundSteps e before.disk (engine_of after.shape n) after.disk =
+    round-steps before.shape after.shape l m _ _ before.disk after.disk c.make_call.ensures.shape c.if-self.false begun.0 begun.1 due n begun.2 gone
+    (at-ok c.make_call.result worked (c.make_call.ensures.ok due.call is)) in (
+      gone.runs,
+      c.round_due-due.ensures.size ∙ c.self.invariant.1 ∙ sym (ap (λ (s : Shape). s.block_size) c.make_call.ensures.shape),
+      λ honest. round-sound e _ before.disk after.disk (c.self.invariant.2 (c.make_call.ensures.honest honest)) steps,
+    )
+
+-- that is what the answer says
+pub returns : goal.returns
+returns g c =
+    let before = g.D.Device.state c.self.inside.device in
+    let after = g.D.Device.state c.make_call.new.device in
+    let l = c.self.inside.ledger in
+    let m = c.begin_round.new.self in
+    let n = c.advance_round.new.self in
+    let e = engine_of before.shape l in
+    let begun = c.begin_round.ensures.begun c.if-not-begin_round.false before.shape c.self.invariant.0 in
+    let due = c.round_due-due.ensures.due before.shape begun.2 in
+    let is : call_of c.round_due-due.result c.bytes.result.now ≡ Some due.call = ap (call_of c.round_due-due.result) c.bytes.ensures ∙ due.is in
+    let worked = sym c.is_err.ensures.value ∙ c.if-is_err.false in
+    let gone = c.advance_round.ensures.gone after.shape (subst (λ (s : Shape). Runs s m) (sym c.make_call.ensures.shape) begun.2) in
+    let steps : RoundSteps e before.disk (engine_of after.shape n) after.disk =
+    round-steps before.shape after.shape l m _ _ before.disk after.disk c.make_call.ensures.shape c.if-self.false begun.0 begun.1 due n begun.2 gone
+    (at-ok c.make_call.result worked (c.make_call.ensures.ok due.call is)) in
+    rw (← c.self.view_is) (record {
+      ok = round-did c.advance_round.result e _ before.disk after.disk (c.advance_round.ensures.progress after.shape) steps;
+      err = tt;
+      no_fault = count-ok _ _ c.make_call.result worked c.make_call.ensures.faults;
+      shape = c.make_call.ensures.shape;
+      moments = λ honest. each-round e _ before after c.make_call.ensures.moment (c.self.invariant.2 honest) steps;
+      one = c.make_call.ensures.moment;
+      honest = c.make_call.ensures.honest;
+    })

@@ -1,0 +1,117 @@
+use Rattle.std.proofs.Common.{refl, sym, ap, subst, ◌∙◌, ◌≡◌, ◌<◌, ℕ, Bool, true, false, length}
+use Rattle.journal_model.specs.declared.number.Area.TheVariants.{Home}
+use Rattle.journal_model.specs.Block.{IsAllowedBlock}
+use Rattle.journal_model.specs.Layout.{narrow}
+use Rattle.journal_model.specs.Superblock.{Shape}
+use Rattle.log_engine.specs.Engine.{EngineValue, ReadRefused}
+use Rattle.log_engine.specs.Ledger.{engine_of}
+use Rattle.log_engine.proofs.Reading.{aborted-sound, home-read, none-pending, pending-bytes, pending-read}
+use Rattle.log_engine.proofs.Rounding.{aborted-runs}
+use Rattle.log_engine.proofs.Rounds.{placed-size}
+use Rattle.log_engine.proofs.Stepping.{at-ok, count-err}
+use Rattle.log_engine.proofs.engine.Engine.read.Goals as goal
+
+-- an aborted journal refuses, and nothing changes
+pub returns-then-self-clause-err : goal.returns-then-self-clause-err
+returns-then-self-clause-err g c = rw (← c.self.view_is) (ReadRefused.ReadAborted c.if-self.true refl refl)
+
+not-both : (b : Bool) → b ≡ true → b ≡ false → ⊥
+not-both b is not = cc
+
+-- so does a block that may not be touched
+pub returns-then-not-is_allowed-clause-err : goal.returns-then-not-is_allowed-clause-err
+returns-then-not-is_allowed-clause-err g c =
+    let shape = (g.D.Device.state c.self.inside.device).shape in
+    let refused : IsAllowedBlock (narrow shape.block_size) shape.home_blocks c.args.block → ⊥ =
+    λ allowed. not-both c.is_allowed.result
+    ((c.is_allowed.ensures shape.block_size).1 (subst (λ (n : ℕ). IsAllowedBlock (narrow shape.block_size) n c.args.block) (sym c.blocks-2.ensures) allowed))
+    c.if-not-is_allowed.true in
+    rw (← c.self.view_is) (ReadRefused.ReadOutside c.if-self.false refused refl refl)
+
+-- a pending copy stands where the pending copies say
+pub copy-requires : goal.copy-requires
+copy-requires g c =
+    let shape = (g.D.Device.state c.self.inside.device).shape in
+    let one = c.self.invariant.0.pending.placed c.args.block c.in-Some.version (sym c.in-Some.ensures.newest) in
+    (shape, one.0, c.args.block, one.1, one.2)
+
+-- it is one block
+pub copy_from_slice-requires : goal.copy_from_slice-requires
+copy_from_slice-requires g c =
+    let shape = (g.D.Device.state c.self.inside.device).shape in
+    let e = engine_of shape c.self.inside.ledger in
+    let runs = c.self.invariant.0 in
+    let one = runs.pending.placed c.args.block c.in-Some.version (sym c.in-Some.ensures.newest) in
+    let size = subst (λ (v : EngineValue g.row.D.Denot). length c.args.into.now ≡ (g.D.Device.state v.device).shape.block_size)
+    (sym c.self.view_is) c.requires in
+    size ∙ sym (ap length (c.copy.ensures shape one.0 c.args.block one.1 one.2) ∙ placed-size e one.0 c.args.block c.in-Some.version.place runs.can_run one.2)
+
+-- its bytes are what the block reads
+pub returns-in-Some-clause-ok : goal.returns-in-Some-clause-ok
+returns-in-Some-clause-ok g c =
+    let state = g.D.Device.state c.self.inside.device in
+    let e = engine_of state.shape c.self.inside.ledger in
+    let runs = c.self.invariant.0 in
+    let one = runs.pending.placed c.args.block c.in-Some.version (sym c.in-Some.ensures.newest) in
+    let bytes = c.copy_from_slice.ensures.after ∙ c.copy.ensures state.shape one.0 c.args.block one.1 one.2 in
+    rw (← c.self.view_is) (λ honest. pending-read e state.disk one.0 c.args.block c.in-Some.version.place _ runs.can_run.plain one.2 bytes, refl)
+
+-- whether the device is honest or not
+pub returns-in-Some-clause-pending : goal.returns-in-Some-clause-pending
+returns-in-Some-clause-pending g c =
+    let state = g.D.Device.state c.self.inside.device in
+    let e = engine_of state.shape c.self.inside.ledger in
+    let runs = c.self.invariant.0 in
+    let one = runs.pending.placed c.args.block c.in-Some.version (sym c.in-Some.ensures.newest) in
+    let bytes = c.copy_from_slice.ensures.after ∙ c.copy.ensures state.shape one.0 c.args.block one.1 one.2 in
+    rw (← c.self.view_is) (λ i v pending. (pending-bytes e one.0 i c.args.block c.in-Some.version.place _ v runs.can_run.plain one.2 bytes pending, refl))
+
+-- home has the block
+pub read-requires-clause-there : goal.read-requires-clause-there
+read-requires-clause-there g c =
+    let shape = (g.D.Device.state c.self.inside.device).shape in
+    let allowed = (c.is_allowed.ensures shape.block_size).0 c.if-not-is_allowed.false in
+    subst (λ (n : ℕ). n < shape.home_blocks) (sym c.block.view_is) (subst (λ (n : ℕ). c.args.block < n) c.blocks-2.ensures allowed.in_home)
+
+-- where the device fails the engine is aborted
+pub invariant_of-self : goal.invariant_of-self
+invariant_of-self g c =
+    let before = g.D.Device.state c.self.inside.device in
+    let after = g.D.Device.state c.read.new.self in
+    let l = c.self.inside.ledger in
+    let stays = c.read.ensures.stays in (
+      aborted-runs before.shape after.shape l stays.shape c.self.invariant.0,
+      c.self.invariant.1 ∙ sym (ap (λ (s : Shape). s.block_size) stays.shape),
+      λ honest. aborted-sound before.shape after.shape l before.disk after.disk stays.shape stays.disk (c.self.invariant.2 (c.read.ensures.honest honest)),
+    )
+
+-- that is what the answer says
+pub returns-then-is_err-clause-err : goal.returns-then-is_err-clause-err
+returns-then-is_err-clause-err g c =
+    let l = c.self.inside.ledger in
+    let failed = sym c.is_err.ensures.value ∙ c.if-is_err.true in
+    rw (← c.self.view_is) (ReadRefused.ReadFailed c.if-self.false (ap (λ (s : Shape). engine_of s (record l { aborted = true })) c.read.ensures.stays.shape)
+    (count-err _ _ c.read.result failed c.read.ensures.faults))
+
+-- where no copy is pending, what home reads is what the block reads
+pub returns-clause-ok : goal.returns-clause-ok
+returns-clause-ok g c =
+    let before = g.D.Device.state c.self.inside.device in
+    let l = c.self.inside.ledger in
+    let worked = sym c.is_err.ensures.value ∙ c.if-is_err.false in
+    let none = sym c.lookup.ensures.newest ∙ c.in_default.is in
+    let read = at-ok c.read.result worked c.read.ensures.bytes in
+    rw (← c.self.view_is) (
+      λ honest. home-read (engine_of before.shape l) l.pending before.disk c.args.block _ c.self.invariant.0.pending none
+          (c.self.invariant.2 (c.read.ensures.honest honest))
+          (read honest ∙ ap (λ (n : ℕ). (before.disk Home n).reads) c.block.view_is),
+      ap (λ (s : Shape). engine_of s l) c.read.ensures.stays.shape,
+    )
+
+-- and none is
+pub returns-clause-pending : goal.returns-clause-pending
+returns-clause-pending g c =
+    let before = g.D.Device.state c.self.inside.device in
+    let l = c.self.inside.ledger in
+    let none = sym c.lookup.ensures.newest ∙ c.in_default.is in
+    rw (← c.self.view_is) (λ i v pending. absurd (none-pending (engine_of before.shape l) l.pending i c.args.block v c.self.invariant.0.pending none pending))

@@ -1,0 +1,25 @@
+use Rattle.std.proofs.Common.{arith, sym, ◌∙◌}
+use Rattle.log_engine.proofs.Ledgers.{on-few, on-small}
+use Rattle.log_engine.proofs.Running.{runs-ring}
+use Rattle.log_engine.proofs.ledger.Ledger.due_block.Goals as goal
+
+-- a batch that fits the ring is not large
+pub write_block-requires-clause-few : goal.write_block-requires-clause-few
+write_block-requires-clause-few c =
+    let few = on-few c.args.self.now _ c.requires.can_run _ c.batch_due.ensures in
+    omega arith
+
+-- its positions are far from the end of the numbers of 64 bits
+pub overflow_add-self : goal.overflow_add-self
+overflow_add-self c =
+    let on = c.requires.can_run in
+    let there = c.requires.there on.shape (sym on.size_is) in
+    let small = on-small c.args.self.now _ on on.shape (sym on.size_is) in
+    omega arith
+
+-- the block goes to a place of the ring, which lies within the log
+pub returns-clause-fits : goal.returns-clause-fits
+returns-clause-fits c = λ shape can same.
+    let within = (runs-ring _ can.plain).within in
+    let high = c.place.ensures.high in
+    (omega arith, c.write_block.ensures.size ∙ sym same)

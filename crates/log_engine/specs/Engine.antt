@@ -1,0 +1,93 @@
+-- What the calls of an engine do, each as one step of the pure machine, and why they are refused.
+use Rattle.std.specs.Prelude.{◌≡◌, ◌≢◌, ℕ, ◌+◌, ◌≤◌, false, true, length}
+use Rattle.journal_model.specs.declared.entry.Batch.{Batch}
+use Rattle.journal_model.specs.declared.refusal.JournalError.{JournalError}
+use Rattle.journal_model.specs.declared.refusal.JournalError.TheVariants.{Aborted, BadBlock, Device, Memory, NeedSpace}
+use Rattle.journal_model.specs.Block.{IsAllowedBlock}
+use Rattle.journal_model.specs.Disk.{Disk}
+use Rattle.journal_model.specs.Layout.{narrow}
+use Rattle.journal_model.specs.Opening.{greatest_number}
+use Rattle.block_device.specs.State.{DeviceState, Stays, one_more_fault}
+use Rattle.journal_world.specs.declared.round.Round.TheVariants.{Idle as NoRound}
+use Rattle.journal_world.specs.declared.stage.Stage.TheVariants.{Idle}
+use Rattle.journal_world.specs.Checkpoint.{RoundFaults, RoundSteps}
+use Rattle.journal_world.specs.Engine.{Engine, CommitFaults, CommitSteps, HasRoom, IsBatch}
+use Rattle.journal_world.specs.Sound.{CopiesHome, KeepsHome, OpensBetween}
+use Rattle.log_engine.specs.declared.engine.Progress.{Progress}
+use Rattle.log_engine.specs.declared.engine.Progress.TheVariants.{Idle as NoProgress, Step, Done}
+use Rattle.log_engine.specs.Text.{AreCopies}
+
+-- an engine and its device
+pub record EngineValue (D : Type 0) : Type 0 where
+  pub device : D
+  pub engine : Engine
+
+-- a batch may be handed over: nothing is being committed, it has the next number, and it has copies alone, of no more
+-- blocks than the ring has
+pub record MayHandOver (e : Engine) (b : Batch) : Type 0 where
+  pub idle : e.stage ≡ Idle
+  pub number : b.tid ≡ e.first + e.committed
+  pub left : b.tid ≤ greatest_number
+  pub batch : IsBatch e.shape b
+  pub copies : AreCopies e.shape.block_size b.entries
+  pub few : length b.entries ≤ e.ring.blocks
+
+-- why a batch is refused: the device failed before, the ring is too short, or memory runs out
+pub data AcceptRefused (e : Engine) (b : Batch) : JournalError → Type 0 where
+  AfterFailure : e.aborted ≡ true → AcceptRefused e b Aborted
+  RingIsShort : e.aborted ≡ false → (HasRoom e b → ⊥) → AcceptRefused e b NeedSpace
+  MemoryIsShort : e.aborted ≡ false → HasRoom e b → AcceptRefused e b Memory
+
+-- the progress that a step makes: it is the last one where nothing is being committed behind it
+abbrev pub IsProgress : Progress → Engine → Engine → Type 0
+IsProgress NoProgress old new = ⊥
+IsProgress Step old new = new.stage ≢ Idle
+IsProgress (Done tid) old new = (new.stage ≡ Idle) × (tid ≡ old.first + old.committed)
+
+-- what a commit step did
+abbrev pub StepDid : Progress → Engine → Disk → Engine → Disk → Type 0
+StepDid NoProgress old disk new after = (old.stage ≡ Idle) × (old.aborted ≡ false) × (new ≡ old) × (after ≡ disk)
+StepDid Step old disk new after = CommitSteps old disk new after × (new.stage ≢ Idle)
+StepDid (Done tid) old disk new after = CommitSteps old disk new after × (new.stage ≡ Idle) × (tid ≡ old.first + old.committed)
+
+-- why a commit step is refused: the device failed before, or in it
+pub data StepRefused (old : Engine) (before : DeviceState) (new : Engine) (after : DeviceState) : JournalError → Type 0 where
+  WasAborted : old.aborted ≡ true → new ≡ old → Stays before after → after.faults ≡ before.faults → StepRefused old before new after Aborted
+  DeviceFailed : CommitFaults old before.disk new after.disk → after.faults ≡ one_more_fault before.faults → StepRefused old before new after Device
+
+-- the progress that a step of a round makes: it is the last one where the round is over behind it
+abbrev pub IsRoundProgress : Progress → Engine → Type 0
+IsRoundProgress NoProgress new = ⊥
+IsRoundProgress Step new = new.round ≢ NoRound
+IsRoundProgress (Done tid) new = (new.round ≡ NoRound) × (tid + 1 ≡ new.first + new.released)
+
+-- what a step of a checkpoint round did: it is the last one where the round is over behind it
+abbrev pub RoundDid : Progress → Engine → Disk → Engine → Disk → Type 0
+RoundDid NoProgress old disk new after =
+    (old.round ≡ NoRound) × (old.released ≡ old.committed) × (old.aborted ≡ false) × (new ≡ old) × (after ≡ disk)
+RoundDid Step old disk new after = RoundSteps old disk new after × (new.round ≢ NoRound)
+RoundDid (Done tid) old disk new after = RoundSteps old disk new after × (new.round ≡ NoRound) × (tid + 1 ≡ new.first + new.released)
+
+-- why it is refused: the device failed before, or in it
+pub data RoundRefused (old : Engine) (before : DeviceState) (new : Engine) (after : DeviceState) : JournalError → Type 0 where
+  RoundAborted : old.aborted ≡ true → new ≡ old → Stays before after → after.faults ≡ before.faults → RoundRefused old before new after Aborted
+  RoundFailed : RoundFaults old before.disk new after.disk → after.faults ≡ one_more_fault before.faults → RoundRefused old before new after Device
+
+-- why a read is refused: the device failed before, the block is none that may be touched, or the device failed in the read
+pub data ReadRefused (old : Engine) (before : DeviceState) (block : ℕ) (new : Engine) (after : DeviceState) : JournalError → Type 0 where
+  ReadAborted : old.aborted ≡ true → new ≡ old → after.faults ≡ before.faults → ReadRefused old before block new after Aborted
+  ReadOutside : old.aborted ≡ false → (IsAllowedBlock (narrow old.shape.block_size) old.shape.home_blocks block → ⊥) → new ≡ old →
+      after.faults ≡ before.faults → ReadRefused old before block new after BadBlock
+  ReadFailed : old.aborted ≡ false → new ≡ record old { aborted = true } → after.faults ≡ one_more_fault before.faults →
+      ReadRefused old before block new after Device
+
+-- a moment of a commit step: home is as it was, and what a stop leaves opens to a number between the committed and the
+-- accepted transactions
+pub record IsDuringCommit (e : Engine) (old disk : Disk) : Type 0 where
+  pub home : KeepsHome old disk
+  pub opens : OpensBetween e.shape e.accepted e.committed (length e.accepted) disk
+
+-- a moment of a step of a round: home has changed by newest committed copies alone, and what a stop leaves opens likewise
+pub record IsDuringRound (e : Engine) (old disk : Disk) : Type 0 where
+  pub home : CopiesHome e old disk
+  pub opens : OpensBetween e.shape e.accepted e.committed (length e.accepted) disk

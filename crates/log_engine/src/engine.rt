@@ -1,0 +1,294 @@
+//! The engine that a journal stands on: one contract for each step, of the machine's own steps.
+ghost use Rattle.std.specs.Prelude.{◌≡◌, ◌≢◌, ◌+◌, ◌≤◌, ◌↔◌, ℕ, List, IsTrue, length, IfOk, IfErr, OnOk};
+ghost use Rattle.journal_model.specs.declared.refusal.JournalError.TheVariants.{Device as DeviceFailed, Memory};
+ghost use Rattle.journal_model.specs.Block.{IsAllowedBlock};
+ghost use Rattle.journal_model.specs.Layout.{narrow};
+ghost use Rattle.journal_model.specs.Opening.{ring_of};
+ghost use Rattle.journal_model.specs.Room.{need};
+ghost use Rattle.journal_model.specs.Superblock.{super_in};
+ghost use Rattle.block_device.specs.State.{EachMoment, Stays};
+ghost use Rattle.journal_world.specs.declared.stage.Stage.TheVariants.{Idle};
+ghost use Rattle.journal_world.specs.Checkpoint.{IsPending, IsRead};
+ghost use Rattle.journal_world.specs.Engine.{Accepts};
+ghost use Rattle.journal_world.specs.Journal.{fresh_engine};
+ghost use Rattle.journal_world.specs.Opening.{IsOpenedLog};
+ghost use Rattle.journal_world.specs.Sound.{IsPlain, OpensBetween};
+ghost use Rattle.log_engine.specs.Call.{IsOneMoment};
+ghost use Rattle.log_engine.specs.Engine.{AcceptRefused, IsDuringCommit, IsDuringRound, MayHandOver, ReadRefused, RoundDid, RoundRefused, StepDid, StepRefused};
+
+use crate::call::{Due, make_call};
+use crate::ledger::Ledger;
+use crate::text::TextWriter;
+use block_device::Device;
+use checkpoint::Pending;
+use journal_model::{Area, Batch, BlockNo, JournalError, Tid};
+use journal_world::Stage;
+use log_format::Super;
+use recovery::Opened;
+use std::alloc::Global;
+use std::marker::Model;
+
+/// How far a step of a commit, or of a checkpoint round, has come.
+#[derive(Clone, Copy, Debug, PartialEq, Eq)]
+pub enum Progress {
+    /// There is nothing to do: nothing is being committed, or every committed transaction is released.
+    Idle,
+    /// One step was made, and another is due.
+    Step,
+    /// It was the last step: this transaction is committed, or all up to this one are released.
+    Done(Tid),
+}
+
+/// The transactions of an opened log, and the device that it lies on.
+#[derive(Drop)]
+pub struct Engine<D: Device> {
+    device: D,
+    ledger: Ledger,
+    writer: TextWriter,
+}
+
+impl<D: Device> Model for Engine<D> {
+    ghost use Rattle.std.specs.Prelude.{◌≡◌, length};
+    ghost use Rattle.journal_world.specs.Sound.{Sound};
+    ghost use Rattle.log_engine.specs.Engine.{EngineValue};
+    ghost use Rattle.log_engine.specs.Ledger.{Runs, engine_of};
+
+    ghost Value = { EngineValue D };
+
+    ghost view = { λ e. record { device = e.device; engine = engine_of (D.state e.device).shape e.ledger } };
+
+    ghost invariant = { λ e. Runs (D.state e.device).shape e.ledger
+        × (length e.writer ≡ (D.state e.device).shape.block_size)
+        × (D.honest e.device → Sound (engine_of (D.state e.device).shape e.ledger) (D.state e.device).disk) };
+}
+
+impl<D: Device> Engine<D> {
+    /// The engine of an opened log. It takes room for the pending copies that the ring can hold.
+    ///
+    /// # Errors
+    ///
+    /// `Memory`: the opened log comes back.
+    pub fn new(alloc: Global, opened: Opened<D>) -> Result<Self, (Opened<D>, JournalError)>
+        ensures ok { IfOk result (λ e. (e.device ≡ opened.device) × (e.engine ≡ fresh_engine (D.state opened.device).shape opened.superblock opened.next)) }
+        ensures plain { IfOk result (λ e. IsPlain e.engine) }
+        ensures log { IfOk result (λ e. D.honest opened.device →
+            IsOpenedLog (D.state opened.device).shape (D.state opened.device).disk opened.superblock opened.next) }
+        ensures err { IfErr result (λ e. (e.0 ≡ opened) × (e.1 ≡ Memory)) }
+    {
+        let Ok(writer) = TextWriter::new(alloc, opened.block_size()) else {
+            return Err((opened, JournalError::Memory));
+        };
+        let Ok(pending) = Pending::new(alloc, ring_blocks(opened.superblock())) else {
+            return Err((opened, JournalError::Memory));
+        };
+        let (device, superblock, next) = opened.into_parts();
+        Ok(Engine {
+            device,
+            ledger: Ledger::new(alloc, superblock, next.0, pending),
+            writer,
+        })
+    }
+
+    /// Whether the device has failed. Either way what a stop leaves of it opens.
+    pub fn is_aborted(&self) -> bool
+        ensures aborted { result ≡ self.now.engine.aborted }
+        ensures plain { IsPlain self.now.engine }
+        ensures opens { D.honest self.now.device →
+            OpensBetween self.now.engine.shape self.now.engine.accepted self.now.engine.committed (length self.now.engine.accepted) (D.state self.now.device).disk }
+        ensures shape { self.now.engine.shape ≡ (D.state self.now.device).shape }
+    {
+        self.ledger.aborted
+    }
+
+    /// Whether nothing is being committed.
+    pub fn is_idle(&self) -> bool
+        ensures { IsTrue result ↔ (self.now.engine.stage ≡ Idle) }
+    {
+        matches!(self.ledger.stage, Stage::Idle)
+    }
+
+    /// How many blocks the home area has.
+    pub fn home_blocks(&self) -> u64
+        ensures { result ≡ self.now.engine.shape.home_blocks }
+    {
+        self.device.blocks(Area::Home)
+    }
+
+    /// How many bytes a block has.
+    pub fn block_size(&self) -> usize
+        ensures size { result ≡ self.now.engine.shape.block_size }
+        ensures device { result ≡ (D.state self.now.device).shape.block_size }
+    {
+        self.device.block_size()
+    }
+
+    /// How many blocks the ring has.
+    pub fn ring_blocks(&self) -> u64
+        ensures { result ≡ self.now.engine.ring.blocks }
+    {
+        self.ledger.ring.blocks()
+    }
+
+    /// Whether the ring has as many free blocks as a transaction of so many copies needs. The blocks of committed
+    /// transactions are free from the end of the checkpoint round on that releases them.
+    pub fn has_room(&self, copies: usize) -> bool
+        requires { self.now.engine.stage ≡ Idle }
+        ensures { IsTrue result ↔
+            (self.now.engine.start + need (narrow self.now.engine.shape.block_size) copies 0 ≤ self.now.engine.tail + self.now.engine.ring.blocks) }
+    {
+        self.ledger.has_room(copies)
+    }
+
+    /// Takes the entries of a transaction, which is then to be committed: copies of one block each, of different blocks
+    /// that may be touched, with the next number, while nothing is being committed. It makes every growth that the commit
+    /// will need.
+    ///
+    /// # Errors
+    ///
+    /// The batch comes back, and nothing changes. `Aborted` after a device failure; `NeedSpace` where the ring has fewer
+    /// free blocks than the transaction needs; `Memory`.
+    pub fn accept(&mut self, batch: Batch) -> Result<(), (Batch, JournalError)>
+        requires { MayHandOver self.old.engine batch }
+        ensures ok { OnOk result (Accepts self.old.engine batch self.new.engine) }
+        ensures err { IfErr result (λ e. (e.0 ≡ batch) × AcceptRefused self.old.engine batch e.1 × (self.new ≡ self.old)) }
+        ensures device { self.new.device ≡ self.old.device }
+    {
+        if self.ledger.aborted {
+            return Err((batch, JournalError::Aborted));
+        }
+        if !self.ledger.has_room(batch.entries.len()) {
+            return Err((batch, JournalError::NeedSpace));
+        }
+        if let Err(batch) = self.ledger.take(batch) {
+            return Err((batch, JournalError::Memory));
+        }
+        Ok(())
+    }
+
+    /// Makes the device call of the commit that is due, if one is. It takes no memory.
+    ///
+    /// # Errors
+    ///
+    /// `Aborted` after a device failure. `Device` where the device fails: the journal is aborted.
+    pub fn commit_step(&mut self) -> Result<Progress, JournalError>
+        ensures ok { IfOk result (λ p. StepDid p self.old.engine (D.state self.old.device).disk self.new.engine (D.state self.new.device).disk) }
+        ensures err { IfErr result (λ e. StepRefused self.old.engine (D.state self.old.device) self.new.engine (D.state self.new.device) e) }
+        ensures no_fault { OnOk result ((D.state self.new.device).faults ≡ (D.state self.old.device).faults) }
+        ensures shape { (D.state self.new.device).shape ≡ (D.state self.old.device).shape }
+        ensures moments { D.honest self.old.device →
+            EachMoment (IsDuringCommit self.old.engine (D.state self.old.device).disk) (D.state self.old.device) (D.state self.new.device) }
+        ensures one { IsOneMoment (D.state self.old.device) (D.state self.new.device) }
+        ensures honest { D.honest self.new.device → D.honest self.old.device }
+    {
+        if self.ledger.aborted {
+            return Err(JournalError::Aborted);
+        }
+        let due = self.ledger.due(&mut self.writer);
+        if let Due::Nothing = due {
+            return Ok(Progress::Idle);
+        }
+        if make_call(&mut self.device, due, self.writer.bytes()).is_err() {
+            self.ledger.aborted = true;
+            return Err(JournalError::Device);
+        }
+        Ok(self.ledger.advance())
+    }
+
+    /// Makes the device call of the checkpoint round that is due, if one is. A round begins where a committed transaction
+    /// is not released, and releases all that are committed then; commits may come between its steps. It takes no memory.
+    ///
+    /// # Errors
+    ///
+    /// `Aborted` after a device failure. `Device` where the device fails: the journal is aborted.
+    /// Source: fs/jbd2/checkpoint.c by behaviour.
+    pub fn checkpoint_step(&mut self) -> Result<Progress, JournalError>
+        ensures ok { IfOk result (λ p. RoundDid p self.old.engine (D.state self.old.device).disk self.new.engine (D.state self.new.device).disk) }
+        ensures err { IfErr result (λ e. RoundRefused self.old.engine (D.state self.old.device) self.new.engine (D.state self.new.device) e) }
+        ensures no_fault { OnOk result ((D.state self.new.device).faults ≡ (D.state self.old.device).faults) }
+        ensures shape { (D.state self.new.device).shape ≡ (D.state self.old.device).shape }
+        ensures moments { D.honest self.old.device →
+            EachMoment (IsDuringRound self.old.engine (D.state self.old.device).disk) (D.state self.old.device) (D.state self.new.device) }
+        ensures one { IsOneMoment (D.state self.old.device) (D.state self.new.device) }
+        ensures honest { D.honest self.new.device → D.honest self.old.device }
+    {
+        if self.ledger.aborted {
+            return Err(JournalError::Aborted);
+        }
+        if !self.ledger.begin_round() {
+            return Ok(Progress::Idle);
+        }
+        let due = self.ledger.round_due(&mut self.writer);
+        if make_call(&mut self.device, due, self.writer.bytes()).is_err() {
+            self.ledger.aborted = true;
+            return Err(JournalError::Device);
+        }
+        Ok(self.ledger.advance_round())
+    }
+
+    /// Reads a block into a buffer of one block: its newest committed copy, or else what home reads. A block with a
+    /// pending copy is read without a device call, any other with one.
+    ///
+    /// # Errors
+    ///
+    /// `Aborted` after a device failure; `BadBlock` where home has no such block, or its number is not below 2^32: nothing
+    /// changes. `Device` where the device fails: the journal is aborted, and the buffer's bytes are unspecified.
+    pub fn read(&mut self, block: BlockNo, into: &mut [u8]) -> Result<(), JournalError>
+        requires { length into.old ≡ (D.state self.old.device).shape.block_size }
+        ensures ok { OnOk result ((D.honest self.new.device → IsRead self.old.engine (D.state self.old.device).disk block into.new) × (self.new.engine ≡ self.old.engine)) }
+        ensures pending { OnOk result ((i : ℕ) (v : List ℕ) → IsPending self.old.engine i block v → (into.new ≡ v) × (self.new ≡ self.old)) }
+        ensures err { IfErr result (λ e. ReadRefused self.old.engine (D.state self.old.device) block self.new.engine (D.state self.new.device) e) }
+        ensures untouched { IfErr result (λ e. e ≢ DeviceFailed → into.new ≡ into.old) }
+        ensures stays { Stays (D.state self.old.device) (D.state self.new.device) }
+        ensures no_fault { OnOk result ((D.state self.new.device).faults ≡ (D.state self.old.device).faults) }
+        ensures honest { D.honest self.new.device → D.honest self.old.device }
+        ensures length { length into.new ≡ length into.old }
+    {
+        if self.ledger.aborted {
+            return Err(JournalError::Aborted);
+        }
+        if !is_allowed(block, self.device.blocks(Area::Home)) {
+            return Err(JournalError::BadBlock);
+        }
+        if let Some(version) = self.ledger.pending.lookup(block) {
+            into.copy_from_slice(self.ledger.copy(version));
+            return Ok(());
+        }
+        if self.device.read(Area::Home, block.0, into).is_err() {
+            self.ledger.aborted = true;
+            return Err(JournalError::Device);
+        }
+        Ok(())
+    }
+
+    /// The device, and how many transactions are committed.
+    pub fn into_parts(self) -> (D, usize)
+        ensures device { result.0 ≡ self.device }
+        ensures committed { result.1 ≡ self.engine.committed }
+        ensures opens { D.honest self.device →
+            OpensBetween self.engine.shape self.engine.accepted self.engine.committed (length self.engine.accepted) (D.state self.device).disk }
+    {
+        let Engine {
+            device,
+            ledger,
+            writer: _,
+        } = self;
+        (device, ledger.committed)
+    }
+}
+
+/// How many blocks the ring of a log with this superblock has.
+fn ring_blocks(superblock: &[u8]) -> usize
+    requires long { 1024 ≤ length superblock.now }
+    requires order { (super_in superblock.now).s_first ≤ (super_in superblock.now).s_maxlen }
+    ensures { result ≡ (ring_of (super_in superblock.now)).blocks }
+{
+    let fields = Super::fields(superblock);
+    (fields.s_maxlen - fields.s_first) as usize
+}
+
+/// Whether a home block may be touched: home has it, and a tag can name it.
+fn is_allowed(block: BlockNo, home_blocks: u64) -> bool
+    ensures { (size : ℕ) → IsTrue result ↔ IsAllowedBlock (narrow size) home_blocks block }
+{
+    block.0 < home_blocks && block.0 <= u64::from(u32::MAX)
+}

@@ -1,0 +1,133 @@
+//! What an engine knows beside its device.
+ghost use Rattle.std.specs.Prelude.{◌≡◌, ◌+◌, ◌<◌, ◌≤◌, ◌↔◌, ◌^◌, IsTrue, if◌then◌else◌, length, IfErr, OnErr, OnOk};
+ghost use Rattle.journal_model.specs.Layout.{narrow};
+ghost use Rattle.journal_model.specs.Room.{need};
+ghost use Rattle.journal_model.specs.Superblock.{Shape, least_ring, super_in};
+ghost use Rattle.log_format.specs.Size.{IsBlockSize};
+ghost use Rattle.journal_world.specs.declared.stage.Stage.TheVariants.{Idle, Blocks, SuperblockWrite};
+ghost use Rattle.journal_world.specs.Engine.{HasRoom, accepting};
+ghost use Rattle.journal_world.specs.Journal.{fresh_engine};
+ghost use Rattle.log_engine.specs.Engine.{MayHandOver};
+ghost use Rattle.log_engine.specs.Ledger.{CanRunOn, Runs, engine_of};
+
+use checkpoint::Pending;
+use journal_model::Batch;
+use journal_world::{Round, Stage};
+use log_format::Super;
+use log_ring::Ring;
+use std::alloc::Global;
+
+/// The transactions that were handed over, how far they are committed and released, and what they have taken of the ring.
+#[derive(Drop)]
+pub(crate) struct Ledger {
+    /// The ring, and what of it the transactions have taken that are not released.
+    pub(crate) ring: Ring,
+    /// The position in it where the next transaction begins, or the one that is being committed.
+    pub(crate) start: u64,
+    /// The journal's UUID.
+    pub(crate) uuid: [u8; 16],
+    /// Block 0 of the log, as it was last written.
+    pub(crate) superblock: Vec<u8>,
+    /// It says where the log begins.
+    pub(crate) started: bool,
+    /// The number of the first transaction since the opening.
+    pub(crate) first: u32,
+    /// The transactions handed over since then.
+    pub(crate) accepted: Vec<Batch>,
+    /// How many of them are committed.
+    pub(crate) committed: usize,
+    /// How far the commit of the next one is.
+    pub(crate) stage: Stage,
+    /// The newest copies of the committed ones that are not released.
+    pub(crate) pending: Pending,
+    /// How many of the committed ones are released.
+    pub(crate) released: usize,
+    /// How many are released once the checkpoint round is over; without a round, as many as are released.
+    pub(crate) bound: usize,
+    /// The position behind these.
+    pub(crate) bound_position: u64,
+    /// How far the checkpoint round is.
+    pub(crate) round: Round,
+    /// The device has failed.
+    pub(crate) aborted: bool,
+}
+
+impl Ledger {
+    /// The ledger of a log that was just opened, with this superblock: nothing is handed over yet. It takes no memory.
+    pub(crate) fn new(alloc: Global, superblock: Vec<u8>, first: u32, pending: Pending) -> Self
+        requires some { 0 < (super_in superblock.items).s_first }
+        requires ring { (super_in superblock.items).s_first + least_ring ≤ (super_in superblock.items).s_maxlen }
+        requires long { 1024 ≤ length superblock.items }
+        ensures engine { (shape : Shape) → engine_of shape result ≡ fresh_engine shape superblock.items first }
+        ensures pending { result.pending ≡ pending }
+        ensures head { result.ring.head ≡ 0 }
+    {
+        let fields = Super::fields(&superblock);
+        let uuid = fields.s_uuid;
+        Ledger {
+            ring: Ring::new(fields.s_first, fields.s_maxlen),
+            start: 0,
+            uuid,
+            superblock,
+            started: false,
+            first,
+            accepted: Vec::new(alloc),
+            committed: 0,
+            stage: Stage::Idle,
+            pending,
+            released: 0,
+            bound: 0,
+            bound_position: 0,
+            round: Round::Idle,
+            aborted: false,
+        }
+    }
+
+    /// How many log blocks a transaction of so many copies takes.
+    pub(crate) fn need(&self, copies: usize) -> u64
+        requires size { IsBlockSize (length self.now.superblock.items) }
+        requires few { copies ≤ 2 ^ 32 }
+        ensures { result ≡ need (narrow (length self.now.superblock.items)) copies 0 }
+    {
+        Ring::need(self.superblock.len(), copies as u64, 0)
+    }
+
+    /// Whether the ring has as many free blocks.
+    pub(crate) fn has_room(&self, copies: usize) -> bool
+        requires can_run { CanRunOn self.now (length self.now.superblock.items) }
+        requires idle { self.now.stage ≡ Idle }
+        ensures { IsTrue result ↔ (self.now.start + need (narrow (length self.now.superblock.items)) copies 0 ≤ self.now.ring.tail + self.now.ring.ring.blocks) }
+    {
+        copies as u64 <= self.ring.blocks() && self.need(copies) <= self.ring.free()
+    }
+
+    /// Takes a batch that there is room for, which is then to be committed. Where memory runs out it comes back, and
+    /// nothing changes.
+    pub(crate) fn take(&mut self, batch: Batch) -> Result<(), Batch>
+        requires { (shape : Shape) × Runs shape self.old × MayHandOver (engine_of shape self.old) batch × HasRoom (engine_of shape self.old) batch }
+        ensures ok { OnOk result ((shape : Shape) → engine_of shape self.new ≡ accepting (engine_of shape self.old) batch) }
+        ensures head { OnOk result (self.new.ring.head ≡ self.old.ring.head + need (narrow (length self.old.superblock.items)) (length batch.entries) 0) }
+        ensures pending { self.new.pending ≡ self.old.pending }
+        ensures err { IfErr result (λ b. b ≡ batch) }
+        ensures same { OnErr result (((shape : Shape) → engine_of shape self.new ≡ engine_of shape self.old) × (self.new.ring ≡ self.old.ring)) }
+    {
+        let blocks = self.need(batch.entries.len());
+        if let Err(e) = self.accepted.push(batch) {
+            return Err(e.value);
+        }
+        let _never_fails = self.ring.take(blocks);
+        self.stage = first_stage(self.started);
+        Ok(())
+    }
+}
+
+/// The first stage of a commit, by whether the superblock says where the log begins.
+fn first_stage(started: bool) -> Stage
+    ensures { result ≡ (if started then Blocks 0 else SuperblockWrite) }
+{
+    if started {
+        Stage::Blocks(0)
+    } else {
+        Stage::SuperblockWrite
+    }
+}

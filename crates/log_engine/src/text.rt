@@ -1,0 +1,207 @@
+//! The log blocks of a transaction, built one at a time.
+ghost use Rattle.std.specs.Prelude.{◌≡◌, ◌+◌, ◌^◌, ◌<◌, ◌≤◌, true, length, IfOk, All};
+ghost use Rattle.journal_model.specs.Descriptor.{descriptor_block};
+ghost use Rattle.journal_model.specs.Layout.{narrow, tags_of};
+ghost use Rattle.journal_model.specs.OwnText.{copied, own_text, tags_from};
+ghost use Rattle.journal_model.specs.Room.{need};
+ghost use Rattle.journal_model.specs.Superblock.{with_tail};
+ghost use Rattle.journal_model.specs.Text.{text_blocks};
+ghost use Rattle.log_format.specs.Size.{IsBlockSize};
+ghost use Rattle.journal_world.specs.Engine.{block_at};
+ghost use Rattle.log_ring.specs.Parts.{FitsPart, part_block};
+ghost use Rattle.log_engine.specs.Text.{AreCopies, IsLong, IsStored, IsWholeCopy, is_escaped};
+
+use journal_model::{Batch, BlockNo, Entry, Tag};
+use log_format::{CommitBlock, Descriptor, Header, Super, escape};
+use log_ring::{Layout, Part};
+use std::alloc::{AllocError, Global};
+use std::marker::Model;
+
+/// A tag of no block, which is written over.
+const NO_TAG: Tag = Tag {
+    block: BlockNo(0),
+    escaped: false,
+    same_uuid: false,
+    last: false,
+};
+
+/// Builds the log blocks of transactions in a buffer of one block.
+#[derive(Drop)]
+pub(crate) struct TextWriter {
+    block: Vec<u8>,
+    tags: Vec<Tag>,
+}
+
+impl Model for TextWriter {
+    ghost use Rattle.std.specs.Prelude.{◌≡◌, List, ℕ, length};
+    ghost use Rattle.journal_model.specs.Layout.{narrow, tags_of};
+    ghost use Rattle.log_format.specs.Size.{IsBlockSize};
+
+    ghost Value = { List ℕ };
+
+    ghost view = { λ w. w.block.items };
+
+    ghost invariant = { λ w. IsBlockSize (length w.block.items) × (length w.tags.items ≡ tags_of (narrow (length w.block.items))) };
+}
+
+impl TextWriter {
+    /// A writer of blocks of 1024, 2048 or 4096 bytes. It fails where memory runs out.
+    pub(crate) fn new(alloc: Global, block_size: usize) -> Result<Self, AllocError>
+        requires { IsBlockSize block_size }
+        ensures { IfOk result (λ w. length w ≡ block_size) }
+    {
+        Ok(TextWriter {
+            block: vec![in alloc; 0; block_size]?,
+            tags: vec![in alloc; NO_TAG; Layout::tags_of(block_size) as usize]?,
+        })
+    }
+
+    /// The block that was built last.
+    pub(crate) fn bytes(&self) -> &[u8]
+        ensures { result.now ≡ self.now }
+    {
+        &self.block
+    }
+
+    /// Builds block `k` of a transaction that revokes nothing, counted from 0: a descriptor, a copy, or the commit block.
+    pub(crate) fn write_block(&mut self, uuid: &[u8; 16], batch: &Batch, k: u64)
+        requires copies { AreCopies (length self.old) batch.now.entries }
+        requires few { length batch.now.entries ≤ 2 ^ 32 }
+        requires there { k < length (text_blocks (own_text (narrow (length self.old)) uuid.now batch.now.tid batch.now.entries)) }
+        ensures block { self.new ≡ block_at (text_blocks (own_text (narrow (length self.old)) uuid.now batch.now.tid batch.now.entries)) k }
+        ensures size { length self.new ≡ length self.old }
+    {
+        write_log_block(
+            &mut self.block,
+            &mut self.tags,
+            uuid,
+            batch.tid.0,
+            batch.entries.as_slice(),
+            k,
+        );
+    }
+
+    /// Puts these bytes of one block in the place of what was built.
+    pub(crate) fn put(&mut self, bytes: &[u8])
+        requires { length bytes.now ≡ length self.old }
+        ensures block { self.new ≡ bytes.now }
+        ensures size { length self.new ≡ length self.old }
+    {
+        self.block.copy_from_slice(bytes);
+    }
+
+    /// Builds the superblock with another s_sequence and s_start.
+    pub(crate) fn write_superblock(&mut self, superblock: &[u8], sequence: u32, start: u32)
+        requires { length superblock.now ≡ length self.old }
+        ensures block { self.new ≡ with_tail superblock.now sequence start }
+        ensures size { length self.new ≡ length self.old }
+    {
+        self.block.copy_from_slice(superblock);
+        Super::write(&mut self.block, sequence, start);
+    }
+}
+
+/// Writes block `k` of the transaction with these entries, which are copies.
+fn write_log_block(
+    block: &mut [u8],
+    tags: &mut [Tag],
+    uuid: &[u8; 16],
+    sequence: u32,
+    entries: &[(BlockNo, Entry)],
+    k: u64,
+)
+    requires size { IsBlockSize (length block.old) }
+    requires room { length tags.old ≡ tags_of (narrow (length block.old)) }
+    requires copies { AreCopies (length block.old) entries.now }
+    requires few { length entries.now ≤ 2 ^ 32 }
+    requires there { k < length (text_blocks (own_text (narrow (length block.old)) uuid.now sequence entries.now)) }
+    ensures { block.new ≡ block_at (text_blocks (own_text (narrow (length block.old)) uuid.now sequence entries.now)) k }
+{
+    let layout = Layout::new(block.len(), entries.len() as u64, 0);
+    write_part(block, tags, uuid, sequence, entries, layout.part(k));
+}
+
+/// Writes the part of the transaction with these entries, which are copies.
+fn write_part(
+    block: &mut [u8],
+    tags: &mut [Tag],
+    uuid: &[u8; 16],
+    sequence: u32,
+    entries: &[(BlockNo, Entry)],
+    part: Part,
+)
+    requires size { IsBlockSize (length block.old) }
+    requires room { length tags.old ≡ tags_of (narrow (length block.old)) }
+    requires copies { AreCopies (length block.old) entries.now }
+    requires part { FitsPart (narrow (length block.old)) (length entries.now) 0 part }
+    ensures { block.new ≡ part_block (narrow (length block.old)) uuid.now sequence entries.now part }
+{
+    match part {
+        Part::Revokes { .. } => {}
+        Part::Descriptor { first, tags: count } => {
+            let first = first as usize;
+            let group = &entries[first..first + count as usize];
+            write_descriptor(block, tags, uuid, sequence, group);
+        }
+        Part::Copy(k) => write_copy(block, &entries[k as usize].1),
+        Part::Commit => CommitBlock::write(block, sequence),
+    }
+}
+
+/// Writes the descriptor of these entries, which are copies.
+fn write_descriptor(
+    block: &mut [u8],
+    tags: &mut [Tag],
+    uuid: &[u8; 16],
+    sequence: u32,
+    entries: &[(BlockNo, Entry)],
+)
+    requires size { IsBlockSize (length block.old) }
+    requires room { length tags.old ≡ tags_of (narrow (length block.old)) }
+    requires copies { AreCopies (length block.old) entries.now }
+    requires few { length entries.now ≤ tags_of (narrow (length block.old)) }
+    ensures { block.new ≡ descriptor_block (narrow (length block.old)) uuid.now sequence (tags_from true (copied entries.now)) }
+{
+    let tags = &mut tags[..entries.len()];
+    make_tags(tags, entries);
+    Descriptor::write(block, uuid, sequence, tags);
+}
+
+/// Makes the tags of one descriptor, one for each of these entries, which are copies.
+fn make_tags(tags: &mut [Tag], entries: &[(BlockNo, Entry)])
+    requires room { length tags.old ≡ length entries.now }
+    requires long { All (λ p. IsLong p.1) entries.now }
+    ensures { tags.new ≡ tags_from true (copied entries.now) }
+{
+    for i in 0..entries.len() {
+        tags[i] = Tag {
+            block: entries[i].0,
+            escaped: begins_with_magic(&entries[i].1),
+            same_uuid: i > 0,
+            last: i + 1 == entries.len(),
+        };
+    }
+}
+
+/// Whether the entry is a copy that has to be escaped.
+fn begins_with_magic(entry: &Entry) -> bool
+    requires { IsLong entry.now }
+    ensures { result ≡ is_escaped entry.now }
+{
+    match entry {
+        Entry::Copy(copy) => Header::read(copy.bytes()).is_some(),
+        Entry::Revoke => false,
+    }
+}
+
+/// Writes what stands in the log for a copy.
+fn write_copy(block: &mut [u8], entry: &Entry)
+    requires size { IsBlockSize (length block.old) }
+    requires copy { IsWholeCopy (length block.old) entry.now }
+    ensures { IsStored entry.now block.new }
+{
+    if let Entry::Copy(copy) = entry {
+        block.copy_from_slice(copy.bytes());
+        escape(block);
+    }
+}
