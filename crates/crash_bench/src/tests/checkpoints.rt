@@ -1,5 +1,7 @@
 //! Runs with checkpoint rounds: the ring is used lap after lap, and reads see the newest copies. The expected lines of the
 //! longer ones were made by another program, written from the format alone.
+ghost use Rattle.std.specs.Prelude.{◌<◌};
+
 use super::{prints, said_of};
 use crate::fault::Status;
 use std::alloc::{AllocError, Global};
@@ -9,8 +11,10 @@ use std::test::Fail;
 
 /// A transaction with one write of block 5, which ends with its request, for each number from `first` to `last`. Handle i
 /// writes i + 1, the number of its transaction.
-fn transactions(script: &mut String, first: u8, last: u8) -> Result<(), AllocError> {
-    for i in first..last + 1 {
+fn transactions(script: &mut String, first: u8, last: u8) -> Result<(), AllocError>
+    requires { last < 255 }
+{
+    for i in first..=last {
         let tid = i + 1;
         write!(
             script,
@@ -21,8 +25,10 @@ fn transactions(script: &mut String, first: u8, last: u8) -> Result<(), AllocErr
 }
 
 /// Their lines.
-fn lines(text: &mut String, first: u8, last: u8) -> Result<(), AllocError> {
-    for i in first..last + 1 {
+fn lines(text: &mut String, first: u8, last: u8) -> Result<(), AllocError>
+    requires { last < 255 }
+{
+    for i in first..=last {
         let tid = i + 1;
         write!(
             text,
@@ -117,10 +123,12 @@ verdict ok
 fn a_stop_at_each_write_of_three_laps(rt: HostRuntime) -> Result<(), Fail> {
     let alloc = rt.alloc();
     let mut script = String::from_str(alloc, r#"{"ops": ["#)?;
-    for first in [1, 11, 21] {
-        transactions(&mut script, first, first + 9)?;
-        script.push_str(r#"["check"],"#)?;
-    }
+    transactions(&mut script, 1, 10)?;
+    script.push_str(r#"["check"],"#)?;
+    transactions(&mut script, 11, 20)?;
+    script.push_str(r#"["check"],"#)?;
+    transactions(&mut script, 21, 30)?;
+    script.push_str(r#"["check"],"#)?;
     transactions(&mut script, 31, 33)?;
     script.push_str(r#"["status",33]]}"#)?;
     for k in 1..107u64 {
