@@ -1,6 +1,7 @@
 //! Chains of logs that were made by hand.
 use crate::chain::{chain, damage};
 use crate::replay::newest;
+use Put::{Commit, Data, Descriptor, Other, Revoke};
 use journal_model::{Block, BlockNo, Items, Piece, Tag, Text};
 use std::alloc::{AllocError, Global};
 use std::test::Fail;
@@ -16,26 +17,36 @@ const HOME: u64 = 64;
 /// The first bytes of a log block, four in each number. What is behind them does not matter here.
 type Words = [u32; 13];
 
-/// A descriptor with one tag.
-fn descriptor(sequence: u32, block: u32, flags: u32) -> Words {
-    [
-        MAGIC, 1, sequence, block, flags, UUID, UUID, UUID, UUID, 0, 0, 0, 0,
-    ]
+/// A block of a log, as the tests put it there.
+#[derive(Clone, Copy, Debug)]
+enum Put {
+    /// A descriptor of this sequence with one tag: its block and its flags.
+    Descriptor(u32, u32, u32),
+    /// A copy whose first byte is this one.
+    Data(u8),
+    /// A revoke block of this sequence, with this count of bytes used, and of one number.
+    Revoke(u32, u32, u32),
+    /// A commit block of this sequence.
+    Commit(u32),
+    /// Any other block.
+    Other(Words),
 }
 
-/// A copy whose first byte is this one.
-fn copy(byte: u8) -> Words {
-    [u32::from(byte) << 24, 0, 0, 0, 0, 0, 0, 0, 0, 0, 0, 0, 0]
-}
-
-/// A revoke block of one number, with this count of bytes used.
-fn revoke(sequence: u32, used: u32, block: u32) -> Words {
-    [MAGIC, 5, sequence, used, block, 0, 0, 0, 0, 0, 0, 0, 0]
-}
-
-/// A commit block.
-fn commit(sequence: u32) -> Words {
-    [MAGIC, 2, sequence, 0, 0, 0, 0, 0, 0, 0, 0, 0, 0]
+impl Put {
+    /// How it begins.
+    fn words(self) -> Words {
+        match self {
+            Descriptor(sequence, block, flags) => [
+                MAGIC, 1, sequence, block, flags, UUID, UUID, UUID, UUID, 0, 0, 0, 0,
+            ],
+            Data(byte) => [u32::from(byte) << 24, 0, 0, 0, 0, 0, 0, 0, 0, 0, 0, 0, 0],
+            Revoke(sequence, used, block) => {
+                [MAGIC, 5, sequence, used, block, 0, 0, 0, 0, 0, 0, 0, 0]
+            }
+            Commit(sequence) => [MAGIC, 2, sequence, 0, 0, 0, 0, 0, 0, 0, 0, 0, 0],
+            Other(words) => words,
+        }
+    }
 }
 
 /// The block of these words.
@@ -47,11 +58,11 @@ fn block_of(alloc: Global, words: &[u32]) -> Result<Block, AllocError> {
     Ok(Block::new(bytes))
 }
 
-/// Their blocks.
-fn blocks_of(alloc: Global, lap: &[Words]) -> Result<Vec<Block>, AllocError> {
+/// The blocks that were put there.
+fn blocks_of(alloc: Global, lap: &[Put]) -> Result<Vec<Block>, AllocError> {
     let mut blocks = Vec::new(alloc);
-    for words in lap {
-        blocks.push(block_of(alloc, words)?)?;
+    for put in lap {
+        blocks.push(block_of(alloc, &put.words())?)?;
     }
     Ok(blocks)
 }
@@ -61,210 +72,236 @@ fn chain_of(alloc: Global, sequence: u64, blocks: &[Block]) -> Result<Items<Text
     chain(alloc, 1024, 4, HOME, sequence, blocks)
 }
 
+/// A lap, and what is found in it.
+#[derive(Clone, Copy, Debug)]
+struct Lap {
+    name: &'static str,
+    /// The number that its chain begins with.
+    sequence: u64,
+    blocks: &'static [Put],
+    /// How many texts its chain has.
+    texts: usize,
+    /// The place of the malformed block, where there is one.
+    damaged: Option<usize>,
+}
+
+const LAPS: [Lap; 27] = [
+    Lap {
+        name: "no block",
+        sequence: 2,
+        blocks: &[],
+        texts: 0,
+        damaged: None,
+    },
+    Lap {
+        name: "no magic",
+        sequence: 2,
+        blocks: &[Data(0x11)],
+        texts: 0,
+        damaged: None,
+    },
+    Lap {
+        name: "a commit block alone",
+        sequence: 2,
+        blocks: &[Commit(2)],
+        texts: 1,
+        damaged: None,
+    },
+    Lap {
+        name: "two texts",
+        sequence: 2,
+        blocks: &[
+            Descriptor(2, 9, 8),
+            Data(0x11),
+            Commit(2),
+            Revoke(3, 20, 9),
+            Commit(3),
+            Data(0),
+        ],
+        texts: 2,
+        damaged: None,
+    },
+    Lap {
+        name: "another number first",
+        sequence: 2,
+        blocks: &[Commit(3), Commit(4)],
+        texts: 0,
+        damaged: None,
+    },
+    Lap {
+        name: "a number is missing",
+        sequence: 2,
+        blocks: &[Commit(2), Commit(4), Commit(5)],
+        texts: 1,
+        damaged: None,
+    },
+    Lap {
+        name: "a number comes twice",
+        sequence: 2,
+        blocks: &[Commit(2), Commit(2), Commit(3)],
+        texts: 1,
+        damaged: None,
+    },
+    Lap {
+        name: "an unknown type",
+        sequence: 2,
+        blocks: &[
+            Commit(2),
+            Other([MAGIC, 3, 3, 0, 0, 0, 0, 0, 0, 0, 0, 0, 0]),
+            Commit(3),
+        ],
+        texts: 1,
+        damaged: None,
+    },
+    Lap {
+        name: "a copy is missing",
+        sequence: 2,
+        blocks: &[Commit(2), Descriptor(3, 9, 8)],
+        texts: 1,
+        damaged: None,
+    },
+    Lap {
+        name: "a commit block is missing",
+        sequence: 2,
+        blocks: &[Commit(2), Descriptor(3, 9, 8), Data(0x11)],
+        texts: 1,
+        damaged: None,
+    },
+    Lap {
+        name: "the last number",
+        sequence: 0xffff_ffff,
+        blocks: &[Commit(0xffff_ffff), Commit(0)],
+        texts: 1,
+        damaged: None,
+    },
+    Lap {
+        name: "a revoke block without numbers",
+        sequence: 2,
+        blocks: &[Revoke(2, 16, 9), Commit(2)],
+        texts: 1,
+        damaged: None,
+    },
+    Lap {
+        name: "a count of 17",
+        sequence: 2,
+        blocks: &[Revoke(2, 17, 9), Commit(2)],
+        texts: 0,
+        damaged: Some(0),
+    },
+    Lap {
+        name: "a count of 15",
+        sequence: 2,
+        blocks: &[Revoke(2, 15, 9), Commit(2)],
+        texts: 0,
+        damaged: Some(0),
+    },
+    Lap {
+        name: "a count above the block size",
+        sequence: 2,
+        blocks: &[Revoke(2, 1028, 9), Commit(2)],
+        texts: 0,
+        damaged: Some(0),
+    },
+    Lap {
+        name: "a revoke of no home block",
+        sequence: 2,
+        blocks: &[Revoke(2, 20, 64), Commit(2)],
+        texts: 0,
+        damaged: Some(0),
+    },
+    Lap {
+        name: "a revoke of the last home block",
+        sequence: 2,
+        blocks: &[Revoke(2, 20, 63), Commit(2)],
+        texts: 1,
+        damaged: None,
+    },
+    Lap {
+        name: "a tag of no home block",
+        sequence: 2,
+        blocks: &[Descriptor(2, 64, 8), Data(0x11), Commit(2)],
+        texts: 0,
+        damaged: Some(0),
+    },
+    Lap {
+        name: "a tag of the last home block",
+        sequence: 2,
+        blocks: &[Descriptor(2, 63, 8), Data(0x11), Commit(2)],
+        texts: 1,
+        damaged: None,
+    },
+    Lap {
+        name: "a checksum field that is not read",
+        sequence: 2,
+        blocks: &[Descriptor(2, 9, 0xabcd_0008), Data(0x11), Commit(2)],
+        texts: 1,
+        damaged: None,
+    },
+    Lap {
+        name: "all flags but 4",
+        sequence: 2,
+        blocks: &[Descriptor(2, 9, 11), Data(0x11), Commit(2)],
+        texts: 1,
+        damaged: None,
+    },
+    Lap {
+        name: "flag 4",
+        sequence: 2,
+        blocks: &[Descriptor(2, 9, 12), Data(0x11), Commit(2)],
+        texts: 0,
+        damaged: Some(0),
+    },
+    Lap {
+        name: "flag 16",
+        sequence: 2,
+        blocks: &[Descriptor(2, 9, 24), Data(0x11), Commit(2)],
+        texts: 0,
+        damaged: Some(0),
+    },
+    Lap {
+        name: "no last flag",
+        sequence: 2,
+        blocks: &[Descriptor(2, 9, 0), Data(0x11), Commit(2)],
+        texts: 0,
+        damaged: Some(0),
+    },
+    Lap {
+        name: "damage behind a text",
+        sequence: 2,
+        blocks: &[Commit(2), Descriptor(3, 9, 12)],
+        texts: 1,
+        damaged: Some(1),
+    },
+    Lap {
+        name: "damage behind pieces without a commit block",
+        sequence: 2,
+        blocks: &[
+            Commit(2),
+            Revoke(3, 20, 8),
+            Descriptor(3, 9, 8),
+            Data(0x11),
+            Revoke(3, 17, 9),
+        ],
+        texts: 1,
+        damaged: Some(4),
+    },
+    Lap {
+        name: "a malformed block of another number",
+        sequence: 2,
+        blocks: &[Commit(2), Revoke(4, 17, 9)],
+        texts: 1,
+        damaged: None,
+    },
+];
+
 #[test]
 fn chains_and_damage(rt: HostRuntime) -> Result<(), Fail> {
     let alloc = rt.alloc();
-    for (name, sequence, lap, texts, damaged) in [
-        ("no block", 2, [].as_slice(), 0, None),
-        ("no magic", 2, [copy(0x11)].as_slice(), 0, None),
-        ("a commit block alone", 2, [commit(2)].as_slice(), 1, None),
-        (
-            "two texts",
-            2,
-            [
-                descriptor(2, 9, 8),
-                copy(0x11),
-                commit(2),
-                revoke(3, 20, 9),
-                commit(3),
-                copy(0),
-            ]
-            .as_slice(),
-            2,
-            None,
-        ),
-        (
-            "another number first",
-            2,
-            [commit(3), commit(4)].as_slice(),
-            0,
-            None,
-        ),
-        (
-            "a number is missing",
-            2,
-            [commit(2), commit(4), commit(5)].as_slice(),
-            1,
-            None,
-        ),
-        (
-            "a number comes twice",
-            2,
-            [commit(2), commit(2), commit(3)].as_slice(),
-            1,
-            None,
-        ),
-        (
-            "an unknown type",
-            2,
-            [
-                commit(2),
-                [MAGIC, 3, 3, 0, 0, 0, 0, 0, 0, 0, 0, 0, 0],
-                commit(3),
-            ]
-            .as_slice(),
-            1,
-            None,
-        ),
-        (
-            "a copy is missing",
-            2,
-            [commit(2), descriptor(3, 9, 8)].as_slice(),
-            1,
-            None,
-        ),
-        (
-            "a commit block is missing",
-            2,
-            [commit(2), descriptor(3, 9, 8), copy(0x11)].as_slice(),
-            1,
-            None,
-        ),
-        (
-            "the last number",
-            0xffff_ffff,
-            [commit(0xffff_ffff), commit(0)].as_slice(),
-            1,
-            None,
-        ),
-        (
-            "a revoke block without numbers",
-            2,
-            [revoke(2, 16, 9), commit(2)].as_slice(),
-            1,
-            None,
-        ),
-        (
-            "a count of 17",
-            2,
-            [revoke(2, 17, 9), commit(2)].as_slice(),
-            0,
-            Some(0),
-        ),
-        (
-            "a count of 15",
-            2,
-            [revoke(2, 15, 9), commit(2)].as_slice(),
-            0,
-            Some(0),
-        ),
-        (
-            "a count above the block size",
-            2,
-            [revoke(2, 1028, 9), commit(2)].as_slice(),
-            0,
-            Some(0),
-        ),
-        (
-            "a revoke of no home block",
-            2,
-            [revoke(2, 20, 64), commit(2)].as_slice(),
-            0,
-            Some(0),
-        ),
-        (
-            "a revoke of the last home block",
-            2,
-            [revoke(2, 20, 63), commit(2)].as_slice(),
-            1,
-            None,
-        ),
-        (
-            "a tag of no home block",
-            2,
-            [descriptor(2, 64, 8), copy(0x11), commit(2)].as_slice(),
-            0,
-            Some(0),
-        ),
-        (
-            "a tag of the last home block",
-            2,
-            [descriptor(2, 63, 8), copy(0x11), commit(2)].as_slice(),
-            1,
-            None,
-        ),
-        (
-            "a checksum field that is not read",
-            2,
-            [descriptor(2, 9, 0xabcd_0008), copy(0x11), commit(2)].as_slice(),
-            1,
-            None,
-        ),
-        (
-            "all flags but 4",
-            2,
-            [descriptor(2, 9, 11), copy(0x11), commit(2)].as_slice(),
-            1,
-            None,
-        ),
-        (
-            "flag 4",
-            2,
-            [descriptor(2, 9, 12), copy(0x11), commit(2)].as_slice(),
-            0,
-            Some(0),
-        ),
-        (
-            "flag 16",
-            2,
-            [descriptor(2, 9, 24), copy(0x11), commit(2)].as_slice(),
-            0,
-            Some(0),
-        ),
-        (
-            "no last flag",
-            2,
-            [descriptor(2, 9, 0), copy(0x11), commit(2)].as_slice(),
-            0,
-            Some(0),
-        ),
-        (
-            "damage behind a text",
-            2,
-            [commit(2), descriptor(3, 9, 12)].as_slice(),
-            1,
-            Some(1),
-        ),
-        (
-            "damage behind pieces without a commit block",
-            2,
-            [
-                commit(2),
-                revoke(3, 20, 8),
-                descriptor(3, 9, 8),
-                copy(0x11),
-                revoke(3, 17, 9),
-            ]
-            .as_slice(),
-            1,
-            Some(4),
-        ),
-        (
-            "a malformed block of another number",
-            2,
-            [commit(2), revoke(4, 17, 9)].as_slice(),
-            1,
-            None,
-        ),
-    ] {
-        let blocks = blocks_of(alloc, lap)?;
-        let found = chain_of(alloc, sequence, &blocks)?;
-        assert_eq!(rt; found.len(), texts, "texts: {name}");
-        assert_eq!(rt;
-            damage(alloc, 1024, 4, HOME, sequence, &blocks)?,
-            damaged,
-            "damage: {name}"
-        );
+    for lap in LAPS {
+        let blocks = blocks_of(alloc, lap.blocks)?;
+        let found = chain_of(alloc, lap.sequence, &blocks)?.len();
+        let damaged = damage(alloc, 1024, 4, HOME, lap.sequence, &blocks)?;
+        assert_eq!(rt; (found, damaged), (lap.texts, lap.damaged), "{}", lap.name);
     }
     Ok(())
 }
@@ -282,84 +319,85 @@ fn the_last_text_counts_only_with_its_commit_block(rt: HostRuntime) -> Result<()
     let mut blocks = blocks_of(
         alloc,
         &[
-            descriptor(2, 9, 8),
-            copy(0x11),
-            commit(2),
-            revoke(3, 20, 9),
-            descriptor(3, 10, 8),
-            copy(0x22),
+            Descriptor(2, 9, 8),
+            Data(0x11),
+            Commit(2),
+            Revoke(3, 20, 9),
+            Descriptor(3, 10, 8),
+            Data(0x22),
         ],
     )?;
     assert_eq!(rt; newest_of(alloc, &blocks, 9)?, Some(0x11), "not revoked");
     assert_eq!(rt; newest_of(alloc, &blocks, 10)?, None, "not copied");
-    blocks.push(block_of(alloc, &commit(3))?)?;
+    blocks.push(block_of(alloc, &Commit(3).words())?)?;
     assert_eq!(rt; newest_of(alloc, &blocks, 9)?, None, "revoked");
     assert_eq!(rt; newest_of(alloc, &blocks, 10)?, Some(0x22), "copied");
     Ok(())
 }
 
+/// The tags of two copies, of blocks 9 and 10.
+const TAGS: [Tag; 2] = [
+    Tag {
+        block: BlockNo(9),
+        escaped: false,
+        same_uuid: false,
+        last: false,
+    },
+    Tag {
+        block: BlockNo(10),
+        escaped: false,
+        same_uuid: true,
+        last: true,
+    },
+];
+
 #[test]
 fn a_text_of_two_copies(rt: HostRuntime) -> Result<(), Fail> {
     let alloc = rt.alloc();
-    let own = [MAGIC, 1, 2, 9, 0, UUID, UUID, UUID, UUID, 10, 10, 0, 0];
-    let blocks = blocks_of(alloc, &[own, copy(0x11), copy(0x22), commit(2)])?;
+    let own = Other([MAGIC, 1, 2, 9, 0, UUID, UUID, UUID, UUID, 10, 10, 0, 0]);
+    let blocks = blocks_of(alloc, &[own, Data(0x11), Data(0x22), Commit(2)])?;
     let texts = chain_of(alloc, 2, &blocks)?;
     let text = texts.as_slice().first().ok_or("no text")?;
-    let piece = text.pieces.as_slice().first().ok_or("no piece")?;
-    assert_eq!(rt; text.pieces.len(), 1);
-    assert_eq!(rt; Some(text.commit.bytes()), blocks.get(3).map(Block::bytes));
-    match piece {
-        Piece::Revokes(_, _) => assert!(rt; false, "a revoke block"),
-        Piece::Copies(block, tags, copies) => {
-            let first = Tag {
-                block: BlockNo(9),
-                escaped: false,
-                same_uuid: false,
-                last: false,
-            };
-            let last = Tag {
-                block: BlockNo(10),
-                escaped: false,
-                same_uuid: true,
-                last: true,
-            };
-            assert_eq!(rt; Some(block.bytes()), blocks.first().map(Block::bytes));
-            assert_eq!(rt; tags.as_slice(), [first, last].as_slice());
-            assert_eq!(rt; copies.len(), 2);
-            assert_eq!(rt;
-                copies.as_slice().first().map(Block::bytes),
-                blocks.get(1).map(Block::bytes)
-            );
-            assert_eq!(rt;
-                copies.as_slice().get(1).map(Block::bytes),
-                blocks.get(2).map(Block::bytes)
-            );
-        }
+    let Some(Piece::Copies(block, tags, copies)) = text.pieces.as_slice().first() else {
+        return Err(Fail::from("no copies"));
+    };
+    assert_eq!(rt; (text.pieces.len(), copies.len()), (1, 2));
+    assert_eq!(rt; tags.as_slice(), TAGS.as_slice());
+    for (copy, wanted) in copies.as_slice().iter().zip(blocks.iter().skip(1)) {
+        assert_eq!(rt; copy.bytes(), wanted.bytes());
     }
+    let ends = (Some(block.bytes()), Some(text.commit.bytes()));
+    assert_eq!(rt;
+        ends,
+        (
+            blocks.first().map(Block::bytes),
+            blocks.get(3).map(Block::bytes)
+        )
+    );
     Ok(())
 }
 
 /// A lap of 32 ring blocks: a whole text 12, the begin of a text 13, and behind it what is left of the texts 3 to 11
 /// of an earlier lap, each of one copy.
 fn stale_lap(alloc: Global) -> Result<Vec<Block>, AllocError> {
-    let three_tags = [MAGIC, 1, 12, 6, 0, UUID, UUID, UUID, UUID, 7, 2, 8, 10];
+    let three_tags = Other([MAGIC, 1, 12, 6, 0, UUID, UUID, UUID, UUID, 7, 2, 8, 10]);
     let mut lap = blocks_of(
         alloc,
         &[
             three_tags,
-            copy(0x66),
-            copy(0x77),
-            copy(0x88),
-            commit(12),
-            descriptor(13, 5, 8),
-            copy(0x0d),
-            commit(3),
+            Data(0x66),
+            Data(0x77),
+            Data(0x88),
+            Commit(12),
+            Descriptor(13, 5, 8),
+            Data(0x0d),
+            Commit(3),
         ],
     )?;
     for sequence in 4..12 {
-        lap.push(block_of(alloc, &descriptor(sequence, 5, 8))?)?;
-        lap.push(block_of(alloc, &copy(0x0a))?)?;
-        lap.push(block_of(alloc, &commit(sequence))?)?;
+        lap.push(block_of(alloc, &Descriptor(sequence, 5, 8).words())?)?;
+        lap.push(block_of(alloc, &Data(0x0a).words())?)?;
+        lap.push(block_of(alloc, &Commit(sequence).words())?)?;
     }
     Ok(lap)
 }
@@ -378,7 +416,7 @@ fn whole_laps(rt: HostRuntime) -> Result<(), Fail> {
 
     let mut commits = Vec::new(alloc);
     for sequence in 2..34 {
-        commits.push(block_of(alloc, &commit(sequence))?)?;
+        commits.push(block_of(alloc, &Commit(sequence).words())?)?;
     }
     assert_eq!(rt;
         chain_of(alloc, 2, &commits)?.len(),
@@ -398,11 +436,11 @@ fn a_descriptor_that_takes_the_whole_lap(rt: HostRuntime) -> Result<(), Fail> {
     }
     let mut lap = vec![in alloc; block_of(alloc, &words)?]?;
     for _ in 0..31 {
-        lap.push(block_of(alloc, &copy(0xee))?)?;
+        lap.push(block_of(alloc, &Data(0xee).words())?)?;
     }
     assert_eq!(rt; chain_of(alloc, 2, &lap)?.len(), 0);
     assert_eq!(rt; damage(alloc, 1024, 4, HOME, 2, &lap)?, None);
-    lap.push(block_of(alloc, &commit(2))?)?;
+    lap.push(block_of(alloc, &Commit(2).words())?)?;
     assert_eq!(rt;
         chain_of(alloc, 2, &lap)?.len(),
         1,

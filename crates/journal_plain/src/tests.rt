@@ -139,30 +139,41 @@ fn a_block_after_the_first_transactions(rt: HostRuntime) -> Result<(), Fail> {
     Ok(())
 }
 
+/// Bytes of a block and of a number, blocks of a ring, and the most copies of a transaction there.
+const CAPACITIES: [(usize, usize, usize, usize); 4] = [
+    (1024, 4, 16, 2),
+    (1024, 4, 32, 6),
+    (1024, 4, 1024, 252),
+    (4096, 4, 1024, 254),
+];
+
 #[test]
 fn room_in_a_log(rt: HostRuntime) {
-    for (block_size, number_bytes, ring, want) in [
-        (1024, 4, 16, 2),
-        (1024, 4, 32, 6),
-        (1024, 4, 1024, 252),
-        (4096, 4, 1024, 254),
-    ] {
+    for (block_size, number_bytes, ring, most) in CAPACITIES {
         assert_eq!(rt;
             capacity(block_size, number_bytes, ring),
-            want,
-            "capacity of {ring} blocks of {block_size} bytes"
+            most,
+            "{ring} blocks of {block_size}"
         );
     }
-    assert_eq!(rt; need(1024, 4, 0, 0), 1, "nothing");
-    assert_eq!(rt; need(1024, 4, 0, 1), 2, "one revoke");
-    assert_eq!(rt; need(1024, 4, 122, 0), 124, "a full descriptor");
-    assert_eq!(rt; need(1024, 4, 123, 0), 126, "a copy more");
-    assert_eq!(rt; need(1024, 4, 2, 252), 5, "a full revoke block");
-    assert_eq!(rt; need(1024, 4, 2, 253), 6, "a revoke more");
-    assert_eq!(rt; need(2048, 4, 250, 508), 253, "full blocks of 2048 bytes");
-    assert_eq!(rt; need(2048, 4, 251, 509), 256, "one more of each");
-    assert_eq!(rt; need(4096, 4, 506, 1020), 509, "full blocks of 4096 bytes");
-    assert_eq!(rt; need(4096, 4, 507, 1021), 512, "one more of each");
+    // Nothing, and one revoke; a full descriptor, and a copy more; a full revoke block, and a revoke more.
+    let small = [
+        need(1024, 4, 0, 0),
+        need(1024, 4, 0, 1),
+        need(1024, 4, 122, 0),
+        need(1024, 4, 123, 0),
+        need(1024, 4, 2, 252),
+        need(1024, 4, 2, 253),
+    ];
+    assert_eq!(rt; small, [1, 2, 124, 126, 5, 6]);
+    // Full blocks of both kinds, and one more of each.
+    let large = [
+        need(2048, 4, 250, 508),
+        need(2048, 4, 251, 509),
+        need(4096, 4, 506, 1020),
+        need(4096, 4, 507, 1021),
+    ];
+    assert_eq!(rt; large, [253, 256, 509, 512]);
 }
 
 /// A block of a log in a table. A descriptor has one tag, and a block that is written is one byte.

@@ -39,32 +39,24 @@ fn the_place_after_the_last_is_the_first(rt: HostRuntime) -> Result<(), Fail> {
 #[test]
 fn a_ring_that_does_not_begin_at_block_one(rt: HostRuntime) -> Result<(), Fail> {
     let ring = Ring::new(5, 21);
-    assert_eq!(rt; ring.blocks(), 16);
-    assert_eq!(rt; ring.place(15), 20);
-    assert_eq!(rt; ring.place(16), 5);
-    assert_eq!(rt; ring.advance(20, 1), 5);
+    let places = [ring.place(15), ring.place(16), ring.advance(20, 1)];
+    assert_eq!(rt; (ring.blocks(), places), (16, [20, 5, 5]));
     Ok(())
 }
 
 #[test]
 fn blocks_are_taken_and_released(rt: HostRuntime) -> Result<(), Fail> {
+    let short = Err(JournalError::NeedSpace);
     let mut ring = Ring::new(1, 33);
-    assert_eq!(rt; ring.take(30), Ok(0));
-    assert_eq!(rt; ring.free(), 2);
-    assert_eq!(rt; ring.take(3), Err(JournalError::NeedSpace));
-    assert_eq!(rt; ring.free(), 2);
-    assert_eq!(rt; ring.head(), 30);
+    assert_eq!(rt; (ring.take(30), ring.free()), (Ok(0), 2));
+    assert_eq!(rt; (ring.take(3), ring.free(), ring.head()), (short, 2, 30));
     if ring.free() == 2 {
         ring.release(30);
     }
-    assert_eq!(rt; ring.free(), 32);
-    assert_eq!(rt; ring.take(3), Ok(30));
-    assert_eq!(rt; ring.place(30), 31);
-    assert_eq!(rt; ring.place(32), 1);
-    assert_eq!(rt; ring.take(29), Ok(33));
-    assert_eq!(rt; ring.free(), 0);
-    assert_eq!(rt; ring.take(0), Ok(62));
-    assert_eq!(rt; ring.take(1), Err(JournalError::NeedSpace));
+    assert_eq!(rt; (ring.free(), ring.take(3)), (32, Ok(30)));
+    assert_eq!(rt; (ring.place(30), ring.place(32)), (31, 1));
+    assert_eq!(rt; (ring.take(29), ring.free()), (Ok(33), 0));
+    assert_eq!(rt; (ring.take(0), ring.take(1)), (Ok(62), short));
     Ok(())
 }
 
@@ -138,61 +130,69 @@ fn an_empty_transaction_is_a_commit_block(rt: HostRuntime) -> Result<(), Fail> {
     Ok(())
 }
 
+/// The parts of a transaction of 123 copies, but for the first 122 copies.
+const TWO_DESCRIPTORS: [(u64, Option<Part>); 5] = [
+    (
+        0,
+        Some(Part::Descriptor {
+            first: 0,
+            tags: 122,
+        }),
+    ),
+    (
+        123,
+        Some(Part::Descriptor {
+            first: 122,
+            tags: 1,
+        }),
+    ),
+    (124, Some(Part::Copy(122))),
+    (125, Some(Part::Commit)),
+    (126, None),
+];
+
 #[test]
 fn a_second_descriptor(rt: HostRuntime) -> Result<(), Fail> {
     let layout = Layout::new(1024, 123, 0);
     let ring = Ring::new(1, 1025);
-    assert_eq!(rt;
-        part_of(&layout, 0),
-        Some(Part::Descriptor {
-            first: 0,
-            tags: 122
-        })
-    );
+    for (k, part) in TWO_DESCRIPTORS {
+        assert_eq!(rt; part_of(&layout, k), part);
+    }
     for k in 0..122u64 {
         assert_eq!(rt; part_of(&layout, k + 1), Some(Part::Copy(k)));
     }
-    assert_eq!(rt;
-        part_of(&layout, 123),
-        Some(Part::Descriptor {
-            first: 122,
-            tags: 1
-        })
-    );
-    assert_eq!(rt; part_of(&layout, 124), Some(Part::Copy(122)));
-    assert_eq!(rt; part_of(&layout, 125), Some(Part::Commit));
-    assert_eq!(rt; part_of(&layout, 126), None);
     if layout.blocks() == 126 {
-        assert_eq!(rt; layout.place(&ring, 0, 0), 1);
-        assert_eq!(rt; layout.place(&ring, 0, 123), 124);
-        assert_eq!(rt; layout.place(&ring, 1000, 125), 102);
+        let places = [
+            layout.place(&ring, 0, 0),
+            layout.place(&ring, 0, 123),
+            layout.place(&ring, 1000, 125),
+        ];
+        assert_eq!(rt; places, [1, 124, 102]);
     }
     Ok(())
 }
 
+/// The parts of a transaction of one copy and 253 revokes.
+const REVOKES_FIRST: [Option<Part>; 6] = [
+    Some(Part::Revokes {
+        first: 0,
+        numbers: 252,
+    }),
+    Some(Part::Revokes {
+        first: 252,
+        numbers: 1,
+    }),
+    Some(Part::Descriptor { first: 0, tags: 1 }),
+    Some(Part::Copy(0)),
+    Some(Part::Commit),
+    None,
+];
+
 #[test]
 fn revoke_blocks_stand_first(rt: HostRuntime) -> Result<(), Fail> {
     let layout = Layout::new(1024, 1, 253);
-    assert_eq!(rt;
-        part_of(&layout, 0),
-        Some(Part::Revokes {
-            first: 0,
-            numbers: 252
-        })
-    );
-    assert_eq!(rt;
-        part_of(&layout, 1),
-        Some(Part::Revokes {
-            first: 252,
-            numbers: 1
-        })
-    );
-    assert_eq!(rt;
-        part_of(&layout, 2),
-        Some(Part::Descriptor { first: 0, tags: 1 })
-    );
-    assert_eq!(rt; part_of(&layout, 3), Some(Part::Copy(0)));
-    assert_eq!(rt; part_of(&layout, 4), Some(Part::Commit));
-    assert_eq!(rt; part_of(&layout, 5), None);
+    for (k, part) in REVOKES_FIRST.iter().enumerate() {
+        assert_eq!(rt; part_of(&layout, k as u64), *part);
+    }
     Ok(())
 }

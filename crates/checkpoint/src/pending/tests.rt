@@ -1,8 +1,8 @@
 //! Tables of commits, writes and releases, with answers worked out by hand.
-ghost use Rattle.std.specs.Prelude.{◌≡◌, ◌<◌, IsTrue, OnOk};
+ghost use Rattle.std.specs.Prelude.{◌≡◌, ◌<◌, IsTrue};
 ghost use Rattle.std.specs.List.{AllByRecursion};
 
-use crate::{HomeCopy, Pending, Version};
+use crate::{HomeCopy, Pending};
 use journal_model::{Block, BlockNo, Entry, Tid};
 use std::alloc::Global;
 use std::test::Fail;
@@ -77,146 +77,187 @@ fn written(pending: &mut Pending, alloc: Global, bound: u32) -> Result<Vec<(u32,
     Ok(order)
 }
 
+/// What is done to pending copies, or asked of them.
+#[derive(Clone, Copy, Debug)]
+enum Step {
+    /// Commits a transaction with these entries.
+    Commits(u32, &'static [(u64, bool)]),
+    /// Writes the copies up to a transaction home: these, by transaction and block.
+    Writes(u32, &'static [(u32, u64)]),
+    /// Releases the transactions up to this one.
+    Releases(u32),
+    /// The pending copy of a block has this transaction and place.
+    Finds(u64, Option<(u32, usize)>),
+    /// The next copy up to a transaction has this transaction, block and place.
+    Next(u32, Option<(u32, u64, usize)>),
+    /// The lowest transaction of which a copy is pending.
+    Oldest(Option<u32>),
+}
+
+/// The next copy to be written home.
+fn next(pending: &Pending, bound: u32) -> Option<(u32, u64, usize)> {
+    let HomeCopy { block, version } = pending.next(Tid(bound))?;
+    Some((version.tid.0, block.0, version.place))
+}
+
+/// The lowest transaction of which a copy is pending.
+fn oldest(pending: &Pending) -> Option<u32> {
+    let tid = pending.oldest()?;
+    Some(tid.0)
+}
+
+/// Makes a step, and tells whether it comes to what it says.
+fn holds(pending: &mut Pending, alloc: Global, room: usize, step: Step) -> Result<bool, Fail>
+    requires { pending.old.room ≡ room }
+    ensures { pending.new.room ≡ room }
+{
+    match step {
+        Step::Commits(tid, rows) => commit(pending, alloc, room, tid, rows),
+        Step::Writes(bound, wanted) => Ok(written(pending, alloc, bound)?.as_slice() == wanted),
+        Step::Releases(bound) => {
+            pending.release(Tid(bound));
+            Ok(true)
+        }
+        Step::Finds(block, wanted) => Ok(found(pending, block) == wanted),
+        Step::Next(bound, wanted) => Ok(next(pending, bound) == wanted),
+        Step::Oldest(wanted) => Ok(oldest(pending) == wanted),
+    }
+}
+
+/// Makes steps up to the first that comes to something else, and tells its place, where there is one.
+fn first_wrong(
+    pending: &mut Pending,
+    alloc: Global,
+    room: usize,
+    steps: &[Step],
+) -> Result<Option<usize>, Fail>
+    requires { pending.old.room ≡ room }
+    ensures { pending.new.room ≡ room }
+{
+    for (i, step) in steps.iter().enumerate() {
+        if !holds(pending, alloc, room, *step)? {
+            return Ok(Some(i));
+        }
+    }
+    Ok(None)
+}
+
+/// Steps from no pending copies on, with room for so many.
+#[derive(Clone, Copy, Debug)]
+struct Run {
+    name: &'static str,
+    room: usize,
+    steps: &'static [Step],
+}
+
+const RUNS: [Run; 4] = [
+    Run {
+        name: "copies are written by transaction and then block",
+        room: 8,
+        steps: &[
+            Step::Oldest(None),
+            Step::Next(9, None),
+            Step::Commits(4, &[(70, true), (20, true), (50, true)]),
+            Step::Commits(7, &[(60, true), (10, true)]),
+            Step::Oldest(Some(4)),
+            Step::Next(4, Some((4, 20, 1))),
+            Step::Next(3, None),
+            Step::Writes(6, &[(4, 20), (4, 50), (4, 70)]),
+            Step::Writes(7, &[(7, 10), (7, 60)]),
+            Step::Finds(70, Some((4, 0))),
+            Step::Finds(10, Some((7, 1))),
+            Step::Finds(11, None),
+        ],
+    },
+    Run {
+        name: "a replaced copy is not written",
+        room: 5,
+        steps: &[
+            Step::Commits(1, &[(3, true), (5, true)]),
+            Step::Commits(2, &[(5, true), (3, true), (9, true)]),
+            Step::Finds(3, Some((2, 1))),
+            Step::Oldest(Some(2)),
+            Step::Next(1, None),
+            Step::Writes(2, &[(2, 3), (2, 5), (2, 9)]),
+        ],
+    },
+    Run {
+        name: "a revoke leaves no copy",
+        room: 5,
+        steps: &[
+            Step::Commits(1, &[(3, true), (5, true)]),
+            Step::Commits(2, &[(3, false), (8, false), (4, true)]),
+            Step::Finds(3, None),
+            Step::Finds(8, None),
+            Step::Finds(4, Some((2, 2))),
+            Step::Writes(2, &[(1, 5), (2, 4)]),
+        ],
+    },
+    Run {
+        name: "a release keeps newer copies",
+        room: 4,
+        steps: &[
+            Step::Commits(1, &[(3, true), (5, true)]),
+            Step::Commits(2, &[(5, true)]),
+            Step::Writes(1, &[(1, 3)]),
+            Step::Releases(1),
+            Step::Finds(3, None),
+            Step::Finds(5, Some((2, 0))),
+            Step::Oldest(Some(2)),
+            Step::Next(2, Some((2, 5, 0))),
+            Step::Releases(2),
+            Step::Finds(5, None),
+            Step::Oldest(None),
+            Step::Next(2, None),
+        ],
+    },
+];
+
 #[test]
-fn copies_are_written_by_transaction_and_then_block(rt: HostRuntime) -> Result<(), Fail> {
-    let alloc = rt.alloc();
-    let mut pending = Pending::new(alloc, 8)?;
-    assert_eq!(rt; pending.oldest(), None);
-    assert_eq!(rt; pending.next(Tid(9)), None);
-    assert!(rt;
-        commit(
-            &mut pending,
-            alloc,
-            8,
-            4,
-            &[(70, true), (20, true), (50, true)]
-        )?
-    );
-    assert!(rt; commit(&mut pending, alloc, 8, 7, &[(60, true), (10, true)])?);
-    assert_eq!(rt; pending.oldest(), Some(Tid(4)));
-    let first = HomeCopy {
-        block: BlockNo(20),
-        version: Version {
-            tid: Tid(4),
-            place: 1,
-        },
-    };
-    assert_eq!(rt; pending.next(Tid(4)), Some(first));
-    assert_eq!(rt; pending.next(Tid(3)), None);
-    assert_eq!(rt;
-        written(&mut pending, alloc, 6)?.as_slice(),
-        [(4, 20), (4, 50), (4, 70)].as_slice()
-    );
-    assert_eq!(rt;
-        written(&mut pending, alloc, 7)?.as_slice(),
-        [(7, 10), (7, 60)].as_slice()
-    );
-    assert_eq!(rt; found(&pending, 70), Some((4, 0)));
-    assert_eq!(rt; found(&pending, 10), Some((7, 1)));
-    assert_eq!(rt; found(&pending, 11), None);
+fn each_step_comes_to_what_it_says(rt: HostRuntime) -> Result<(), Fail> {
+    for run in RUNS {
+        let mut pending = Pending::new(rt.alloc(), run.room)?;
+        let wrong = first_wrong(&mut pending, rt.alloc(), run.room, run.steps)?;
+        assert_eq!(rt; wrong, None, "{}", run.name);
+    }
     Ok(())
 }
 
-#[test]
-fn a_replaced_copy_is_not_written(rt: HostRuntime) -> Result<(), Fail> {
-    let alloc = rt.alloc();
-    let mut pending = Pending::new(alloc, 5)?;
-    assert!(rt; commit(&mut pending, alloc, 5, 1, &[(3, true), (5, true)])?);
-    assert!(rt;
-        commit(
-            &mut pending,
-            alloc,
-            5,
-            2,
-            &[(5, true), (3, true), (9, true)]
-        )?
-    );
-    assert_eq!(rt; found(&pending, 3), Some((2, 1)));
-    assert_eq!(rt; pending.oldest(), Some(Tid(2)));
-    assert_eq!(rt; pending.next(Tid(1)), None);
-    assert_eq!(rt;
-        written(&mut pending, alloc, 2)?.as_slice(),
-        [(2, 3), (2, 5), (2, 9)].as_slice()
-    );
-    Ok(())
-}
-
-#[test]
-fn a_revoke_leaves_no_copy(rt: HostRuntime) -> Result<(), Fail> {
-    let alloc = rt.alloc();
-    let mut pending = Pending::new(alloc, 5)?;
-    assert!(rt; commit(&mut pending, alloc, 5, 1, &[(3, true), (5, true)])?);
-    assert!(rt;
-        commit(
-            &mut pending,
-            alloc,
-            5,
-            2,
-            &[(3, false), (8, false), (4, true)]
-        )?
-    );
-    assert_eq!(rt; found(&pending, 3), None);
-    assert_eq!(rt; found(&pending, 8), None);
-    assert_eq!(rt; found(&pending, 4), Some((2, 2)));
-    assert_eq!(rt;
-        written(&mut pending, alloc, 2)?.as_slice(),
-        [(1, 5), (2, 4)].as_slice()
-    );
-    Ok(())
-}
-
-#[test]
-fn a_release_keeps_newer_copies(rt: HostRuntime) -> Result<(), Fail> {
-    let alloc = rt.alloc();
-    let mut pending = Pending::new(alloc, 4)?;
-    assert!(rt; commit(&mut pending, alloc, 4, 1, &[(3, true), (5, true)])?);
-    assert!(rt; commit(&mut pending, alloc, 4, 2, &[(5, true)])?);
-    assert_eq!(rt;
-        written(&mut pending, alloc, 1)?.as_slice(),
-        [(1, 3)].as_slice()
-    );
-    pending.release(Tid(1));
-    assert_eq!(rt; found(&pending, 3), None);
-    assert_eq!(rt; found(&pending, 5), Some((2, 0)));
-    assert_eq!(rt; pending.oldest(), Some(Tid(2)));
-    assert_eq!(rt; pending.next(Tid(2)).is_some(), true);
-    pending.release(Tid(2));
-    assert_eq!(rt; found(&pending, 5), None);
-    assert_eq!(rt; pending.oldest(), None);
-    assert_eq!(rt; pending.next(Tid(2)), None);
-    Ok(())
+/// A transaction of two copies, of which the next one replaces one, and then all are released.
+fn turn_round(pending: &mut Pending, alloc: Global, round: u32) -> Result<bool, Fail>
+    requires room { pending.old.room ≡ 4 }
+    requires few { round < 50 }
+    ensures { pending.new.room ≡ 4 }
+{
+    let block = u64::from(round) * 3;
+    let first = 2 * round + 1;
+    let both = commit(
+        pending,
+        alloc,
+        4,
+        first,
+        &[(block + 2, true), (block + 1, true)],
+    )? && commit(
+        pending,
+        alloc,
+        4,
+        first + 1,
+        &[(block + 2, true), (block, true)],
+    )?;
+    let replaced = found(pending, block + 2) == Some((first + 1, 0));
+    let kept = found(pending, block + 1) == Some((first, 1)) && oldest(pending) == Some(first);
+    pending.release(Tid(first + 1));
+    Ok(both && replaced && kept && found(pending, block).is_none() && oldest(pending).is_none())
 }
 
 #[test]
 fn room_comes_back_at_a_release(rt: HostRuntime) -> Result<(), Fail> {
-    let alloc = rt.alloc();
-    let mut pending = Pending::new(alloc, 4)?;
+    let mut pending = Pending::new(rt.alloc(), 4)?;
     for round in 0u32..50 {
-        let block = u64::from(round) * 3;
         assert!(rt;
-            commit(
-                &mut pending,
-                alloc,
-                4,
-                2 * round + 1,
-                &[(block + 2, true), (block + 1, true)]
-            )?
+            turn_round(&mut pending, rt.alloc(), round)?,
+            "round {round}"
         );
-        assert!(rt;
-            commit(
-                &mut pending,
-                alloc,
-                4,
-                2 * round + 2,
-                &[(block + 2, true), (block, true)]
-            )?
-        );
-        assert_eq!(rt; found(&pending, block + 2), Some((2 * round + 2, 0)));
-        assert_eq!(rt; found(&pending, block + 1), Some((2 * round + 1, 1)));
-        assert_eq!(rt; pending.oldest(), Some(Tid(2 * round + 1)));
-        pending.release(Tid(2 * round + 2));
-        assert_eq!(rt; found(&pending, block), None);
-        assert_eq!(rt; pending.oldest(), None);
     }
     Ok(())
 }
