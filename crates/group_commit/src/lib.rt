@@ -10,8 +10,6 @@
 mod front;
 mod handle;
 mod journal;
-#[cfg(test)]
-mod tests;
 
 pub use handle::{Credits, Handle, Receipt, Seat, Status, Ticket};
 pub use journal::{CheckTurn, Journal, Parts, Turn};
