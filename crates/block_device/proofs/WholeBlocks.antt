@@ -1,34 +1,20 @@
 -- Whatever is held in a block of a device in memory fills a block.
-use Rattle.std.proofs.Common.{◌≡◌, ℕ, Bool, true, false, List, [], ◌∷◌, length, ap, refl, ◌∙◌, inl, ⊎_elim}
+use Rattle.std.proofs.Common.{ℕ, Bool, true, false, List, [], ◌∷◌, refl, inl}
 use Rattle.std.specs.Prelude.{if◌then◌else◌, ◌&&◌, ◌==◌, replicate}
 use Rattle.std.specs.List.{fold, AllByRecursion}
 use Rattle.std.proofs.lemmas.List.{length-replicate}
 use Rattle.journal_model.specs.declared.number.Area.{Area}
-use Rattle.journal_model.specs.Disk.{Cell, IsOneOf, held, same_area}
+use Rattle.journal_model.specs.Disk.{held, same_area}
 use Rattle.block_device.specs.Memory.{Moments, after_call, blank}
 use Rattle.block_device.specs.MemInvariant.{FillsBlock}
 use Rattle.block_device.specs.declared.memory.Call.{Call}
 use Rattle.block_device.specs.declared.memory.Call.TheVariants.{Wrote, Flushed}
 use Rattle.block_device.proofs.Calls.{left_disk, new_disk}
-
--- each value that is held in the cell has this length
-abbrev pub IsWhole : ℕ → Cell → Type 0
-IsWhole size c = (v : List ℕ) → IsOneOf (held c) v → length v ≡ size
+use Rattle.block_device.proofs.WholeCells.{IsWhole, one_of_two, alone, over}
 
 -- each block of the disk is whole
 abbrev pub AreWhole : ℕ → Moments → Type 0
 AreWhole size m = (a : Area) (n : ℕ) → IsWhole size (m.disk a n)
-
-pub one_of_two : (size : ℕ) (b : Bool) (x y : Cell) → IsWhole size x → IsWhole size y → IsWhole size (if b then x else y)
-one_of_two size true x y hx hy = hx
-one_of_two size false x y hx hy = hy
-
--- a value alone, and one more value over those that are held
-pub alone : (size : ℕ) (v : List ℕ) → length v ≡ size → IsWhole size (record { reads = v; others = [] })
-alone size v e u one = ⊎_elim (λ same. ap length same ∙ e) (λ none. absurd none) one
-
-pub over : (size : ℕ) (v : List ℕ) (c : Cell) → length v ≡ size → IsWhole size c → IsWhole size (record { reads = v; others = held c })
-over size v c e h u one = ⊎_elim (λ same. ap length same ∙ e) (λ before. h u before) one
 
 -- one more call leaves each block whole
 whole_call : (size : ℕ) (m : Moments) (c : Call) → AreWhole size m → FillsBlock size c → AreWhole size (after_call m c)

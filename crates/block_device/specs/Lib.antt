@@ -3,7 +3,3 @@ pub mod MemIndex
 pub mod Memory
 pub mod MemInvariant
 pub mod Stop
-pub mod FileCalls
-pub mod FileNotes
-pub mod Files
-pub mod NotedFiles

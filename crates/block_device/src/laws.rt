@@ -1,33 +1,10 @@
-ghost use Rattle.std.specs.Prelude.{◌≡◌, ℕ, ◌<◌, ◌*◌, List, ◌∷◌, ◌++◌, Option};
-ghost use Rattle.std.specs.declared.fs.File.{File};
-ghost use Rattle.journal_model.specs.declared.number.Area.{Area};
+ghost use Rattle.std.specs.Prelude.{◌≡◌, List, ◌∷◌, ◌++◌};
 ghost use Rattle.journal_model.specs.Disk.{Disk, Image, IsOneOf, Leaves};
 ghost use Rattle.block_device.specs.State.{DeviceState, MayHaveLeft};
-ghost use Rattle.block_device.specs.FileCalls.{Read, ReadFailed, Wrote, WriteFailed, Synced, SyncFailed};
-ghost use Rattle.block_device.specs.Files.{FileContents, FileState, new_device, asked, file_state, HasAgreed};
 
 /// What a crash since a moment may have left is left by one of the disks since then: the present one, or one that was
 /// added to the past. So whatever holds of each of these, as `EachMoment` says, holds of the disk that the crash met.
 pub fn a_crash_meets_one_of_the_moments()
     ensures { (old new : DeviceState) (image : Image) (since : List Disk) → new.past ≡ since ++ old.past →
         MayHaveLeft old new image → (disk : Disk) × IsOneOf (new.disk ∷ since) disk × Leaves disk image }
-{}
-
-/// The premise of a device over files can be met and kept, whatever the files hold: it holds of a new device; a read
-/// that gives what the disk reads keeps it; and so does every other call, whatever its answer.
-pub fn answers_that_agree_keep_the_premise()
-    ensures new { (contents : FileContents) (size : ℕ) (log : File) (home : Option File) (log_bytes home_bytes : ℕ) →
-        HasAgreed contents (new_device size log home log_bytes home_bytes) }
-    ensures read { (contents : FileContents) (s : FileState) (area : Area) (n : ℕ) → 0 < s.block_size → HasAgreed contents s →
-        HasAgreed contents (asked s (Read area (n * s.block_size) ((file_state contents s).disk area n).reads)) }
-    ensures failed_read { (contents : FileContents) (s : FileState) (area : Area) (at : ℕ) → HasAgreed contents s →
-        HasAgreed contents (asked s (ReadFailed area at)) }
-    ensures write { (contents : FileContents) (s : FileState) (area : Area) (at : ℕ) (bytes : List ℕ) → HasAgreed contents s →
-        HasAgreed contents (asked s (Wrote area at bytes)) }
-    ensures failed_write { (contents : FileContents) (s : FileState) (area : Area) (at : ℕ) (bytes : List ℕ) → HasAgreed contents s →
-        HasAgreed contents (asked s (WriteFailed area at bytes)) }
-    ensures flush { (contents : FileContents) (s : FileState) (area : Area) → HasAgreed contents s →
-        HasAgreed contents (asked s (Synced area)) }
-    ensures failed_flush { (contents : FileContents) (s : FileState) (area : Area) → HasAgreed contents s →
-        HasAgreed contents (asked s (SyncFailed area)) }
 {}

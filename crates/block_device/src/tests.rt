@@ -8,8 +8,6 @@ use std::alloc::Global;
 use std::process::Abort;
 use std::test::Fail;
 
-mod files;
-
 /// Blocks of this many bytes.
 const SIZE: usize = 4;
 

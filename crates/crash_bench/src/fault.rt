@@ -1,6 +1,6 @@
 //! How a command ends, and what it says where it can't go on.
+use bench_script::ScriptError;
 use journal_model::JournalError;
-use std::alloc::{AllocError, AllocFailed};
 use std::io;
 use std::io::{ErrorKind, Write};
 use std::process::ExitCode;
@@ -64,24 +64,21 @@ impl From<JournalError> for Fault {
     }
 }
 
+impl From<ScriptError> for Fault {
+    fn from(e: ScriptError) -> Fault {
+        match e {
+            ScriptError::BadScript => Fault::BadScript,
+            ScriptError::Memory => Fault::Refused(JournalError::Memory),
+        }
+    }
+}
+
 impl From<log_dump::Fault> for Fault {
     fn from(fault: log_dump::Fault) -> Fault {
         match fault {
             log_dump::Fault::Refused(e) => Fault::Refused(e),
             log_dump::Fault::Output(e) => Fault::from(e),
         }
-    }
-}
-
-impl From<AllocError> for Fault {
-    fn from(_e: AllocError) -> Fault {
-        Fault::Refused(JournalError::Memory)
-    }
-}
-
-impl<T: Drop> From<AllocFailed<T>> for Fault {
-    fn from(_e: AllocFailed<T>) -> Fault {
-        Fault::Refused(JournalError::Memory)
     }
 }
 

@@ -2,8 +2,8 @@
 ghost use Rattle.std.specs.Prelude.{IfOk};
 ghost use Rattle.log_format.specs.Size.{IsBlockSize};
 
-use crate::measures::{Measures, is_block_size};
-use block_device::{FileDevice, UnknownContents};
+use bench_script::{Measures, is_block_size};
+use file_device::{FileDevice, UnknownContents};
 use std::fs::{File, OpenOptions};
 use std::io::ErrorKind;
 use std::os::unix::fs::{FileExt, MetadataExt};

@@ -1,6 +1,6 @@
 //! The commands `format` and `dump`, over devices.
 use crate::fault::{self, Fault, Status};
-use crate::measures::Measures;
+use bench_script::Measures;
 use block_device::Device;
 use journal_model::Area;
 use std::alloc::Global;

@@ -1,23 +1,15 @@
 //! `jbench`: runs a script of journal operations over a device in memory that stops at one of its writes, opens what the
-//! stop left, and judges it; makes logs in files, and prints them. Words and files are opened here and in `files` alone; each
-//! command is a function over devices, readers and writers.
+//! stop left, and judges it; makes logs in files, and prints them. What a script is, and what a run of one does, is said by
+//! `bench_script` and `bench_run`; here are the words, the files and the exit statuses. Words are read and files opened here
+//! and in `files` alone; each command is a function over devices, readers and writers.
 #![tactic(auto)]
 
-mod blocks;
 mod fault;
 mod files;
-mod interpreter;
 mod logs;
-mod measures;
-mod order;
-mod outcome;
-mod reading;
 mod run;
-mod script;
-mod slots;
 #[cfg(test)]
 mod tests;
-mod verdict;
 mod words;
 
 use crate::fault::{Fault, Status};

@@ -8,14 +8,11 @@ use std::process::Abort;
 use std::str::from_utf8;
 use std::test::Fail;
 
-mod bad_scripts;
-mod checkpoints;
 mod faults;
 mod log_files;
 mod refusals;
+mod scripts;
 mod sizes;
-mod verdicts;
-mod whole_runs;
 mod word_lists;
 
 /// One handle writes block 9 and is waited for.

@@ -1,5 +1,5 @@
 //! The words that the program is called with.
-use crate::measures::{DEFAULTS, HOMES, LENGTHS, Measures, is_block_size, uuid_of};
+use bench_script::{DEFAULTS, HOMES, LENGTHS, Measures, is_block_size, uuid_of};
 use clap::error::ErrorKind;
 use clap::{Arg, ArgMatches, Command, Error, value_parser};
 use std::alloc::{AllocError, Global};
@@ -63,9 +63,13 @@ A script is a JSON object with these keys, of which \"ops\" alone has to be ther
   \"ops\"     a list of at most 100,000 operations, where H names a handle, 0 to 9999:
   [\"start\", H, n]       a handle with n credits
   [\"write\", H, b, hex]  home block b becomes these bytes, at most a block, and zeros behind them
+  [\"read\", H, b]        how home block b begins, as the handle's transaction sees it
   [\"stop\", H]           the handle ends
   [\"request\", H]        asks for the commit of its transaction
+  [\"turn\"]              takes one commit turn
   [\"commit\"]            takes commit turns until one has nothing to do
+  [\"ckturn\"]            takes one checkpoint turn
+  [\"check\"]             takes checkpoint turns until one has nothing to do
   [\"status\", H]         whether its transaction is committed
   [\"wait\", H]           its receipt, where its transaction is committed
 

@@ -6,6 +6,7 @@ use crate::{Fault, dump};
 use block_device::{Device, DeviceFault, MemDevice};
 use journal_model::{Area, JournalError};
 use std::alloc::Global;
+use std::process::Abort;
 use std::test::Fail;
 
 mod foreign_logs;
@@ -47,6 +48,18 @@ fn commit(sequence: u32) -> [u32; 3] {
     [MAGIC, 2, sequence]
 }
 
+/// The words of a block of the log, each spelled in hex digits; `0*9` stands for nine words of zeros.
+fn words_of(alloc: Global, text: &str) -> Result<Vec<u32>, Fail> {
+    let mut words = Vec::new(alloc);
+    for word in text.split_whitespace() {
+        match word.strip_prefix("0*") {
+            Some(count) => words.resize(words.len().saturating_add(count.parse()?), 0)?,
+            None => words.push(u32::from_str_radix(word, 16)?)?,
+        }
+    }
+    Ok(words)
+}
+
 /// A device whose log has these blocks, and zeros elsewhere.
 fn device_of(
     alloc: Global,
@@ -79,50 +92,76 @@ fn write_words<D: Device>(
     Ok(())
 }
 
-/// What a dump of the device prints.
-fn printed(alloc: Global, device: MemDevice) -> Result<Vec<u8>, Fault> {
+/// A device is dumped as this text.
+fn expect_text(
+    rt: &impl Abort,
+    alloc: Global,
+    device: MemDevice,
+    expected: &str,
+) -> Result<(), Fail> {
     let mut device = device;
     let mut out = Vec::new(alloc);
     dump(alloc, &mut device, &mut out)?;
-    Ok(out)
+    assert_eq!(rt; out.as_slice(), expected.as_bytes());
+    Ok(())
 }
 
-/// Why there is no dump of the device, and how many bytes were written nevertheless.
-fn refused(alloc: Global, device: MemDevice) -> (Option<JournalError>, usize) {
-    let mut device = device;
-    let mut out = Vec::new(alloc);
-    match dump(alloc, &mut device, &mut out) {
-        Err(Fault::Refused(e)) => (Some(e), out.len()),
-        Err(Fault::Output(_)) | Ok(()) => (None, out.len()),
+/// A log of so many blocks of 1024 bytes, which has these and zeros elsewhere, is dumped as this text.
+fn expect_dump(
+    rt: &impl Abort,
+    alloc: Global,
+    log: u64,
+    blocks: &[Placed<'_>],
+    expected: &str,
+) -> Result<(), Fail> {
+    expect_text(rt, alloc, device_of(alloc, 1024, log, blocks)?, expected)
+}
+
+/// Dumps a device behind what `out` holds, and answers why it is refused, if it is.
+fn refusal<D: Device>(alloc: Global, device: &mut D, out: &mut Vec<u8>) -> Option<JournalError> {
+    match dump(alloc, device, out) {
+        Err(Fault::Refused(e)) => Some(e),
+        Err(Fault::Output(_)) | Ok(()) => None,
     }
 }
 
-#[test]
-fn a_formatted_log(rt: HostRuntime) -> Result<(), Fail> {
-    let device = device_of(rt.alloc(), 1024, 33, &[(0, &superblock(33, 1, 0))])?;
-    let text = printed(rt.alloc(), device)?;
-    let expected = "super blocksize=1024 maxlen=33 first=1 sequence=1 start=0\n\
-        empty sequence=1\n";
-    assert_eq!(rt; text.as_slice(), expected.as_bytes());
+/// A log of so many blocks of 1024 bytes, which has these and zeros elsewhere, is refused, and not a byte is written.
+fn expect_refusal(
+    rt: &impl Abort,
+    alloc: Global,
+    log: u64,
+    blocks: &[Placed<'_>],
+    (name, expected): (&str, JournalError),
+) -> Result<(), Fail> {
+    let mut device = device_of(alloc, 1024, log, blocks)?;
+    let mut out = Vec::new(alloc);
+    assert_eq!(rt;
+        refusal(alloc, &mut device, &mut out),
+        Some(expected),
+        "{name}"
+    );
+    assert_eq!(rt; out.len(), 0, "{name}");
     Ok(())
 }
 
 #[test]
+fn a_formatted_log(rt: HostRuntime) -> Result<(), Fail> {
+    let blocks: &[Placed<'_>] = &[(0, &superblock(33, 1, 0))];
+    let expected = "super blocksize=1024 maxlen=33 first=1 sequence=1 start=0\n\
+        empty sequence=1\n";
+    expect_dump(&rt, rt.alloc(), 33, blocks, expected)
+}
+
+#[test]
 fn a_copy_and_then_a_revoke(rt: HostRuntime) -> Result<(), Fail> {
-    let device = device_of(
-        rt.alloc(),
-        1024,
-        33,
-        &[
-            (0, &superblock(33, 2, 1)),
-            (1, &descriptor(2, 8, LAST)),
-            (2, &[0xaa00_0000]),
-            (3, &commit(2)),
-            (4, &[MAGIC, 5, 3, 20, 8]),
-            (5, &commit(3)),
-        ],
-    )?;
-    let text = printed(rt.alloc(), device)?;
+    let blocks: &[Placed<'_>] = &[
+        (0, &superblock(33, 2, 1)),
+        (1, &descriptor(2, 8, LAST)),
+        (2, &[0xaa00_0000]),
+        (3, &commit(2)),
+        (4, &[MAGIC, 5, 3, 20, 8]),
+        (5, &commit(3)),
+    ];
     let expected = "super blocksize=1024 maxlen=33 first=1 sequence=2 start=1\n\
         1 descriptor 2 tags=1\n\
         2 copy 2 block=8\n\
@@ -130,32 +169,24 @@ fn a_copy_and_then_a_revoke(rt: HostRuntime) -> Result<(), Fail> {
         4 revoke 3 blocks=8\n\
         5 commit 3\n\
         end sequence=4 transactions=2\n";
-    assert_eq!(rt; text.as_slice(), expected.as_bytes());
-    Ok(())
+    expect_dump(&rt, rt.alloc(), 33, blocks, expected)
 }
 
 #[test]
 fn a_transaction_over_the_end_of_the_ring(rt: HostRuntime) -> Result<(), Fail> {
-    let device = device_of(
-        rt.alloc(),
-        1024,
-        33,
-        &[
-            (0, &superblock(33, 12, 31)),
-            (31, &descriptor(12, 5, LAST)),
-            (32, &[0x0b00_0000]),
-            (1, &commit(12)),
-            (2, &descriptor(3, 5, LAST)),
-        ],
-    )?;
-    let text = printed(rt.alloc(), device)?;
+    let blocks: &[Placed<'_>] = &[
+        (0, &superblock(33, 12, 31)),
+        (31, &descriptor(12, 5, LAST)),
+        (32, &[0x0b00_0000]),
+        (1, &commit(12)),
+        (2, &descriptor(3, 5, LAST)),
+    ];
     let expected = "super blocksize=1024 maxlen=33 first=1 sequence=12 start=31\n\
         31 descriptor 12 tags=1\n\
         32 copy 12 block=5\n\
         1 commit 12\n\
         end sequence=13 transactions=1\n";
-    assert_eq!(rt; text.as_slice(), expected.as_bytes());
-    Ok(())
+    expect_dump(&rt, rt.alloc(), 33, blocks, expected)
 }
 
 #[test]
@@ -175,20 +206,14 @@ fn tags_and_numbers_of_each_kind(rt: HostRuntime) -> Result<(), Fail> {
         0xffff_ffff,
         SAME | LAST | ESCAPED,
     ];
-    let device = device_of(
-        rt.alloc(),
-        1024,
-        33,
-        &[
-            (0, &superblock(33, 7, 1)),
-            (1, &[MAGIC, 5, 7, 16]),
-            (2, &[MAGIC, 5, 7, 28, 3, 1, 4]),
-            (3, &three_tags),
-            (7, &commit(7)),
-            (8, &commit(8)),
-        ],
-    )?;
-    let text = printed(rt.alloc(), device)?;
+    let blocks: &[Placed<'_>] = &[
+        (0, &superblock(33, 7, 1)),
+        (1, &[MAGIC, 5, 7, 16]),
+        (2, &[MAGIC, 5, 7, 28, 3, 1, 4]),
+        (3, &three_tags),
+        (7, &commit(7)),
+        (8, &commit(8)),
+    ];
     let expected = "super blocksize=1024 maxlen=33 first=1 sequence=7 start=1\n\
         1 revoke 7 blocks=\n\
         2 revoke 7 blocks=3,1,4\n\
@@ -199,68 +224,40 @@ fn tags_and_numbers_of_each_kind(rt: HostRuntime) -> Result<(), Fail> {
         7 commit 7\n\
         8 commit 8\n\
         end sequence=9 transactions=2\n";
-    assert_eq!(rt; text.as_slice(), expected.as_bytes());
-    Ok(())
+    expect_dump(&rt, rt.alloc(), 33, blocks, expected)
 }
 
 #[test]
 fn what_is_not_complete_is_not_printed(rt: HostRuntime) -> Result<(), Fail> {
-    let device = device_of(
-        rt.alloc(),
-        1024,
-        33,
-        &[
-            (0, &superblock(33, 2, 1)),
-            (1, &commit(2)),
-            (2, &[MAGIC, 5, 3, 20, 8]),
-            (3, &descriptor(3, 5, LAST)),
-            (5, &commit(4)),
-        ],
-    )?;
-    let text = printed(rt.alloc(), device)?;
+    let blocks: &[Placed<'_>] = &[
+        (0, &superblock(33, 2, 1)),
+        (1, &commit(2)),
+        (2, &[MAGIC, 5, 3, 20, 8]),
+        (3, &descriptor(3, 5, LAST)),
+        (5, &commit(4)),
+    ];
     let expected = "super blocksize=1024 maxlen=33 first=1 sequence=2 start=1\n\
         1 commit 2\n\
         end sequence=3 transactions=1\n";
-    assert_eq!(rt; text.as_slice(), expected.as_bytes());
-    Ok(())
+    expect_dump(&rt, rt.alloc(), 33, blocks, expected)
 }
 
 #[test]
 fn the_last_number_of_four_bytes(rt: HostRuntime) -> Result<(), Fail> {
-    let device = device_of(
-        rt.alloc(),
-        1024,
-        33,
-        &[
-            (0, &superblock(33, 0xffff_ffff, 1)),
-            (1, &commit(0xffff_ffff)),
-            (2, &commit(0)),
-        ],
-    )?;
-    let text = printed(rt.alloc(), device)?;
+    let blocks: &[Placed<'_>] = &[
+        (0, &superblock(33, 0xffff_ffff, 1)),
+        (1, &commit(0xffff_ffff)),
+        (2, &commit(0)),
+    ];
     let expected = "super blocksize=1024 maxlen=33 first=1 sequence=4294967295 start=1\n\
         1 commit 4294967295\n\
         end sequence=4294967296 transactions=1\n";
-    assert_eq!(rt; text.as_slice(), expected.as_bytes());
-    Ok(())
+    expect_dump(&rt, rt.alloc(), 33, blocks, expected)
 }
 
 #[test]
 fn blocks_of_each_size(rt: HostRuntime) -> Result<(), Fail> {
-    for (size, first) in [
-        (
-            1024,
-            "super blocksize=1024 maxlen=17 first=1 sequence=2 start=16\n",
-        ),
-        (
-            2048,
-            "super blocksize=2048 maxlen=17 first=1 sequence=2 start=16\n",
-        ),
-        (
-            4096,
-            "super blocksize=4096 maxlen=17 first=1 sequence=2 start=16\n",
-        ),
-    ] {
+    for size in [1024, 2048, 4096] {
         let device = device_of(
             rt.alloc(),
             size as usize,
@@ -271,68 +268,30 @@ fn blocks_of_each_size(rt: HostRuntime) -> Result<(), Fail> {
                 (2, &commit(2)),
             ],
         )?;
-        let text = printed(rt.alloc(), device)?;
-        let rest = "16 descriptor 2 tags=1\n\
-            1 copy 2 block=9 escaped\n\
-            2 commit 2\n\
-            end sequence=3 transactions=1\n";
-        let (head, tail) = text.split_at(first.len().min(text.len()));
-        assert_eq!(rt; head, first.as_bytes());
-        assert_eq!(rt; tail, rest.as_bytes());
+        let expected = format!(in rt.alloc();
+            "super blocksize={size} maxlen=17 first=1 sequence=2 start=16\n\
+             16 descriptor 2 tags=1\n\
+             1 copy 2 block=9 escaped\n\
+             2 commit 2\n\
+             end sequence=3 transactions=1\n"
+        )?;
+        expect_text(&rt, rt.alloc(), device, expected.as_str())?;
     }
     Ok(())
 }
 
 #[test]
 fn a_full_ring(rt: HostRuntime) -> Result<(), Fail> {
-    let fourteen_tags = [
-        MAGIC,
-        1,
-        2,
-        0,
-        0,
-        UUID,
-        UUID,
-        UUID,
-        UUID,
-        1,
-        SAME,
-        2,
-        SAME,
-        3,
-        SAME,
-        4,
-        SAME,
-        5,
-        SAME,
-        6,
-        SAME,
-        7,
-        SAME,
-        8,
-        SAME,
-        9,
-        SAME,
-        10,
-        SAME,
-        11,
-        SAME,
-        12,
-        SAME,
-        13,
-        SAME | LAST,
-    ];
-    let device = device_of(
+    let fourteen_tags = words_of(
         rt.alloc(),
-        1024,
-        17,
-        &[
-            (0, &superblock(17, 2, 1)),
-            (1, &fourteen_tags),
-            (16, &commit(2)),
-        ],
+        "c03b3998 1 2 0 0 aaaaaaaa aaaaaaaa aaaaaaaa aaaaaaaa \
+         1 2 2 2 3 2 4 2 5 2 6 2 7 2 8 2 9 2 a 2 b 2 c 2 d a",
     )?;
-    let text = printed(rt.alloc(), device)?;
+    let blocks: &[Placed<'_>] = &[
+        (0, &superblock(17, 2, 1)),
+        (1, &fourteen_tags),
+        (16, &commit(2)),
+    ];
     let expected = "super blocksize=1024 maxlen=17 first=1 sequence=2 start=1\n\
         1 descriptor 2 tags=14\n\
         2 copy 2 block=0\n\
@@ -351,64 +310,20 @@ fn a_full_ring(rt: HostRuntime) -> Result<(), Fail> {
         15 copy 2 block=13\n\
         16 commit 2\n\
         end sequence=3 transactions=1\n";
-    assert_eq!(rt; text.as_slice(), expected.as_bytes());
-    Ok(())
+    expect_dump(&rt, rt.alloc(), 17, blocks, expected)
 }
 
 #[test]
 fn more_copies_than_the_ring_has(rt: HostRuntime) -> Result<(), Fail> {
-    let sixteen_tags = [
-        MAGIC,
-        1,
-        2,
-        0,
-        0,
-        UUID,
-        UUID,
-        UUID,
-        UUID,
-        1,
-        SAME,
-        2,
-        SAME,
-        3,
-        SAME,
-        4,
-        SAME,
-        5,
-        SAME,
-        6,
-        SAME,
-        7,
-        SAME,
-        8,
-        SAME,
-        9,
-        SAME,
-        10,
-        SAME,
-        11,
-        SAME,
-        12,
-        SAME,
-        13,
-        SAME,
-        14,
-        SAME,
-        15,
-        SAME | LAST,
-    ];
-    let device = device_of(
+    let sixteen_tags = words_of(
         rt.alloc(),
-        1024,
-        17,
-        &[(0, &superblock(17, 2, 1)), (1, &sixteen_tags)],
+        "c03b3998 1 2 0 0 aaaaaaaa aaaaaaaa aaaaaaaa aaaaaaaa \
+         1 2 2 2 3 2 4 2 5 2 6 2 7 2 8 2 9 2 a 2 b 2 c 2 d 2 e 2 f a",
     )?;
-    let text = printed(rt.alloc(), device)?;
+    let blocks: &[Placed<'_>] = &[(0, &superblock(17, 2, 1)), (1, &sixteen_tags)];
     let expected = "super blocksize=1024 maxlen=17 first=1 sequence=2 start=1\n\
         end sequence=2 transactions=0\n";
-    assert_eq!(rt; text.as_slice(), expected.as_bytes());
-    Ok(())
+    expect_dump(&rt, rt.alloc(), 17, blocks, expected)
 }
 
 #[test]
@@ -424,69 +339,50 @@ fn damage_is_refused_before_a_byte_is_written(rt: HostRuntime) -> Result<(), Fai
         ("used bytes too many", 4, [MAGIC, 5, 3, 1028].as_slice()),
         ("in the first transaction", 1, [MAGIC, 5, 2, 15].as_slice()),
     ] {
-        let device = device_of(
-            rt.alloc(),
-            1024,
-            33,
-            &[
-                (0, &superblock(33, 2, 1)),
-                (1, &descriptor(2, 8, LAST)),
-                (3, &commit(2)),
-                (place, block),
-            ],
-        )?;
-        let (e, bytes) = refused(rt.alloc(), device);
-        assert_eq!(rt; e, Some(JournalError::Damage(place)), "{name}");
-        assert_eq!(rt; bytes, 0, "{name}");
+        let blocks: &[Placed<'_>] = &[
+            (0, &superblock(33, 2, 1)),
+            (1, &descriptor(2, 8, LAST)),
+            (3, &commit(2)),
+            (place, block),
+        ];
+        let expected = (name, JournalError::Damage(place));
+        expect_refusal(&rt, rt.alloc(), 33, blocks, expected)?;
     }
     Ok(())
 }
 
 #[test]
 fn damage_behind_pieces_over_the_end_of_the_ring(rt: HostRuntime) -> Result<(), Fail> {
-    let device = device_of(
-        rt.alloc(),
-        1024,
-        17,
-        &[
-            (0, &superblock(17, 2, 15)),
-            (15, &descriptor(2, 8, LAST)),
-            (1, &[MAGIC, 5, 2, 13]),
-        ],
-    )?;
-    let (e, bytes) = refused(rt.alloc(), device);
-    assert_eq!(rt; e, Some(JournalError::Damage(1)));
-    assert_eq!(rt; bytes, 0);
-    Ok(())
+    let blocks: &[Placed<'_>] = &[
+        (0, &superblock(17, 2, 15)),
+        (15, &descriptor(2, 8, LAST)),
+        (1, &[MAGIC, 5, 2, 13]),
+    ];
+    let expected = ("used bytes too few", JournalError::Damage(1));
+    expect_refusal(&rt, rt.alloc(), 17, blocks, expected)
 }
 
 #[test]
 fn each_refusal_of_a_superblock(rt: HostRuntime) -> Result<(), Fail> {
     let good = superblock(33, 1, 0);
     for (word, value, expected) in [
-        (0, 0xc03b_3999, JournalError::BadMagic),
-        (1, 3, JournalError::BadType),
-        (3, 2048, JournalError::BadBlockSize),
-        (4, 34, JournalError::BadLength),
-        (5, 18, JournalError::BadFirst),
-        (10, 3, JournalError::BadFeature),
-        (7, 33, JournalError::BadStart),
-        (8, 5, JournalError::ErrnoSet),
+        (0, 0xc03b_3999, ("magic", JournalError::BadMagic)),
+        (1, 3, ("type", JournalError::BadType)),
+        (3, 2048, ("block size", JournalError::BadBlockSize)),
+        (4, 34, ("length", JournalError::BadLength)),
+        (5, 18, ("first block", JournalError::BadFirst)),
+        (10, 3, ("features", JournalError::BadFeature)),
+        (7, 33, ("start", JournalError::BadStart)),
+        (8, 5, ("errno", JournalError::ErrnoSet)),
     ] {
         let mut words = good;
         if let Some(w) = words.get_mut(word) {
             *w = value;
         }
-        let device = device_of(rt.alloc(), 1024, 33, &[(0, &words)])?;
-        let (e, bytes) = refused(rt.alloc(), device);
-        assert_eq!(rt; e, Some(expected));
-        assert_eq!(rt; bytes, 0);
+        expect_refusal(&rt, rt.alloc(), 33, &[(0, &words)], expected)?;
     }
-    let none = device_of(rt.alloc(), 1024, 0, &[])?;
-    let (e, bytes) = refused(rt.alloc(), none);
-    assert_eq!(rt; e, Some(JournalError::BadLength));
-    assert_eq!(rt; bytes, 0);
-    Ok(())
+    let expected = ("no superblock", JournalError::BadLength);
+    expect_refusal(&rt, rt.alloc(), 0, &[], expected)
 }
 
 /// A device that counts how often each block of its log is read, and from read `fails_at` on fails. With 0 it never does.
@@ -577,21 +473,24 @@ fn no_block_is_read_more_than_twice_and_no_copy_at_all(rt: HostRuntime) -> Resul
         &device.counts[..12],
         [1, 2, 2, 2, 0, 0, 0, 2, 2, 1, 0, 0].as_slice()
     );
-    assert!(rt; device.counts[12..].iter().all(|count| *count == 0));
+    assert_eq!(rt; &device.counts[12..], [0; 28].as_slice());
+    Ok(())
+}
+
+/// A dump whose read `k` fails is refused. The first way of the log has seven reads, and no byte is written before.
+fn expect_failed_read(rt: &impl Abort, alloc: Global, k: u64) -> Result<(), Fail> {
+    let mut device = counted(alloc, k)?;
+    let mut out = Vec::new(alloc);
+    let refused = refusal(alloc, &mut device, &mut out);
+    assert_eq!(rt; refused, Some(JournalError::Device), "read {k}");
+    assert_eq!(rt; out.is_empty(), k <= 7, "read {k}");
     Ok(())
 }
 
 #[test]
 fn each_read_fails_in_turn(rt: HostRuntime) -> Result<(), Fail> {
     for k in 1..=12 {
-        let mut device = counted(rt.alloc(), k)?;
-        let mut out = Vec::new(rt.alloc());
-        let refused = match dump(rt.alloc(), &mut device, &mut out) {
-            Err(Fault::Refused(e)) => Some(e),
-            Err(Fault::Output(_)) | Ok(()) => None,
-        };
-        assert_eq!(rt; refused, Some(JournalError::Device), "read {k}");
-        assert_eq!(rt; out.is_empty(), k <= 7, "read {k}");
+        expect_failed_read(&rt, rt.alloc(), k)?;
     }
     let mut device = counted(rt.alloc(), 13)?;
     let mut out = Vec::new(rt.alloc());

@@ -2,7 +2,7 @@
 use crate::fault::Status;
 use crate::files::{make_device, open_home, open_log, open_or_make};
 use crate::logs::{dump, format};
-use crate::measures::{DEFAULTS, Measures};
+use bench_script::{DEFAULTS, Measures};
 use block_device::{Device, MemDevice};
 use std::alloc::Global;
 use std::process::Abort;

@@ -1,5 +1,5 @@
-use crate::measures::{DEFAULTS, Measures};
 use crate::words::{Words, parse};
+use bench_script::{DEFAULTS, Measures, Operation, read};
 use std::test::Fail;
 
 /// Words behind the program's name that are refused.
@@ -122,6 +122,41 @@ fn help_is_no_refusal(rt: HostRuntime) -> Result<(), Fail> {
             Ok(_) => panic!(rt; "{words:?} asks for help"),
             Err(e) => assert!(rt; !e.use_stderr(), "{words:?}"),
         }
+    }
+    Ok(())
+}
+
+/// A script with each operation that one may have.
+const EACH_OPERATION: &str = r#"{"ops": [
+    ["start",1,1],["write",1,9,"11"],["read",1,9],["stop",1],["request",1],["turn"],["commit"],["ckturn"],["check"],
+    ["status",1],["wait",1]]}"#;
+
+/// How the help of `run` begins the line of an operation.
+fn help_of(operation: &Operation) -> &'static str {
+    match operation {
+        Operation::Start(..) => "\n  [\"start\", H, n] ",
+        Operation::Write(..) => "\n  [\"write\", H, b, hex] ",
+        Operation::Read(..) => "\n  [\"read\", H, b] ",
+        Operation::Stop(_) => "\n  [\"stop\", H] ",
+        Operation::Request(_) => "\n  [\"request\", H] ",
+        Operation::Turn => "\n  [\"turn\"] ",
+        Operation::Commit => "\n  [\"commit\"] ",
+        Operation::CheckpointTurn => "\n  [\"ckturn\"] ",
+        Operation::Check => "\n  [\"check\"] ",
+        Operation::Status(_) => "\n  [\"status\", H] ",
+        Operation::Wait(_) => "\n  [\"wait\", H] ",
+    }
+}
+
+#[test]
+fn the_help_of_run_has_each_operation(rt: HostRuntime) -> Result<(), Fail> {
+    let words = ["jbench", "run", "--help"];
+    let help = match parse(rt.alloc(), &words) {
+        Ok(_) => panic!(rt; "these words ask for help"),
+        Err(e) => format!(in rt.alloc(); "{e}")?,
+    };
+    for operation in &read(rt.alloc(), EACH_OPERATION.as_bytes())?.operations {
+        assert!(rt; help.contains(help_of(operation)), "{operation}");
     }
     Ok(())
 }

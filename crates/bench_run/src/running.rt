@@ -1,0 +1,178 @@
+//! A script's operations over a device that stops, and then the verdict on what an opening gives back.
+ghost use Rattle.std.specs.Prelude.{◌≡◌, IfOk};
+ghost use Rattle.std.specs.BTreeSet.{keys};
+ghost use Rattle.journal_model.specs.declared.number.Area.TheVariants.{Home};
+ghost use Rattle.journal_model.specs.Disk.{reading};
+ghost use Rattle.journal_model.specs.Opening.{HasLimit, OpensAs};
+ghost use Rattle.block_device.specs.Memory.{state_of};
+ghost use Rattle.block_device.specs.State.{Stays};
+ghost use Rattle.bench_run.specs.Verdict.{IsVerdict};
+
+use crate::blocks::read_block;
+use crate::disk::empty_disk;
+use crate::interpreter::Interpreter;
+use crate::outcome::{Outcome, PRINTED_BYTES};
+use crate::verdict::Record;
+use bench_script::Script;
+use block_device::{Device, MemDevice};
+use journal_model::{Area, JournalError};
+use log_dump::{Fault, dump};
+use recovery::{Opened, open};
+use std::alloc::Global;
+use std::collections::BTreeSet;
+use std::io;
+use std::io::Write;
+
+/// What is left of a run when the device has stopped.
+#[derive(Drop)]
+pub struct Stopped {
+    /// The device, with its cache.
+    pub device: MemDevice,
+    /// What the run had recorded.
+    pub recorded: Record,
+    /// The write at which the device stopped, where it did before the end.
+    pub at_write: Option<u64>,
+}
+
+/// Runs a script over a device in memory, and prints a line for each operation, the dump of what the stop left, and the
+/// verdict on what an opening of that gives back, which is also the answer. The device stops at write `stop`, counted from 1
+/// once it is formatted and opened, or at the end. The image has of each block the greatest unflushed write that `keep`
+/// names, else what was flushed last.
+///
+/// # Errors
+///
+/// `Fault::Refused` where memory runs out, or what the stop left is refused; `Fault::Output` where the output can't be
+/// written. Some of the lines may have been written.
+pub fn run(
+    alloc: Global,
+    script: &Script,
+    stop: Option<u64>,
+    keep: &[u64],
+    out: &mut impl Write,
+) -> Result<bool, Fault> {
+    let named = script.named_blocks(alloc).map_err(JournalError::from)?;
+    let stopped = run_operations(alloc, script, stop, out)?;
+    judge(alloc, stopped, keep, &named, out)
+}
+
+/// Runs a script's operations over a device in memory that stops at write `stop`, or at the end, and prints a line for each.
+///
+/// # Errors
+///
+/// `Fault::Refused` where memory runs out; `Fault::Output` where the output can't be written. Some of the lines may have been
+/// written.
+pub fn run_operations(
+    alloc: Global,
+    script: &Script,
+    stop: Option<u64>,
+    out: &mut impl Write,
+) -> Result<Stopped, Fault> {
+    let disk = empty_disk(alloc, &script.measures, stop)?;
+    let mut interpreter = Interpreter::new(alloc, disk)?;
+    for operation in &script.operations {
+        let outcome = interpreter.perform(operation);
+        writeln!(out, "{operation} = {outcome}")?;
+        if outcome == Outcome::Refused(JournalError::Device) {
+            break;
+        }
+    }
+    let (parts, acknowledged) = interpreter.finish();
+    let at_write = if parts.device.is_stopped() {
+        stop
+    } else {
+        None
+    };
+    Ok(Stopped {
+        at_write,
+        device: parts.device.into_inner(),
+        recorded: Record {
+            sealed: parts.sealed,
+            acknowledged,
+        },
+    })
+}
+
+/// Crashes the device with the unflushed writes `keep` kept, dumps the image, opens it, and prints how the named blocks of
+/// home begin and the verdict on what the opening gave back, which is also the answer.
+///
+/// # Errors
+///
+/// `Fault::Refused` where memory runs out, the image is refused, or home lacks a named block; `Fault::Output` where the
+/// output can't be written. Some of the lines may have been written.
+pub fn judge(
+    alloc: Global,
+    stopped: Stopped,
+    keep: &[u64],
+    named: &BTreeSet<u64>,
+    out: &mut impl Write,
+) -> Result<bool, Fault>
+    ensures { IfOk result (IsVerdict stopped.device keep.now stopped.recorded.sealed.items stopped.recorded.acknowledged (keys named.now)) }
+{
+    let Stopped {
+        device,
+        recorded,
+        at_write,
+    } = stopped;
+    match at_write {
+        Some(k) => writeln!(out, "stopped {k}")?,
+        None => writeln!(out, "stopped at end")?,
+    }
+    let mut image = device.crash(keep);
+    dump(alloc, &mut image, out)?;
+    let opened = open_image(alloc, image)?;
+    let n = recorded.count_below(opened.report().ends_at);
+    write_opening(out, &opened, n)?;
+    let mut device = opened.into_device();
+    write_home(alloc, &mut device, named, out)?;
+    let verdict = recorded.judge(alloc, &mut device, named, n)?;
+    writeln!(out, "verdict {}", if verdict { "ok" } else { "false" })?;
+    Ok(verdict)
+}
+
+/// Opens what a crash left.
+fn open_image(alloc: Global, image: MemDevice) -> Result<Opened<MemDevice>, JournalError>
+    ensures limit { IfOk result (λ o. HasLimit image.shape (reading (state_of image).disk) o.ends_at) }
+    ensures opens { IfOk result (λ o. OpensAs image.shape (reading (state_of image).disk) (reading (state_of o.device).disk Home)) }
+    ensures shape { IfOk result (λ o. o.device.shape ≡ image.shape) }
+{
+    match open(alloc, image) {
+        Ok(opened) => Ok(opened),
+        Err((_, e)) => Err(e),
+    }
+}
+
+/// Prints what an opening found.
+fn write_opening<D: Device>(out: &mut impl Write, opened: &Opened<D>, n: usize) -> io::Result<()> {
+    let report = opened.report();
+    let next = opened.next().0;
+    if report.clean {
+        writeln!(out, "open clean next={next} n={n}")
+    } else {
+        writeln!(out, "open end={} next={next} n={n}", report.ends_at)
+    }
+}
+
+/// Prints how each named block begins.
+fn write_home<D: Device>(
+    alloc: Global,
+    device: &mut D,
+    named: &BTreeSet<u64>,
+    out: &mut impl Write,
+) -> Result<(), Fault>
+    ensures { Stays (D.state device.old) (D.state device.new) }
+{
+    for block in named {
+        let home = read_block(alloc, device, Area::Home, *block)?;
+        write_home_line(out, *block, home.bytes())?;
+    }
+    Ok(())
+}
+
+/// Prints how one block begins.
+fn write_home_line(out: &mut impl Write, block: u64, bytes: &[u8]) -> io::Result<()> {
+    write!(out, "home {block} ")?;
+    for byte in bytes.iter().take(PRINTED_BYTES) {
+        write!(out, "{byte:02x}")?;
+    }
+    writeln!(out)
+}

@@ -1,0 +1,18 @@
+//! Scripts of journal operations, and the measures of the device that a script runs on.
+//!
+//! `reading` makes a script of the bytes of its file, `order` tests whether its operations name handles in the right state,
+//! and `script` says what it then is. Nothing runs here. `docs/FORMATS.md` has the form of a script.
+#![tactic(auto)]
+
+mod error;
+mod measures;
+mod order;
+mod reading;
+mod script;
+#[cfg(test)]
+mod tests;
+
+pub use error::ScriptError;
+pub use measures::{DEFAULTS, HOMES, LENGTHS, Measures, is_block_size, uuid_of};
+pub use reading::read;
+pub use script::{HANDLE_NAMES, HandleName, MOST_OPERATIONS, Operation, Script};

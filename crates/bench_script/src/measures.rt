@@ -1,0 +1,49 @@
+//! The measures of a device, as a script's keys or words give them, and their limits.
+ghost use Rattle.std.specs.Prelude.{◌↔◌, IsTrue};
+ghost use Rattle.log_format.specs.Size.{IsBlockSize};
+
+use hex::FromHexError;
+use std::alloc::{AllocError, Global};
+
+/// The measures of a device, and the UUID of its journal.
+#[derive(Clone, Copy, Debug, PartialEq, Eq)]
+pub struct Measures {
+    /// Bytes of a block: 1024, 2048 or 4096.
+    pub block_size: usize,
+    /// Blocks of the log, 17 to 1,048,576.
+    pub log_blocks: u32,
+    /// Blocks of the home area, 1 to 1,048,576.
+    pub home_blocks: u64,
+    /// The journal's UUID.
+    pub uuid: [u8; 16],
+}
+
+/// The fewest and the most blocks of a log.
+pub const LENGTHS: (u32, u32) = (17, 1_048_576);
+
+/// The fewest and the most blocks of a home area.
+pub const HOMES: (u32, u32) = (1, 1_048_576);
+
+/// The measures of a script or of words that give none.
+pub const DEFAULTS: Measures = Measures {
+    block_size: 1024,
+    log_blocks: 33,
+    home_blocks: 64,
+    uuid: [0xaa; 16],
+};
+
+/// Whether a block may have so many bytes.
+pub fn is_block_size(bytes: u64) -> bool
+    ensures { IsTrue result ↔ IsBlockSize bytes }
+{
+    bytes == 1024 || bytes == 2048 || bytes == 4096
+}
+
+/// The UUID that 32 hex digits give, or `None` where the text is another. It fails where memory runs out.
+pub fn uuid_of(alloc: Global, digits: &str) -> Result<Option<[u8; 16]>, AllocError> {
+    match hex::decode(alloc, digits) {
+        Ok(bytes) => Ok(<[u8; 16]>::try_from(bytes.as_slice()).ok()),
+        Err(FromHexError::OutOfMemory) => Err(AllocError),
+        Err(_) => Ok(None),
+    }
+}

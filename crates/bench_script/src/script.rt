@@ -1,0 +1,148 @@
+//! What a script is: its operations, and the line that each begins.
+ghost use Rattle.std.specs.Prelude.{ℕ, ◌≡◌, ◌<◌, ◌↔◌, IfSome, IsSome};
+
+use crate::measures::Measures;
+use journal_model::BlockNo;
+use std::alloc::{AllocError, Global};
+use std::collections::BTreeSet;
+use std::fmt;
+use std::marker::Model;
+
+/// The most operations of a script.
+pub const MOST_OPERATIONS: usize = 100_000;
+
+/// How many names of handles there are.
+pub const HANDLE_NAMES: u16 = 10_000;
+
+/// A script's own name of a handle, 0 to 9999.
+#[derive(Clone, Copy, Debug, PartialEq, Eq)]
+pub struct HandleName(u16);
+
+impl Model for HandleName {
+    ghost Value = { ℕ };
+
+    ghost view = { λ h. h.0 };
+
+    ghost inverse = { λ n. record { 0 = n } };
+}
+
+/// One operation of a script.
+#[derive(Debug, Drop)]
+pub enum Operation {
+    /// Starts a handle with this many credits.
+    Start(HandleName, u64),
+    /// Writes a home block: these bytes, and zeros behind them.
+    Write(HandleName, BlockNo, Vec<u8>),
+    /// Reads a home block, as its handle's transaction sees it.
+    Read(HandleName, BlockNo),
+    /// Stops a handle.
+    Stop(HandleName),
+    /// Asks for the commit of a stopped handle's transaction.
+    Request(HandleName),
+    /// Takes one commit turn.
+    Turn,
+    /// Takes commit turns until nothing is left to do.
+    Commit,
+    /// Takes one checkpoint turn.
+    CheckpointTurn,
+    /// Takes checkpoint turns until every committed transaction is released.
+    Check,
+    /// Asks whether a stopped handle's transaction is committed.
+    Status(HandleName),
+    /// Takes a stopped handle's receipt, where its transaction is committed.
+    Wait(HandleName),
+}
+
+/// A script whose operations all have a right form, and name handles in the right state.
+#[derive(Debug, Drop)]
+pub struct Script {
+    /// The measures of its device.
+    pub measures: Measures,
+    /// Its operations, in order.
+    pub operations: Vec<Operation>,
+}
+
+impl HandleName {
+    /// The name with this number, if there is one.
+    pub fn new(number: u64) -> Option<HandleName>
+        ensures name { IfSome result (λ name. name ≡ number) }
+        ensures found { IsSome result ↔ (number < 10_000) }
+    {
+        match u16::try_from(number) {
+            Ok(small) if small < HANDLE_NAMES => Some(HandleName(small)),
+            _ => None,
+        }
+    }
+
+    /// Its number, below `HANDLE_NAMES`.
+    pub fn index(self) -> usize
+        ensures { result ≡ self }
+    {
+        usize::from(self.0)
+    }
+}
+
+impl Operation {
+    /// The handle that it names.
+    pub fn handle(&self) -> Option<HandleName> {
+        match self {
+            Operation::Start(handle, _)
+            | Operation::Write(handle, _, _)
+            | Operation::Read(handle, _)
+            | Operation::Stop(handle)
+            | Operation::Request(handle)
+            | Operation::Status(handle)
+            | Operation::Wait(handle) => Some(*handle),
+            Operation::Turn | Operation::Commit | Operation::CheckpointTurn | Operation::Check =>
+                None,
+        }
+    }
+
+    /// The home block that it names.
+    pub fn block(&self) -> Option<BlockNo> {
+        match self {
+            Operation::Write(_, block, _) | Operation::Read(_, block) => Some(*block),
+            _ => None,
+        }
+    }
+}
+
+impl Script {
+    /// The home blocks that its operations name, whether these will run or not.
+    pub fn named_blocks(&self, alloc: Global) -> Result<BTreeSet<u64>, AllocError> {
+        let mut named = BTreeSet::new(alloc);
+        for operation in &self.operations {
+            if let Some(BlockNo(block)) = operation.block()
+                && block < self.measures.home_blocks
+            {
+                named.insert(block)?;
+            }
+        }
+        Ok(named)
+    }
+}
+
+impl fmt::Display for HandleName {
+    fn fmt<W: fmt::Write>(&self, f: &mut fmt::Formatter<W>) -> fmt::Result {
+        write!(f, "{}", self.0)
+    }
+}
+
+/// The left side of an operation's line.
+impl fmt::Display for Operation {
+    fn fmt<W: fmt::Write>(&self, f: &mut fmt::Formatter<W>) -> fmt::Result {
+        match self {
+            Operation::Start(handle, credits) => write!(f, "start {handle} {credits}"),
+            Operation::Write(handle, block, _) => write!(f, "write {handle} {}", block.0),
+            Operation::Read(handle, block) => write!(f, "read {handle} {}", block.0),
+            Operation::Stop(handle) => write!(f, "stop {handle}"),
+            Operation::Request(handle) => write!(f, "request {handle}"),
+            Operation::Turn => f.write_str("turn"),
+            Operation::Commit => f.write_str("commit"),
+            Operation::CheckpointTurn => f.write_str("ckturn"),
+            Operation::Check => f.write_str("check"),
+            Operation::Status(handle) => write!(f, "status {handle}"),
+            Operation::Wait(handle) => write!(f, "wait {handle}"),
+        }
+    }
+}

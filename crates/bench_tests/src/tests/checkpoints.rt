@@ -1,0 +1,324 @@
+//! Runs with checkpoint rounds: the ring is used lap after lap, and reads see the newest copies. The expected lines of the
+//! longer ones were made by another program, written from the format alone.
+ghost use Rattle.std.specs.Prelude.{◌<◌};
+
+use super::{prints, said_of};
+use std::alloc::{AllocError, Global};
+use std::fmt::Write;
+use std::str::from_utf8;
+use std::test::Fail;
+
+/// A transaction with one write of block 5, which ends with its request, for each number from `first` to `last`. Handle i
+/// writes i + 1, the number of its transaction.
+fn transactions(script: &mut String, first: u8, last: u8) -> Result<(), AllocError>
+    requires { last < 255 }
+{
+    for i in first..=last {
+        let tid = i + 1;
+        write!(
+            script,
+            r#"["start",{i},1],["write",{i},5,"{tid:02x}"],["stop",{i}],["request",{i}],["commit"],"#
+        )?;
+    }
+    Ok(())
+}
+
+/// Their lines.
+fn lines(text: &mut String, first: u8, last: u8) -> Result<(), AllocError>
+    requires { last < 255 }
+{
+    for i in first..=last {
+        let tid = i + 1;
+        write!(
+            text,
+            "start {i} 1 = {tid}\nwrite {i} 5 = ok\nstop {i} = {tid}\nrequest {i} = ok\ncommit = {tid}\n"
+        )?;
+    }
+    Ok(())
+}
+
+/// Ten transactions fill the ring. A round frees it, and the eleventh wraps to the first ring block.
+#[test]
+fn a_round_frees_a_full_ring(rt: HostRuntime) -> Result<(), Fail> {
+    let alloc = rt.alloc();
+    let mut script = String::from_str(alloc, r#"{"ops": ["#)?;
+    transactions(&mut script, 1, 11)?;
+    script.push_str(r#"["check"],["commit"]]}"#)?;
+    let mut wanted = String::new(alloc);
+    lines(&mut wanted, 1, 10)?;
+    wanted.push_str(
+        "\
+start 11 1 = 12
+write 11 5 = ok
+stop 11 = 12
+request 11 = ok
+commit = refused 11 NeedSpace
+check = idle
+commit = 12
+stopped at end
+super blocksize=1024 maxlen=33 first=1 sequence=12 start=31
+31 descriptor 12 tags=1
+32 copy 12 block=5
+1 commit 12
+end sequence=13 transactions=1
+open end=13 next=14 n=11
+home 5 0c00000000000000
+verdict ok
+",
+    )?;
+    prints(&rt, alloc, &script, None, &[], &wanted)
+}
+
+/// The commit block of an earlier lap does not end a transaction of this one.
+#[test]
+fn a_stale_commit_block_ends_nothing(rt: HostRuntime) -> Result<(), Fail> {
+    let alloc = rt.alloc();
+    let mut script = String::from_str(alloc, r#"{"ops": ["#)?;
+    transactions(&mut script, 1, 10)?;
+    script.push_str(
+        r#"["check"],
+    ["start",11,3],["write",11,6,"06"],["write",11,7,"07"],["write",11,8,"08"],["stop",11],["request",11],["commit"],
+    ["start",12,1],["write",12,5,"0d"],["stop",12],["request",12],["commit"]]}"#,
+    )?;
+    let mut wanted = String::new(alloc);
+    lines(&mut wanted, 1, 10)?;
+    wanted.push_str(
+        "\
+check = idle
+start 11 3 = 12
+write 11 6 = ok
+write 11 7 = ok
+write 11 8 = ok
+stop 11 = 12
+request 11 = ok
+commit = 12
+start 12 1 = 13
+write 12 5 = ok
+stop 12 = 13
+request 12 = ok
+commit = refused 2 Device
+stopped 41
+super blocksize=1024 maxlen=33 first=1 sequence=12 start=31
+31 descriptor 12 tags=3
+32 copy 12 block=6
+1 copy 12 block=7
+2 copy 12 block=8
+3 commit 12
+end sequence=13 transactions=1
+open end=13 next=14 n=11
+home 5 0b00000000000000
+home 6 0600000000000000
+home 7 0700000000000000
+home 8 0800000000000000
+verdict ok
+",
+    )?;
+    prints(&rt, alloc, &script, Some(41), &[], &wanted)
+}
+
+/// 33 transactions with rounds behind the tenth, twentieth and thirtieth make 106 writes. A device that stops at any of them
+/// leaves what opens right.
+#[test]
+fn a_stop_at_each_write_of_three_laps(rt: HostRuntime) -> Result<(), Fail> {
+    let alloc = rt.alloc();
+    let mut script = String::from_str(alloc, r#"{"ops": ["#)?;
+    transactions(&mut script, 1, 10)?;
+    script.push_str(r#"["check"],"#)?;
+    transactions(&mut script, 11, 20)?;
+    script.push_str(r#"["check"],"#)?;
+    transactions(&mut script, 21, 30)?;
+    script.push_str(r#"["check"],"#)?;
+    transactions(&mut script, 31, 33)?;
+    script.push_str(r#"["status",33]]}"#)?;
+    for k in 1..107u64 {
+        for keep in [&[][..], &[k], &[k - 1]] {
+            let said = said_of(alloc, &script, Some(k), keep)?;
+            assert!(&rt; said.verdict);
+            let stopped = format!(in alloc; "\nstopped {k}\n")?;
+            assert!(&rt; from_utf8(&said.out)?.contains(stopped.as_str()));
+        }
+    }
+    let said = said_of(alloc, &script, Some(107), &[])?;
+    assert!(&rt; said.verdict);
+    assert!(&rt; from_utf8(&said.out)?.contains("\nstatus 33 = committed\nstopped at end\n"));
+    Ok(())
+}
+
+/// A round releases what was committed when it began, whatever is committed between its steps.
+#[test]
+fn commits_between_the_steps_of_a_round(rt: HostRuntime) -> Result<(), Fail> {
+    let script = r#"{"ops": [
+    ["start",1,2],["write",1,5,"01"],["write",1,3,"02"],["stop",1],["request",1],["commit"],
+    ["start",2,1],["write",2,9,"03"],["stop",2],["request",2],["commit"],["ckturn"],["start",3,2],
+    ["write",3,9,"04"],["write",3,7,"05"],["stop",3],["request",3],["commit"],["ckturn"],
+    ["start",4,1],["write",4,5,"06"],["stop",4],["request",4],["commit"],["ckturn"],["ckturn"],
+    ["ckturn"],["ckturn"],["ckturn"],["check"]]}"#;
+    let wanted = "\
+start 1 2 = 2
+write 1 5 = ok
+write 1 3 = ok
+stop 1 = 2
+request 1 = ok
+commit = 2
+start 2 1 = 3
+write 2 9 = ok
+stop 2 = 3
+request 2 = ok
+commit = 3
+ckturn = step
+start 3 2 = 4
+write 3 9 = ok
+write 3 7 = ok
+stop 3 = 4
+request 3 = ok
+commit = 4
+ckturn = step
+start 4 1 = 5
+write 4 5 = ok
+stop 4 = 5
+request 4 = ok
+commit = 5
+ckturn = step
+ckturn = step
+ckturn = released 3
+ckturn = step
+ckturn = step
+check = idle
+stopped at end
+super blocksize=1024 maxlen=33 first=1 sequence=6 start=15
+end sequence=6 transactions=0
+open end=6 next=7 n=4
+home 3 0200000000000000
+home 5 0600000000000000
+home 7 0500000000000000
+home 9 0400000000000000
+verdict ok
+";
+    prints(&rt, rt.alloc(), script, None, &[], wanted)
+}
+
+/// A copy that is replaced before its turn is written home by the next round alone, as the newer one.
+#[test]
+fn a_pending_copy_is_replaced_during_a_round(rt: HostRuntime) -> Result<(), Fail> {
+    let script = r#"{"ops": [
+    ["start",1,2],["write",1,4,"01"],["write",1,6,"02"],["stop",1],["request",1],["commit"],
+    ["ckturn"],["start",2,1],["write",2,6,"03"],["stop",2],["request",2],["commit"],["ckturn"],
+    ["ckturn"],["ckturn"],["ckturn"],["ckturn"],["ckturn"],["ckturn"],["ckturn"]]}"#;
+    let wanted = "\
+start 1 2 = 2
+write 1 4 = ok
+write 1 6 = ok
+stop 1 = 2
+request 1 = ok
+commit = 2
+ckturn = step
+start 2 1 = 3
+write 2 6 = ok
+stop 2 = 3
+request 2 = ok
+commit = 3
+ckturn = step
+ckturn = step
+ckturn = released 2
+ckturn = step
+ckturn = step
+ckturn = step
+ckturn = released 3
+ckturn = idle
+stopped at end
+super blocksize=1024 maxlen=33 first=1 sequence=4 start=8
+end sequence=4 transactions=0
+open end=4 next=5 n=2
+home 4 0100000000000000
+home 6 0300000000000000
+verdict ok
+";
+    prints(&rt, rt.alloc(), script, None, &[], wanted)
+}
+
+/// A round releases nothing of the transaction that is being committed when it begins.
+#[test]
+fn a_round_begins_while_a_transaction_commits(rt: HostRuntime) -> Result<(), Fail> {
+    let script = r#"{"ops": [
+    ["start",1,1],["write",1,4,"01"],["stop",1],["request",1],["commit"],["start",2,1],
+    ["write",2,4,"02"],["stop",2],["request",2],["turn"],["turn"],["ckturn"],["turn"],["ckturn"],
+    ["turn"],["ckturn"],["turn"],["ckturn"],["turn"],["ckturn"],["turn"],["ckturn"],["ckturn"],
+    ["ckturn"],["ckturn"]]}"#;
+    let wanted = "\
+start 1 1 = 2
+write 1 4 = ok
+stop 1 = 2
+request 1 = ok
+commit = 2
+start 2 1 = 3
+write 2 4 = ok
+stop 2 = 3
+request 2 = ok
+turn = sealed 3
+turn = step
+ckturn = step
+turn = step
+ckturn = step
+turn = step
+ckturn = step
+turn = step
+ckturn = released 2
+turn = committed 3
+ckturn = step
+turn = idle
+ckturn = step
+ckturn = step
+ckturn = released 3
+ckturn = idle
+stopped at end
+super blocksize=1024 maxlen=33 first=1 sequence=4 start=7
+end sequence=4 transactions=0
+open end=4 next=5 n=2
+home 4 0200000000000000
+verdict ok
+";
+    prints(&rt, rt.alloc(), script, None, &[], wanted)
+}
+
+/// A read sees the running transaction, then the one that is being committed, then pending copies, then home.
+#[test]
+fn reads_see_the_newest_copy(rt: HostRuntime) -> Result<(), Fail> {
+    let script = r#"{"ops": [
+    ["start",1,2],["read",1,5],["write",1,5,"01"],["read",1,5],["write",1,6,"c03b3998"],["stop",1],
+    ["request",1],["turn"],["turn"],["start",2,1],["read",2,5],["read",2,6],["stop",2],["commit"],
+    ["start",3,1],["read",3,5],["check"],["read",3,5],["read",3,6],["read",3,7],["read",3,64],
+    ["stop",3]]}"#;
+    let wanted = "\
+start 1 2 = 2
+read 1 5 = 0000000000000000
+write 1 5 = ok
+read 1 5 = 0100000000000000
+write 1 6 = ok
+stop 1 = 2
+request 1 = ok
+turn = sealed 2
+turn = step
+start 2 1 = 3
+read 2 5 = 0100000000000000
+read 2 6 = c03b399800000000
+stop 2 = 3
+commit = 2
+start 3 1 = 3
+read 3 5 = 0100000000000000
+check = idle
+read 3 5 = 0100000000000000
+read 3 6 = c03b399800000000
+read 3 7 = 0000000000000000
+read 3 64 = refused 8 BadBlock
+stop 3 = 3
+stopped at end
+super blocksize=1024 maxlen=33 first=1 sequence=3 start=5
+end sequence=3 transactions=0
+open end=3 next=4 n=1
+home 5 0100000000000000
+home 6 c03b399800000000
+home 7 0000000000000000
+verdict ok
+";
+    prints(&rt, rt.alloc(), script, None, &[], wanted)
+}

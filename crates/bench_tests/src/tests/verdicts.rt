@@ -1,0 +1,67 @@
+use bench_run::Record;
+use block_device::{Device, MemDevice};
+use journal_model::{Area, Block, BlockNo, HandleNo, Items, Op, Sealed, Step, Tid};
+use std::alloc::{AllocError, Global};
+use std::collections::BTreeSet;
+use std::test::Fail;
+
+const SIZE: usize = 16;
+
+/// The transaction of this number, in which block 3 becomes these bytes.
+fn transaction(alloc: Global, tid: u32, byte: u8) -> Result<Sealed, AllocError> {
+    let mut steps = Items::new(alloc);
+    steps.push(Step {
+        handle: HandleNo(1),
+        block: BlockNo(3),
+        op: Op::Write(Block::copy_of(alloc, &[byte; SIZE])?),
+    })?;
+    Ok(Sealed {
+        tid: Tid(tid),
+        handles: Items::new(alloc),
+        steps,
+    })
+}
+
+#[test]
+fn a_verdict_can_be_false(rt: HostRuntime) -> Result<(), Fail> {
+    // The greatest transaction that was shown committed, the end that an opening found, what block 3 and block 4 then read,
+    // how many recorded transactions are below that end, and the verdict.
+    let table = [
+        (None, 2, 0, 0, 0, true),
+        (None, 3, 7, 0, 1, true),
+        (None, 4, 8, 0, 2, true),
+        (Some(2), 3, 7, 0, 1, true),
+        (Some(3), 4, 8, 0, 2, true),
+        (Some(3), 9, 8, 0, 2, true),
+        // An acknowledged transaction is lost.
+        (Some(2), 2, 0, 0, 0, false),
+        (Some(3), 3, 7, 0, 1, false),
+        // A block is not as they left it.
+        (None, 3, 8, 0, 1, false),
+        (None, 4, 7, 0, 2, false),
+        (None, 4, 0, 0, 2, false),
+        (None, 2, 7, 0, 0, false),
+        // A block that none of them touched is not zeros.
+        (None, 4, 8, 1, 2, false),
+    ];
+    let alloc = rt.alloc();
+    for (i, (acknowledged, end, third, fourth, n, verdict)) in table.iter().enumerate() {
+        let mut sealed = Vec::new(alloc);
+        sealed.push(transaction(alloc, 2, 7)?)?;
+        sealed.push(transaction(alloc, 3, 8)?)?;
+        let record = Record {
+            sealed,
+            acknowledged: acknowledged.map(|tid| Tid(tid)),
+        };
+        let mut named = BTreeSet::new(alloc);
+        named.insert(3)?;
+        named.insert(4)?;
+        let mut device = MemDevice::new(alloc, SIZE, 4, 5);
+        device.write(Area::Home, 3, &[*third; SIZE])?;
+        device.write(Area::Home, 4, &[*fourth; SIZE])?;
+        assert_eq!(rt; record.count_below(*end), *n, "row {i}");
+        let judged = record.judge(alloc, &mut device, &named, *n)?;
+        assert_eq!(rt; judged, *verdict, "row {i}");
+    }
+    Ok(())
+}

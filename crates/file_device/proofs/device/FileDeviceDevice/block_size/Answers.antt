@@ -1,0 +1,12 @@
+use Rattle.std.proofs.Common.{subst}
+use Rattle.block_device.specs.State.{HoldsWholeBlocks}
+use Rattle.file_device.specs.NotedFiles.{calls_of}
+use Rattle.file_device.specs.Files.{FileState, file_state}
+use Rattle.file_device.proofs.FileBlocks.{whole_calls}
+use Rattle.file_device.proofs.device.FileDeviceDevice.block_size.Goals as goal
+
+pub returns-clause-whole : goal.returns-clause-whole
+returns-clause-whole g c =
+    let d = c.self.inside in
+    let Whole : FileState → Type 0 = λ s. HoldsWholeBlocks (file_state g.C.Contents.contents s) in
+    subst Whole c.self.view_is (λ a n v below one. whole_calls g.C.Contents.contents d.size (calls_of d.files) c.self.invariant.whole a n v one)

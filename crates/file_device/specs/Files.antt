@@ -1,0 +1,133 @@
+-- A device over files: what its calls make of the disk, and when their answers agree with it. This project's own.
+use Rattle.std.specs.Prelude.{◌≡◌, ℕ, ◌-◌, ◌/◌, ◌<◌, Bool, true, false, if◌then◌else◌, List, [], ◌∷◌, ◌++◌, length, map, take, replicate, Option, Result, IsErr, ⊤}
+use Rattle.std.specs.List.{AllByRecursion}
+use Rattle.std.specs.declared.fs.File.{File}
+use Rattle.journal_model.specs.declared.number.Area.{Area}
+use Rattle.journal_model.specs.declared.number.Area.TheVariants.{Log, Home}
+use Rattle.journal_model.specs.Disk.{Disk, Cell, written, handed_over, flushed}
+use Rattle.journal_model.specs.Superblock.{Shape}
+use Rattle.block_device.specs.State.{DeviceState, one_more_fault}
+use Rattle.file_device.specs.Calls.{FileCall, Measured, Read, ReadFailed, Wrote, WriteFailed, Synced, SyncFailed}
+
+-- what is supposed of the files of one device
+pub record FileContents : Type 0 where
+  pub first : Disk  -- what they hold when the device is made: what a read gives, and what else a crash may leave
+  pub failed_write_reads : Bool  -- whether the bytes of a write that failed are read from then on
+
+-- a device over files
+pub record FileState : Type 0 where
+  pub block_size : ℕ
+  pub log_file : File
+  pub home_file : Option File
+  pub log_bytes : ℕ  -- the lengths of the files when the device was made; 0 where there is no home file
+  pub home_bytes : ℕ
+  pub calls : List FileCall  -- newest first
+  pub has_failed : Bool  -- a write or a flush has failed
+  pub faults : ℕ
+
+-- a value of a block, cut or filled up with zeros to the size of one
+abbrev pub fitted : ℕ → List ℕ → List ℕ
+fitted size v = take size (v ++ replicate (size - length v) 0)
+
+abbrev pub fitted_cell : ℕ → Cell → Cell
+fitted_cell size c = record { reads = fitted size c.reads; others = map (fitted size) c.others }
+
+-- the disk at one moment, and the disks before, newest first
+pub record FileMoments : Type 0 where
+  pub disk : Disk
+  pub past : List Disk
+
+-- the disk is another from now on
+abbrev pub moved : FileMoments → Disk → FileMoments
+moved m disk = record { disk = disk; past = m.disk ∷ m.past }
+
+-- what a call makes of the disk: the block of a place is the number of whole blocks before it
+abbrev pub after_call : FileContents → ℕ → FileMoments → FileCall → FileMoments
+after_call contents size m (Measured area length) = m
+after_call contents size m (Read area at bytes) = m
+after_call contents size m (ReadFailed area at) = m
+after_call contents size m (Wrote area at bytes) = moved m (written m.disk area (at / size) bytes)
+after_call contents size m (WriteFailed area at bytes) =
+    moved m (if contents.failed_write_reads then written m.disk area (at / size) bytes else handed_over m.disk area (at / size) bytes)
+after_call contents size m (Synced area) = moved m (flushed m.disk area)
+after_call contents size m (SyncFailed area) = m
+
+-- what calls make of the first contents
+abbrev pub after_calls : FileContents → ℕ → List FileCall → FileMoments
+after_calls contents size [] = record { disk = λ a n. fitted_cell size (contents.first a n); past = [] }
+after_calls contents size (call ∷ earlier) = after_call contents size (after_calls contents size earlier) call
+
+-- a read gave what the disk reads; no other call's answer says what a file has
+abbrev pub Agrees : ℕ → FileMoments → FileCall → Type 0
+Agrees size m (Measured area length) = ⊤
+Agrees size m (Read area at bytes) = bytes ≡ (m.disk area (at / size)).reads
+Agrees size m (ReadFailed area at) = ⊤
+Agrees size m (Wrote area at bytes) = ⊤
+Agrees size m (WriteFailed area at bytes) = ⊤
+Agrees size m (Synced area) = ⊤
+Agrees size m (SyncFailed area) = ⊤
+
+-- each read gave what the disk read at that moment
+abbrev pub AgreesEach : FileContents → ℕ → List FileCall → Type 0
+AgreesEach contents size [] = ⊤
+AgreesEach contents size (call ∷ earlier) = Agrees size (after_calls contents size earlier) call × AgreesEach contents size earlier
+
+-- how long the file of an area was
+abbrev pub bytes_in : FileState → Area → ℕ
+bytes_in s Log = s.log_bytes
+bytes_in s Home = s.home_bytes
+
+-- an area has the whole blocks of its file
+abbrev pub file_shape : FileState → Shape
+file_shape s = record { block_size = s.block_size; log_blocks = s.log_bytes / s.block_size; home_blocks = s.home_bytes / s.block_size }
+
+-- the device as contracts see it
+abbrev pub file_state : FileContents → FileState → DeviceState
+file_state contents s =
+    let m = after_calls contents s.block_size s.calls in
+    record { shape = file_shape s; disk = m.disk; past = m.past; faults = s.faults }
+
+-- the premise: nobody else wrote the files, and they gave what they had
+abbrev pub HasAgreed : FileContents → FileState → Type 0
+HasAgreed contents s = AgreesEach contents s.block_size s.calls
+
+-- the bytes that a call handed over fill a block
+abbrev pub HandsBlock : ℕ → FileCall → Type 0
+HandsBlock size (Measured area length) = ⊤
+HandsBlock size (Read area at bytes) = ⊤
+HandsBlock size (ReadFailed area at) = ⊤
+HandsBlock size (Wrote area at bytes) = length bytes ≡ size
+HandsBlock size (WriteFailed area at bytes) = length bytes ≡ size
+HandsBlock size (Synced area) = ⊤
+HandsBlock size (SyncFailed area) = ⊤
+
+-- what a device over files keeps true: blocks have a byte at least, and each write was of a whole block
+pub record KeepsBlocks (size : ℕ) (calls : List FileCall) : Type 0 where
+  pub some : 0 < size
+  pub whole : AllByRecursion (HandsBlock size) calls
+
+-- a device that was just made: both files were measured
+abbrev pub new_device : ℕ → File → Option File → ℕ → ℕ → FileState
+new_device size log home log_bytes home_bytes =
+    record {
+      block_size = size;
+      log_file = log;
+      home_file = home;
+      log_bytes = log_bytes;
+      home_bytes = home_bytes;
+      calls = Measured Home home_bytes ∷ Measured Log log_bytes ∷ [];
+      has_failed = false;
+      faults = 0;
+    }
+
+-- the device after one more call of the system
+abbrev pub asked : FileState → FileCall → FileState
+asked s call = record s { calls = call ∷ s.calls }
+
+-- the device after a write or a flush that failed, the last that it tried
+abbrev pub failed_for_good : FileState → FileCall → FileState
+failed_for_good s call = record s { calls = call ∷ s.calls; has_failed = true; faults = one_more_fault s.faults }
+
+-- once a write or a flush has failed, a call answers a fault, and only the count of failures has changed
+abbrev pub IsRefused : {T E : Type 0} → Result T E → FileState → FileState → Type 0
+IsRefused result old new = old.has_failed ≡ true → IsErr result × (new ≡ record old { faults = one_more_fault old.faults })

@@ -1,0 +1,4 @@
+pub mod Calls
+pub mod Notes
+pub mod Files
+pub mod NotedFiles

@@ -1,0 +1,20 @@
+-- The files of a device, and what was asked of them.
+use Rattle.std.specs.Prelude.{List, ◌∷◌, Option, Some}
+use Rattle.std.specs.declared.fs.File.{File}
+use Rattle.journal_model.specs.declared.number.Area.{Area}
+use Rattle.journal_model.specs.declared.number.Area.TheVariants.{Log, Home}
+use Rattle.file_device.specs.Calls.{FileCall}
+use Rattle.file_device.specs.declared.calls.NotedFiles.{NotedFiles}
+
+-- the calls so far, the newest first
+abbrev pub calls_of : NotedFiles → List FileCall
+calls_of files = files.history.calls
+
+-- the file of an area, if it has one
+abbrev pub file_of : NotedFiles → Area → Option File
+file_of files Log = Some files.log
+file_of files Home = files.home
+
+-- the same files after one more call
+abbrev pub with_call : NotedFiles → FileCall → NotedFiles
+with_call files call = record files { history = record { calls = call ∷ files.history.calls } }

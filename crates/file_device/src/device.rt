@@ -1,0 +1,244 @@
+//! A device over files, and what is supposed of them.
+//!
+//! What contracts see of it is replayed from the calls that it made on its files and what these answered, a list that
+//! stands in proofs alone (`FileState`, in `specs/Files.antt`). So the clauses on the disk speak of real files under
+//! premises that no proof here shows:
+//!
+//! - Each function of `calls` makes the call that it notes, on that file, and notes what it answered. One that noted
+//!   a sync without a sync, or a read with bytes of its own, would prove as well.
+//! - A file gives back what it took, and nobody else writes it while the device is there. Where a read shows that it was
+//!   otherwise, `honest` is lost, and with it the clause on the bytes that reads hand out; all other clauses stand.
+//! - A sync that answers Ok has made durable all that the file took, and what it gave.
+//! - A stop leaves each block whole, as it was before a write or after it.
+//! - A value of a `Contents` type stands for one pair of files.
+ghost use Rattle.std.specs.Prelude.{◌≡◌, ◌<◌, ◌*◌, ◌/◌, ◌↔◌, false, true, IsOk, OnOk, OnErr};
+ghost use Rattle.block_device.specs.State.{one_more_fault};
+ghost use Rattle.file_device.specs.Files.{FileContents};
+
+use crate::calls::NotedFiles;
+use block_device::{Device, DeviceFault};
+use journal_model::Area;
+use std::fs::File;
+use std::io;
+use std::marker::{Model, PhantomData};
+
+/// What is supposed of the files of one device. No code can read it: a function over any `C: Contents` is proved for
+/// whatever the files may hold, and for either course of a failed write.
+pub trait Contents: Drop {
+    /// What the files hold when the device is made, with all that a crash may leave in its place, since writes of an
+    /// earlier process may be unsynced; and whether the bytes of a write that failed are read from then on.
+    ghost contents: { FileContents };
+}
+
+/// For a program to name where it makes a device over files. A clause that is stated at this very type says nothing of
+/// files that hold anything, so code with such clauses takes any `C: Contents`.
+#[derive(Drop)]
+pub struct UnknownContents;
+
+impl Contents for UnknownContents {
+    ghost use Rattle.std.specs.Prelude.{false, []};
+
+    ghost contents = { record { first = λ _ _. record { reads = []; others = [] }; failed_write_reads = false } };
+}
+
+/// A device over a log file and a home file, or over a log file alone: its home area then has no block.
+///
+/// Block `n` of an area is the bytes from `n` times the block size on in its file, and an area has the whole blocks of
+/// its file: what is left behind the last of them is never touched. The lengths are read once, when the device is
+/// made. The device holds no copy of what the files hold, and takes no memory. A flush makes its area's file durable
+/// (fdatasync); the home area of a log file alone has nothing to flush.
+///
+/// After a write or a flush that failed each further write and flush answers a fault and makes no call, since the
+/// system may have dropped what it was handed: open the files again to see what is there. A read that fails changes
+/// nothing, and the device goes on.
+#[derive(Drop)]
+pub struct FileDevice<C: Contents> {
+    contents: PhantomData<C>,
+    files: NotedFiles,
+    size: usize,
+    log_bytes: u64,
+    home_bytes: u64,
+    has_failed: bool,
+    faults: u64,
+}
+
+impl<C: Contents> Model for FileDevice<C> {
+    ghost use Rattle.file_device.specs.Files.{FileState};
+
+    ghost Value = { FileState };
+
+    ghost use Rattle.file_device.specs.NotedFiles.{calls_of};
+    ghost use Rattle.file_device.specs.Files.{KeepsBlocks};
+
+    ghost view = { λ d. record {
+      block_size = d.size;
+      log_file = d.files.log;
+      home_file = d.files.home;
+      log_bytes = d.log_bytes;
+      home_bytes = d.home_bytes;
+      calls = calls_of d.files;
+      has_failed = d.has_failed;
+      faults = d.faults;
+    } };
+
+    ghost invariant = { λ d. KeepsBlocks d.size (calls_of d.files) };
+}
+
+/// Where block `n` of a file of so many bytes begins, for blocks of `size` bytes.
+fn place_of(n: u64, size: usize, length: u64) -> u64
+    requires size { 0 < size }
+    requires there { n < length / size }
+    ensures { result ≡ n * size }
+{
+    n * size as u64
+}
+
+impl<C: Contents> FileDevice<C> {
+    ghost use Rattle.std.specs.Prelude.{◌≡◌, ◌<◌, IfOk, IsNone};
+    ghost use Rattle.file_device.specs.Files.{bytes_in, new_device};
+
+    /// A device with blocks of `block_size` bytes over these files. They are to be two regular files, each open for
+    /// reading, and for writing where the device is to be written. What was done to their names and lengths is not synced
+    /// here. The value of `C` is used up, so that it stands for the files of one device.
+    ///
+    /// # Errors
+    ///
+    /// That of the call that can't tell the length of a file; both are closed then.
+    pub fn new(_contents: C, block_size: usize, log: File, home: Option<File>) -> io::Result<Self>
+        requires block { 0 < block_size }
+        ensures new { IfOk result (λ device. device ≡ new_device block_size log home device.log_bytes device.home_bytes) }
+        ensures lone { IsNone home → IfOk result (λ device. device.home_bytes ≡ 0) }
+    {
+        let mut files = NotedFiles::new(log, home);
+        let log_bytes = files.measure(Area::Log)?;
+        let home_bytes = files.measure(Area::Home)?;
+        Ok(FileDevice {
+            contents: PhantomData,
+            files,
+            size: block_size,
+            log_bytes,
+            home_bytes,
+            has_failed: false,
+            faults: 0,
+        })
+    }
+
+    /// How long the file of an area was.
+    fn length(&self, area: Area) -> u64
+        ensures { result ≡ bytes_in self.now area }
+    {
+        match area {
+            Area::Log => self.log_bytes,
+            Area::Home => self.home_bytes,
+        }
+    }
+
+    /// Answers a fault where a write or a flush has failed.
+    fn check_usable(&mut self) -> Result<(), DeviceFault>
+        ensures ok { IsOk result ↔ (self.old.has_failed ≡ false) }
+        ensures usable { OnOk result (self.new ≡ self.old) }
+        ensures failed { OnErr result (self.new ≡ record self.old { faults = one_more_fault self.old.faults }) }
+    {
+        if self.has_failed {
+            return Err(self.fault());
+        }
+        Ok(())
+    }
+
+    /// Counts a failure of a write or a flush, the last that is tried.
+    fn fail(&mut self) -> DeviceFault
+        ensures { self.new ≡ record self.old { has_failed = true; faults = one_more_fault self.old.faults } }
+    {
+        self.has_failed = true;
+        self.fault()
+    }
+
+    /// Counts a failure.
+    fn fault(&mut self) -> DeviceFault
+        ensures { self.new ≡ record self.old { faults = one_more_fault self.old.faults } }
+    {
+        self.faults = self.faults.saturating_add(1);
+        DeviceFault
+    }
+}
+
+impl<C: Contents> Device for FileDevice<C> {
+    ghost use Rattle.std.specs.Prelude.{◌≡◌, ◌<◌, ◌*◌, ◌∷◌, length, IsErr, OnOk, OnErr};
+    ghost use Rattle.journal_model.specs.Disk.{written, flushed};
+    ghost use Rattle.file_device.specs.Calls.{Read, ReadFailed, Wrote, WriteFailed, Synced, SyncFailed};
+    ghost use Rattle.file_device.specs.Files.{asked, failed_for_good, file_state, HasAgreed, IsRefused};
+    ghost use Rattle.block_device.specs.State.{blocks_in, CountsFaults, Stays, Moves, Writes};
+
+    ghost state = { λ d. file_state C.contents d };
+
+    ghost honest = { λ d. HasAgreed C.contents d };
+
+    fn read(&mut self, area: Area, n: u64, into: &mut [u8]) -> Result<(), DeviceFault>
+        requires block { length into.old ≡ self.old.block_size }
+        requires there { n < blocks_in (file_state C.contents self.old).shape area }
+        ensures bytes { OnOk result (HasAgreed C.contents self.new → into.new ≡ ((file_state C.contents self.old).disk area n).reads) }
+        ensures stays { Stays (file_state C.contents self.old) (file_state C.contents self.new) }
+        ensures faults { CountsFaults result (file_state C.contents self.old) (file_state C.contents self.new) }
+        ensures honest { HasAgreed C.contents self.new → HasAgreed C.contents self.old }
+
+        // The bytes are those that the file gave for the block's place. A read that fails leaves the device as usable.
+        ensures gave { OnOk result (self.new ≡ asked self.old (Read area (n * self.old.block_size) into.new)) }
+        ensures failed { OnErr result
+            (self.new ≡ record (asked self.old (ReadFailed area (n * self.old.block_size))) { faults = one_more_fault self.old.faults }) }
+    {
+        let at = place_of(n, self.size, self.length(area));
+        match self.files.read(area, at, into) {
+            Ok(()) => Ok(()),
+            Err(_) => Err(self.fault()),
+        }
+    }
+
+    fn write(&mut self, area: Area, n: u64, bytes: &[u8]) -> Result<(), DeviceFault>
+        requires block { length bytes.now ≡ self.old.block_size }
+        requires there { n < blocks_in (file_state C.contents self.old).shape area }
+        ensures ok { OnOk result (Moves (file_state C.contents self.old) (file_state C.contents self.new) (written (file_state C.contents self.old).disk area n bytes.now)) }
+        ensures writes { Writes (file_state C.contents self.old) (file_state C.contents self.new) area n bytes.now }
+        ensures faults { CountsFaults result (file_state C.contents self.old) (file_state C.contents self.new) }
+        ensures honest { HasAgreed C.contents self.new → HasAgreed C.contents self.old }
+
+        // The file took the bytes at the block's place; or it was handed them there and failed, and nothing is written
+        // or flushed from then on.
+        ensures took { OnOk result (self.new ≡ asked self.old (Wrote area (n * self.old.block_size) bytes.now)) }
+        ensures failed { self.old.has_failed ≡ false →
+            OnErr result (self.new ≡ failed_for_good self.old (WriteFailed area (n * self.old.block_size) bytes.now)) }
+        ensures refused { IsRefused result self.old self.new }
+    {
+        self.check_usable()?;
+        let at = place_of(n, self.size, self.length(area));
+        match self.files.write(area, at, bytes) {
+            Ok(()) => Ok(()),
+            Err(_) => Err(self.fail()),
+        }
+    }
+
+    fn flush(&mut self, area: Area) -> Result<(), DeviceFault>
+        ensures ok { OnOk result (Moves (file_state C.contents self.old) (file_state C.contents self.new) (flushed (file_state C.contents self.old).disk area)) }
+        ensures err { OnErr result (Stays (file_state C.contents self.old) (file_state C.contents self.new)) }
+        ensures faults { CountsFaults result (file_state C.contents self.old) (file_state C.contents self.new) }
+        ensures honest { HasAgreed C.contents self.new → HasAgreed C.contents self.old }
+
+        // The file was synced; or the sync failed, and nothing is written or flushed from then on.
+        ensures synced { OnOk result (self.new ≡ asked self.old (Synced area)) }
+        ensures failed { self.old.has_failed ≡ false → OnErr result (self.new ≡ failed_for_good self.old (SyncFailed area)) }
+        ensures refused { IsRefused result self.old self.new }
+    {
+        self.check_usable()?;
+        if self.files.sync(area).is_err() {
+            return Err(self.fail());
+        }
+        Ok(())
+    }
+
+    fn blocks(&self, area: Area) -> u64 {
+        self.length(area) / self.size as u64
+    }
+
+    fn block_size(&self) -> usize {
+        self.size
+    }
+}
