@@ -9,8 +9,6 @@ mod measures;
 mod order;
 mod reading;
 mod script;
-#[cfg(test)]
-mod tests;
 
 pub use error::ScriptError;
 pub use measures::{DEFAULTS, HOMES, LENGTHS, Measures, is_block_size, uuid_of};

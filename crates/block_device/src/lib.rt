@@ -15,6 +15,3 @@ pub use device::{Device, DeviceFault};
 pub use laws::a_crash_meets_one_of_the_moments;
 pub use memory::{Call, MemDevice, Write};
 pub use stop::StopAt;
-
-#[cfg(test)]
-mod tests;

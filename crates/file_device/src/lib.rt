@@ -12,6 +12,3 @@ mod laws;
 
 pub use device::{Contents, FileDevice, UnknownContents};
 pub use laws::answers_that_agree_keep_the_premise;
-
-#[cfg(test)]
-mod tests;

@@ -3,10 +3,6 @@
 #![tactic(auto)]
 
 pub mod chain;
-#[cfg(test)]
-mod chain_tests;
 pub mod replay;
 pub mod room;
-#[cfg(test)]
-mod tests;
 pub mod transactions;

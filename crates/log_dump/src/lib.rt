@@ -17,8 +17,6 @@ mod finding;
 mod lines;
 mod log;
 mod printing;
-#[cfg(test)]
-mod tests;
 
 pub use dumping::dump;
 pub use fault::Fault;

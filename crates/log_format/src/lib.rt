@@ -11,8 +11,6 @@ pub mod laws;
 mod malformed;
 mod revoke_block;
 mod superblock;
-#[cfg(test)]
-mod tests;
 pub mod worked_examples;
 
 pub use commit_block::CommitBlock;

@@ -6,8 +6,6 @@ mod layout;
 pub mod layout_laws;
 mod ring;
 pub mod ring_laws;
-#[cfg(test)]
-mod tests;
 
 pub use layout::{Layout, Part};
 pub use ring::Ring;

@@ -1,5 +1,5 @@
-use crate::{FileDevice, UnknownContents};
 use block_device::{Device, DeviceFault};
+use file_device::{FileDevice, UnknownContents};
 use journal_model::Area;
 use std::fs::{File, OpenOptions};
 use std::process::Abort;

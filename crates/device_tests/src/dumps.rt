@@ -2,9 +2,9 @@
 ghost use Rattle.std.specs.Prelude.{◌≡◌, OnOk, OnErr};
 ghost use Rattle.block_device.specs.State.{one_more_fault, with_own_faults};
 
-use crate::{Fault, dump};
 use block_device::{Device, DeviceFault, MemDevice};
 use journal_model::{Area, JournalError};
+use log_dump::{Fault, dump};
 use std::alloc::Global;
 use std::process::Abort;
 use std::test::Fail;

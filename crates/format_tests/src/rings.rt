@@ -1,6 +1,6 @@
 //! Tables of places, room and layouts, with values worked out by hand.
-use crate::{Layout, Part, Ring};
 use journal_model::JournalError;
+use log_ring::{Layout, Part, Ring};
 use std::test::Fail;
 
 #[test]

@@ -1,10 +1,10 @@
 //! The definitions at examples that were worked out by hand.
-use crate::replay::{covered, newest};
-use crate::room::{capacity, need};
-use crate::transactions::{after, entries};
 use journal_model::{
     Block, BlockNo, Content, Entry, HandleNo, Items, Op, Piece, Sealed, Step, Tag, Text, Tid,
 };
+use journal_plain::replay::{covered, newest};
+use journal_plain::room::{capacity, need};
+use journal_plain::transactions::{after, entries};
 use std::alloc::{AllocError, Global};
 use std::test::Fail;
 

@@ -1,8 +1,8 @@
 //! Chains of logs that were made by hand.
-use crate::chain::{chain, damage};
-use crate::replay::newest;
 use Put::{Commit, Data, Descriptor, Other, Revoke};
 use journal_model::{Block, BlockNo, Items, Piece, Tag, Text};
+use journal_plain::chain::{chain, damage};
+use journal_plain::replay::newest;
 use std::alloc::{AllocError, Global};
 use std::test::Fail;
 
@@ -446,5 +446,33 @@ fn a_descriptor_that_takes_the_whole_lap(rt: HostRuntime) -> Result<(), Fail> {
         1,
         "with a commit block behind the lap"
     );
+    Ok(())
+}
+
+/// A log of blocks of 64 bytes: a revoke block of sequence 7 with the number 3, a descriptor of home block 5 with its copy, a
+/// commit block, and behind them a descriptor of the next transaction without room for a tag.
+const SHORT_BLOCKS: [&[u32]; 5] = [
+    &[MAGIC, 5, 7, 20, 3],
+    &[MAGIC, 1, 7, 5, 8],
+    &[MAGIC, 9, 9],
+    &[MAGIC, 2, 7],
+    &[MAGIC, 1, 8, 5],
+];
+
+#[test]
+fn damage_behind_a_text_of_two_pieces(rt: HostRuntime) -> Result<(), Fail> {
+    let alloc = rt.alloc();
+    let mut blocks = Vec::new(alloc);
+    for words in SHORT_BLOCKS {
+        blocks.push(block_of(alloc, words)?)?;
+    }
+    let texts = chain(alloc, 64, 4, 10, 7, &blocks)?;
+    let pieces = texts.as_slice().first().map(|text| text.pieces.len());
+    assert_eq!(rt; (texts.len(), pieces), (1, Some(2)));
+    let damaged = [
+        damage(alloc, 64, 4, 10, 7, &blocks)?,
+        damage(alloc, 64, 4, 10, 6, &blocks)?,
+    ];
+    assert_eq!(rt; damaged, [Some(4), None]);
     Ok(())
 }

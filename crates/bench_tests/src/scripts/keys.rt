@@ -1,6 +1,6 @@
 //! The keys of a script, and the measures that they give.
 use super::{is_bad, is_good, script_of_bytes};
-use crate::{Measures, read};
+use bench_script::{Measures, read};
 use std::alloc::{AllocError, Global};
 use std::test::Fail;
 

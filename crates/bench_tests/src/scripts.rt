@@ -1,5 +1,5 @@
 //! Texts that are scripts, and texts that are none.
-use crate::{ScriptError, read};
+use bench_script::{ScriptError, read};
 use std::alloc::{AllocError, Global};
 use std::process::Abort;
 use std::test::Fail;

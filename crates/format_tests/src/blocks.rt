@@ -3,9 +3,12 @@ ghost use Rattle.std.specs.Prelude.{◌≤◌, ◌<◌, length};
 ghost use Rattle.journal_model.specs.Layout.{narrow, numbers_of};
 ghost use Rattle.log_format.specs.Size.{IsBlockSize, most_tags};
 
-use crate::{CommitBlock, Descriptor, Header, Malformed, RevokeBlock, Super, escape, unescape};
+use crate::{write_numbers, write_tags};
 use byteorder::{BigEndian, ByteOrder};
 use journal_model::{BlockNo, JournalError, Tag};
+use log_format::{
+    CommitBlock, Descriptor, Header, Malformed, RevokeBlock, Super, escape, unescape,
+};
 use std::process::Abort;
 use std::test::Fail;
 
@@ -19,34 +22,6 @@ fn tag(block: u64, escaped: bool, same_uuid: bool, last: bool) -> Tag {
         same_uuid,
         last,
     }
-}
-
-/// Writes a descriptor, where the tags fit one.
-fn write_tags(block: &mut [u8], sequence: u32, tags: &[Tag]) -> bool
-    requires { IsBlockSize (length block.old) }
-{
-    if tags.is_empty() || tags.len() > (block.len() - 44) / 8 {
-        return false;
-    }
-    let (_, later) = tags.split_at(1);
-    if later.iter().all(|t| t.same_uuid) && tags.iter().all(|t| t.block.0 < 0x1_0000_0000) {
-        Descriptor::write(block, &UUID, sequence, tags);
-        return true;
-    }
-    false
-}
-
-/// Writes a revoke block, where the numbers fit one.
-fn write_numbers(block: &mut [u8], sequence: u32, numbers: &[BlockNo]) -> bool
-    requires { IsBlockSize (length block.old) }
-{
-    let few = numbers.len() <= (block.len() - 16) / 4;
-    let spelled = numbers.iter().all(|b| b.0 < 0x1_0000_0000);
-    if few && spelled {
-        RevokeBlock::write(block, sequence, numbers);
-        return true;
-    }
-    false
 }
 
 /// Reads a descriptor, where the block has the header of one.

@@ -1,5 +1,5 @@
 //! The operations that a script is read as.
-use crate::read;
+use bench_script::read;
 use std::alloc::Global;
 use std::process::Abort;
 use std::test::Fail;

@@ -1,6 +1,6 @@
 //! Texts that are no script, and how long one may be.
 use super::{error_of, is_bad, is_good, script_of_bytes};
-use crate::ScriptError;
+use bench_script::ScriptError;
 use std::alloc::{AllocError, Global};
 use std::test::Fail;
 
