@@ -1,3 +1,4 @@
+//! Devices over real files.
 use block_device::{Device, DeviceFault};
 use file_device::{FileDevice, UnknownContents};
 use journal_model::Area;

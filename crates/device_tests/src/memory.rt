@@ -1,3 +1,4 @@
+//! Devices in memory: what a crash keeps, and where a device stops.
 use crate::known_images;
 use block_device::{Device, DeviceFault, MemDevice, StopAt};
 use journal_model::Area;
