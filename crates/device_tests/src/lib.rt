@@ -1,4 +1,4 @@
-//! Devices that lose power, stop and fail, and dumps of what they hold. There is nothing here but tests, and `known_images`, a
+//! Devices that lose power, stop and fail, and dumps of what they hold. There is nothing here but tests, and `images`, a
 //! program over any device whose contract says what a crash may leave.
 #![tactic(auto)]
 
@@ -6,8 +6,8 @@
 mod dumps;
 #[cfg(test)]
 mod files;
-mod known_images;
+mod images;
 #[cfg(test)]
 mod memory;
 
-pub use known_images::known_images;
+pub use images::known_images;
