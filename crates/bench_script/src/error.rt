@@ -1,3 +1,4 @@
+//! Why a text gives no script.
 use std::alloc::{AllocError, AllocFailed};
 
 /// Why a text gives no script.
