@@ -7,7 +7,8 @@ use std::str::from_utf8;
 use std::test::Fail;
 
 mod checkpoints;
-mod log_bytes;
+mod descriptors;
+mod refusals;
 mod sizes;
 mod turns;
 mod verdicts;

@@ -27,11 +27,21 @@ fn is_good(rt: &impl Abort, alloc: Global, text: &str) -> Result<(), Fail> {
 }
 
 /// A script with these keys, in which a handle writes so many bytes.
-fn script_of_bytes(alloc: Global, keys: &str, bytes: usize) -> Result<String, AllocError> {
+pub fn script_of_bytes(alloc: Global, keys: &str, bytes: usize) -> Result<String, AllocError> {
     let mut script = format!(in alloc; r#"{{{keys}"ops": [["start",1,1],["write",1,9,""#)?;
     for _ in 0..bytes {
         script.push_str("Ab")?;
     }
     script.push_str(r#""]]}"#)?;
+    Ok(script)
+}
+
+/// A script of so many commits.
+pub fn script_of_commits(alloc: Global, commits: usize) -> Result<String, AllocError> {
+    let mut script = String::from_str(alloc, r#"{"ops": [["commit"]"#)?;
+    for _ in 1..commits {
+        script.push_str(r#",["commit"]"#)?;
+    }
+    script.push_str("]}")?;
     Ok(script)
 }

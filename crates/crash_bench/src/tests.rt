@@ -1,4 +1,4 @@
-//! Whole runs, as their output says them.
+//! The words, the files and the exit statuses of the program.
 use crate::fault::Status;
 use crate::run::run;
 use crate::words::RunWords;
@@ -10,21 +10,31 @@ use std::test::Fail;
 
 mod faults;
 mod log_files;
-mod refusals;
 mod scripts;
-mod sizes;
 mod word_lists;
 
 /// One handle writes block 9 and is waited for.
 const ONE_WRITE: &str =
     r#"{"ops": [["start",1,1],["write",1,9,"11"],["stop",1],["request",1],["commit"],["wait",1]]}"#;
 
-/// What a run writes, and how it ends.
+/// How a command ended, what it printed, and what it said of a refusal.
 #[derive(Debug, Drop)]
 struct Said {
     status: Status,
     out: Vec<u8>,
     err: Vec<u8>,
+}
+
+/// It ended so, printed this and said this.
+fn tells(
+    rt: &impl Abort,
+    said: &Said,
+    wanted: (Status, &str, &str),
+    what: &str,
+) -> Result<(), Fail> {
+    let told = (said.status, from_utf8(&said.out)?, from_utf8(&said.err)?);
+    assert_eq!(rt; told, wanted, "{what}");
+    Ok(())
 }
 
 /// Runs a script that is read from a reader.
@@ -43,20 +53,4 @@ fn said_of<R: Read + Drop>(
     let mut err = Vec::new(alloc);
     let status = run(alloc, &words, script, &mut out, &mut err)?;
     Ok(Said { status, out, err })
-}
-
-/// A run of this script prints this, and its verdict is ok.
-fn prints(
-    rt: &impl Abort,
-    alloc: Global,
-    script: &str,
-    stop: Option<u64>,
-    keep: &[u64],
-    wanted: &str,
-) -> Result<(), Fail> {
-    let said = said_of(alloc, script.as_bytes(), stop, keep)?;
-    assert_eq!(rt; from_utf8(&said.err)?, "");
-    assert_eq!(rt; from_utf8(&said.out)?, wanted);
-    assert_eq!(rt; said.status, Status::Fine);
-    Ok(())
 }

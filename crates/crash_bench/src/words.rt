@@ -1,7 +1,10 @@
 //! The words that the program is called with.
+ghost use Rattle.std.specs.Prelude.{◌≡◌, ◌≤◌, IfOk, IfSome};
+ghost use Rattle.bench_script.specs.Measures.{AreLimited};
+
 use bench_script::{DEFAULTS, HOMES, LENGTHS, Measures, is_block_size, uuid_of};
 use clap::error::ErrorKind;
-use clap::{Arg, ArgMatches, Command, Error, value_parser};
+use clap::{Arg, ArgMatches, Command, Error};
 use std::alloc::{AllocError, Global};
 use std::convert::AsStr;
 
@@ -21,36 +24,32 @@ Exit status: 0 done, 1 refused (words, file, script, refusal), 2 a verdict is fa
 
 Example: jbench run examples/one_write.json --stop 4 --keep 4";
 
-/// What `format` does, in a line.
-const FORMAT_ABOUT: &str = "Makes two files an empty log and a home area of zeros";
+/// A command as its help tells of it.
+#[derive(Clone, Copy)]
+struct Usage {
+    name: &'static str,
+    /// What it does, in a line.
+    about: &'static str,
+    /// What stands at the end of its help.
+    after_help: &'static str,
+    /// What stands behind it.
+    words: &'static [Word],
+}
 
-/// What stands at the end of the help of `format`.
-const FORMAT_AFTER_HELP: &str = "\
-Both files are made where there are none, and lose what they held. LOG gets M blocks of B bytes: the superblock, and zeros.
-HOME gets N blocks of zeros.
+/// A value that has to stand behind a command, or one that may, behind `--NAME`.
+#[derive(Clone, Copy)]
+struct Word {
+    name: &'static str,
+    value: &'static str,
+    is_option: bool,
+    help: &'static str,
+}
 
-Exit status: 0 done; 1 refused: the words, a file, or the device.
-
-Example: jbench format log home --block 4096 --length 1024";
-
-/// What `dump` does, in a line.
-const DUMP_ABOUT: &str =
-    "Prints the log in a file: its superblock, and each block of its complete transactions";
-
-/// What stands at the end of the help of `dump`.
-const DUMP_AFTER_HELP: &str = "\
-The bytes of a block are what stands at 0x0c of LOG where that is 1024, 2048 or 4096, else 1024. Nothing is printed where the
-log is refused. LOG is not written.
-
-Exit status: 0 done; 1 refused: the words, the file, or the log.
-
-Example: jbench dump log";
-
-/// What `run` does, in a line.
-const RUN_ABOUT: &str = "Runs a script, stops the device, opens what the stop left, and judges it";
-
-/// What stands at the end of the help of `run`.
-const RUN_AFTER_HELP: &str = "\
+/// The command `run`.
+const RUN: Usage = Usage {
+    name: "run",
+    about: "Runs a script, stops the device, opens what the stop left, and judges it",
+    after_help: "\
 The device is formatted and opened before the first operation; its writes are numbered from 1 after that. The image has of
 each block the greatest unflushed write that --keep names, else what was flushed last. A refused operation prints its
 refusal, and counts as done.
@@ -75,7 +74,98 @@ A script is a JSON object with these keys, of which \"ops\" alone has to be ther
 
 Exit status: 0 done, verdict ok; 1 refused: the words, the file, the script, or the log; 2 verdict false.
 
-Example: jbench run examples/one_write.json --stop 4 --keep 4";
+Example: jbench run examples/one_write.json --stop 4 --keep 4",
+    words: &[
+        Word {
+            name: "script",
+            value: "SCRIPT",
+            is_option: false,
+            help: "The file that holds the script",
+        },
+        Word {
+            name: "stop",
+            value: "K",
+            is_option: true,
+            help: "Stop the device at write K, at least 1 [default: at the end]",
+        },
+        Word {
+            name: "keep",
+            value: "LIST",
+            is_option: true,
+            help: "Unflushed writes that the image keeps: numbers with commas [default: none]",
+        },
+    ],
+};
+
+/// The command `format`.
+const FORMAT: Usage = Usage {
+    name: "format",
+    about: "Makes two files an empty log and a home area of zeros",
+    after_help: "\
+Both files are made where there are none, and lose what they held. LOG gets M blocks of B bytes: the superblock, and zeros.
+HOME gets N blocks of zeros.
+
+Exit status: 0 done; 1 refused: the words, a file, or the device.
+
+Example: jbench format log home --block 4096 --length 1024",
+    words: &[
+        Word {
+            name: "log",
+            value: "LOG",
+            is_option: false,
+            help: "The file of the log",
+        },
+        Word {
+            name: "home_file",
+            value: "HOME",
+            is_option: false,
+            help: "The file of the home area",
+        },
+        Word {
+            name: "block",
+            value: "B",
+            is_option: true,
+            help: "Bytes of a block: 1024, 2048 or 4096 [default: 1024]",
+        },
+        Word {
+            name: "length",
+            value: "M",
+            is_option: true,
+            help: "Blocks of the log, 17 to 1048576 [default: 33]",
+        },
+        Word {
+            name: "home",
+            value: "N",
+            is_option: true,
+            help: "Blocks of the home area, 1 to 1048576 [default: 64]",
+        },
+        Word {
+            name: "uuid",
+            value: "DIGITS",
+            is_option: true,
+            help: "The journal's UUID, 32 hex digits [default: aa 16 times]",
+        },
+    ],
+};
+
+/// The command `dump`.
+const DUMP: Usage = Usage {
+    name: "dump",
+    about: "Prints the log in a file: its superblock, and each block of its complete transactions",
+    after_help: "\
+The bytes of a block are what stands at 0x0c of LOG where that is 1024, 2048 or 4096, else 1024. Nothing is printed where the
+log is refused. LOG is not written.
+
+Exit status: 0 done; 1 refused: the words, the file, or the log.
+
+Example: jbench dump log",
+    words: &[Word {
+        name: "log",
+        value: "LOG",
+        is_option: false,
+        help: "The file of the log",
+    }],
+};
 
 /// What the program is told to do.
 #[derive(Debug, Drop)]
@@ -95,7 +185,7 @@ pub struct FormatWords<'a> {
     pub log: &'a str,
     /// The file of the home area.
     pub home: &'a str,
-    /// What is made.
+    /// What is made, within its limits.
     pub measures: Measures,
 }
 
@@ -110,109 +200,46 @@ pub struct RunWords<'a> {
     pub keep: Vec<u64>,
 }
 
-/// The command `run`.
-fn run_command<'a>(alloc: Global) -> Result<Command<'a>, AllocError> {
-    let script = Arg::new(alloc, "script")
-        .value_name("SCRIPT")
-        .required(true)
-        .help("The file that holds the script");
-    let stop = Arg::new(alloc, "stop")
-        .long("stop")
-        .value_name("K")
-        .value_parser(value_parser!(u64).range(1..))
-        .help("Stop the device at write K, at least 1 [default: at the end]");
-    let keep = Arg::new(alloc, "keep").long("keep").value_name("LIST").help(
-        "Unflushed writes that the image keeps: numbers with commas [default: none]",
-    );
-    Command::new(alloc, "run")
-        .about(RUN_ABOUT)
-        .after_help(RUN_AFTER_HELP)
-        .arg(script)?
-        .arg(stop)?
-        .arg(keep)
+/// A word as `clap` has it.
+fn arg_of<'a>(alloc: Global, word: Word) -> Arg<'a> {
+    let arg = Arg::new(alloc, word.name)
+        .value_name(word.value)
+        .help(word.help);
+    if word.is_option {
+        arg.long(word.name)
+    } else {
+        arg.required(true)
+    }
 }
 
-/// A word with a number from one to another, both included.
-fn limited<'a>(
-    alloc: Global,
-    name: &'static str,
-    value: &'static str,
-    limits: (u32, u32),
-    help: &'static str,
-) -> Arg<'a> {
-    Arg::new(alloc, name)
-        .long(name)
-        .value_name(value)
-        .value_parser(value_parser!(u64).range(i64::from(limits.0)..=i64::from(limits.1)))
-        .help(help)
+/// A command as `clap` has it.
+fn command_of<'a>(alloc: Global, usage: Usage) -> Result<Command<'a>, AllocError> {
+    let mut command = Command::new(alloc, usage.name)
+        .about(usage.about)
+        .after_help(usage.after_help);
+    for word in usage.words {
+        command = command.arg(arg_of(alloc, *word))?;
+    }
+    Ok(command)
 }
 
-/// The command `format`.
-fn format_command<'a>(alloc: Global) -> Result<Command<'a>, AllocError> {
-    let log = Arg::new(alloc, "log")
-        .value_name("LOG")
-        .required(true)
-        .help("The file of the log");
-    let home = Arg::new(alloc, "home_file")
-        .value_name("HOME")
-        .required(true)
-        .help("The file of the home area");
-    let uuid = Arg::new(alloc, "uuid")
-        .long("uuid")
-        .value_name("DIGITS")
-        .help("The journal's UUID, 32 hex digits [default: aa 16 times]");
-    Command::new(alloc, "format")
-        .about(FORMAT_ABOUT)
-        .after_help(FORMAT_AFTER_HELP)
-        .arg(log)?
-        .arg(home)?
-        .arg(limited(
-            alloc,
-            "block",
-            "B",
-            (1024, 4096),
-            "Bytes of a block: 1024, 2048 or 4096 [default: 1024]",
-        ))?
-        .arg(limited(
-            alloc,
-            "length",
-            "M",
-            LENGTHS,
-            "Blocks of the log, 17 to 1048576 [default: 33]",
-        ))?
-        .arg(limited(
-            alloc,
-            "home",
-            "N",
-            HOMES,
-            "Blocks of the home area, 1 to 1048576 [default: 64]",
-        ))?
-        .arg(uuid)
-}
-
-/// The command `dump`.
-fn dump_command<'a>(alloc: Global) -> Result<Command<'a>, AllocError> {
-    let log = Arg::new(alloc, "log")
-        .value_name("LOG")
-        .required(true)
-        .help("The file of the log");
-    Command::new(alloc, "dump")
-        .about(DUMP_ABOUT)
-        .after_help(DUMP_AFTER_HELP)
-        .arg(log)
+/// The program without its commands.
+fn bare_program<'a>(alloc: Global) -> Result<Command<'a>, AllocError> {
+    Command::new(alloc, "jbench")
+        .about(ABOUT)
+        .after_help(AFTER_HELP)
+        .disable_help_subcommand(true)
+        .subcommand_required(true)
+        .bin_name("jbench")
 }
 
 /// The program.
 fn program<'a>(alloc: Global) -> Result<Command<'a>, AllocError> {
-    Command::new(alloc, "jbench")
-        .about(ABOUT)
-        .after_help(AFTER_HELP)
-        .bin_name("jbench")?
-        .disable_help_subcommand(true)
-        .subcommand_required(true)
-        .subcommand(run_command(alloc)?)?
-        .subcommand(format_command(alloc)?)?
-        .subcommand(dump_command(alloc)?)
+    let mut program = bare_program(alloc)?;
+    for usage in [RUN, FORMAT, DUMP] {
+        program = program.subcommand(command_of(alloc, usage)?)?;
+    }
+    Ok(program)
 }
 
 /// The numbers of a list with commas, or `None` where it is no such list. An empty text is an empty list.
@@ -230,87 +257,136 @@ fn list_of(alloc: Global, text: &str) -> Result<Option<Vec<u64>>, AllocError> {
     Ok(Some(numbers))
 }
 
-/// What is wanted of the words that `clap` takes.
+/// What is wanted of words that `clap` takes.
 #[derive(Clone, Copy, Debug, PartialEq, Eq)]
 enum Wanted {
+    /// A write number behind `--stop`.
+    WriteNumber,
     /// Write numbers with commas behind `--keep`.
     WriteNumbers,
     /// The bytes of a block behind `--block`.
     BlockSize,
+    /// The blocks of a log behind `--length`.
+    LogBlocks,
+    /// The blocks of a home area behind `--home`.
+    HomeBlocks,
     /// Hex digits behind `--uuid`.
     HexDigits,
     /// A command.
     Command,
+    /// Memory.
+    Memory,
+}
+
+impl From<AllocError> for Wanted {
+    fn from(_: AllocError) -> Wanted {
+        Wanted::Memory
+    }
+}
+
+/// The line that says what is wanted.
+fn line_of(wanted: Wanted) -> &'static str {
+    match wanted {
+        Wanted::WriteNumber => "invalid value for '--stop <K>': a number from 1 on is wanted",
+        Wanted::WriteNumbers => {
+            "invalid value for '--keep <LIST>': write numbers with commas are wanted"
+        }
+        Wanted::BlockSize => "invalid value for '--block <B>': 1024, 2048 or 4096 is wanted",
+        Wanted::LogBlocks => "invalid value for '--length <M>': 17 to 1048576 is wanted",
+        Wanted::HomeBlocks => "invalid value for '--home <N>': 1 to 1048576 is wanted",
+        Wanted::HexDigits => "invalid value for '--uuid <DIGITS>': 32 hex digits are wanted",
+        Wanted::Command => "a command is wanted",
+        Wanted::Memory => "memory is wanted",
+    }
 }
 
 /// The fault that says what is wanted.
 fn fault_of(program: &mut Command<'_>, wanted: Wanted) -> Result<Error, AllocError> {
-    let kind = ErrorKind::ValueValidation;
-    match wanted {
-        Wanted::WriteNumbers => program.error(
-            kind,
-            "invalid value for '--keep <LIST>': write numbers with commas are wanted",
-        ),
-        Wanted::BlockSize => program.error(
-            kind,
-            "invalid value for '--block <B>': 1024, 2048 or 4096 is wanted",
-        ),
-        Wanted::HexDigits => program.error(
-            kind,
-            "invalid value for '--uuid <DIGITS>': 32 hex digits are wanted",
-        ),
-        Wanted::Command => program.error(kind, "a command is wanted"),
+    if wanted == Wanted::Memory {
+        return Err(AllocError);
+    }
+    program.error(ErrorKind::ValueValidation, line_of(wanted))
+}
+
+/// The number behind a word, which has to be within limits that both count, or `None` where the word is not there.
+fn number_of(
+    matches: &ArgMatches<'_>,
+    name: &str,
+    limits: (u64, u64),
+    wanted: Wanted,
+) -> Result<Option<u64>, Wanted>
+    ensures least { IfOk result (λ told. IfSome told (λ number. limits.0 ≤ number)) }
+    ensures most { IfOk result (λ told. IfSome told (λ number. number ≤ limits.1)) }
+{
+    let Some(word) = matches.get_str(name) else {
+        return Ok(None);
+    };
+    match word.parse::<u64>() {
+        Ok(number) if limits.0 <= number && number <= limits.1 => Ok(Some(number)),
+        _ => Err(wanted),
     }
 }
 
-/// What `run` is told, or what is wanted of a value.
-fn run_words<'a>(
-    alloc: Global,
-    matches: &ArgMatches<'a>,
-) -> Result<Result<Words<'a>, Wanted>, AllocError> {
-    let Some(keep) = list_of(alloc, matches.get_str("keep").unwrap_or(""))? else {
-        return Ok(Err(Wanted::WriteNumbers));
-    };
-    Ok(Ok(Words::Run(RunWords {
+/// What `run` is told.
+fn run_words<'a>(alloc: Global, matches: &ArgMatches<'a>) -> Result<RunWords<'a>, Wanted> {
+    let stop = number_of(matches, "stop", (1, u64::MAX), Wanted::WriteNumber)?;
+    let keep = list_of(alloc, matches.get_str("keep").unwrap_or(""))?;
+    Ok(RunWords {
         script: matches.get_str("script").unwrap_or(""),
-        stop: matches.get_one::<u64>("stop"),
-        keep,
-    })))
+        stop,
+        keep: keep.ok_or(Wanted::WriteNumbers)?,
+    })
 }
 
-/// What `format` is told, or what is wanted of a value.
-fn format_words<'a>(
-    alloc: Global,
-    matches: &ArgMatches<'a>,
-) -> Result<Result<Words<'a>, Wanted>, AllocError> {
-    let block_size = matches
-        .get_one::<u64>("block")
-        .unwrap_or(DEFAULTS.block_size as u64);
+/// The limits of a number of blocks.
+fn wide(limits: (u32, u32)) -> (u64, u64)
+    ensures { result ≡ limits }
+{
+    (u64::from(limits.0), u64::from(limits.1))
+}
+
+/// The measures that `format` is told.
+fn measures_of(alloc: Global, matches: &ArgMatches<'_>) -> Result<Measures, Wanted>
+    ensures { IfOk result AreLimited }
+{
+    let bytes = number_of(matches, "block", (1024, 4096), Wanted::BlockSize)?;
+    let block_size = bytes.unwrap_or(DEFAULTS.block_size as u64);
     if !is_block_size(block_size) {
-        return Ok(Err(Wanted::BlockSize));
+        return Err(Wanted::BlockSize);
     }
+    let log_blocks = number_of(matches, "length", wide(LENGTHS), Wanted::LogBlocks)?;
+    let home_blocks = number_of(matches, "home", wide(HOMES), Wanted::HomeBlocks)?;
     let uuid = match matches.get_str("uuid") {
-        Some(digits) => uuid_of(alloc, digits)?,
-        None => Some(DEFAULTS.uuid),
+        Some(digits) => uuid_of(alloc, digits)?.ok_or(Wanted::HexDigits)?,
+        None => DEFAULTS.uuid,
     };
-    let Some(uuid) = uuid else {
-        return Ok(Err(Wanted::HexDigits));
-    };
-    let length = matches
-        .get_one::<u64>("length")
-        .unwrap_or(u64::from(DEFAULTS.log_blocks));
-    Ok(Ok(Words::Format(FormatWords {
+    Ok(Measures {
+        block_size: block_size as usize,
+        log_blocks: log_blocks.unwrap_or(u64::from(DEFAULTS.log_blocks)) as u32,
+        home_blocks: home_blocks.unwrap_or(DEFAULTS.home_blocks),
+        uuid,
+    })
+}
+
+/// What `format` is told.
+fn format_words<'a>(alloc: Global, matches: &ArgMatches<'a>) -> Result<FormatWords<'a>, Wanted> {
+    Ok(FormatWords {
         log: matches.get_str("log").unwrap_or(""),
         home: matches.get_str("home_file").unwrap_or(""),
-        measures: Measures {
-            block_size: block_size as usize,
-            log_blocks: length.min(u64::from(LENGTHS.1)) as u32,
-            home_blocks: matches
-                .get_one::<u64>("home")
-                .unwrap_or(DEFAULTS.home_blocks),
-            uuid,
-        },
-    })))
+        measures: measures_of(alloc, matches)?,
+    })
+}
+
+/// What a command is told.
+fn words_of<'a>(alloc: Global, matches: &ArgMatches<'a>) -> Result<Words<'a>, Wanted> {
+    if let Some(run) = matches.subcommand_matches("run") {
+        return Ok(Words::Run(run_words(alloc, run)?));
+    }
+    if let Some(format) = matches.subcommand_matches("format") {
+        return Ok(Words::Format(format_words(alloc, format)?));
+    }
+    let dump = matches.subcommand_matches("dump").ok_or(Wanted::Command)?;
+    Ok(Words::Dump(dump.get_str("log").unwrap_or("")))
 }
 
 /// Reads the words, the first of which is the program's own name.
@@ -321,16 +397,7 @@ fn format_words<'a>(
 pub fn parse<'a, S: AsStr>(alloc: Global, words: &'a [S]) -> Result<Words<'a>, Error> {
     let mut program = program(alloc)?;
     let matches = program.try_get_matches_from_mut(words)?;
-    let told = if let Some(run) = matches.subcommand_matches("run") {
-        run_words(alloc, run)?
-    } else if let Some(format) = matches.subcommand_matches("format") {
-        format_words(alloc, format)?
-    } else if let Some(dump) = matches.subcommand_matches("dump") {
-        Ok(Words::Dump(dump.get_str("log").unwrap_or("")))
-    } else {
-        Err(Wanted::Command)
-    };
-    match told {
+    match words_of(alloc, &matches) {
         Ok(words) => Ok(words),
         Err(wanted) => Err(fault_of(&mut program, wanted)?),
     }

@@ -48,14 +48,20 @@ fn commit(sequence: u32) -> [u32; 3] {
     [MAGIC, 2, sequence]
 }
 
-/// The words of a block of the log, each spelled in hex digits; `0*9` stands for nine words of zeros.
+/// Adds one word, spelled in hex digits, or some words of zeros: `0*9` stands for nine.
+fn push_spelled(words: &mut Vec<u32>, spelled: &str) -> Result<(), Fail> {
+    match spelled.strip_prefix("0*") {
+        Some(count) => words.resize(words.len().saturating_add(count.parse()?), 0)?,
+        None => words.push(u32::from_str_radix(spelled, 16)?)?,
+    }
+    Ok(())
+}
+
+/// The words of a block of the log, spelled as `push_spelled` reads them.
 fn words_of(alloc: Global, text: &str) -> Result<Vec<u32>, Fail> {
     let mut words = Vec::new(alloc);
-    for word in text.split_whitespace() {
-        match word.strip_prefix("0*") {
-            Some(count) => words.resize(words.len().saturating_add(count.parse()?), 0)?,
-            None => words.push(u32::from_str_radix(word, 16)?)?,
-        }
+    for spelled in text.split_whitespace() {
+        push_spelled(&mut words, spelled)?;
     }
     Ok(words)
 }
@@ -74,6 +80,13 @@ fn device_of(
     Ok(device)
 }
 
+/// Puts these words at the beginning of a block, four bytes each.
+fn put_words(bytes: &mut [u8], words: &[u32]) {
+    for (four, word) in bytes.chunks_exact_mut(4).zip(words) {
+        four.copy_from_slice(&word.to_be_bytes());
+    }
+}
+
 /// Writes the block that begins with these words.
 fn write_words<D: Device>(
     alloc: Global,
@@ -82,14 +95,19 @@ fn write_words<D: Device>(
     words: &[u32],
 ) -> Result<(), JournalError> {
     let mut bytes = vec![in alloc; 0; device.block_size()]?;
-    for (four, word) in bytes.chunks_exact_mut(4).zip(words) {
-        four.copy_from_slice(&word.to_be_bytes());
-    }
+    put_words(&mut bytes, words);
     if place >= device.blocks(Area::Log) {
         return Err(JournalError::BadBlock);
     }
     device.write(Area::Log, place, &bytes)?;
     Ok(())
+}
+
+/// The text that a device is dumped as.
+fn dumped<D: Device>(alloc: Global, device: &mut D) -> Result<Vec<u8>, Fail> {
+    let mut out = Vec::new(alloc);
+    dump(alloc, device, &mut out)?;
+    Ok(out)
 }
 
 /// A device is dumped as this text.
@@ -100,9 +118,8 @@ fn expect_text(
     expected: &str,
 ) -> Result<(), Fail> {
     let mut device = device;
-    let mut out = Vec::new(alloc);
-    dump(alloc, &mut device, &mut out)?;
-    assert_eq!(rt; out.as_slice(), expected.as_bytes());
+    let text = dumped(alloc, &mut device)?;
+    assert_eq!(rt; text.as_slice(), expected.as_bytes());
     Ok(())
 }
 
@@ -117,12 +134,14 @@ fn expect_dump(
     expect_text(rt, alloc, device_of(alloc, 1024, log, blocks)?, expected)
 }
 
-/// Dumps a device behind what `out` holds, and answers why it is refused, if it is.
-fn refusal<D: Device>(alloc: Global, device: &mut D, out: &mut Vec<u8>) -> Option<JournalError> {
-    match dump(alloc, device, out) {
+/// Why the dump of a device is refused, if it is, and how many bytes were written.
+fn refusal<D: Device>(alloc: Global, device: &mut D) -> (Option<JournalError>, usize) {
+    let mut out = Vec::new(alloc);
+    let refused = match dump(alloc, device, &mut out) {
         Err(Fault::Refused(e)) => Some(e),
         Err(Fault::Output(_)) | Ok(()) => None,
-    }
+    };
+    (refused, out.len())
 }
 
 /// A log of so many blocks of 1024 bytes, which has these and zeros elsewhere, is refused, and not a byte is written.
@@ -134,13 +153,8 @@ fn expect_refusal(
     (name, expected): (&str, JournalError),
 ) -> Result<(), Fail> {
     let mut device = device_of(alloc, 1024, log, blocks)?;
-    let mut out = Vec::new(alloc);
-    assert_eq!(rt;
-        refusal(alloc, &mut device, &mut out),
-        Some(expected),
-        "{name}"
-    );
-    assert_eq!(rt; out.len(), 0, "{name}");
+    let refused = refusal(alloc, &mut device);
+    assert_eq!(rt; refused, (Some(expected), 0), "{name}");
     Ok(())
 }
 
@@ -255,26 +269,33 @@ fn the_last_number_of_four_bytes(rt: HostRuntime) -> Result<(), Fail> {
     expect_dump(&rt, rt.alloc(), 33, blocks, expected)
 }
 
+/// A device with blocks of this size, whose log of 17 has one transaction over its end.
+fn device_of_blocks(alloc: Global, size: u32) -> Result<MemDevice, JournalError> {
+    let blocks: &[Placed<'_>] = &[
+        (0, &superblock_of(size, 17, 2, 16)),
+        (16, &descriptor(2, 9, ESCAPED | LAST)),
+        (2, &commit(2)),
+    ];
+    device_of(alloc, size as usize, 20, blocks)
+}
+
+/// The text that `device_of_blocks` is dumped as.
+fn text_of_blocks(alloc: Global, size: u32) -> Result<String, Fail> {
+    let text = format!(in alloc;
+        "super blocksize={size} maxlen=17 first=1 sequence=2 start=16\n\
+         16 descriptor 2 tags=1\n\
+         1 copy 2 block=9 escaped\n\
+         2 commit 2\n\
+         end sequence=3 transactions=1\n"
+    )?;
+    Ok(text)
+}
+
 #[test]
 fn blocks_of_each_size(rt: HostRuntime) -> Result<(), Fail> {
     for size in [1024, 2048, 4096] {
-        let device = device_of(
-            rt.alloc(),
-            size as usize,
-            20,
-            &[
-                (0, &superblock_of(size, 17, 2, 16)),
-                (16, &descriptor(2, 9, ESCAPED | LAST)),
-                (2, &commit(2)),
-            ],
-        )?;
-        let expected = format!(in rt.alloc();
-            "super blocksize={size} maxlen=17 first=1 sequence=2 start=16\n\
-             16 descriptor 2 tags=1\n\
-             1 copy 2 block=9 escaped\n\
-             2 commit 2\n\
-             end sequence=3 transactions=1\n"
-        )?;
+        let device = device_of_blocks(rt.alloc(), size)?;
+        let expected = text_of_blocks(rt.alloc(), size)?;
         expect_text(&rt, rt.alloc(), device, expected.as_str())?;
     }
     Ok(())
@@ -326,19 +347,22 @@ fn more_copies_than_the_ring_has(rt: HostRuntime) -> Result<(), Fail> {
     expect_dump(&rt, rt.alloc(), 17, blocks, expected)
 }
 
+/// What is damaged, and the place and the words of the block that is.
+const DAMAGES: [(&str, u64, &[u32]); 5] = [
+    (
+        "a tag with flag 4",
+        4,
+        &[MAGIC, 1, 3, 5, 4, UUID, UUID, UUID, UUID],
+    ),
+    ("used bytes no multiple", 4, &[MAGIC, 5, 3, 17, 0]),
+    ("used bytes too few", 4, &[MAGIC, 5, 3, 12]),
+    ("used bytes too many", 4, &[MAGIC, 5, 3, 1028]),
+    ("in the first transaction", 1, &[MAGIC, 5, 2, 15]),
+];
+
 #[test]
 fn damage_is_refused_before_a_byte_is_written(rt: HostRuntime) -> Result<(), Fail> {
-    for (name, place, block) in [
-        (
-            "a tag with flag 4",
-            4,
-            [MAGIC, 1, 3, 5, 4, UUID, UUID, UUID, UUID].as_slice(),
-        ),
-        ("used bytes no multiple", 4, [MAGIC, 5, 3, 17, 0].as_slice()),
-        ("used bytes too few", 4, [MAGIC, 5, 3, 12].as_slice()),
-        ("used bytes too many", 4, [MAGIC, 5, 3, 1028].as_slice()),
-        ("in the first transaction", 1, [MAGIC, 5, 2, 15].as_slice()),
-    ] {
+    for (name, place, block) in DAMAGES {
         let blocks: &[Placed<'_>] = &[
             (0, &superblock(33, 2, 1)),
             (1, &descriptor(2, 8, LAST)),
@@ -362,25 +386,38 @@ fn damage_behind_pieces_over_the_end_of_the_ring(rt: HostRuntime) -> Result<(), 
     expect_refusal(&rt, rt.alloc(), 17, blocks, expected)
 }
 
+/// A word of a superblock, a value that it must not have, what that word is, and the refusal.
+const BAD_WORDS: [(usize, u32, (&str, JournalError)); 8] = [
+    (0, 0xc03b_3999, ("magic", JournalError::BadMagic)),
+    (1, 3, ("type", JournalError::BadType)),
+    (3, 2048, ("block size", JournalError::BadBlockSize)),
+    (4, 34, ("length", JournalError::BadLength)),
+    (5, 18, ("first block", JournalError::BadFirst)),
+    (10, 3, ("features", JournalError::BadFeature)),
+    (7, 33, ("start", JournalError::BadStart)),
+    (8, 5, ("errno", JournalError::ErrnoSet)),
+];
+
+/// The superblock of an empty log, but for this word, which has this value.
+fn bad_superblock(word: usize, value: u32) -> [u32; 17] {
+    let mut words = superblock(33, 1, 0);
+    if let Some(w) = words.get_mut(word) {
+        *w = value;
+    }
+    words
+}
+
 #[test]
 fn each_refusal_of_a_superblock(rt: HostRuntime) -> Result<(), Fail> {
-    let good = superblock(33, 1, 0);
-    for (word, value, expected) in [
-        (0, 0xc03b_3999, ("magic", JournalError::BadMagic)),
-        (1, 3, ("type", JournalError::BadType)),
-        (3, 2048, ("block size", JournalError::BadBlockSize)),
-        (4, 34, ("length", JournalError::BadLength)),
-        (5, 18, ("first block", JournalError::BadFirst)),
-        (10, 3, ("features", JournalError::BadFeature)),
-        (7, 33, ("start", JournalError::BadStart)),
-        (8, 5, ("errno", JournalError::ErrnoSet)),
-    ] {
-        let mut words = good;
-        if let Some(w) = words.get_mut(word) {
-            *w = value;
-        }
-        expect_refusal(&rt, rt.alloc(), 33, &[(0, &words)], expected)?;
+    for (word, value, expected) in BAD_WORDS {
+        let blocks: &[Placed<'_>] = &[(0, &bad_superblock(word, value))];
+        expect_refusal(&rt, rt.alloc(), 33, blocks, expected)?;
     }
+    Ok(())
+}
+
+#[test]
+fn a_log_without_a_block(rt: HostRuntime) -> Result<(), Fail> {
     let expected = ("no superblock", JournalError::BadLength);
     expect_refusal(&rt, rt.alloc(), 0, &[], expected)
 }
@@ -464,26 +501,26 @@ fn counted(alloc: Global, fails_at: u64) -> Result<CountedReads<MemDevice>, Jour
     })
 }
 
+/// How often a dump reads each block of that log.
+const READS: [u8; 40] = [
+    1, 2, 2, 2, 0, 0, 0, 2, 2, 1, 0, 0, 0, 0, 0, 0, 0, 0, 0, 0, 0, 0, 0, 0, 0, 0, 0, 0, 0, 0, 0, 0,
+    0, 0, 0, 0, 0, 0, 0, 0,
+];
+
 #[test]
 fn no_block_is_read_more_than_twice_and_no_copy_at_all(rt: HostRuntime) -> Result<(), Fail> {
     let mut device = counted(rt.alloc(), 0)?;
-    let mut out = Vec::new(rt.alloc());
-    dump(rt.alloc(), &mut device, &mut out)?;
-    assert_eq!(rt;
-        &device.counts[..12],
-        [1, 2, 2, 2, 0, 0, 0, 2, 2, 1, 0, 0].as_slice()
-    );
-    assert_eq!(rt; &device.counts[12..], [0; 28].as_slice());
+    dumped(rt.alloc(), &mut device)?;
+    assert_eq!(rt; device.counts, READS);
     Ok(())
 }
 
 /// A dump whose read `k` fails is refused. The first way of the log has seven reads, and no byte is written before.
 fn expect_failed_read(rt: &impl Abort, alloc: Global, k: u64) -> Result<(), Fail> {
     let mut device = counted(alloc, k)?;
-    let mut out = Vec::new(alloc);
-    let refused = refusal(alloc, &mut device, &mut out);
-    assert_eq!(rt; refused, Some(JournalError::Device), "read {k}");
-    assert_eq!(rt; out.is_empty(), k <= 7, "read {k}");
+    let (refused, written) = refusal(alloc, &mut device);
+    let expected = (Some(JournalError::Device), k <= 7);
+    assert_eq!(rt; (refused, written == 0), expected, "read {k}");
     Ok(())
 }
 
@@ -492,13 +529,8 @@ fn each_read_fails_in_turn(rt: HostRuntime) -> Result<(), Fail> {
     for k in 1..=12 {
         expect_failed_read(&rt, rt.alloc(), k)?;
     }
-    let mut device = counted(rt.alloc(), 13)?;
-    let mut out = Vec::new(rt.alloc());
-    dump(rt.alloc(), &mut device, &mut out)?;
-    assert_eq!(rt;
-        out.ends_with(b"8 commit 8\nend sequence=9 transactions=2\n"),
-        true
-    );
+    let text = dumped(rt.alloc(), &mut counted(rt.alloc(), 13)?)?;
+    assert!(rt; text.ends_with(b"8 commit 8\nend sequence=9 transactions=2\n"));
     Ok(())
 }
 

@@ -1,4 +1,5 @@
 //! Devices in memory: what a crash keeps, and where a device stops.
+use crate::bytes::{HOME, LOG, Place, SIZE, read_byte, read_bytes, write_byte};
 use crate::known_images;
 use block_device::{Device, DeviceFault, MemDevice, StopAt};
 use journal_model::Area;
@@ -6,42 +7,14 @@ use std::alloc::Global;
 use std::process::Abort;
 use std::test::Fail;
 
-/// Blocks of this many bytes.
-const SIZE: usize = 4;
-
 /// One call of a test's table.
 #[derive(Clone, Copy)]
 enum Step {
-    Write(Area, u64, u8),
+    Write(Place, u8),
     Flush(Area),
 }
 
-fn write_byte<D: Device>(
-    rt: &impl Abort,
-    device: &mut D,
-    area: Area,
-    block: u64,
-    byte: u8,
-) -> Result<(), DeviceFault> {
-    assert_eq!(rt; device.block_size(), SIZE);
-    assert!(rt; block < device.blocks(area));
-    device.write(area, block, &[byte; SIZE])
-}
-
-fn read_byte<D: Device>(
-    rt: &impl Abort,
-    device: &mut D,
-    area: Area,
-    block: u64,
-) -> Result<u8, DeviceFault> {
-    let mut bytes = [0xee; SIZE];
-    assert_eq!(rt; device.block_size(), SIZE);
-    assert!(rt; block < device.blocks(area));
-    device.read(area, block, &mut bytes)?;
-    Ok(bytes[0])
-}
-
-/// What each block of a table reads after these calls and a crash that keeps these writes.
+/// The device after these calls and a crash that keeps these writes.
 fn crashed(
     rt: &impl Abort,
     alloc: Global,
@@ -51,144 +24,213 @@ fn crashed(
     let mut device = MemDevice::new(alloc, SIZE, 4, 4);
     for step in steps {
         match step {
-            Step::Write(area, block, byte) => write_byte(rt, &mut device, *area, *block, *byte)?,
+            Step::Write(place, byte) => write_byte(rt, &mut device, *place, *byte)?,
             Step::Flush(area) => device.flush(*area)?,
         }
     }
     Ok(device.crash(keep))
 }
 
-const LOG: Area = Area::Log;
+const FLUSHED_BETWEEN: [Step; 3] = [
+    Step::Write((LOG, 1), 0xa),
+    Step::Flush(LOG),
+    Step::Write((LOG, 1), 0xb),
+];
 
-const HOME: Area = Area::Home;
+const OTHER_FLUSHED: [Step; 3] = [
+    Step::Write((LOG, 1), 0xa),
+    Step::Write((HOME, 1), 0xb),
+    Step::Flush(HOME),
+];
+
+const TWICE: [Step; 3] = [
+    Step::Write((LOG, 1), 0xa),
+    Step::Write((LOG, 2), 0xc),
+    Step::Write((LOG, 1), 0xb),
+];
+
+/// Calls, writes kept, and what block 1 of the log and block 1 of home then read.
+type Crash = (&'static [Step], &'static [u64], [u8; 2]);
+
+const CRASHES: [Crash; 12] = [
+    (&[], &[], [0, 0]),
+    (&TWICE, &[], [0, 0]),
+    (&TWICE, &[1], [0xa, 0]),
+    (&TWICE, &[3], [0xb, 0]),
+    (&TWICE, &[1, 3], [0xb, 0]),
+    (&TWICE, &[3, 1], [0xb, 0]),
+    (&TWICE, &[2, 99], [0, 0]),
+    (&FLUSHED_BETWEEN, &[], [0xa, 0]),
+    (&FLUSHED_BETWEEN, &[1], [0xa, 0]),
+    (&FLUSHED_BETWEEN, &[2], [0xb, 0]),
+    (&OTHER_FLUSHED, &[], [0, 0xb]),
+    (&OTHER_FLUSHED, &[1], [0xa, 0xb]),
+];
+
+/// After this crash the blocks read what they should, and no write is counted.
+fn expect_kept(
+    rt: &impl Abort,
+    alloc: Global,
+    (steps, keep, expected): Crash,
+) -> Result<(), DeviceFault> {
+    let mut device = crashed(rt, alloc, steps, keep)?;
+    let bytes = read_bytes(rt, &mut device, &[(LOG, 1), (HOME, 1)])?;
+    assert_eq!(rt; (bytes, device.writes()), (expected, 0), "keeping {keep:?}");
+    Ok(())
+}
 
 #[test]
 fn a_crash_keeps_what_was_flushed_and_what_is_kept(rt: HostRuntime) -> Result<(), Fail> {
-    // Calls, writes kept, and what block 1 of the log and block 1 of home then read.
-    let flushed_between = [
-        Step::Write(LOG, 1, 0xa),
-        Step::Flush(LOG),
-        Step::Write(LOG, 1, 0xb),
-    ];
-    let other_flushed = [
-        Step::Write(LOG, 1, 0xa),
-        Step::Write(HOME, 1, 0xb),
-        Step::Flush(HOME),
-    ];
-    let twice = [
-        Step::Write(LOG, 1, 0xa),
-        Step::Write(LOG, 2, 0xc),
-        Step::Write(LOG, 1, 0xb),
-    ];
-    let rows: [(&[Step], &[u64], u8, u8); 12] = [
-        (&[], &[], 0, 0),
-        (&twice, &[], 0, 0),
-        (&twice, &[1], 0xa, 0),
-        (&twice, &[3], 0xb, 0),
-        (&twice, &[1, 3], 0xb, 0),
-        (&twice, &[3, 1], 0xb, 0),
-        (&twice, &[2, 99], 0, 0),
-        (&flushed_between, &[], 0xa, 0),
-        (&flushed_between, &[1], 0xa, 0),
-        (&flushed_between, &[2], 0xb, 0),
-        (&other_flushed, &[], 0, 0xb),
-        (&other_flushed, &[1], 0xa, 0xb),
-    ];
-    for (i, (steps, keep, log, home)) in rows.iter().enumerate() {
-        let mut device = crashed(&rt, rt.alloc(), steps, keep)?;
-        assert_eq!(rt; read_byte(&rt, &mut device, LOG, 1)?, *log, "log, row {i}");
-        assert_eq!(rt;
-            read_byte(&rt, &mut device, HOME, 1)?,
-            *home,
-            "home, row {i}"
-        );
-        assert_eq!(rt; device.writes(), 0, "row {i}");
+    for crash in &CRASHES {
+        expect_kept(&rt, rt.alloc(), *crash)?;
     }
+    Ok(())
+}
+
+const REWRITTEN: [Step; 2] = [Step::Write((LOG, 1), 0xa), Step::Write((LOG, 1), 0xb)];
+
+/// Blocks 1 and 2 of the log read these bytes, and so many writes are counted.
+fn expect_log(
+    rt: &impl Abort,
+    device: &mut MemDevice,
+    expected: ([u8; 2], u64),
+) -> Result<(), DeviceFault> {
+    let bytes = read_bytes(rt, device, &[(LOG, 1), (LOG, 2)])?;
+    assert_eq!(rt; (bytes, device.writes()), expected);
     Ok(())
 }
 
 #[test]
 fn writes_are_numbered_anew_after_a_crash(rt: HostRuntime) -> Result<(), Fail> {
-    let mut device = crashed(
-        &rt,
-        rt.alloc(),
-        &[Step::Write(LOG, 1, 0xa), Step::Write(LOG, 1, 0xb)],
-        &[1],
-    )?;
-    write_byte(&rt, &mut device, LOG, 1, 0xc)?;
-    write_byte(&rt, &mut device, LOG, 2, 0xd)?;
-    assert_eq!(rt; device.writes(), 2);
-    assert_eq!(rt;
-        read_byte(&rt, &mut device, LOG, 1)?,
-        0xc,
-        "before a flush the newest write is read"
-    );
-    let mut device = device.crash(&[2]);
-    assert_eq!(rt;
-        read_byte(&rt, &mut device, LOG, 1)?,
-        0xa,
-        "what the first crash left is durable"
-    );
-    assert_eq!(rt; read_byte(&rt, &mut device, LOG, 2)?, 0xd);
+    let mut device = crashed(&rt, rt.alloc(), &REWRITTEN, &[1])?;
+    write_byte(&rt, &mut device, (LOG, 1), 0xc)?;
+    write_byte(&rt, &mut device, (LOG, 2), 0xd)?;
+    // Before a flush the newest write is read.
+    expect_log(&rt, &mut device, ([0xc, 0xd], 2))?;
+    // What the first crash left is durable.
+    expect_log(&rt, &mut device.crash(&[2]), ([0xa, 0xd], 0))?;
     Ok(())
 }
 
-#[test]
-fn a_device_stops_at_each_write(rt: HostRuntime) -> Result<(), Fail> {
-    for k in 1..6 {
-        let mut device = StopAt::new(MemDevice::new(rt.alloc(), SIZE, 4, 4), k);
-        let mut done = 0;
-        for i in 0..4u8 {
-            if write_byte(&rt, &mut device, HOME, u64::from(i), i + 1).is_ok() {
-                done = u64::from(i) + 1;
-            }
-        }
-        assert_eq!(rt; done, 4.min(k - 1), "stop at {k}");
-        assert_eq!(rt; device.is_stopped(), k < 5, "stop at {k}");
-        assert_eq!(rt; device.flush(HOME).is_ok(), k == 5, "stop at {k}");
-        assert_eq!(rt;
-            read_byte(&rt, &mut device, HOME, 0).is_ok(),
-            k == 5,
-            "stop at {k}"
-        );
-        // The write at which it stopped was handed over.
-        let mut inner = device.into_inner();
-        assert_eq!(rt; inner.writes(), 4.min(k), "stop at {k}");
-        if k < 5 {
-            assert_eq!(rt;
-                u64::from(read_byte(&rt, &mut inner, HOME, k - 1)?),
-                k,
-                "stop at {k}"
-            );
+/// Writes home blocks 0 to 3, each a byte above its place, and answers the last byte that was written without a fault.
+fn write_four<D: Device>(rt: &impl Abort, device: &mut D) -> u8 {
+    let mut done = 0;
+    for i in 0..4u8 {
+        if write_byte(rt, device, (HOME, u64::from(i)), i + 1).is_ok() {
+            done = i + 1;
         }
     }
+    done
+}
+
+/// The last byte that was written without a fault, and whether the device has then stopped, flushes and reads.
+type Answers = (u8, bool, bool, bool);
+
+/// What a device answers to four writes, a flush and a read.
+fn answers(rt: &impl Abort, device: &mut StopAt<MemDevice>) -> Answers {
+    let done = write_four(rt, device);
+    let stopped = device.is_stopped();
+    let flushes = device.flush(HOME).is_ok();
+    (
+        done,
+        stopped,
+        flushes,
+        read_byte(rt, device, (HOME, 0)).is_ok(),
+    )
+}
+
+/// The bytes of the four blocks of home, and how many writes the device was handed.
+type HandedOver = ([u8; 4], u64);
+
+/// What was handed over to the device behind one that stops.
+fn handed_over(rt: &impl Abort, device: &mut MemDevice) -> Result<HandedOver, DeviceFault> {
+    let bytes = read_bytes(rt, device, &[(HOME, 0), (HOME, 1), (HOME, 2), (HOME, 3)])?;
+    Ok((bytes, device.writes()))
+}
+
+/// What a device that stops at this write answers, and what it hands over.
+fn stopped_at(
+    rt: &impl Abort,
+    alloc: Global,
+    stop: u64,
+) -> Result<(Answers, HandedOver), DeviceFault> {
+    let mut device = StopAt::new(MemDevice::new(alloc, SIZE, 4, 4), stop);
+    let answers = answers(rt, &mut device);
+    Ok((answers, handed_over(rt, &mut device.into_inner())?))
+}
+
+/// The write at which a device stops, and what `stopped_at` tells of it: that write is handed over. With 5 it goes on.
+const STOPS: [(u64, (Answers, HandedOver)); 5] = [
+    (1, ((0, true, false, false), ([1, 0, 0, 0], 1))),
+    (2, ((1, true, false, false), ([1, 2, 0, 0], 2))),
+    (3, ((2, true, false, false), ([1, 2, 3, 0], 3))),
+    (4, ((3, true, false, false), ([1, 2, 3, 4], 4))),
+    (5, ((4, false, true, true), ([1, 2, 3, 4], 4))),
+];
+
+#[test]
+fn a_device_stops_at_each_write(rt: HostRuntime) -> Result<(), Fail> {
+    for (stop, expected) in STOPS {
+        assert_eq!(rt;
+            stopped_at(&rt, rt.alloc(), stop)?,
+            expected,
+            "stop at {stop}"
+        );
+    }
     Ok(())
+}
+
+/// Writes home blocks 0 to 299 of a device that never stops, a flush of the log behind each, and gives what is behind it.
+fn many_calls(rt: &impl Abort, alloc: Global) -> Result<MemDevice, DeviceFault> {
+    let mut device = StopAt::new(MemDevice::new(alloc, SIZE, 4, 300), 0);
+    for i in 0..300u64 {
+        write_byte(rt, &mut device, (HOME, i), 7)?;
+        device.flush(LOG)?;
+    }
+    assert!(rt; !device.is_stopped());
+    Ok(device.into_inner())
 }
 
 #[test]
 fn a_device_goes_on_for_many_calls(rt: HostRuntime) -> Result<(), Fail> {
-    let mut device = StopAt::new(MemDevice::new(rt.alloc(), SIZE, 4, 300), 0);
-    for i in 0..300u64 {
-        write_byte(&rt, &mut device, HOME, i, 7)?;
-        device.flush(LOG)?;
-    }
-    assert!(rt; !device.is_stopped());
-    let mut device = device.into_inner();
-    assert_eq!(rt; device.writes(), 300);
-    assert_eq!(rt; read_byte(&rt, &mut device, HOME, 299)?, 7);
+    let mut device = many_calls(&rt, rt.alloc())?;
+    let last = read_byte(&rt, &mut device, (HOME, 299))?;
+    assert_eq!(rt; (device.writes(), last), (300, 7));
+    Ok(())
+}
+
+#[test]
+fn what_a_fault_says(rt: HostRuntime) -> Result<(), Fail> {
     let text = format!(in rt.alloc(); "{DeviceFault}")?;
     assert_eq!(rt; text.as_str(), "the device failed");
     Ok(())
 }
 
+/// The device after `known_images` with ones, twos and threes, and a crash that keeps these writes.
+fn known_crashed(alloc: Global, keep: &[u64]) -> Result<MemDevice, DeviceFault> {
+    let mut device = MemDevice::new(alloc, SIZE, 4, 4);
+    known_images(&mut device, &[1; SIZE], &[2; SIZE], &[3; SIZE])?;
+    Ok(device.crash(keep))
+}
+
+/// After `known_images` and a crash that keeps these writes, log block 1 and home block 2 read these bytes.
+fn expect_known(
+    rt: &impl Abort,
+    alloc: Global,
+    keep: &[u64],
+    expected: [u8; 2],
+) -> Result<(), DeviceFault> {
+    let mut device = known_crashed(alloc, keep)?;
+    assert_eq!(rt;
+        read_bytes(rt, &mut device, &[(LOG, 1), (HOME, 2)])?,
+        expected
+    );
+    Ok(())
+}
+
 #[test]
 fn known_images_can_be_reached(rt: HostRuntime) -> Result<(), Fail> {
-    for (keep, log) in [(&[][..], 1), (&[3][..], 3)] {
-        let mut device = MemDevice::new(rt.alloc(), SIZE, 4, 4);
-        known_images(&mut device, &[1; SIZE], &[2; SIZE], &[3; SIZE])?;
-        let mut device = device.crash(keep);
-        assert_eq!(rt; read_byte(&rt, &mut device, LOG, 1)?, log);
-        assert_eq!(rt; read_byte(&rt, &mut device, HOME, 2)?, 0);
-    }
+    expect_known(&rt, rt.alloc(), &[], [1, 0])?;
+    expect_known(&rt, rt.alloc(), &[3], [3, 0])?;
     Ok(())
 }

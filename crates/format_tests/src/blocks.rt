@@ -81,6 +81,19 @@ fn spells(tags: &[Tag], bytes: &[u8]) -> bool {
     write_tags(&mut block, 2, tags) && block.starts_with(&header) && is_padded(&block[12..], bytes)
 }
 
+/// What three tags of the blocks 9, 10 and 10 have there: a UUID stands behind the first.
+const THREE_TAGS: [u8; 40] = [
+    0, 0, 0, 9, 0, 0, 0, 0, 0xaa, 0xaa, 0xaa, 0xaa, 0xaa, 0xaa, 0xaa, 0xaa, 0xaa, 0xaa, 0xaa, 0xaa,
+    0xaa, 0xaa, 0xaa, 0xaa, 0, 0, 0, 10, 0, 0, 0, 2, 0, 0, 0, 10, 0, 0, 0, 10,
+];
+
+/// A descriptor of one tag has these bytes and the UUID behind its header.
+fn spells_one(tag: Tag, bytes: [u8; 8]) -> bool {
+    let mut with_uuid = [0xaau8; 24];
+    with_uuid[..8].copy_from_slice(&bytes);
+    spells(&[tag], &with_uuid)
+}
+
 #[test]
 fn tags_as_bytes(rt: HostRuntime) {
     let several = [
@@ -88,15 +101,9 @@ fn tags_as_bytes(rt: HostRuntime) {
         tag(10, false, true, false),
         tag(10, false, true, true),
     ];
-    let mut bytes = [0xaau8; 40];
-    bytes[..8].copy_from_slice(&[0, 0, 0, 9, 0, 0, 0, 0]);
-    bytes[24..32].copy_from_slice(&[0, 0, 0, 10, 0, 0, 0, 2]);
-    bytes[32..].copy_from_slice(&[0, 0, 0, 10, 0, 0, 0, 10]);
-    assert!(rt; spells(&several, &bytes));
-    bytes[..8].copy_from_slice(&[0, 0, 0, 9, 0, 0, 0, 8]);
-    assert!(rt; spells(&[tag(9, false, false, true)], &bytes[..24]));
-    bytes[..8].copy_from_slice(&[0, 0, 0, 20, 0, 0, 0, 9]);
-    assert!(rt; spells(&[tag(20, true, false, true)], &bytes[..24]));
+    assert!(rt; spells(&several, &THREE_TAGS));
+    assert!(rt; spells_one(tag(9, false, false, true), [0, 0, 0, 9, 0, 0, 0, 8]));
+    assert!(rt; spells_one(tag(20, true, false, true), [0, 0, 0, 20, 0, 0, 0, 9]));
 }
 
 /// Block numbers from 1 on, as the writer tags them.
@@ -147,26 +154,30 @@ fn full_descriptors(rt: HostRuntime) {
     assert!(rt; ends_at(&kib4, 4076));
 }
 
+/// Flags of a tag that is alone, and what is read from its descriptor.
+const FLAGS: [(u8, Result<usize, Malformed>); 5] = [
+    (8, Ok(1)),
+    (11, Ok(1)),
+    (0, Err(Malformed)),
+    (12, Err(Malformed)),
+    (24, Err(Malformed)),
+];
+
 #[test]
 fn malformed_descriptors(rt: HostRuntime) {
     let mut tags = [tag(0, false, false, false); 126];
     let mut block = [0u8; 1024];
     assert_eq!(rt; read_tags(&block, 32, &mut tags), None);
     assert!(rt; write_tags(&mut block, 2, &[tag(9, false, false, true)]));
-    for (flags, answer) in [
-        (8u8, Ok(1)),
-        (11, Ok(1)),
-        (0, Err(Malformed)),
-        (12, Err(Malformed)),
-        (24, Err(Malformed)),
-    ] {
+    for (flags, answer) in FLAGS {
         block[19] = flags;
         assert_eq!(rt; read_tags(&block, 10, &mut tags), Some(answer));
     }
     block[19] = 8;
-    assert_eq!(rt; read_tags(&block, 9, &mut tags), Some(Err(Malformed)));
+    let no_home_block = read_tags(&block, 9, &mut tags);
     block[18] = 1;
-    assert_eq!(rt; read_tags(&block, 10, &mut tags), Some(Err(Malformed)));
+    let unknown_flag = read_tags(&block, 10, &mut tags);
+    assert_eq!(rt; [no_home_block, unknown_flag], [Some(Err(Malformed)); 2]);
 }
 
 /// A descriptor whose tags name block 9 and fill the block, each but the last without a UUID behind it: the last one
@@ -221,29 +232,31 @@ fn bytes_of_a_descriptor_that_are_not_read(rt: HostRuntime) {
     assert!(rt; tags.starts_with(&written));
 }
 
+/// The greatest block number that fits the format's 32 bits.
+const GREATEST: u64 = 0xffff_ffff;
+
 #[test]
-fn home_area_of_every_number(rt: HostRuntime) {
-    let greatest = 0xffff_ffff;
-    let mut block = [0u8; 1024];
+fn home_area_of_every_tag(rt: HostRuntime) {
+    let written = [tag(GREATEST, false, false, true)];
     let mut tags = [tag(0, false, false, false); 126];
-    assert!(rt; write_tags(&mut block, 2, &[tag(greatest, false, false, true)]));
-    assert_eq!(rt; read_tags(&block, greatest + 1, &mut tags), Some(Ok(1)));
-    assert!(rt; tags.starts_with(&[tag(greatest, false, false, true)]));
-    assert_eq!(rt;
-        read_tags(&block, greatest, &mut tags),
-        Some(Err(Malformed))
-    );
+    let mut block = [0u8; 1024];
+    assert!(rt; write_tags(&mut block, 2, &written));
+    let outside = read_tags(&block, GREATEST, &mut tags);
+    let inside = read_tags(&block, GREATEST + 1, &mut tags);
+    assert_eq!(rt; (outside, inside), (Some(Err(Malformed)), Some(Ok(1))));
+    assert!(rt; tags.starts_with(&written));
+}
+
+#[test]
+fn home_area_of_every_revoke(rt: HostRuntime) {
+    let written = [BlockNo(GREATEST)];
     let mut numbers = [BlockNo(0); 252];
-    assert!(rt; write_numbers(&mut block, 2, &[BlockNo(greatest)]));
-    assert_eq!(rt;
-        read_numbers(&block, greatest + 1, &mut numbers),
-        Some(Ok(1))
-    );
-    assert!(rt; numbers.starts_with(&[BlockNo(greatest)]));
-    assert_eq!(rt;
-        read_numbers(&block, greatest, &mut numbers),
-        Some(Err(Malformed))
-    );
+    let mut block = [0u8; 1024];
+    assert!(rt; write_numbers(&mut block, 2, &written));
+    let outside = read_numbers(&block, GREATEST, &mut numbers);
+    let inside = read_numbers(&block, GREATEST + 1, &mut numbers);
+    assert_eq!(rt; (outside, inside), (Some(Err(Malformed)), Some(Ok(1))));
+    assert!(rt; numbers.starts_with(&written));
 }
 
 /// Block numbers from 1 on fill a revoke block, and are read back.
@@ -273,26 +286,39 @@ fn full_revoke_blocks(rt: HostRuntime) {
     assert!(rt; is_full_of_numbers(&mut [0xff; 4096], &mut [none; 1020], &mut [none; 1020]));
 }
 
+/// A revoke block of sequence 3 with the numbers 7 and 9, without the zeros behind it.
+const SEVEN_AND_NINE: [u8; 24] = [
+    0xc0, 0x3b, 0x39, 0x98, 0, 0, 0, 5, 0, 0, 0, 3, 0, 0, 0, 0x18, 0, 0, 0, 7, 0, 0, 0, 9,
+];
+
 #[test]
 fn revoke_blocks(rt: HostRuntime) {
+    let written = [BlockNo(7), BlockNo(9)];
     let mut block = [0xffu8; 1024];
     let mut numbers = [BlockNo(0); 252];
-    assert!(rt; write_numbers(&mut block, 3, &[BlockNo(7), BlockNo(9)]));
-    let bytes = [
-        0xc0, 0x3b, 0x39, 0x98, 0, 0, 0, 5, 0, 0, 0, 3, 0, 0, 0, 0x18, 0, 0, 0, 7, 0, 0, 0, 9,
-    ];
-    assert!(rt; is_padded(&block, &bytes));
-    assert_eq!(rt; read_numbers(&block, 10, &mut numbers), Some(Ok(2)));
-    assert!(rt; numbers.starts_with(&[BlockNo(7), BlockNo(9)]));
-    assert_eq!(rt; read_numbers(&block, 9, &mut numbers), Some(Err(Malformed)));
-    for (used, answer) in [
-        (15u32, Err(Malformed)),
-        (16, Ok(0)),
-        (17, Err(Malformed)),
-        (1024, Ok(252)),
-        (1028, Err(Malformed)),
-    ] {
-        BigEndian::write_u32(&mut block[12..], used);
+    assert!(rt; write_numbers(&mut block, 3, &written) && is_padded(&block, &SEVEN_AND_NINE));
+    let outside = read_numbers(&block, 9, &mut numbers);
+    let inside = read_numbers(&block, 10, &mut numbers);
+    assert_eq!(rt; (outside, inside), (Some(Err(Malformed)), Some(Ok(2))));
+    assert!(rt; numbers.starts_with(&written));
+}
+
+/// Counts of bytes used that a revoke block says, and what is read from it.
+const COUNTS: [(u32, Result<usize, Malformed>); 5] = [
+    (15, Err(Malformed)),
+    (16, Ok(0)),
+    (17, Err(Malformed)),
+    (1024, Ok(252)),
+    (1028, Err(Malformed)),
+];
+
+#[test]
+fn counts_of_revoke_blocks(rt: HostRuntime) {
+    let mut block = [0u8; 1024];
+    let mut numbers = [BlockNo(0); 252];
+    block[..24].copy_from_slice(&SEVEN_AND_NINE);
+    for (used, answer) in COUNTS {
+        put(&mut block, 12, used);
         assert_eq!(rt; read_numbers(&block, 10, &mut numbers), Some(answer));
     }
 }
@@ -319,41 +345,66 @@ fn copies_that_begin_with_the_magic(rt: HostRuntime) {
     assert!(rt; copy.starts_with(&[0, 0, 0, 0, 0x11]));
 }
 
-#[test]
-fn a_formatted_superblock(rt: HostRuntime) {
+/// A superblock as it is formatted for 33 blocks, without the zeros behind it.
+const FORMATTED: [u8; 0x44] = [
+    0xc0, 0x3b, 0x39, 0x98, 0, 0, 0, 4, 0, 0, 0, 0, 0, 0, 4, 0, 0, 0, 0, 33, 0, 0, 0, 1, 0, 0, 0,
+    1, 0, 0, 0, 0, 0, 0, 0, 0, 0, 0, 0, 0, 0, 0, 0, 1, 0, 0, 0, 0, 0xaa, 0xaa, 0xaa, 0xaa, 0xaa,
+    0xaa, 0xaa, 0xaa, 0xaa, 0xaa, 0xaa, 0xaa, 0xaa, 0xaa, 0xaa, 0xaa, 0, 0, 0, 1,
+];
+
+/// A superblock that is formatted for 33 blocks.
+fn formatted() -> [u8; 1024] {
     let mut block = [0xffu8; 1024];
     Super::format(&mut block, 33, &UUID);
-    let mut bytes = [0u8; 0x44];
-    bytes[..12].copy_from_slice(&[0xc0, 0x3b, 0x39, 0x98, 0, 0, 0, 4, 0, 0, 0, 0]);
-    bytes[12..28].copy_from_slice(&[0, 0, 4, 0, 0, 0, 0, 33, 0, 0, 0, 1, 0, 0, 0, 1]);
-    bytes[0x2b] = 1;
-    bytes[0x30..0x40].copy_from_slice(&UUID);
-    bytes[0x43] = 1;
-    assert!(rt; is_padded(&block, &bytes));
+    block
+}
+
+#[test]
+fn a_formatted_superblock(rt: HostRuntime) {
+    assert!(rt; is_padded(&formatted(), &FORMATTED));
+}
+
+/// The fields of a formatted superblock that was written again, with a sequence and a start.
+const STARTED: Super = Super {
+    s_blocksize: 1024,
+    s_maxlen: 33,
+    s_first: 1,
+    s_sequence: 0x0102_0304,
+    s_start: 5,
+    s_errno: 0,
+    s_feature_compat: 0,
+    s_feature_incompat: 1,
+    s_feature_ro_compat: 0,
+    s_uuid: UUID,
+    s_nr_users: 1,
+};
+
+#[test]
+fn a_superblock_with_a_start(rt: HostRuntime) {
+    let mut block = formatted();
     block[0x400 - 1] = 0x55;
     Super::write(&mut block, 0x0102_0304, 5);
+    let mut bytes = FORMATTED;
     bytes[0x18..0x20].copy_from_slice(&[1, 2, 3, 4, 0, 0, 0, 5]);
     assert!(rt; block.starts_with(&bytes));
-    assert_eq!(rt; block[0x400 - 1], 0x55);
-    let fields = Super {
-        s_blocksize: 1024,
-        s_maxlen: 33,
-        s_first: 1,
-        s_sequence: 0x0102_0304,
-        s_start: 5,
-        s_errno: 0,
-        s_feature_compat: 0,
-        s_feature_incompat: 1,
-        s_feature_ro_compat: 0,
-        s_uuid: UUID,
-        s_nr_users: 1,
-    };
-    assert_eq!(rt; Super::read(&block, 33), Ok(fields));
+    assert_eq!(rt;
+        (Super::read(&block, 33), block[0x400 - 1]),
+        (Ok(STARTED), 0x55)
+    );
 }
 
 /// Writes a number at a place of the first 256 bytes.
 fn put(block: &mut [u8; 1024], at: u8, value: u32) {
     BigEndian::write_u32(&mut block[usize::from(at)..], value);
+}
+
+/// The refusal of a formatted superblock with these fields changed, in a log area of as many blocks.
+fn refusal_of(changes: &[(u8, u32)], area: u64) -> Option<JournalError> {
+    let mut block = formatted();
+    for (at, value) in changes {
+        put(&mut block, *at, *value);
+    }
+    Super::read(&block, area).err()
 }
 
 /// A field of a superblock that is changed, its new number, and the refusal.
@@ -370,20 +421,15 @@ const CHANGES: [(u8, u32, JournalError); 8] = [
 
 #[test]
 fn refused_superblocks(rt: HostRuntime) {
-    let mut good = [0u8; 1024];
-    assert_eq!(rt; Super::read(&good, 0).err(), Some(JournalError::BadLength));
-    Super::format(&mut good, 33, &UUID);
-    assert_eq!(rt; Super::read(&good, 33).err(), None);
-    assert_eq!(rt; Super::read(&good, 0).err(), Some(JournalError::BadLength));
-    assert_eq!(rt; Super::read(&good, 32).err(), Some(JournalError::BadLength));
+    let short = Some(JournalError::BadLength);
+    let zeros = Super::read(&[0u8; 1024], 0).err();
+    let areas = [refusal_of(&[], 33), refusal_of(&[], 0), refusal_of(&[], 32)];
+    assert_eq!(rt; (zeros, areas), (short, [None, short, short]));
+    // The first other change is the same one again.
     for (i, (at, value, refusal)) in CHANGES.iter().enumerate() {
-        let mut bad = good;
-        put(&mut bad, *at, *value);
-        assert_eq!(rt; Super::read(&bad, 33).err(), Some(*refusal));
         for (other_at, other_value, _) in &CHANGES[i..] {
-            let mut worse = bad;
-            put(&mut worse, *other_at, *other_value);
-            assert_eq!(rt; Super::read(&worse, 33).err(), Some(*refusal));
+            let changes = [(*at, *value), (*other_at, *other_value)];
+            assert_eq!(rt; refusal_of(&changes, 33), Some(*refusal));
         }
     }
 }
@@ -411,14 +457,8 @@ const FIELDS: [([(u8, u32); 2], Option<JournalError>); 13] = [
 
 #[test]
 fn fields_of_superblocks(rt: HostRuntime) {
-    let mut good = [0u8; 1024];
-    Super::format(&mut good, 33, &UUID);
     for (changes, answer) in &FIELDS {
-        let mut block = good;
-        for (at, value) in changes {
-            put(&mut block, *at, *value);
-        }
-        assert_eq!(rt; Super::read(&block, 2_000_000).err(), *answer);
+        assert_eq!(rt; refusal_of(changes, 2_000_000), *answer);
     }
 }
 
@@ -429,26 +469,32 @@ fn refusal_of_first(block: &[u8; 1024], bytes: usize) -> Option<JournalError>
     Super::read(&block[..bytes], 33).err()
 }
 
+/// The refusals of the first 0, 3, 7, 8 and 512 bytes of a block.
+fn refusals_of_first(block: &[u8; 1024]) -> [Option<JournalError>; 5] {
+    [
+        refusal_of_first(block, 0),
+        refusal_of_first(block, 3),
+        refusal_of_first(block, 7),
+        refusal_of_first(block, 8),
+        refusal_of_first(block, 512),
+    ]
+}
+
 #[test]
 fn superblocks_of_other_sizes(rt: HostRuntime) {
-    let mut block = [0u8; 1024];
-    assert_eq!(rt; refusal_of_first(&block, 512), Some(JournalError::BadMagic));
-    Super::format(&mut block, 33, &UUID);
+    let magic = Some(JournalError::BadMagic);
+    let kind = Some(JournalError::BadType);
+    let size = Some(JournalError::BadBlockSize);
+    let mut block = formatted();
     put(&mut block, 0x0c, 512);
     assert_eq!(rt; Super::fields(&block).s_blocksize, 512);
-    assert_eq!(rt; refusal_of_first(&block, 0), Some(JournalError::BadMagic));
-    assert_eq!(rt; refusal_of_first(&block, 3), Some(JournalError::BadMagic));
-    assert_eq!(rt; refusal_of_first(&block, 7), Some(JournalError::BadType));
-    assert_eq!(rt;
-        refusal_of_first(&block, 8),
-        Some(JournalError::BadBlockSize)
-    );
-    assert_eq!(rt;
-        refusal_of_first(&block, 512),
-        Some(JournalError::BadBlockSize)
-    );
+    assert_eq!(rt; refusals_of_first(&block), [magic, magic, kind, size, size]);
     put(&mut block, 0x04, 3);
-    assert_eq!(rt; refusal_of_first(&block, 512), Some(JournalError::BadType));
+    let others = [
+        refusal_of_first(&block, 512),
+        refusal_of_first(&[0; 1024], 512),
+    ];
+    assert_eq!(rt; others, [kind, magic]);
 }
 
 #[test]

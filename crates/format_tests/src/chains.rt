@@ -294,14 +294,28 @@ const LAPS: [Lap; 27] = [
     },
 ];
 
+/// How many texts the chain of the blocks from a number on has, and the place of its malformed block.
+fn found_in(
+    alloc: Global,
+    sequence: u64,
+    blocks: &[Block],
+) -> Result<(usize, Option<usize>), AllocError> {
+    let texts = chain_of(alloc, sequence, blocks)?;
+    let damaged = damage(alloc, 1024, 4, HOME, sequence, blocks)?;
+    Ok((texts.len(), damaged))
+}
+
+/// What is found in a lap.
+fn found_in_lap(alloc: Global, lap: &Lap) -> Result<(usize, Option<usize>), AllocError> {
+    let blocks = blocks_of(alloc, lap.blocks)?;
+    found_in(alloc, lap.sequence, &blocks)
+}
+
 #[test]
 fn chains_and_damage(rt: HostRuntime) -> Result<(), Fail> {
-    let alloc = rt.alloc();
-    for lap in LAPS {
-        let blocks = blocks_of(alloc, lap.blocks)?;
-        let found = chain_of(alloc, lap.sequence, &blocks)?.len();
-        let damaged = damage(alloc, 1024, 4, HOME, lap.sequence, &blocks)?;
-        assert_eq!(rt; (found, damaged), (lap.texts, lap.damaged), "{}", lap.name);
+    for lap in &LAPS {
+        let found = found_in_lap(rt.alloc(), lap)?;
+        assert_eq!(rt; found, (lap.texts, lap.damaged), "{}", lap.name);
     }
     Ok(())
 }
@@ -313,25 +327,31 @@ fn newest_of(alloc: Global, blocks: &[Block], block: u64) -> Result<Option<u8>, 
     Ok(copy.and_then(|bytes| bytes.bytes().first().copied()))
 }
 
+/// A text that copies block 9, and behind it one that revokes it and copies block 10.
+const TWO_TEXTS: [Put; 7] = [
+    Descriptor(2, 9, 8),
+    Data(0x11),
+    Commit(2),
+    Revoke(3, 20, 9),
+    Descriptor(3, 10, 8),
+    Data(0x22),
+    Commit(3),
+];
+
+/// The first bytes of the newest copies of the blocks 9 and 10 in a lap.
+fn newest_of_two(alloc: Global, lap: &[Put]) -> Result<[Option<u8>; 2], AllocError> {
+    let blocks = blocks_of(alloc, lap)?;
+    let first = newest_of(alloc, &blocks, 9)?;
+    let second = newest_of(alloc, &blocks, 10)?;
+    Ok([first, second])
+}
+
 #[test]
 fn the_last_text_counts_only_with_its_commit_block(rt: HostRuntime) -> Result<(), Fail> {
-    let alloc = rt.alloc();
-    let mut blocks = blocks_of(
-        alloc,
-        &[
-            Descriptor(2, 9, 8),
-            Data(0x11),
-            Commit(2),
-            Revoke(3, 20, 9),
-            Descriptor(3, 10, 8),
-            Data(0x22),
-        ],
-    )?;
-    assert_eq!(rt; newest_of(alloc, &blocks, 9)?, Some(0x11), "not revoked");
-    assert_eq!(rt; newest_of(alloc, &blocks, 10)?, None, "not copied");
-    blocks.push(block_of(alloc, &Commit(3).words())?)?;
-    assert_eq!(rt; newest_of(alloc, &blocks, 9)?, None, "revoked");
-    assert_eq!(rt; newest_of(alloc, &blocks, 10)?, Some(0x22), "copied");
+    for (blocks, want) in [(6, [Some(0x11), None]), (7, [None, Some(0x22)])] {
+        let newest = newest_of_two(rt.alloc(), &TWO_TEXTS[..blocks])?;
+        assert_eq!(rt; newest, want, "{blocks} blocks");
+    }
     Ok(())
 }
 
@@ -351,52 +371,61 @@ const TAGS: [Tag; 2] = [
     },
 ];
 
+/// The blocks have the same bytes.
+fn are_alike(blocks: &[Block], others: &[Block]) -> bool {
+    let mut pairs = blocks.iter().zip(others);
+    blocks.len() == others.len() && pairs.all(|(block, other)| block.bytes() == other.bytes())
+}
+
+/// A text is one descriptor with these tags, and its log blocks are these, in their order.
+fn is_of_copies(text: &Text, tags: &[Tag], blocks: &[Block]) -> bool {
+    let [first, behind @ .., last] = blocks else {
+        return false;
+    };
+    let [Piece::Copies(own, read, copies)] = text.pieces.as_slice() else {
+        return false;
+    };
+    let ends = own.bytes() == first.bytes() && text.commit.bytes() == last.bytes();
+    ends && read.as_slice() == tags && are_alike(copies.as_slice(), behind)
+}
+
 #[test]
 fn a_text_of_two_copies(rt: HostRuntime) -> Result<(), Fail> {
-    let alloc = rt.alloc();
     let own = Other([MAGIC, 1, 2, 9, 0, UUID, UUID, UUID, UUID, 10, 10, 0, 0]);
-    let blocks = blocks_of(alloc, &[own, Data(0x11), Data(0x22), Commit(2)])?;
-    let texts = chain_of(alloc, 2, &blocks)?;
+    let blocks = blocks_of(rt.alloc(), &[own, Data(0x11), Data(0x22), Commit(2)])?;
+    let texts = chain_of(rt.alloc(), 2, &blocks)?;
     let text = texts.as_slice().first().ok_or("no text")?;
-    let Some(Piece::Copies(block, tags, copies)) = text.pieces.as_slice().first() else {
-        return Err(Fail::from("no copies"));
-    };
-    assert_eq!(rt; (text.pieces.len(), copies.len()), (1, 2));
-    assert_eq!(rt; tags.as_slice(), TAGS.as_slice());
-    for (copy, wanted) in copies.as_slice().iter().zip(blocks.iter().skip(1)) {
-        assert_eq!(rt; copy.bytes(), wanted.bytes());
-    }
-    let ends = (Some(block.bytes()), Some(text.commit.bytes()));
-    assert_eq!(rt;
-        ends,
-        (
-            blocks.first().map(Block::bytes),
-            blocks.get(3).map(Block::bytes)
-        )
-    );
+    assert!(rt; is_of_copies(text, &TAGS, &blocks));
     Ok(())
 }
 
-/// A lap of 32 ring blocks: a whole text 12, the begin of a text 13, and behind it what is left of the texts 3 to 11
-/// of an earlier lap, each of one copy.
+/// A whole text 12, the begin of a text 13, and behind it what an earlier lap left of its text 3.
+const STALE: [Put; 8] = [
+    Other([MAGIC, 1, 12, 6, 0, UUID, UUID, UUID, UUID, 7, 2, 8, 10]),
+    Data(0x66),
+    Data(0x77),
+    Data(0x88),
+    Commit(12),
+    Descriptor(13, 5, 8),
+    Data(0x0d),
+    Commit(3),
+];
+
+/// A lap of 32 ring blocks: `STALE`, and behind it the texts 4 to 11 of the earlier lap, each of one copy.
 fn stale_lap(alloc: Global) -> Result<Vec<Block>, AllocError> {
-    let three_tags = Other([MAGIC, 1, 12, 6, 0, UUID, UUID, UUID, UUID, 7, 2, 8, 10]);
-    let mut lap = blocks_of(
-        alloc,
-        &[
-            three_tags,
-            Data(0x66),
-            Data(0x77),
-            Data(0x88),
-            Commit(12),
-            Descriptor(13, 5, 8),
-            Data(0x0d),
-            Commit(3),
-        ],
-    )?;
+    let mut lap = blocks_of(alloc, &STALE)?;
     for sequence in 4..12 {
-        lap.push(block_of(alloc, &Descriptor(sequence, 5, 8).words())?)?;
-        lap.push(block_of(alloc, &Data(0x0a).words())?)?;
+        for put in [Descriptor(sequence, 5, 8), Data(0x0a), Commit(sequence)] {
+            lap.push(block_of(alloc, &put.words())?)?;
+        }
+    }
+    Ok(lap)
+}
+
+/// A lap of 32 commit blocks, of the numbers from 2 on.
+fn lap_of_commits(alloc: Global) -> Result<Vec<Block>, AllocError> {
+    let mut lap = Vec::new(alloc);
+    for sequence in 2..34 {
         lap.push(block_of(alloc, &Commit(sequence).words())?)?;
     }
     Ok(lap)
@@ -404,48 +433,51 @@ fn stale_lap(alloc: Global) -> Result<Vec<Block>, AllocError> {
 
 #[test]
 fn whole_laps(rt: HostRuntime) -> Result<(), Fail> {
-    let alloc = rt.alloc();
-    let lap = stale_lap(alloc)?;
-    assert_eq!(rt; lap.len(), 32);
-    assert_eq!(rt; chain_of(alloc, 12, &lap)?.len(), 1, "a stale commit block");
+    let stale = stale_lap(rt.alloc())?;
+    let found = found_in(rt.alloc(), 12, &stale)?;
     assert_eq!(rt;
-        damage(alloc, 1024, 4, HOME, 12, &lap)?,
-        None,
+        (stale.len(), found),
+        (32, (1, None)),
         "a stale commit block"
     );
-
-    let mut commits = Vec::new(alloc);
-    for sequence in 2..34 {
-        commits.push(block_of(alloc, &Commit(sequence).words())?)?;
-    }
-    assert_eq!(rt;
-        chain_of(alloc, 2, &commits)?.len(),
-        32,
-        "a lap of commit blocks"
-    );
+    let commits = lap_of_commits(rt.alloc())?;
+    let found = found_in(rt.alloc(), 2, &commits)?;
+    assert_eq!(rt; found, (32, None), "a lap of commit blocks");
     Ok(())
 }
 
-#[test]
-fn a_descriptor_that_takes_the_whole_lap(rt: HostRuntime) -> Result<(), Fail> {
-    let alloc = rt.alloc();
+/// A descriptor of sequence 2 with tags of the home blocks 0 to 30.
+fn descriptor_of_31_tags(alloc: Global) -> Result<Block, AllocError> {
     let mut words = [MAGIC, 1, 2, 0, 0, UUID, UUID, UUID, UUID].to_vec(alloc)?;
     for block in 1..31 {
         words.push(block)?;
         words.push(if block == 30 { 10 } else { 2 })?;
     }
-    let mut lap = vec![in alloc; block_of(alloc, &words)?]?;
+    block_of(alloc, &words)
+}
+
+/// A lap of 32 blocks: that descriptor and its copies.
+fn lap_of_one_descriptor(alloc: Global) -> Result<Vec<Block>, AllocError> {
+    let mut lap = vec![in alloc; descriptor_of_31_tags(alloc)?]?;
     for _ in 0..31 {
         lap.push(block_of(alloc, &Data(0xee).words())?)?;
     }
-    assert_eq!(rt; chain_of(alloc, 2, &lap)?.len(), 0);
-    assert_eq!(rt; damage(alloc, 1024, 4, HOME, 2, &lap)?, None);
+    Ok(lap)
+}
+
+/// What is found in that lap, and with a commit block behind it.
+fn found_without_and_with(alloc: Global) -> Result<[(usize, Option<usize>); 2], AllocError> {
+    let mut lap = lap_of_one_descriptor(alloc)?;
+    let without = found_in(alloc, 2, &lap)?;
     lap.push(block_of(alloc, &Commit(2).words())?)?;
-    assert_eq!(rt;
-        chain_of(alloc, 2, &lap)?.len(),
-        1,
-        "with a commit block behind the lap"
-    );
+    let with = found_in(alloc, 2, &lap)?;
+    Ok([without, with])
+}
+
+#[test]
+fn a_descriptor_that_takes_the_whole_lap(rt: HostRuntime) -> Result<(), Fail> {
+    let found = found_without_and_with(rt.alloc())?;
+    assert_eq!(rt; found, [(0, None), (1, None)]);
     Ok(())
 }
 
@@ -459,20 +491,36 @@ const SHORT_BLOCKS: [&[u32]; 5] = [
     &[MAGIC, 1, 8, 5],
 ];
 
-#[test]
-fn damage_behind_a_text_of_two_pieces(rt: HostRuntime) -> Result<(), Fail> {
-    let alloc = rt.alloc();
+/// The blocks of that log.
+fn short_log(alloc: Global) -> Result<Vec<Block>, AllocError> {
     let mut blocks = Vec::new(alloc);
     for words in SHORT_BLOCKS {
         blocks.push(block_of(alloc, words)?)?;
     }
-    let texts = chain(alloc, 64, 4, 10, 7, &blocks)?;
-    let pieces = texts.as_slice().first().map(|text| text.pieces.len());
-    assert_eq!(rt; (texts.len(), pieces), (1, Some(2)));
-    let damaged = [
-        damage(alloc, 64, 4, 10, 7, &blocks)?,
-        damage(alloc, 64, 4, 10, 6, &blocks)?,
-    ];
-    assert_eq!(rt; damaged, [Some(4), None]);
+    Ok(blocks)
+}
+
+/// How many pieces the first text of that log has, where it is the only one.
+fn pieces_of_one(alloc: Global, blocks: &[Block]) -> Result<Option<usize>, AllocError> {
+    let texts = chain(alloc, 64, 4, 10, 7, blocks)?;
+    let [text] = texts.as_slice() else {
+        return Ok(None);
+    };
+    Ok(Some(text.pieces.len()))
+}
+
+/// The malformed blocks of that log from its number on, and from the number before it on.
+fn damaged_in(alloc: Global, blocks: &[Block]) -> Result<[Option<usize>; 2], AllocError> {
+    let own = damage(alloc, 64, 4, 10, 7, blocks)?;
+    let other = damage(alloc, 64, 4, 10, 6, blocks)?;
+    Ok([own, other])
+}
+
+#[test]
+fn damage_behind_a_text_of_two_pieces(rt: HostRuntime) -> Result<(), Fail> {
+    let blocks = short_log(rt.alloc())?;
+    let pieces = pieces_of_one(rt.alloc(), &blocks)?;
+    let damaged = damaged_in(rt.alloc(), &blocks)?;
+    assert_eq!(rt; (pieces, damaged), (Some(2), [Some(4), None]));
     Ok(())
 }

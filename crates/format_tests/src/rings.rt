@@ -3,37 +3,39 @@ use journal_model::JournalError;
 use log_ring::{Layout, Part, Ring};
 use std::test::Fail;
 
+/// Positions, and their places in a ring of the blocks 1 to 32.
+const PLACES: [(u64, u64); 7] = [
+    (0, 1),
+    (1, 2),
+    (30, 31),
+    (31, 32),
+    (32, 1),
+    (63, 32),
+    (64, 1),
+];
+
+/// Places, how many blocks they are advanced there, and the places behind these.
+const ADVANCES: [(u64, u64, u64); 7] = [
+    (1, 0, 1),
+    (31, 1, 32),
+    (31, 2, 1),
+    (32, 1, 1),
+    (32, 32, 32),
+    (0, 0, 1),
+    (0, 5, 6),
+];
+
 #[test]
-fn the_place_after_the_last_is_the_first(rt: HostRuntime) -> Result<(), Fail> {
+fn the_place_after_the_last_is_the_first(rt: HostRuntime) {
     let ring = Ring::new(1, 33);
     assert_eq!(rt; ring.blocks(), 32);
-    for (position, place) in [
-        (0u64, 1u64),
-        (1, 2),
-        (30, 31),
-        (31, 32),
-        (32, 1),
-        (63, 32),
-        (64, 1),
-    ] {
-        assert_eq!(rt; ring.place(position), place, "position {position}");
+    for (position, place) in PLACES {
+        assert_eq!(rt; (position, ring.place(position)), (position, place));
     }
-    for (place, count, behind) in [
-        (1u64, 0u64, 1u64),
-        (31, 1, 32),
-        (31, 2, 1),
-        (32, 1, 1),
-        (32, 32, 32),
-        (0, 0, 1),
-        (0, 5, 6),
-    ] {
-        assert_eq!(rt;
-            ring.advance(place, count),
-            behind,
-            "{count} behind {place}"
-        );
+    for (place, count, behind) in ADVANCES {
+        let found = ring.advance(place, count);
+        assert_eq!(rt; (place, count, found), (place, count, behind));
     }
-    Ok(())
 }
 
 #[test]
@@ -45,19 +47,26 @@ fn a_ring_that_does_not_begin_at_block_one(rt: HostRuntime) -> Result<(), Fail> 
 }
 
 #[test]
-fn blocks_are_taken_and_released(rt: HostRuntime) -> Result<(), Fail> {
+fn blocks_are_taken(rt: HostRuntime) {
     let short = Err(JournalError::NeedSpace);
     let mut ring = Ring::new(1, 33);
-    assert_eq!(rt; (ring.take(30), ring.free()), (Ok(0), 2));
-    assert_eq!(rt; (ring.take(3), ring.free(), ring.head()), (short, 2, 30));
+    let taken = (ring.take(30), ring.free());
+    let refused = (ring.take(3), ring.free(), ring.head());
+    assert_eq!(rt; (taken, refused), ((Ok(0), 2), (short, 2, 30)));
+}
+
+#[test]
+fn blocks_are_released(rt: HostRuntime) {
+    let short = Err(JournalError::NeedSpace);
+    let mut ring = Ring::new(1, 33);
+    let taken = [ring.take(30), ring.take(3)];
     if ring.free() == 2 {
         ring.release(30);
     }
-    assert_eq!(rt; (ring.free(), ring.take(3)), (32, Ok(30)));
-    assert_eq!(rt; (ring.place(30), ring.place(32)), (31, 1));
-    assert_eq!(rt; (ring.take(29), ring.free()), (Ok(33), 0));
-    assert_eq!(rt; (ring.take(0), ring.take(1)), (Ok(62), short));
-    Ok(())
+    let again = (ring.free(), ring.take(3), ring.place(30), ring.place(32));
+    assert_eq!(rt; (taken, again), ([Ok(0), short], (32, Ok(30), 31, 1)));
+    let rest = (ring.take(29), ring.free(), ring.take(0), ring.take(1));
+    assert_eq!(rt; rest, (Ok(33), 0, Ok(62), short));
 }
 
 /// Bytes of a block, copies, revokes, and the log blocks that they need.

@@ -1,4 +1,5 @@
 //! The definitions at examples that were worked out by hand.
+use Mark::{Commit, Copies, Copy, Escaped, Revoke};
 use journal_model::{
     Block, BlockNo, Content, Entry, HandleNo, Items, Op, Piece, Sealed, Step, Tag, Text, Tid,
 };
@@ -55,52 +56,57 @@ fn table_of(
     Ok(rows)
 }
 
+/// A name, the steps of a transaction, and its entries as a table.
+const ENTRIES: [(&str, &[(u64, Does)], &[(u64, Option<u8>)]); 6] = [
+    (
+        "two writes",
+        &[(9, Does::Write(0x11)), (10, Does::Write(0x22))],
+        &[(9, Some(0x11)), (10, Some(0x22))],
+    ),
+    (
+        "a write that is revoked later keeps its place",
+        &[
+            (9, Does::Write(0x11)),
+            (5, Does::Write(0x22)),
+            (9, Does::Revoke),
+        ],
+        &[(9, None), (5, Some(0x22))],
+    ),
+    (
+        "a write after a revoke",
+        &[(5, Does::Revoke), (5, Does::Write(0x33))],
+        &[(5, Some(0x33))],
+    ),
+    (
+        "a read leaves nothing",
+        &[(4, Does::Read(0x44)), (6, Does::Write(0x55))],
+        &[(6, Some(0x55))],
+    ),
+    (
+        "a second write keeps the place and has the last bytes",
+        &[
+            (5, Does::Write(0x01)),
+            (6, Does::Write(0x03)),
+            (5, Does::Write(0x02)),
+            (5, Does::Read(0x02)),
+        ],
+        &[(5, Some(0x02)), (6, Some(0x03))],
+    ),
+    ("no steps", &[], &[]),
+];
+
+/// The table of the entries of these steps.
+fn entries_of(alloc: Global, rows: &[(u64, Does)]) -> Result<Vec<(u64, Option<u8>)>, AllocError> {
+    let steps = steps_of(alloc, rows)?;
+    let list = entries(alloc, steps.as_slice())?;
+    table_of(alloc, list.as_slice())
+}
+
 #[test]
 fn entries_in_the_order_of_first_touches(rt: HostRuntime) -> Result<(), Fail> {
-    let alloc = rt.alloc();
-    for (name, steps, want) in [
-        (
-            "two writes",
-            [(9, Does::Write(0x11)), (10, Does::Write(0x22))].as_slice(),
-            [(9, Some(0x11)), (10, Some(0x22))].as_slice(),
-        ),
-        (
-            "a write that is revoked later keeps its place",
-            [
-                (9, Does::Write(0x11)),
-                (5, Does::Write(0x22)),
-                (9, Does::Revoke),
-            ]
-            .as_slice(),
-            [(9, None), (5, Some(0x22))].as_slice(),
-        ),
-        (
-            "a write after a revoke",
-            [(5, Does::Revoke), (5, Does::Write(0x33))].as_slice(),
-            [(5, Some(0x33))].as_slice(),
-        ),
-        (
-            "a read leaves nothing",
-            [(4, Does::Read(0x44)), (6, Does::Write(0x55))].as_slice(),
-            [(6, Some(0x55))].as_slice(),
-        ),
-        (
-            "a second write keeps the place and has the last bytes",
-            [
-                (5, Does::Write(0x01)),
-                (6, Does::Write(0x03)),
-                (5, Does::Write(0x02)),
-                (5, Does::Read(0x02)),
-            ]
-            .as_slice(),
-            [(5, Some(0x02)), (6, Some(0x03))].as_slice(),
-        ),
-        ("no steps", [].as_slice(), [].as_slice()),
-    ] {
-        let steps = steps_of(alloc, steps)?;
-        let list = entries(alloc, steps.as_slice())?;
-        let got = table_of(alloc, list.as_slice())?;
-        assert_eq!(rt; got.as_slice(), want, "{name}");
+    for (name, steps, want) in ENTRIES {
+        let found = entries_of(rt.alloc(), steps)?;
+        assert_eq!(rt; found.as_slice(), want, "{name}");
     }
     Ok(())
 }
@@ -118,23 +124,36 @@ fn history_of(alloc: Global, steps: &[Does]) -> Result<Vec<Sealed>, AllocError> 
     Ok(history)
 }
 
+/// How many transactions of a history there are, a block, and its first byte after them.
+const AFTER: [(usize, u64, Option<u8>); 6] = [
+    (0, 8, None),
+    (1, 8, Some(0xaa)),
+    (2, 8, None),
+    (3, 8, Some(0xcc)),
+    (4, 8, Some(0xcc)),
+    (3, 9, None),
+];
+
+/// The first byte of a block after that many transactions, where they leave a copy of it.
+fn first_after(
+    alloc: Global,
+    history: &[Sealed],
+    n: usize,
+    block: u64,
+) -> Result<Option<u8>, AllocError> {
+    Ok(match after(alloc, history, n, BlockNo(block))? {
+        Content::Copy(bytes) => bytes.bytes().first().copied(),
+        Content::Direct => None,
+    })
+}
+
 #[test]
 fn a_block_after_the_first_transactions(rt: HostRuntime) -> Result<(), Fail> {
     let alloc = rt.alloc();
     let history = history_of(alloc, &[Does::Write(0xaa), Does::Revoke, Does::Write(0xcc)])?;
-    for (n, block, want) in [
-        (0, 8, None),
-        (1, 8, Some(0xaa)),
-        (2, 8, None),
-        (3, 8, Some(0xcc)),
-        (4, 8, Some(0xcc)),
-        (3, 9, None),
-    ] {
-        let got = match after(alloc, &history, n, BlockNo(block))? {
-            Content::Copy(bytes) => bytes.bytes().first().copied(),
-            Content::Direct => None,
-        };
-        assert_eq!(rt; got, want, "block {block} after {n}");
+    for (n, block, want) in AFTER {
+        let found = first_after(alloc, &history, n, block)?;
+        assert_eq!(rt; found, want, "block {block} after {n}");
     }
     Ok(())
 }
@@ -210,29 +229,38 @@ fn copies_of(alloc: Global, tags: &[Tag], copies: Vec<Block>) -> Result<Piece, A
     ))
 }
 
+/// The piece of a descriptor with one copy.
+fn one_copy(alloc: Global, block: u64, escaped: bool, bytes: &[u8]) -> Result<Piece, AllocError> {
+    let copies = vec![in alloc; Block::copy_of(alloc, bytes)?]?;
+    copies_of(alloc, &[tag_of(block, escaped, false, true)], copies)
+}
+
+/// The piece of a descriptor with two copies, each of one home block and of one byte.
+fn two_copies(alloc: Global, first: (u64, u8), last: (u64, u8)) -> Result<Piece, AllocError> {
+    let tags = [
+        tag_of(first.0, false, false, false),
+        tag_of(last.0, false, true, true),
+    ];
+    let copies = vec![in alloc; block_of(alloc, first.1)?, block_of(alloc, last.1)?]?;
+    copies_of(alloc, &tags, copies)
+}
+
+/// The piece of a revoke block of one home block. Its own log block has no bytes.
+fn one_revoke(alloc: Global, block: u64) -> Result<Piece, AllocError> {
+    let numbers = Items::from_vec([BlockNo(block)].to_vec(alloc)?);
+    Ok(Piece::Revokes(Block::new(Vec::new(alloc)), numbers))
+}
+
 /// The piece of a mark, if it is not a commit block.
 fn piece_of(alloc: Global, mark: Mark) -> Result<Option<Piece>, AllocError> {
     let piece = match mark {
-        Mark::Revoke(block) => Piece::Revokes(
-            Block::new(Vec::new(alloc)),
-            Items::from_vec([BlockNo(block)].to_vec(alloc)?),
-        ),
-        Mark::Copy(block, byte) => {
-            let copies = vec![in alloc; block_of(alloc, byte)?]?;
-            copies_of(alloc, &[tag_of(block, false, false, true)], copies)?
-        }
+        Mark::Revoke(block) => one_revoke(alloc, block)?,
+        Mark::Copy(block, byte) => one_copy(alloc, block, false, &[byte])?,
         Mark::Escaped(block, byte) => {
-            let bytes = [byte, byte, byte, byte, 7].to_vec(alloc)?;
-            let copies = vec![in alloc; Block::new(bytes)]?;
-            copies_of(alloc, &[tag_of(block, true, false, true)], copies)?
+            one_copy(alloc, block, true, &[byte, byte, byte, byte, 7])?
         }
         Mark::Copies(first, byte, last, other) => {
-            let tags = [
-                tag_of(first, false, false, false),
-                tag_of(last, false, true, true),
-            ];
-            let copies = vec![in alloc; block_of(alloc, byte)?, block_of(alloc, other)?]?;
-            copies_of(alloc, &tags, copies)?
+            two_copies(alloc, (first, byte), (last, other))?
         }
         Mark::Commit => return Ok(None),
     };
@@ -257,104 +285,33 @@ fn texts_of(alloc: Global, marks: &[Mark]) -> Result<Vec<Text>, AllocError> {
     Ok(texts)
 }
 
-#[test]
-fn the_newest_live_copy(rt: HostRuntime) -> Result<(), Fail> {
-    use Mark::{Commit, Copies, Copy, Escaped, Revoke};
-    let alloc = rt.alloc();
-    for (name, marks, want) in [
-        ("no text", [].as_slice(), None),
-        (
-            "one copy",
-            [Copy(8, 0xaa), Commit].as_slice(),
-            Some([0xaa].as_slice()),
-        ),
-        (
-            "a copy of another block",
-            [Copy(7, 0xaa), Commit].as_slice(),
-            None,
-        ),
-        (
-            "a revoke behind the copy, in its text",
-            [Copy(8, 0xaa), Revoke(8), Commit].as_slice(),
-            None,
-        ),
-        (
-            "a revoke before the copy, in its text",
-            [Revoke(8), Copy(8, 0xaa), Commit].as_slice(),
-            None,
-        ),
-        (
-            "a revoke in a later text",
-            [Copy(8, 0xaa), Commit, Revoke(8), Commit].as_slice(),
-            None,
-        ),
-        (
-            "a revoke in an earlier text",
-            [Revoke(8), Commit, Copy(8, 0xaa), Commit].as_slice(),
-            Some([0xaa].as_slice()),
-        ),
-        (
-            "a revoke between two copies",
-            [
-                Copy(8, 0xaa),
-                Commit,
-                Revoke(8),
-                Commit,
-                Copy(8, 0xcc),
-                Commit,
-            ]
-            .as_slice(),
-            Some([0xcc].as_slice()),
-        ),
-        (
-            "a revoke of another block",
-            [Copy(8, 0xaa), Commit, Revoke(9), Commit].as_slice(),
-            Some([0xaa].as_slice()),
-        ),
-        (
-            "copies in two texts",
-            [Copy(8, 0xaa), Commit, Copy(8, 0xbb), Commit].as_slice(),
-            Some([0xbb].as_slice()),
-        ),
-        (
-            "two copies in one text",
-            [Copy(8, 0xaa), Copy(8, 0xbb), Commit].as_slice(),
-            Some([0xbb].as_slice()),
-        ),
-        (
-            "two copies in one descriptor",
-            [Copies(8, 0xaa, 8, 0xbb), Commit].as_slice(),
-            Some([0xbb].as_slice()),
-        ),
-        (
-            "the first of two tags",
-            [Copies(8, 0xaa, 9, 0xbb), Commit].as_slice(),
-            Some([0xaa].as_slice()),
-        ),
-        (
-            "an escaped copy",
-            [Escaped(8, 0), Commit].as_slice(),
-            Some([0xc0, 0x3b, 0x39, 0x98, 7].as_slice()),
-        ),
-        (
-            "an escaped copy with other bytes in the magic's place",
-            [Escaped(8, 1), Commit].as_slice(),
-            Some([0xc0, 0x3b, 0x39, 0x98, 7].as_slice()),
-        ),
-    ] {
-        let texts = texts_of(alloc, marks)?;
-        let copy = newest(alloc, &texts, BlockNo(8))?;
-        assert_eq!(rt; copy.as_ref().map(Block::bytes), want, "{name}");
-    }
-    Ok(())
-}
-
-#[test]
-fn copies_that_are_covered(rt: HostRuntime) -> Result<(), Fail> {
-    use Mark::{Commit, Copy, Revoke};
-    let alloc = rt.alloc();
-    let texts = texts_of(
-        alloc,
+/// A name, a log, and the bytes of its newest live copy of block 8.
+const LOGS: [(&str, &[Mark], Option<&[u8]>); 15] = [
+    ("no text", &[], None),
+    ("one copy", &[Copy(8, 0xaa), Commit], Some(&[0xaa])),
+    ("a copy of another block", &[Copy(7, 0xaa), Commit], None),
+    (
+        "a revoke behind the copy, in its text",
+        &[Copy(8, 0xaa), Revoke(8), Commit],
+        None,
+    ),
+    (
+        "a revoke before the copy, in its text",
+        &[Revoke(8), Copy(8, 0xaa), Commit],
+        None,
+    ),
+    (
+        "a revoke in a later text",
+        &[Copy(8, 0xaa), Commit, Revoke(8), Commit],
+        None,
+    ),
+    (
+        "a revoke in an earlier text",
+        &[Revoke(8), Commit, Copy(8, 0xaa), Commit],
+        Some(&[0xaa]),
+    ),
+    (
+        "a revoke between two copies",
         &[
             Copy(8, 0xaa),
             Commit,
@@ -363,19 +320,85 @@ fn copies_that_are_covered(rt: HostRuntime) -> Result<(), Fail> {
             Copy(8, 0xcc),
             Commit,
         ],
-    )?;
-    for (i, block, want) in [
-        (0, 8, true),
-        (1, 8, true),
-        (2, 8, false),
-        (3, 8, false),
-        (0, 9, false),
-    ] {
-        assert_eq!(rt;
-            covered(&texts, i, BlockNo(block)),
-            want,
-            "block {block} in text {i}"
-        );
+        Some(&[0xcc]),
+    ),
+    (
+        "a revoke of another block",
+        &[Copy(8, 0xaa), Commit, Revoke(9), Commit],
+        Some(&[0xaa]),
+    ),
+    (
+        "copies in two texts",
+        &[Copy(8, 0xaa), Commit, Copy(8, 0xbb), Commit],
+        Some(&[0xbb]),
+    ),
+    (
+        "two copies in one text",
+        &[Copy(8, 0xaa), Copy(8, 0xbb), Commit],
+        Some(&[0xbb]),
+    ),
+    (
+        "two copies in one descriptor",
+        &[Copies(8, 0xaa, 8, 0xbb), Commit],
+        Some(&[0xbb]),
+    ),
+    (
+        "the first of two tags",
+        &[Copies(8, 0xaa, 9, 0xbb), Commit],
+        Some(&[0xaa]),
+    ),
+    (
+        "an escaped copy",
+        &[Escaped(8, 0), Commit],
+        Some(&[0xc0, 0x3b, 0x39, 0x98, 7]),
+    ),
+    (
+        "an escaped copy with other bytes in the magic's place",
+        &[Escaped(8, 1), Commit],
+        Some(&[0xc0, 0x3b, 0x39, 0x98, 7]),
+    ),
+];
+
+/// The newest live copy of block 8 in a log.
+fn newest_in(alloc: Global, marks: &[Mark]) -> Result<Option<Block>, AllocError> {
+    let texts = texts_of(alloc, marks)?;
+    newest(alloc, &texts, BlockNo(8))
+}
+
+#[test]
+fn the_newest_live_copy(rt: HostRuntime) -> Result<(), Fail> {
+    for (name, marks, want) in LOGS {
+        let copy = newest_in(rt.alloc(), marks)?;
+        assert_eq!(rt; copy.as_ref().map(Block::bytes), want, "{name}");
+    }
+    Ok(())
+}
+
+/// A copy, a revoke and a copy of block 8, each in a text of its own.
+const THREE_TEXTS: [Mark; 6] = [
+    Copy(8, 0xaa),
+    Commit,
+    Revoke(8),
+    Commit,
+    Copy(8, 0xcc),
+    Commit,
+];
+
+/// Texts of these three from which on a block is looked for, the block, and whether it is covered there.
+const COVERED: [(usize, u64, bool); 5] = [
+    (0, 8, true),
+    (1, 8, true),
+    (2, 8, false),
+    (3, 8, false),
+    (0, 9, false),
+];
+
+#[test]
+fn copies_that_are_covered(rt: HostRuntime) -> Result<(), Fail> {
+    let texts = texts_of(rt.alloc(), &THREE_TEXTS)?;
+    for (i, block, want) in COVERED {
+        let found = covered(&texts, i, BlockNo(block));
+        assert_eq!(rt; found, want, "block {block} in text {i}");
     }
     Ok(())
 }

@@ -1,6 +1,7 @@
 //! The gathered copies beside those of the plain slow program, and logs with revokes that are opened.
 use crate::gather::gather;
 use crate::{format, open};
+use Mark::{Commit, Copies, Copy, Escaped, Revoke};
 use block_device::{Device, MemDevice};
 use journal_model::{Area, Block, BlockNo, Items, JournalError, Piece, Tag, Text};
 use journal_plain::replay::newest;
@@ -109,92 +110,90 @@ fn newest_of_each(alloc: Global, texts: &[Text]) -> Result<Vec<(u64, (u8, u8))>,
     Ok(rows)
 }
 
+/// A chain, and each block that has a newest live copy, with the first and the last byte of it.
+const CHAINS: [(&str, &[Mark], &[(u64, (u8, u8))]); 13] = [
+    ("no text", &[], &[]),
+    (
+        "copies in the order of their blocks",
+        &[Copy(9, 0xaa), Copies(3, 0xbb, 5, 0xcc), Commit],
+        &[(3, (0xbb, 0xbb)), (5, (0xcc, 0xcc)), (9, (0xaa, 0xaa))],
+    ),
+    (
+        "a revoke behind the copy, in its text",
+        &[Copy(8, 0xaa), Copy(9, 0xbb), Revoke(8), Commit],
+        &[(9, (0xbb, 0xbb))],
+    ),
+    (
+        "a revoke before the copy, in its text",
+        &[Revoke(8), Copy(8, 0xaa), Copy(9, 0xbb), Commit],
+        &[(9, (0xbb, 0xbb))],
+    ),
+    (
+        "a revoke in a later text",
+        &[Copies(8, 0xaa, 9, 0xbb), Commit, Revoke(8), Commit],
+        &[(9, (0xbb, 0xbb))],
+    ),
+    (
+        "a revoke in an earlier text",
+        &[Revoke(8), Commit, Copy(8, 0xaa), Commit],
+        &[(8, (0xaa, 0xaa))],
+    ),
+    (
+        "a revoke between two copies",
+        &[
+            Copy(8, 0xaa),
+            Commit,
+            Revoke(8),
+            Commit,
+            Copy(8, 0xcc),
+            Commit,
+        ],
+        &[(8, (0xcc, 0xcc))],
+    ),
+    (
+        "a revoke of a block without a copy",
+        &[Copy(8, 0xaa), Revoke(7), Commit, Revoke(9), Commit],
+        &[(8, (0xaa, 0xaa))],
+    ),
+    (
+        "copies in two texts",
+        &[
+            Copies(8, 0xaa, 9, 0x11),
+            Commit,
+            Copies(10, 0x22, 8, 0xbb),
+            Commit,
+        ],
+        &[(8, (0xbb, 0xbb)), (9, (0x11, 0x11)), (10, (0x22, 0x22))],
+    ),
+    (
+        "two copies of one block in one text",
+        &[Copy(8, 0xaa), Copies(9, 0x11, 8, 0xbb), Commit],
+        &[(8, (0xbb, 0xbb)), (9, (0x11, 0x11))],
+    ),
+    (
+        "two copies of one block in one descriptor",
+        &[Copies(8, 0xaa, 8, 0xbb), Commit],
+        &[(8, (0xbb, 0xbb))],
+    ),
+    (
+        "an escaped copy over one that is not",
+        &[Copy(8, 0xaa), Commit, Escaped(8, 0x07), Commit],
+        &[(8, (0xc0, 0x07))],
+    ),
+    (
+        "a copy that is not escaped over one that is",
+        &[Escaped(8, 0x07), Commit, Copy(8, 0xaa), Commit],
+        &[(8, (0xaa, 0xaa))],
+    ),
+];
+
 #[test]
 fn the_newest_copies_of_a_chain(rt: HostRuntime) -> Result<(), Fail> {
-    use Mark::{Commit, Copies, Copy, Escaped, Revoke};
-    let alloc = rt.alloc();
-    for (name, marks, want) in [
-        ("no text", [].as_slice(), [].as_slice()),
-        (
-            "copies in the order of their blocks",
-            [Copy(9, 0xaa), Copies(3, 0xbb, 5, 0xcc), Commit].as_slice(),
-            [(3, (0xbb, 0xbb)), (5, (0xcc, 0xcc)), (9, (0xaa, 0xaa))].as_slice(),
-        ),
-        (
-            "a revoke behind the copy, in its text",
-            [Copy(8, 0xaa), Copy(9, 0xbb), Revoke(8), Commit].as_slice(),
-            [(9, (0xbb, 0xbb))].as_slice(),
-        ),
-        (
-            "a revoke before the copy, in its text",
-            [Revoke(8), Copy(8, 0xaa), Copy(9, 0xbb), Commit].as_slice(),
-            [(9, (0xbb, 0xbb))].as_slice(),
-        ),
-        (
-            "a revoke in a later text",
-            [Copies(8, 0xaa, 9, 0xbb), Commit, Revoke(8), Commit].as_slice(),
-            [(9, (0xbb, 0xbb))].as_slice(),
-        ),
-        (
-            "a revoke in an earlier text",
-            [Revoke(8), Commit, Copy(8, 0xaa), Commit].as_slice(),
-            [(8, (0xaa, 0xaa))].as_slice(),
-        ),
-        (
-            "a revoke between two copies",
-            [
-                Copy(8, 0xaa),
-                Commit,
-                Revoke(8),
-                Commit,
-                Copy(8, 0xcc),
-                Commit,
-            ]
-            .as_slice(),
-            [(8, (0xcc, 0xcc))].as_slice(),
-        ),
-        (
-            "a revoke of a block without a copy",
-            [Copy(8, 0xaa), Revoke(7), Commit, Revoke(9), Commit].as_slice(),
-            [(8, (0xaa, 0xaa))].as_slice(),
-        ),
-        (
-            "copies in two texts",
-            [
-                Copies(8, 0xaa, 9, 0x11),
-                Commit,
-                Copies(10, 0x22, 8, 0xbb),
-                Commit,
-            ]
-            .as_slice(),
-            [(8, (0xbb, 0xbb)), (9, (0x11, 0x11)), (10, (0x22, 0x22))].as_slice(),
-        ),
-        (
-            "two copies of one block in one text",
-            [Copy(8, 0xaa), Copies(9, 0x11, 8, 0xbb), Commit].as_slice(),
-            [(8, (0xbb, 0xbb)), (9, (0x11, 0x11))].as_slice(),
-        ),
-        (
-            "two copies of one block in one descriptor",
-            [Copies(8, 0xaa, 8, 0xbb), Commit].as_slice(),
-            [(8, (0xbb, 0xbb))].as_slice(),
-        ),
-        (
-            "an escaped copy over one that is not",
-            [Copy(8, 0xaa), Commit, Escaped(8, 0x07), Commit].as_slice(),
-            [(8, (0xc0, 0x07))].as_slice(),
-        ),
-        (
-            "a copy that is not escaped over one that is",
-            [Escaped(8, 0x07), Commit, Copy(8, 0xaa), Commit].as_slice(),
-            [(8, (0xaa, 0xaa))].as_slice(),
-        ),
-    ] {
-        let texts = texts_of(alloc, marks)?;
-        let got = gathered(alloc, &texts)?;
-        let plain = newest_of_each(alloc, &texts)?;
-        assert_eq!(rt; got.as_slice(), want, "{name}");
-        assert_eq!(rt; plain.as_slice(), want, "{name}, by the plain program");
+    for (name, marks, want) in CHAINS {
+        let texts = texts_of(rt.alloc(), marks)?;
+        let got = gathered(rt.alloc(), &texts)?;
+        let plain = newest_of_each(rt.alloc(), &texts)?;
+        assert_eq!(rt; (got.as_slice(), plain.as_slice()), (want, want), "{name}");
     }
     Ok(())
 }
@@ -250,42 +249,44 @@ fn start(device: &mut MemDevice) -> Result<(), JournalError> {
     Ok(())
 }
 
-/// A device whose log has three transactions: 2 copies blocks 8, 9 and 10; 3 copies block 10 and revokes 8 and 10; 4 copies
-/// block 8, escaped.
+/// The log blocks of three transactions: 2 copies blocks 8, 9 and 10; 3 copies block 10 and revokes 8 and 10; 4 copies block
+/// 8, escaped. Of each its place, the type and the number of its header if it has one, and the bytes behind that.
+const THREE_TRANSACTIONS: [(u64, Option<(u8, u8)>, &[u8]); 12] = [
+    (
+        1,
+        Some((DESCRIPTOR, 2)),
+        &[
+            0, 0, 0, 8, 0, 0, 0, 2, 0, 0, 0, 9, 0, 0, 0, 2, 0, 0, 0, 10, 0, 0, 0, 10,
+        ],
+    ),
+    (2, None, &[0x11]),
+    (3, None, &[0x22]),
+    (4, None, &[0x33]),
+    (5, Some((COMMIT, 2)), &[]),
+    (
+        6,
+        Some((REVOKE, 3)),
+        &[0, 0, 0, 24, 0, 0, 0, 8, 0, 0, 0, 10],
+    ),
+    (7, Some((DESCRIPTOR, 3)), &[0, 0, 0, 10, 0, 0, 0, 10]),
+    (8, None, &[0x44]),
+    (9, Some((COMMIT, 3)), &[]),
+    (10, Some((DESCRIPTOR, 4)), &[0, 0, 0, 8, 0, 0, 0, 11]),
+    (11, None, &[0, 0, 0, 0, 0x55]),
+    (12, Some((COMMIT, 4)), &[]),
+];
+
+/// A device that lost power with them in its log.
 fn three_transactions(alloc: Global) -> Result<MemDevice, JournalError> {
     let mut device = MemDevice::new(alloc, SIZE, 33, 64);
     format(&mut device, 33, &UUID)?;
     start(&mut device)?;
-    let tags = [
-        0, 0, 0, 8, 0, 0, 0, 2, 0, 0, 0, 9, 0, 0, 0, 2, 0, 0, 0, 10, 0, 0, 0, 10,
-    ];
-    put_own(alloc, &mut device, 1, DESCRIPTOR, 2, &tags)?;
-    put(&mut device, 2, &[0x11])?;
-    put(&mut device, 3, &[0x22])?;
-    put(&mut device, 4, &[0x33])?;
-    put_own(alloc, &mut device, 5, COMMIT, 2, &[])?;
-    let numbers = [0, 0, 0, 24, 0, 0, 0, 8, 0, 0, 0, 10];
-    put_own(alloc, &mut device, 6, REVOKE, 3, &numbers)?;
-    put_own(
-        alloc,
-        &mut device,
-        7,
-        DESCRIPTOR,
-        3,
-        &[0, 0, 0, 10, 0, 0, 0, 10],
-    )?;
-    put(&mut device, 8, &[0x44])?;
-    put_own(alloc, &mut device, 9, COMMIT, 3, &[])?;
-    put_own(
-        alloc,
-        &mut device,
-        10,
-        DESCRIPTOR,
-        4,
-        &[0, 0, 0, 8, 0, 0, 0, 11],
-    )?;
-    put(&mut device, 11, &[0, 0, 0, 0, 0x55])?;
-    put_own(alloc, &mut device, 12, COMMIT, 4, &[])?;
+    for (place, header, rest) in THREE_TRANSACTIONS {
+        match header {
+            Some((kind, sequence)) => put_own(alloc, &mut device, place, kind, sequence, rest)?,
+            None => put(&mut device, place, rest)?,
+        }
+    }
     device.flush(Area::Log)?;
     Ok(device.crash(&[]))
 }
@@ -300,19 +301,26 @@ fn home_bytes(device: &mut MemDevice, block: u64) -> Result<(u8, u8), JournalErr
     Ok((bytes[0], bytes[4]))
 }
 
+/// What blocks 8, 9 and 10 of home then hold.
+fn three_blocks(device: &mut MemDevice) -> Result<[(u8, u8); 3], JournalError> {
+    Ok([
+        home_bytes(device, 8)?,
+        home_bytes(device, 9)?,
+        home_bytes(device, 10)?,
+    ])
+}
+
 #[test]
 fn a_log_with_revokes_is_replayed(rt: HostRuntime) -> Result<(), Fail> {
     let opened = open(rt.alloc(), three_transactions(rt.alloc())?).map_err(|e| e.1)?;
-    assert_eq!(rt; opened.report().ends_at, 5);
-    assert_eq!(rt; opened.report().transactions, 3);
+    let report = opened.report();
     let mut device = opened.into_device();
+    // Two blocks of home are written, and the superblock.
+    let told = (report.ends_at, report.transactions, device.writes());
+    assert_eq!(rt; told, (5, 3, 3));
     assert_eq!(rt;
-        device.writes(),
-        3,
-        "two blocks of home, and the superblock"
+        three_blocks(&mut device)?,
+        [(0xc0, 0x55), (0x22, 0), (0, 0)]
     );
-    for (block, want) in [(8, (0xc0, 0x55)), (9, (0x22, 0)), (10, (0, 0))] {
-        assert_eq!(rt; home_bytes(&mut device, block)?, want, "block {block}");
-    }
     Ok(())
 }

@@ -5,6 +5,7 @@ ghost use Rattle.std.specs.Prelude.{◌<◌};
 use super::{prints, said_of};
 use std::alloc::{AllocError, Global};
 use std::fmt::Write;
+use std::process::Abort;
 use std::str::from_utf8;
 use std::test::Fail;
 
@@ -116,32 +117,45 @@ verdict ok
     prints(&rt, alloc, &script, Some(41), &[], &wanted)
 }
 
-/// 33 transactions with rounds behind the tenth, twentieth and thirtieth make 106 writes. A device that stops at any of them
-/// leaves what opens right.
-#[test]
-fn a_stop_at_each_write_of_three_laps(rt: HostRuntime) -> Result<(), Fail> {
-    let alloc = rt.alloc();
+/// 33 transactions with rounds behind the tenth, twentieth and thirtieth.
+fn three_laps(alloc: Global) -> Result<String, AllocError> {
     let mut script = String::from_str(alloc, r#"{"ops": ["#)?;
-    transactions(&mut script, 1, 10)?;
-    script.push_str(r#"["check"],"#)?;
-    transactions(&mut script, 11, 20)?;
-    script.push_str(r#"["check"],"#)?;
-    transactions(&mut script, 21, 30)?;
-    script.push_str(r#"["check"],"#)?;
+    for (first, last) in [(1, 10), (11, 20), (21, 30)] {
+        transactions(&mut script, first, last)?;
+        script.push_str(r#"["check"],"#)?;
+    }
     transactions(&mut script, 31, 33)?;
     script.push_str(r#"["status",33]]}"#)?;
+    Ok(script)
+}
+
+/// A run of this script that stops at write `k` says so, and what it leaves opens right.
+fn stops(
+    rt: &impl Abort,
+    alloc: Global,
+    script: &str,
+    k: u64,
+    keep: &[u64],
+    wanted: &str,
+) -> Result<(), Fail> {
+    let said = said_of(alloc, script, Some(k), keep)?;
+    let is_told = from_utf8(&said.out)?.contains(wanted);
+    assert_eq!(rt; (is_told, said.verdict), (true, true), "write {k}");
+    Ok(())
+}
+
+/// They make 106 writes. A device that stops at any of them leaves what opens right.
+#[test]
+fn a_stop_at_each_write_of_three_laps(rt: HostRuntime) -> Result<(), Fail> {
+    let script = three_laps(rt.alloc())?;
     for k in 1..107u64 {
+        let stopped = format!(in rt.alloc(); "\nstopped {k}\n")?;
         for keep in [&[][..], &[k], &[k - 1]] {
-            let said = said_of(alloc, &script, Some(k), keep)?;
-            assert!(&rt; said.verdict);
-            let stopped = format!(in alloc; "\nstopped {k}\n")?;
-            assert!(&rt; from_utf8(&said.out)?.contains(stopped.as_str()));
+            stops(&rt, rt.alloc(), &script, k, keep, &stopped)?;
         }
     }
-    let said = said_of(alloc, &script, Some(107), &[])?;
-    assert!(&rt; said.verdict);
-    assert!(&rt; from_utf8(&said.out)?.contains("\nstatus 33 = committed\nstopped at end\n"));
-    Ok(())
+    let ended = "\nstatus 33 = committed\nstopped at end\n";
+    stops(&rt, rt.alloc(), &script, 107, &[], ended)
 }
 
 /// A round releases what was committed when it began, whatever is committed between its steps.

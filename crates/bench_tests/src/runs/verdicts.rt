@@ -22,46 +22,62 @@ fn transaction(alloc: Global, tid: u32, byte: u8) -> Result<Sealed, AllocError> 
     })
 }
 
+/// The greatest transaction that was shown committed, the end that an opening found, what block 3 and block 4 then read, how
+/// many recorded transactions are below that end, and the verdict.
+const VERDICTS: [(Option<u32>, u64, u8, u8, usize, bool); 13] = [
+    (None, 2, 0, 0, 0, true),
+    (None, 3, 7, 0, 1, true),
+    (None, 4, 8, 0, 2, true),
+    (Some(2), 3, 7, 0, 1, true),
+    (Some(3), 4, 8, 0, 2, true),
+    (Some(3), 9, 8, 0, 2, true),
+    // An acknowledged transaction is lost.
+    (Some(2), 2, 0, 0, 0, false),
+    (Some(3), 3, 7, 0, 1, false),
+    // A block is not as they left it.
+    (None, 3, 8, 0, 1, false),
+    (None, 4, 7, 0, 2, false),
+    (None, 4, 0, 0, 2, false),
+    (None, 2, 7, 0, 0, false),
+    // A block that none of them touched is not zeros.
+    (None, 4, 8, 1, 2, false),
+];
+
+/// A record of transactions 2 and 3, in which block 3 becomes 7 and then 8.
+fn two_transactions(alloc: Global, acknowledged: Option<u32>) -> Result<Record, AllocError> {
+    let mut sealed = Vec::new(alloc);
+    sealed.push(transaction(alloc, 2, 7)?)?;
+    sealed.push(transaction(alloc, 3, 8)?)?;
+    Ok(Record {
+        sealed,
+        acknowledged: acknowledged.map(|tid| Tid(tid)),
+    })
+}
+
+/// A device on which blocks 3 and 4 of home hold these bytes.
+fn two_blocks(alloc: Global, third: u8, fourth: u8) -> Result<MemDevice, Fail> {
+    let mut device = MemDevice::new(alloc, SIZE, 4, 5);
+    device.write(Area::Home, 3, &[third; SIZE])?;
+    device.write(Area::Home, 4, &[fourth; SIZE])?;
+    Ok(device)
+}
+
+/// The numbers of both blocks.
+fn both(alloc: Global) -> Result<BTreeSet<u64>, AllocError> {
+    let mut named = BTreeSet::new(alloc);
+    named.insert(3)?;
+    named.insert(4)?;
+    Ok(named)
+}
+
 #[test]
 fn a_verdict_can_be_false(rt: HostRuntime) -> Result<(), Fail> {
-    // The greatest transaction that was shown committed, the end that an opening found, what block 3 and block 4 then read,
-    // how many recorded transactions are below that end, and the verdict.
-    let table = [
-        (None, 2, 0, 0, 0, true),
-        (None, 3, 7, 0, 1, true),
-        (None, 4, 8, 0, 2, true),
-        (Some(2), 3, 7, 0, 1, true),
-        (Some(3), 4, 8, 0, 2, true),
-        (Some(3), 9, 8, 0, 2, true),
-        // An acknowledged transaction is lost.
-        (Some(2), 2, 0, 0, 0, false),
-        (Some(3), 3, 7, 0, 1, false),
-        // A block is not as they left it.
-        (None, 3, 8, 0, 1, false),
-        (None, 4, 7, 0, 2, false),
-        (None, 4, 0, 0, 2, false),
-        (None, 2, 7, 0, 0, false),
-        // A block that none of them touched is not zeros.
-        (None, 4, 8, 1, 2, false),
-    ];
-    let alloc = rt.alloc();
-    for (i, (acknowledged, end, third, fourth, n, verdict)) in table.iter().enumerate() {
-        let mut sealed = Vec::new(alloc);
-        sealed.push(transaction(alloc, 2, 7)?)?;
-        sealed.push(transaction(alloc, 3, 8)?)?;
-        let record = Record {
-            sealed,
-            acknowledged: acknowledged.map(|tid| Tid(tid)),
-        };
-        let mut named = BTreeSet::new(alloc);
-        named.insert(3)?;
-        named.insert(4)?;
-        let mut device = MemDevice::new(alloc, SIZE, 4, 5);
-        device.write(Area::Home, 3, &[*third; SIZE])?;
-        device.write(Area::Home, 4, &[*fourth; SIZE])?;
-        assert_eq!(rt; record.count_below(*end), *n, "row {i}");
-        let judged = record.judge(alloc, &mut device, &named, *n)?;
-        assert_eq!(rt; judged, *verdict, "row {i}");
+    for (i, row) in VERDICTS.iter().enumerate() {
+        let (acknowledged, end, third, fourth, n, verdict) = *row;
+        let record = two_transactions(rt.alloc(), acknowledged)?;
+        let mut device = two_blocks(rt.alloc(), third, fourth)?;
+        let judged = record.judge(rt.alloc(), &mut device, &both(rt.alloc())?, n)?;
+        assert_eq!(rt; (record.count_below(end), judged), (n, verdict), "row {i}");
     }
     Ok(())
 }

@@ -1,7 +1,6 @@
 //! Texts that are no script, and how long one may be.
-use super::{error_of, is_bad, is_good, script_of_bytes};
+use super::{error_of, is_bad, is_good, script_of_bytes, script_of_commits};
 use bench_script::ScriptError;
-use std::alloc::{AllocError, Global};
 use std::test::Fail;
 
 /// Texts that are no script.
@@ -79,16 +78,6 @@ const BAD_BEHIND_A_START: [&str; 19] = [
     r#"["stop",1],["stop",1]"#,
     r#"["stop",1],["write",1,9,"11"]"#,
 ];
-
-/// So many commits.
-fn script_of_commits(alloc: Global, commits: usize) -> Result<String, AllocError> {
-    let mut script = String::from_str(alloc, r#"{"ops": [["commit"]"#)?;
-    for _ in 1..commits {
-        script.push_str(r#",["commit"]"#)?;
-    }
-    script.push_str("]}")?;
-    Ok(script)
-}
 
 #[test]
 fn texts_that_are_no_script(rt: HostRuntime) -> Result<(), Fail> {

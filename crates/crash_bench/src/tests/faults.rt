@@ -1,10 +1,9 @@
-use super::{ONE_WRITE, said_of};
+use super::{ONE_WRITE, said_of, tells};
 use crate::fault::Status;
 use crate::run::run;
 use crate::words::RunWords;
 use std::io;
 use std::io::{ErrorKind, Read, Write};
-use std::str::from_utf8;
 use std::test::Fail;
 
 /// A reader that fails.
@@ -40,10 +39,8 @@ impl Write for BrokenWriter {
 #[test]
 fn a_script_that_cannot_be_read(rt: HostRuntime) -> Result<(), Fail> {
     let said = said_of(rt.alloc(), BrokenReader, None, &[])?;
-    assert_eq!(rt; from_utf8(&said.err)?, "jbench: file a.json\n");
-    assert_eq!(rt; from_utf8(&said.out)?, "");
-    assert_eq!(rt; said.status, Status::Refused);
-    Ok(())
+    let wanted = (Status::Refused, "", "jbench: file a.json\n");
+    tells(&rt, &said, wanted, "a broken reader")
 }
 
 #[test]
@@ -57,8 +54,11 @@ fn output_that_cannot_be_written(rt: HostRuntime) -> Result<(), Fail> {
         let mut err = Vec::new(rt.alloc());
         let writer = BrokenWriter { calls };
         let answer = run(rt.alloc(), &words, ONE_WRITE.as_bytes(), writer, &mut err);
-        assert!(rt; answer.is_err(), "after {calls} calls");
-        assert_eq!(rt; err.len(), 0, "after {calls} calls");
+        assert_eq!(rt;
+            (answer.is_err(), err.len()),
+            (true, 0),
+            "after {calls} calls"
+        );
     }
     Ok(())
 }

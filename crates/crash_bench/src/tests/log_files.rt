@@ -1,190 +1,147 @@
 //! The commands `format` and `dump`, over devices and over files.
+use super::{Said, tells};
 use crate::fault::Status;
 use crate::files::{make_device, open_home, open_log, open_or_make};
 use crate::logs::{dump, format};
 use bench_script::{DEFAULTS, Measures};
-use block_device::{Device, MemDevice};
-use std::alloc::Global;
+use block_device::MemDevice;
+use std::fs;
 use std::process::Abort;
-use std::str::from_utf8;
 use std::test::Fail;
-use std::{fs, io};
 
-/// What the dump of a device prints, and how it ends.
-fn dumps<D: Device + Drop>(
-    rt: &impl Abort,
-    alloc: Global,
-    device: D,
-    out: &str,
-    err: &str,
-    status: Status,
-) -> Result<(), Fail> {
-    let mut printed = Vec::new(alloc);
-    let mut said = Vec::new(alloc);
-    let ended = dump(alloc, "a.log", device, &mut printed, &mut said)?;
-    assert_eq!(rt; from_utf8(&said)?, err);
-    assert_eq!(rt; from_utf8(&printed)?, out);
-    assert_eq!(rt; ended, status);
-    Ok(())
+/// Dumps the log in this file.
+fn dump_of(rt: &HostRuntime, log: &str) -> Result<Said, Fail> {
+    let device = open_log(rt, log)?;
+    let mut out = Vec::new(rt.alloc());
+    let mut err = Vec::new(rt.alloc());
+    let status = dump(rt.alloc(), "a.log", device, &mut out, &mut err)?;
+    Ok(Said { status, out, err })
 }
 
-/// Makes a log and a home area of files in this folder, and answers what is printed.
-fn made(
-    rt: &HostRuntime,
-    folder: &str,
-    log: &str,
-    home: &str,
-    measures: &Measures,
-) -> Result<Vec<u8>, Fail> {
-    let _ = fs::remove_dir_all(rt, folder);
-    fs::create_dir(rt, folder)?;
+/// Makes an empty log of these two files.
+fn format_of(rt: &HostRuntime, log: &str, home: &str, measures: &Measures) -> Result<Said, Fail> {
     let log = open_or_make(rt, log)?;
     let home = open_home(rt, home, &log)?;
     let device = make_device(measures, log, home)?;
-    let mut printed = Vec::new(rt.alloc());
-    format("a.log", measures, device, &mut printed, io::sink())?;
-    Ok(printed)
+    let mut out = Vec::new(rt.alloc());
+    let mut err = Vec::new(rt.alloc());
+    let status = format("a.log", measures, device, &mut out, &mut err)?;
+    Ok(Said { status, out, err })
 }
 
-/// The dump of a log that was just formatted with the default measures.
-const EMPTY: &str = "super blocksize=1024 maxlen=33 first=1 sequence=1 start=0\nempty sequence=1\n";
+/// Measures of an empty log, what `format` and `dump` print of it, how many bytes its log and home have, and how many of
+/// those of home are not zero.
+type EmptyLog = (Measures, &'static str, &'static str, (usize, usize, usize));
+
+/// One of the default measures, and one of larger blocks, with the shortest log and home.
+const EMPTY_LOGS: [EmptyLog; 2] = [
+    (
+        DEFAULTS,
+        "formatted 33 blocks of 1024\n",
+        "super blocksize=1024 maxlen=33 first=1 sequence=1 start=0\nempty sequence=1\n",
+        (33 * 1024, 64 * 1024, 0),
+    ),
+    (
+        Measures {
+            block_size: 4096,
+            log_blocks: 17,
+            home_blocks: 1,
+            uuid: [0x5c; 16],
+        },
+        "formatted 17 blocks of 4096\n",
+        "super blocksize=4096 maxlen=17 first=1 sequence=1 start=0\nempty sequence=1\n",
+        (17 * 4096, 4096, 0),
+    ),
+];
+
+/// Makes a log in the files `empty_log` and `empty_home`. The answer is how many bytes they have, and how many of the home
+/// area's are not zero.
+fn make(rt: &HostRuntime, measures: &Measures) -> Result<(Said, (usize, usize, usize)), Fail> {
+    let said = format_of(rt, "empty_log", "empty_home", measures)?;
+    let log = fs::read(rt, "empty_log")?;
+    let home = fs::read(rt, "empty_home")?;
+    let others = home.iter().filter(|byte| **byte != 0).count();
+    Ok((said, (log.len(), home.len(), others)))
+}
+
+/// Such a log is made as its row says, and its dump is.
+fn is_made(abort: &impl Abort, rt: &HostRuntime, row: &EmptyLog) -> Result<(), Fail> {
+    let (measures, formatted, dumped, lengths) = row;
+    let (said, found) = make(rt, measures)?;
+    tells(abort, &said, (Status::Fine, formatted, ""), "format")?;
+    assert_eq!(abort; found, *lengths);
+    let said = dump_of(rt, "empty_log")?;
+    tells(abort, &said, (Status::Fine, dumped, ""), "dump")
+}
 
 #[test]
-fn a_log_that_was_just_made(rt: HostRuntime) -> Result<(), Fail> {
-    let printed = made(
-        &rt,
-        "made_test",
-        "made_test/log",
-        "made_test/home",
-        &DEFAULTS,
-    )?;
-    assert_eq!(rt; from_utf8(&printed)?, "formatted 33 blocks of 1024\n");
-    assert_eq!(rt; fs::read(&rt, "made_test/log")?.len(), 33 * 1024);
-    let home = fs::read(&rt, "made_test/home")?;
-    assert_eq!(rt; home.len(), 64 * 1024);
-    assert_eq!(rt; home.iter().all(|byte| *byte == 0), true);
-    dumps(
-        &rt,
-        rt.alloc(),
-        open_log(&rt, "made_test/log")?,
-        EMPTY,
-        "",
-        Status::Fine,
-    )?;
-    fs::remove_dir_all(&rt, "made_test")?;
+fn logs_in_new_files_and_in_longer_ones(rt: HostRuntime) -> Result<(), Fail> {
+    let longer = vec![in rt.alloc(); 7; 100_000]?;
+    for row in &EMPTY_LOGS {
+        is_made(&rt, &rt, row)?;
+        fs::write(&rt, "empty_log", &longer)?;
+        fs::write(&rt, "empty_home", &longer)?;
+        is_made(&rt, &rt, row)?;
+    }
+    fs::remove_file(&rt, "empty_log")?;
+    fs::remove_file(&rt, "empty_home")?;
     Ok(())
 }
 
-#[test]
-fn a_log_of_larger_blocks(rt: HostRuntime) -> Result<(), Fail> {
-    let measures = Measures {
-        block_size: 4096,
-        log_blocks: 17,
-        home_blocks: 1,
-        uuid: [0x5c; 16],
-    };
-    let printed = made(
-        &rt,
-        "larger_test",
-        "larger_test/log",
-        "larger_test/home",
-        &measures,
-    )?;
-    assert_eq!(rt; from_utf8(&printed)?, "formatted 17 blocks of 4096\n");
-    let wanted = "super blocksize=4096 maxlen=17 first=1 sequence=1 start=0\nempty sequence=1\n";
-    dumps(
-        &rt,
-        rt.alloc(),
-        open_log(&rt, "larger_test/log")?,
-        wanted,
-        "",
-        Status::Fine,
-    )?;
-    fs::remove_dir_all(&rt, "larger_test")?;
-    Ok(())
+/// Which are refused: a folder as a log to be read and to be made, a file that is missing, and one file under both names.
+fn are_refused(rt: &HostRuntime) -> Result<[bool; 4], Fail> {
+    let log = open_or_make(rt, "refused/log")?;
+    Ok([
+        open_log(rt, "refused").is_err(),
+        open_or_make(rt, "refused").is_err(),
+        open_log(rt, "refused/missing").is_err(),
+        open_home(rt, "refused/log", &log).is_err(),
+    ])
 }
 
 #[test]
-fn files_that_were_longer_get_their_new_length(rt: HostRuntime) -> Result<(), Fail> {
-    let _ = fs::remove_dir_all(&rt, "longer_test");
-    fs::create_dir(&rt, "longer_test")?;
-    let bytes = vec![in rt.alloc(); 7; 100_000]?;
-    fs::write(&rt, "longer_test/log", &bytes)?;
-    fs::write(&rt, "longer_test/home", &bytes)?;
-    let log = open_or_make(&rt, "longer_test/log")?;
-    let home = open_home(&rt, "longer_test/home", &log)?;
-    let device = make_device(&DEFAULTS, log, home)?;
-    format("a.log", &DEFAULTS, device, io::sink(), io::sink())?;
-    assert_eq!(rt; fs::read(&rt, "longer_test/log")?.len(), 33 * 1024);
-    let home = fs::read(&rt, "longer_test/home")?;
-    assert_eq!(rt; home.len(), 64 * 1024);
-    assert_eq!(rt; home.iter().all(|byte| *byte == 0), true);
-    dumps(
-        &rt,
-        rt.alloc(),
-        open_log(&rt, "longer_test/log")?,
-        EMPTY,
-        "",
-        Status::Fine,
-    )?;
-    fs::remove_dir_all(&rt, "longer_test")?;
+fn paths_that_are_refused(rt: HostRuntime) -> Result<(), Fail> {
+    let _ = fs::remove_dir_all(&rt, "refused");
+    fs::create_dir(&rt, "refused")?;
+    assert_eq!(rt; are_refused(&rt)?, [true; 4]);
+    fs::remove_dir_all(&rt, "refused")?;
+    Ok(())
+}
+
+/// How long a file is that holds no log, all zeros but the byte that tells of blocks of 4096 bytes, and what its dump says.
+const NO_LOGS: [(usize, &str); 3] = [
+    (0, "jbench: refusal 16 BadLength\n"),
+    (1500, "jbench: refusal 16 BadLength\n"),
+    (4096, "jbench: refusal 13 BadMagic\n"),
+];
+
+/// Writes the file `no_log`, which is so long.
+fn write_no_log(rt: &HostRuntime, length: usize) -> Result<(), Fail> {
+    let mut bytes = vec![in rt.alloc(); 0; length]?;
+    if let Some(place) = bytes.get_mut(14) {
+        *place = 0x10;
+    }
+    fs::write(rt, "no_log", &bytes)?;
     Ok(())
 }
 
 #[test]
 fn files_that_hold_no_log(rt: HostRuntime) -> Result<(), Fail> {
-    let _ = fs::remove_dir_all(&rt, "no_log_test");
-    fs::create_dir(&rt, "no_log_test")?;
-    assert_eq!(rt; open_log(&rt, "no_log_test").is_err(), true);
-    assert_eq!(rt; open_log(&rt, "no_log_test/missing").is_err(), true);
-    assert_eq!(rt; open_or_make(&rt, "no_log_test").is_err(), true);
-    let log = open_or_make(&rt, "no_log_test/log")?;
-    assert_eq!(rt; open_home(&rt, "no_log_test/log", &log).is_err(), true);
-    let refused = "jbench: refusal 16 BadLength\n";
-    dumps(
-        &rt,
-        rt.alloc(),
-        open_log(&rt, "no_log_test/log")?,
-        "",
-        refused,
-        Status::Refused,
-    )?;
-    let mut bytes = vec![in rt.alloc(); 0; 1500]?;
-    if let Some(place) = bytes.get_mut(14) {
-        *place = 0x10;
+    for (length, said) in NO_LOGS {
+        write_no_log(&rt, length)?;
+        let wanted = (Status::Refused, "", said);
+        tells(&rt, &dump_of(&rt, "no_log")?, wanted, "no log")?;
     }
-    fs::write(&rt, "no_log_test/log", &bytes)?;
-    dumps(
-        &rt,
-        rt.alloc(),
-        open_log(&rt, "no_log_test/log")?,
-        "",
-        refused,
-        Status::Refused,
-    )?;
-    let bytes = vec![in rt.alloc(); 0; 4096]?;
-    fs::write(&rt, "no_log_test/log", &bytes)?;
-    let refused = "jbench: refusal 13 BadMagic\n";
-    dumps(
-        &rt,
-        rt.alloc(),
-        open_log(&rt, "no_log_test/log")?,
-        "",
-        refused,
-        Status::Refused,
-    )?;
-    fs::remove_dir_all(&rt, "no_log_test")?;
+    fs::remove_file(&rt, "no_log")?;
     Ok(())
 }
 
 #[test]
 fn a_device_that_is_too_small_for_a_log(rt: HostRuntime) -> Result<(), Fail> {
     let device = MemDevice::new(rt.alloc(), 1024, 32, 64);
-    let mut printed = Vec::new(rt.alloc());
-    let mut said = Vec::new(rt.alloc());
-    let ended = format("a.log", &DEFAULTS, device, &mut printed, &mut said)?;
-    assert_eq!(rt; from_utf8(&said)?, "jbench: refusal 16 BadLength\n");
-    assert_eq!(rt; from_utf8(&printed)?, "");
-    assert_eq!(rt; ended, Status::Refused);
-    Ok(())
+    let mut out = Vec::new(rt.alloc());
+    let mut err = Vec::new(rt.alloc());
+    let status = format("a.log", &DEFAULTS, device, &mut out, &mut err)?;
+    let wanted = (Status::Refused, "", "jbench: refusal 16 BadLength\n");
+    tells(&rt, &Said { status, out, err }, wanted, "32 blocks")
 }

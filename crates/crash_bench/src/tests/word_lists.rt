@@ -1,5 +1,6 @@
 use crate::words::{Words, parse};
 use bench_script::{DEFAULTS, Measures, Operation, read};
+use std::alloc::{AllocError, Global};
 use std::test::Fail;
 
 /// Words behind the program's name that are refused.
@@ -80,34 +81,24 @@ const HELP: [&[&str]; 6] = [
     &["dump", "--help"],
 ];
 
-#[test]
-fn words_are_refused(rt: HostRuntime) -> Result<(), Fail> {
-    for words in REFUSED {
-        let mut all = Vec::new(rt.alloc());
-        all.push("jbench")?;
-        all.extend_from_slice(words)?;
-        match parse(rt.alloc(), &all) {
-            Ok(_) => panic!(rt; "{words:?} is taken"),
-            Err(e) => assert!(rt; e.use_stderr(), "{words:?}"),
-        }
-    }
-    Ok(())
+/// All words that the program gets, with its own name before them.
+fn with_name<'a>(alloc: Global, words: &[&'a str]) -> Result<Vec<&'a str>, AllocError> {
+    let mut all = Vec::new(alloc);
+    all.push("jbench")?;
+    all.extend_from_slice(words)?;
+    Ok(all)
+}
+
+/// Whether words are refused and not a request for help, or `None` where they are taken.
+fn is_refused(alloc: Global, words: &[&str]) -> Result<Option<bool>, AllocError> {
+    let all = with_name(alloc, words)?;
+    Ok(parse(alloc, &all).err().map(|e| e.use_stderr()))
 }
 
 #[test]
-fn words_are_taken(rt: HostRuntime) -> Result<(), Fail> {
-    for (words, stop, keep) in TAKEN {
-        let mut all = Vec::new(rt.alloc());
-        all.push("jbench")?;
-        all.extend_from_slice(words)?;
-        match parse(rt.alloc(), &all)? {
-            Words::Run(told) => {
-                assert_eq!(rt; told.script, "a.json", "{words:?}");
-                assert_eq!(rt; told.stop, stop, "{words:?}");
-                assert_eq!(rt; told.keep.as_slice(), keep, "{words:?}");
-            }
-            _ => panic!(rt; "{words:?} is another command"),
-        }
+fn words_are_refused(rt: HostRuntime) -> Result<(), Fail> {
+    for words in REFUSED {
+        assert_eq!(rt; is_refused(rt.alloc(), words)?, Some(true), "{words:?}");
     }
     Ok(())
 }
@@ -115,13 +106,26 @@ fn words_are_taken(rt: HostRuntime) -> Result<(), Fail> {
 #[test]
 fn help_is_no_refusal(rt: HostRuntime) -> Result<(), Fail> {
     for words in HELP {
-        let mut all = Vec::new(rt.alloc());
-        all.push("jbench")?;
-        all.extend_from_slice(words)?;
-        match parse(rt.alloc(), &all) {
-            Ok(_) => panic!(rt; "{words:?} asks for help"),
-            Err(e) => assert!(rt; !e.use_stderr(), "{words:?}"),
+        assert_eq!(rt; is_refused(rt.alloc(), words)?, Some(false), "{words:?}");
+    }
+    Ok(())
+}
+
+/// Whether words say to run `a.json` with this stop, and keep these writes.
+fn is_run(alloc: Global, words: &[&str], stop: Option<u64>, keep: &[u64]) -> Result<bool, Fail> {
+    let all = with_name(alloc, words)?;
+    Ok(match parse(alloc, &all)? {
+        Words::Run(told) => {
+            told.script == "a.json" && told.stop == stop && told.keep.as_slice() == keep
         }
+        _ => false,
+    })
+}
+
+#[test]
+fn words_are_taken(rt: HostRuntime) -> Result<(), Fail> {
+    for (words, stop, keep) in TAKEN {
+        assert!(rt; is_run(rt.alloc(), words, stop, keep)?, "{words:?}");
     }
     Ok(())
 }
@@ -194,20 +198,23 @@ const FORMATS: [(&[&str], Measures); 3] = [
     ),
 ];
 
+/// The measures that words say to make of the files `log` and `home`, if they say so.
+fn measures_of(alloc: Global, words: &[&str]) -> Result<Option<Measures>, Fail> {
+    let all = with_name(alloc, words)?;
+    Ok(match parse(alloc, &all)? {
+        Words::Format(told) if told.log == "log" && told.home == "home" => Some(told.measures),
+        _ => None,
+    })
+}
+
 #[test]
 fn words_of_format(rt: HostRuntime) -> Result<(), Fail> {
     for (words, measures) in FORMATS {
-        let mut all = Vec::new(rt.alloc());
-        all.push("jbench")?;
-        all.extend_from_slice(words)?;
-        match parse(rt.alloc(), &all)? {
-            Words::Format(told) => {
-                assert_eq!(rt; told.log, "log", "{words:?}");
-                assert_eq!(rt; told.home, "home", "{words:?}");
-                assert_eq!(rt; told.measures, measures, "{words:?}");
-            }
-            _ => panic!(rt; "{words:?} is another command"),
-        }
+        assert_eq!(rt;
+            measures_of(rt.alloc(), words)?,
+            Some(measures),
+            "{words:?}"
+        );
     }
     Ok(())
 }

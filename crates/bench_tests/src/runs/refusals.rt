@@ -1,3 +1,4 @@
+//! What handles and commits are refused.
 use super::prints;
 use std::alloc::{AllocError, Global};
 use std::test::Fail;
@@ -10,67 +11,53 @@ empty sequence=1
 open clean next=2 n=0
 ";
 
-#[test]
-fn credits_that_are_not_there(rt: HostRuntime) -> Result<(), Fail> {
-    let script =
-        r#"{"ops": [["start",9,7],["start",1,3],["start",2,3],["start",3,1],["stop",1],["start",4,1]]}"#;
-    let lines = "\
+/// Scripts in which handles are refused, the lines of their operations, and those of the blocks that they name.
+const REFUSALS: [(&str, &str, &str); 4] = [
+    // Credits that are not there.
+    (
+        r#"{"ops": [["start",9,7],["start",1,3],["start",2,3],["start",3,1],["stop",1],["start",4,1]]}"#,
+        "\
 start 9 7 = refused 6 TooMany
 start 1 3 = 2
 start 2 3 = 2
 start 3 1 = refused 5 Full
 stop 1 = 2
 start 4 1 = 2
-";
-    let wanted = format!(in rt.alloc(); "{lines}{NOTHING_COMMITTED}verdict ok\n")?;
-    prints(&rt, rt.alloc(), script, None, &[], &wanted)
-}
-
-#[test]
-fn a_handle_without_a_credit_left(rt: HostRuntime) -> Result<(), Fail> {
-    let script =
-        r#"{"ops": [["start",1,1],["write",1,5,"01"],["write",1,5,"02"],["write",1,6,"03"]]}"#;
-    let lines = "\
+",
+        "",
+    ),
+    // A handle without a credit left.
+    (
+        r#"{"ops": [["start",1,1],["write",1,5,"01"],["write",1,5,"02"],["write",1,6,"03"]]}"#,
+        "\
 start 1 1 = 2
 write 1 5 = ok
 write 1 5 = ok
 write 1 6 = refused 4 NoCredit
-";
-    let ending = "\
+",
+        "\
 home 5 0000000000000000
 home 6 0000000000000000
-verdict ok
-";
-    let wanted = format!(in rt.alloc(); "{lines}{NOTHING_COMMITTED}{ending}")?;
-    prints(&rt, rt.alloc(), script, None, &[], &wanted)
-}
-
-#[test]
-fn blocks_that_home_does_not_have(rt: HostRuntime) -> Result<(), Fail> {
-    let script =
-        r#"{"ops": [["start",1,1],["write",1,64,"01"],["write",1,18446744073709551615,""],["write",1,63,""]]}"#;
-    let lines = "\
+",
+    ),
+    // Blocks that home does not have.
+    (
+        r#"{"ops": [["start",1,1],["write",1,64,"01"],["write",1,18446744073709551615,""],["write",1,63,""]]}"#,
+        "\
 start 1 1 = 2
 write 1 64 = refused 8 BadBlock
 write 1 18446744073709551615 = refused 8 BadBlock
 write 1 63 = ok
-";
-    let ending = "\
-home 63 0000000000000000
-verdict ok
-";
-    let wanted = format!(in rt.alloc(); "{lines}{NOTHING_COMMITTED}{ending}")?;
-    prints(&rt, rt.alloc(), script, None, &[], &wanted)
-}
-
-#[test]
-fn operations_behind_a_refused_start(rt: HostRuntime) -> Result<(), Fail> {
-    // The ticket of before is gone too, up to the next start.
-    let script = r#"{"ops": [
+",
+        "home 63 0000000000000000\n",
+    ),
+    // Operations behind a refused start: the ticket of before is gone too, up to the next start.
+    (
+        r#"{"ops": [
         ["start",1,0],["stop",1],["status",1],["start",1,7],["write",1,9,"01"],["stop",1],
         ["request",1],["status",1],["wait",1],["start",1,1],["stop",1],["status",1],
-        ["start",2,18446744073709551615],["write",2,70,"01"]]}"#;
-    let lines = "\
+        ["start",2,18446744073709551615],["write",2,70,"01"]]}"#,
+        "\
 start 1 0 = 2
 stop 1 = 2
 status 1 = open
@@ -85,13 +72,18 @@ stop 1 = 2
 status 1 = open
 start 2 18446744073709551615 = refused 6 TooMany
 write 2 70 = skipped
-";
-    let ending = "\
-home 9 0000000000000000
-verdict ok
-";
-    let wanted = format!(in rt.alloc(); "{lines}{NOTHING_COMMITTED}{ending}")?;
-    prints(&rt, rt.alloc(), script, None, &[], &wanted)
+",
+        "home 9 0000000000000000\n",
+    ),
+];
+
+#[test]
+fn handles_are_refused(rt: HostRuntime) -> Result<(), Fail> {
+    for (script, lines, homes) in REFUSALS {
+        let wanted = format!(in rt.alloc(); "{lines}{NOTHING_COMMITTED}{homes}verdict ok\n")?;
+        prints(&rt, rt.alloc(), script, None, &[], &wanted)?;
+    }
+    Ok(())
 }
 
 /// A script of eleven transactions, each with one write of block 5, and of one start behind them.

@@ -1,0 +1,53 @@
+//! Blocks that hold one byte over and over, on any device.
+use block_device::{Device, DeviceFault};
+use journal_model::Area;
+use std::process::Abort;
+
+/// Blocks of this many bytes.
+pub const SIZE: usize = 4;
+
+/// The two areas.
+pub const LOG: Area = Area::Log;
+
+pub const HOME: Area = Area::Home;
+
+/// A block by its area and number.
+pub type Place = (Area, u64);
+
+/// Fills a block with a byte.
+pub fn write_byte<D: Device>(
+    rt: &impl Abort,
+    device: &mut D,
+    (area, block): Place,
+    byte: u8,
+) -> Result<(), DeviceFault> {
+    assert_eq!(rt; device.block_size(), SIZE);
+    assert!(rt; block < device.blocks(area));
+    device.write(area, block, &[byte; SIZE])
+}
+
+/// The first byte of a block.
+pub fn read_byte<D: Device>(
+    rt: &impl Abort,
+    device: &mut D,
+    (area, block): Place,
+) -> Result<u8, DeviceFault> {
+    let mut bytes = [0xee; SIZE];
+    assert_eq!(rt; device.block_size(), SIZE);
+    assert!(rt; block < device.blocks(area));
+    device.read(area, block, &mut bytes)?;
+    Ok(bytes[0])
+}
+
+/// The bytes of these blocks, one of each.
+pub fn read_bytes<D: Device, const N: usize>(
+    rt: &impl Abort,
+    device: &mut D,
+    places: &[Place; N],
+) -> Result<[u8; N], DeviceFault> {
+    let mut bytes = [0; N];
+    for (byte, place) in bytes.iter_mut().zip(places.iter()) {
+        *byte = read_byte(rt, device, *place)?;
+    }
+    Ok(bytes)
+}
