@@ -13,7 +13,7 @@ use crate::disk::empty_disk;
 use crate::interpreter::Interpreter;
 use crate::outcome::{Outcome, PRINTED_BYTES};
 use crate::verdict::Record;
-use bench_script::Script;
+use bench_script::{Operation, Script};
 use block_device::{Device, MemDevice};
 use journal_model::{Area, JournalError};
 use log_dump::{Fault, dump};
@@ -69,27 +69,42 @@ pub fn run_operations(
 ) -> Result<Stopped, Fault> {
     let disk = empty_disk(alloc, &script.measures, stop)?;
     let mut interpreter = Interpreter::new(alloc, disk)?;
-    for operation in &script.operations {
+    perform_all(&mut interpreter, &script.operations, out)?;
+    Ok(stopped_of(interpreter, stop))
+}
+
+/// Performs operations up to the first that the device refuses, and prints a line for each.
+fn perform_all(
+    interpreter: &mut Interpreter,
+    operations: &[Operation],
+    out: &mut impl Write,
+) -> io::Result<()> {
+    for operation in operations {
         let outcome = interpreter.perform(operation);
         writeln!(out, "{operation} = {outcome}")?;
         if outcome == Outcome::Refused(JournalError::Device) {
             break;
         }
     }
+    Ok(())
+}
+
+/// What the performed operations leave.
+fn stopped_of(interpreter: Interpreter, stop: Option<u64>) -> Stopped {
     let (parts, acknowledged) = interpreter.finish();
     let at_write = if parts.device.is_stopped() {
         stop
     } else {
         None
     };
-    Ok(Stopped {
+    Stopped {
         at_write,
         device: parts.device.into_inner(),
         recorded: Record {
             sealed: parts.sealed,
             acknowledged,
         },
-    })
+    }
 }
 
 /// Crashes the device with the unflushed writes `keep` kept, dumps the image, opens it, and prints how the named blocks of
@@ -113,10 +128,7 @@ pub fn judge(
         recorded,
         at_write,
     } = stopped;
-    match at_write {
-        Some(k) => writeln!(out, "stopped {k}")?,
-        None => writeln!(out, "stopped at end")?,
-    }
+    write_stop(out, at_write)?;
     let mut image = device.crash(keep);
     dump(alloc, &mut image, out)?;
     let opened = open_image(alloc, image)?;
@@ -125,8 +137,21 @@ pub fn judge(
     let mut device = opened.into_device();
     write_home(alloc, &mut device, named, out)?;
     let verdict = recorded.judge(alloc, &mut device, named, n)?;
-    writeln!(out, "verdict {}", if verdict { "ok" } else { "false" })?;
+    write_verdict(out, verdict)?;
     Ok(verdict)
+}
+
+/// Prints at which write the device stopped.
+fn write_stop(out: &mut impl Write, at_write: Option<u64>) -> io::Result<()> {
+    match at_write {
+        Some(k) => writeln!(out, "stopped {k}"),
+        None => writeln!(out, "stopped at end"),
+    }
+}
+
+/// Prints the verdict.
+fn write_verdict(out: &mut impl Write, verdict: bool) -> io::Result<()> {
+    writeln!(out, "verdict {}", if verdict { "ok" } else { "false" })
 }
 
 /// Opens what a crash left.

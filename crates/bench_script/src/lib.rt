@@ -11,6 +11,8 @@ mod reading;
 mod script;
 
 pub use error::ScriptError;
-pub use measures::{DEFAULTS, HOMES, LENGTHS, Measures, is_block_size, uuid_of};
+pub use measures::{
+    DEFAULTS, HOMES, LENGTHS, Measures, block_size_of, is_block_size, limited, uuid_of,
+};
 pub use reading::read;
 pub use script::{HANDLE_NAMES, HandleName, MOST_OPERATIONS, Operation, Script};

@@ -1,5 +1,5 @@
 //! The measures of a device, as a script's keys or words give them, and their limits.
-ghost use Rattle.std.specs.Prelude.{◌↔◌, IsTrue};
+ghost use Rattle.std.specs.Prelude.{◌↔◌, ◌≤◌, IfSome, IsTrue};
 ghost use Rattle.log_format.specs.Size.{IsBlockSize};
 
 use hex::FromHexError;
@@ -37,6 +37,28 @@ pub fn is_block_size(bytes: u64) -> bool
     ensures { IsTrue result ↔ IsBlockSize bytes }
 {
     bytes == 1024 || bytes == 2048 || bytes == 4096
+}
+
+/// The bytes of a block that a log's superblock tells of, where a block may have so many, else 1024.
+pub fn block_size_of(told: u32) -> usize
+    ensures { IsBlockSize result }
+{
+    match told {
+        2048 => 2048,
+        4096 => 4096,
+        _ => 1024,
+    }
+}
+
+/// The number that a word gives, or `None` where it is no number within these limits, which both count.
+pub fn limited(word: &str, limits: (u64, u64)) -> Option<u64>
+    ensures least { IfSome result (λ number. limits.0 ≤ number) }
+    ensures most { IfSome result (λ number. number ≤ limits.1) }
+{
+    match word.parse::<u64>() {
+        Ok(number) if limits.0 <= number && number <= limits.1 => Some(number),
+        _ => None,
+    }
 }
 
 /// The UUID that 32 hex digits give, or `None` where the text is another. It fails where memory runs out.

@@ -134,28 +134,47 @@ fn read_operation(
 ) -> Result<Operation, ScriptError> {
     let words = value.as_array().ok_or(ScriptError::BadScript)?;
     let (name, words) = words.split_first().ok_or(ScriptError::BadScript)?;
-    match (name.as_str().ok_or(ScriptError::BadScript)?, words) {
-        ("start", [handle, credits]) => Ok(Operation::Start(
-            handle_of(handle)?,
-            number_of(credits)?,
-        )),
-        ("write", [handle, block, hex]) => Ok(Operation::Write(
+    let name = name.as_str().ok_or(ScriptError::BadScript)?;
+    match words {
+        [] => plain_operation(name),
+        [handle] => handle_operation(name, handle_of(handle)?),
+        [handle, number] => number_operation(name, handle_of(handle)?, number_of(number)?),
+        [handle, block, hex] if name == "write" => Ok(Operation::Write(
             handle_of(handle)?,
             BlockNo(number_of(block)?),
             bytes_of(alloc, hex, block_size)?,
         )),
-        ("read", [handle, block]) => Ok(Operation::Read(
-            handle_of(handle)?,
-            BlockNo(number_of(block)?),
-        )),
-        ("stop", [handle]) => Ok(Operation::Stop(handle_of(handle)?)),
-        ("request", [handle]) => Ok(Operation::Request(handle_of(handle)?)),
-        ("turn", []) => Ok(Operation::Turn),
-        ("commit", []) => Ok(Operation::Commit),
-        ("ckturn", []) => Ok(Operation::CheckpointTurn),
-        ("check", []) => Ok(Operation::Check),
-        ("status", [handle]) => Ok(Operation::Status(handle_of(handle)?)),
-        ("wait", [handle]) => Ok(Operation::Wait(handle_of(handle)?)),
+        _ => Err(ScriptError::BadScript),
+    }
+}
+
+/// An operation that is a name alone.
+fn plain_operation(name: &str) -> Result<Operation, ScriptError> {
+    match name {
+        "turn" => Ok(Operation::Turn),
+        "commit" => Ok(Operation::Commit),
+        "ckturn" => Ok(Operation::CheckpointTurn),
+        "check" => Ok(Operation::Check),
+        _ => Err(ScriptError::BadScript),
+    }
+}
+
+/// An operation of a handle.
+fn handle_operation(name: &str, handle: HandleName) -> Result<Operation, ScriptError> {
+    match name {
+        "stop" => Ok(Operation::Stop(handle)),
+        "request" => Ok(Operation::Request(handle)),
+        "status" => Ok(Operation::Status(handle)),
+        "wait" => Ok(Operation::Wait(handle)),
+        _ => Err(ScriptError::BadScript),
+    }
+}
+
+/// An operation of a handle and a number: credits, or a block.
+fn number_operation(name: &str, handle: HandleName, number: u64) -> Result<Operation, ScriptError> {
+    match name {
+        "start" => Ok(Operation::Start(handle, number)),
+        "read" => Ok(Operation::Read(handle, BlockNo(number))),
         _ => Err(ScriptError::BadScript),
     }
 }

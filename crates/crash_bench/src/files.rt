@@ -85,9 +85,5 @@ fn block_size_of(log: &File) -> io::Result<usize>
         Err(e) if e.kind() == ErrorKind::UnexpectedEof => return Ok(1024),
         Err(e) => return Err(e),
     }
-    Ok(match u32::from_be_bytes(bytes) {
-        2048 => 2048,
-        4096 => 4096,
-        _ => 1024,
-    })
+    Ok(bench_script::block_size_of(u32::from_be_bytes(bytes)))
 }

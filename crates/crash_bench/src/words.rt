@@ -2,7 +2,7 @@
 ghost use Rattle.std.specs.Prelude.{◌≡◌, ◌≤◌, IfOk, IfSome};
 ghost use Rattle.bench_script.specs.Measures.{AreLimited};
 
-use bench_script::{DEFAULTS, HOMES, LENGTHS, Measures, is_block_size, uuid_of};
+use bench_script::{DEFAULTS, HOMES, LENGTHS, Measures, is_block_size, limited, uuid_of};
 use clap::error::ErrorKind;
 use clap::{Arg, ArgMatches, Command, Error};
 use std::alloc::{AllocError, Global};
@@ -318,12 +318,9 @@ fn number_of(
     ensures least { IfOk result (λ told. IfSome told (λ number. limits.0 ≤ number)) }
     ensures most { IfOk result (λ told. IfSome told (λ number. number ≤ limits.1)) }
 {
-    let Some(word) = matches.get_str(name) else {
-        return Ok(None);
-    };
-    match word.parse::<u64>() {
-        Ok(number) if limits.0 <= number && number <= limits.1 => Ok(Some(number)),
-        _ => Err(wanted),
+    match matches.get_str(name) {
+        Some(word) => Ok(Some(limited(word, limits).ok_or(wanted)?)),
+        None => Ok(None),
     }
 }
 
