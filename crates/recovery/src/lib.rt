@@ -12,8 +12,6 @@ mod gather;
 mod opening;
 mod replay;
 mod scan;
-#[cfg(test)]
-mod tests;
 
 pub use empty_log::format;
 pub use opening::{Opened, Report, open};
