@@ -14,6 +14,13 @@ const UUID: [u8; 16] = [0xaa; 16];
 /// The bytes that a log block of a type begins with, and an escaped copy.
 const MAGIC: [u8; 4] = [0xc0, 0x3b, 0x39, 0x98];
 
+/// Types of log blocks.
+const DESCRIPTOR: u8 = 1;
+
+const COMMIT: u8 = 2;
+
+const REVOKE: u8 = 5;
+
 /// A part of a log. What is written is one byte.
 #[derive(Clone, Copy)]
 enum Mark {
@@ -59,14 +66,14 @@ fn put_own(
 /// The type of a mark's own block, and what stands in it behind the header.
 fn own_block(alloc: Global, mark: Mark) -> Result<(u8, Vec<u8>), JournalError> {
     Ok(match mark {
-        Copy(block, _) => (1, [0, 0, 0, block, 0, 0, 0, 10].to_vec(alloc)?),
-        Escaped(block, _) => (1, [0, 0, 0, block, 0, 0, 0, 11].to_vec(alloc)?),
+        Copy(block, _) => (DESCRIPTOR, [0, 0, 0, block, 0, 0, 0, 10].to_vec(alloc)?),
+        Escaped(block, _) => (DESCRIPTOR, [0, 0, 0, block, 0, 0, 0, 11].to_vec(alloc)?),
         Copies(first, _, last, _) => (
-            1,
+            DESCRIPTOR,
             [0, 0, 0, first, 0, 0, 0, 2, 0, 0, 0, last, 0, 0, 0, 10].to_vec(alloc)?,
         ),
-        Commit => (2, Vec::new(alloc)),
-        Revoke(block) => (5, [0, 0, 0, 20, 0, 0, 0, block].to_vec(alloc)?),
+        Commit => (COMMIT, Vec::new(alloc)),
+        Revoke(block) => (REVOKE, [0, 0, 0, 20, 0, 0, 0, block].to_vec(alloc)?),
     })
 }
 
