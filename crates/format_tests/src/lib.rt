@@ -9,6 +9,8 @@ mod chains;
 #[cfg(test)]
 mod rings;
 #[cfg(test)]
+mod rows;
+#[cfg(test)]
 mod transactions;
 mod writing;
 

@@ -1,129 +1,189 @@
 //! Tables of places, room and layouts, with values worked out by hand.
+use crate::rows::numbers;
 use journal_model::JournalError;
+use journal_plain::room;
 use log_ring::{Layout, Part, Ring};
-use std::test::Fail;
 
-/// Positions, and their places in a ring of the blocks 1 to 32.
-const PLACES: [(u64, u64); 7] = [
-    (0, 1),
-    (1, 2),
-    (30, 31),
-    (31, 32),
-    (32, 1),
-    (63, 32),
-    (64, 1),
-];
+/// Calls of a ring of the blocks 1 to 32, one after the other: a name, its numbers, and behind `=` the answer, where `-` is
+/// a refusal for want of room. A release answers how many blocks are free behind it.
+const CALLS: &str = "\
+blocks = 32
+place 0 = 1
+place 1 = 2
+place 30 = 31
+place 31 = 32
+place 32 = 1
+place 63 = 32
+place 64 = 1
+advance 1 0 = 1
+advance 31 1 = 32
+advance 31 2 = 1
+advance 32 1 = 1
+advance 32 32 = 32
+advance 0 0 = 1
+advance 0 5 = 6
+take 30 = 0
+free = 2
+take 3 = -
+free = 2
+head = 30
+release 30 = 32
+take 3 = 30
+place 30 = 31
+place 32 = 1
+take 29 = 33
+free = 0
+take 0 = 62
+take 1 = -";
 
-/// Places, how many blocks they are advanced there, and the places behind these.
-const ADVANCES: [(u64, u64, u64); 7] = [
-    (1, 0, 1),
-    (31, 1, 32),
-    (31, 2, 1),
-    (32, 1, 1),
-    (32, 32, 32),
-    (0, 0, 1),
-    (0, 5, 6),
-];
+/// Calls of a ring of the blocks 5 to 20.
+const CALLS_BEHIND_FIVE: &str = "\
+blocks = 16
+place 15 = 20
+place 16 = 5
+advance 20 1 = 5";
 
-#[test]
-fn the_place_after_the_last_is_the_first(rt: HostRuntime) {
-    let ring = Ring::new(1, 33);
-    assert_eq!(rt; ring.blocks(), 32);
-    for (position, place) in PLACES {
-        assert_eq!(rt; (position, ring.place(position)), (position, place));
+/// Releases so many blocks, where they are taken, and answers how many are free then.
+fn release(ring: &mut Ring, count: u64) -> u64 {
+    if ring.blocks() - ring.free() >= count {
+        ring.release(count);
     }
-    for (place, count, behind) in ADVANCES {
-        let found = ring.advance(place, count);
-        assert_eq!(rt; (place, count, found), (place, count, behind));
+    ring.free()
+}
+
+/// Takes so many blocks, where the head is that of a short test.
+fn take(ring: &mut Ring, count: u64) -> Result<u64, JournalError> {
+    if ring.head() > 1000 {
+        return Err(JournalError::BadBlock);
+    }
+    ring.take(count)
+}
+
+/// What a ring answers to a call. No call has another name.
+fn answer(ring: &mut Ring, name: &str, first: u64, second: u64) -> Result<u64, JournalError> {
+    match name {
+        "blocks" => Ok(ring.blocks()),
+        "place" => Ok(ring.place(first)),
+        "advance" => Ok(ring.advance(first, second)),
+        "free" => Ok(ring.free()),
+        "head" => Ok(ring.head()),
+        "release" => Ok(release(ring, first)),
+        "take" => take(ring, first),
+        _ => Err(JournalError::BadBlock),
     }
 }
 
-#[test]
-fn a_ring_that_does_not_begin_at_block_one(rt: HostRuntime) -> Result<(), Fail> {
-    let ring = Ring::new(5, 21);
-    let places = [ring.place(15), ring.place(16), ring.advance(20, 1)];
-    assert_eq!(rt; (ring.blocks(), places), (16, [20, 5, 5]));
-    Ok(())
+/// A ring answers to the call of a row as it says.
+fn answers(ring: &mut Ring, row: &str) -> Option<bool> {
+    let (call, want) = row.split_once(" = ")?;
+    let mut words = call.split(' ');
+    let name = words.next()?;
+    let first = words.next().unwrap_or("0").parse().ok()?;
+    let second = words.next().unwrap_or("0").parse().ok()?;
+    let found = answer(ring, name, first, second);
+    Some(found == want.parse().or(Err(JournalError::NeedSpace)))
+}
+
+/// The first row whose call a ring does not answer as it says.
+fn wrong_answer<'a>(mut ring: Ring, rows: &'a str) -> Option<&'a str> {
+    rows.lines()
+        .find(|row| answers(&mut ring, row) != Some(true))
 }
 
 #[test]
-fn blocks_are_taken(rt: HostRuntime) {
-    let short = Err(JournalError::NeedSpace);
-    let mut ring = Ring::new(1, 33);
-    let taken = (ring.take(30), ring.free());
-    let refused = (ring.take(3), ring.free(), ring.head());
-    assert_eq!(rt; (taken, refused), ((Ok(0), 2), (short, 2, 30)));
-}
-
-#[test]
-fn blocks_are_released(rt: HostRuntime) {
-    let short = Err(JournalError::NeedSpace);
-    let mut ring = Ring::new(1, 33);
-    let taken = [ring.take(30), ring.take(3)];
-    if ring.free() == 2 {
-        ring.release(30);
-    }
-    let again = (ring.free(), ring.take(3), ring.place(30), ring.place(32));
-    assert_eq!(rt; (taken, again), ([Ok(0), short], (32, Ok(30), 31, 1)));
-    let rest = (ring.take(29), ring.free(), ring.take(0), ring.take(1));
-    assert_eq!(rt; rest, (Ok(33), 0, Ok(62), short));
+fn calls_of_rings(rt: HostRuntime) {
+    assert_eq!(rt; wrong_answer(Ring::new(1, 33), CALLS), None);
+    assert_eq!(rt; wrong_answer(Ring::new(5, 21), CALLS_BEHIND_FIVE), None);
 }
 
 /// Bytes of a block, copies, revokes, and the log blocks that they need.
-const NEEDS: [(usize, u32, u32, u64); 12] = [
-    (1024, 0, 0, 1),
-    (1024, 1, 0, 3),
-    (1024, 2, 0, 4),
-    (1024, 122, 0, 124),
-    (1024, 123, 0, 126),
-    (1024, 0, 1, 2),
-    (1024, 0, 252, 2),
-    (1024, 0, 253, 3),
-    (2048, 250, 508, 253),
-    (2048, 251, 509, 256),
-    (4096, 506, 1020, 509),
-    (4096, 507, 1021, 512),
-];
+const NEEDS: &str = "\
+1024 0 0 1
+1024 1 0 3
+1024 2 0 4
+1024 122 0 124
+1024 123 0 126
+1024 0 1 2
+1024 0 252 2
+1024 0 253 3
+1024 2 252 5
+1024 2 253 6
+2048 250 508 253
+2048 251 509 256
+4096 506 1020 509
+4096 507 1021 512";
+
+/// The ring and the plain program need as many blocks as a row says.
+fn needs(row: &str) -> Option<bool> {
+    let [size, copies, revokes, blocks] = numbers::<4>(row)?;
+    let known = size == 1024 || size == 2048 || size == 4096;
+    if !known || copies > 1000 || revokes > 2000 {
+        return None;
+    }
+    let plain = room::need(size as usize, 4, copies as usize, revokes as usize);
+    Some(Ring::need(size as usize, copies, revokes) == blocks && plain as u64 == blocks)
+}
 
 #[test]
-fn the_room_of_transactions(rt: HostRuntime) -> Result<(), Fail> {
-    for (size, copies, revokes, blocks) in NEEDS {
-        if size == 1024 || size == 2048 || size == 4096 {
-            let needed = Ring::need(size, u64::from(copies), u64::from(revokes));
-            assert_eq!(rt; needed, blocks, "{copies} and {revokes} in {size}");
-        }
-    }
-    Ok(())
+fn the_room_of_transactions(rt: HostRuntime) {
+    assert_eq!(rt; NEEDS.lines().find(|row| needs(row) != Some(true)), None);
 }
 
 /// Bytes of a block, blocks of the ring, and the most copies of a transaction.
-const CAPACITIES: [(usize, u64, u64); 8] = [
-    (1024, 16, 2),
-    (1024, 19, 2),
-    (1024, 20, 3),
-    (1024, 32, 6),
-    (1024, 1024, 252),
-    (2048, 1024, 253),
-    (4096, 1024, 254),
-    (1024, 1_048_575, 260_010),
-];
+const CAPACITIES: &str = "\
+1024 16 2
+1024 19 2
+1024 20 3
+1024 32 6
+1024 1024 252
+2048 1024 253
+4096 1024 254
+1024 1048575 260010";
 
-#[test]
-fn the_most_copies_of_a_transaction(rt: HostRuntime) -> Result<(), Fail> {
-    for (size, ring, copies) in CAPACITIES {
-        if (size == 1024 || size == 2048 || size == 4096) && ring >= 16 {
-            assert_eq!(rt;
-                Layout::capacity(size, ring),
-                copies,
-                "{ring} blocks of {size}"
-            );
-        }
+/// The most copies are those of a row, in the ring and in the plain program.
+fn is_capacity(row: &str) -> Option<bool> {
+    let [size, ring, copies] = numbers::<3>(row)?;
+    let known = size == 1024 || size == 2048 || size == 4096;
+    if !known || ring < 16 {
+        return None;
     }
-    Ok(())
+    let plain = room::capacity(size as usize, 4, ring as usize);
+    Some(Layout::capacity(size as usize, ring) == copies && plain as u64 == copies)
 }
 
-/// What the blocks of a transaction are; none where it does not have so many.
-fn part_of(layout: &Layout, k: u64) -> Option<Part> {
+#[test]
+fn the_most_copies_of_a_transaction(rt: HostRuntime) {
+    assert_eq!(rt;
+        CAPACITIES
+            .lines()
+            .find(|row| is_capacity(row) != Some(true)),
+        None
+    );
+}
+
+/// Copies and revokes of a transaction in blocks of 1024 bytes, a place in it, and what stands there: its first number, and
+/// how many. The places are counted from 0.
+const PARTS: &str = "\
+0 0 0: commit 0 0
+0 0 1: none 0 0
+123 0 0: descriptor 0 122
+123 0 123: descriptor 122 1
+123 0 124: copy 122 1
+123 0 125: commit 0 0
+123 0 126: none 0 0
+1 253 0: revokes 0 252
+1 253 1: revokes 252 1
+1 253 2: descriptor 0 1
+1 253 3: copy 0 1
+1 253 4: commit 0 0
+1 253 5: none 0 0";
+
+/// What a block of a transaction of so many copies and revokes is; none where it does not have so many blocks.
+fn part_of(copies: u64, revokes: u64, k: u64) -> Option<Part> {
+    if copies > 1000 || revokes > 1000 {
+        return None;
+    }
+    let layout = Layout::new(1024, copies, revokes);
     if k < layout.blocks() {
         Some(layout.part(k))
     } else {
@@ -131,77 +191,53 @@ fn part_of(layout: &Layout, k: u64) -> Option<Part> {
     }
 }
 
-#[test]
-fn an_empty_transaction_is_a_commit_block(rt: HostRuntime) -> Result<(), Fail> {
-    let layout = Layout::new(1024, 0, 0);
-    assert_eq!(rt; layout.blocks(), 1);
-    assert_eq!(rt; part_of(&layout, 0), Some(Part::Commit));
-    Ok(())
+/// The part of a name, its first number, and how many; the outer option is none where the name is unknown.
+fn part_named(name: &str, first: u64, count: u64) -> Option<Option<Part>> {
+    Some(Some(match name {
+        "revokes" => Part::Revokes {
+            first,
+            numbers: count,
+        },
+        "descriptor" => Part::Descriptor { first, tags: count },
+        "copy" => Part::Copy(first),
+        "commit" => Part::Commit,
+        "none" => return Some(None),
+        _ => return None,
+    }))
 }
 
-/// The parts of a transaction of 123 copies, but for the first 122 copies.
-const TWO_DESCRIPTORS: [(u64, Option<Part>); 5] = [
-    (
-        0,
-        Some(Part::Descriptor {
-            first: 0,
-            tags: 122,
-        }),
-    ),
-    (
-        123,
-        Some(Part::Descriptor {
-            first: 122,
-            tags: 1,
-        }),
-    ),
-    (124, Some(Part::Copy(122))),
-    (125, Some(Part::Commit)),
-    (126, None),
-];
+/// A place of a transaction has the part of a row.
+fn has_part(row: &str) -> Option<bool> {
+    let (place, part) = row.split_once(": ")?;
+    let (name, range) = part.split_once(' ')?;
+    let [copies, revokes, k] = numbers::<3>(place)?;
+    let [first, count] = numbers::<2>(range)?;
+    Some(part_of(copies, revokes, k) == part_named(name, first, count)?)
+}
 
 #[test]
-fn a_second_descriptor(rt: HostRuntime) -> Result<(), Fail> {
+fn parts_of_transactions(rt: HostRuntime) {
+    assert_eq!(rt; PARTS.lines().find(|row| has_part(row) != Some(true)), None);
+    let mut copies = 0..122u64;
+    assert!(rt; copies.all(|k| part_of(123, 0, k + 1) == Some(Part::Copy(k))));
+}
+
+/// The log blocks of a transaction of 123 copies in a ring of the blocks 1 to 1024: its first one and its second descriptor
+/// where it begins at position 0, and its last one where it begins at position 1000.
+fn places() -> Option<[u64; 3]> {
     let layout = Layout::new(1024, 123, 0);
     let ring = Ring::new(1, 1025);
-    for (k, part) in TWO_DESCRIPTORS {
-        assert_eq!(rt; part_of(&layout, k), part);
+    if layout.blocks() != 126 {
+        return None;
     }
-    for k in 0..122u64 {
-        assert_eq!(rt; part_of(&layout, k + 1), Some(Part::Copy(k)));
-    }
-    if layout.blocks() == 126 {
-        let places = [
-            layout.place(&ring, 0, 0),
-            layout.place(&ring, 0, 123),
-            layout.place(&ring, 1000, 125),
-        ];
-        assert_eq!(rt; places, [1, 124, 102]);
-    }
-    Ok(())
+    Some([
+        layout.place(&ring, 0, 0),
+        layout.place(&ring, 0, 123),
+        layout.place(&ring, 1000, 125),
+    ])
 }
 
-/// The parts of a transaction of one copy and 253 revokes.
-const REVOKES_FIRST: [Option<Part>; 6] = [
-    Some(Part::Revokes {
-        first: 0,
-        numbers: 252,
-    }),
-    Some(Part::Revokes {
-        first: 252,
-        numbers: 1,
-    }),
-    Some(Part::Descriptor { first: 0, tags: 1 }),
-    Some(Part::Copy(0)),
-    Some(Part::Commit),
-    None,
-];
-
 #[test]
-fn revoke_blocks_stand_first(rt: HostRuntime) -> Result<(), Fail> {
-    let layout = Layout::new(1024, 1, 253);
-    for (k, part) in REVOKES_FIRST.iter().enumerate() {
-        assert_eq!(rt; part_of(&layout, k as u64), *part);
-    }
-    Ok(())
+fn places_of_a_transaction(rt: HostRuntime) {
+    assert!(rt; places() == Some([1, 124, 102]));
 }

@@ -1,0 +1,67 @@
+//! Tables that are texts: a row a line, with columns of words.
+use journal_model::{Block, Items};
+use std::alloc::Global;
+
+/// The first row of a table that does not hold.
+pub fn wrong_row<F: Fn(&str) -> Option<bool>>(table: &'static str, holds: F) -> Option<&'static str>
+    requires { F.IsAlwaysCallable holds }
+{
+    for row in table.lines() {
+        if holds(row) != Some(true) {
+            return Some(row);
+        }
+    }
+    None
+}
+
+/// The first three columns of a row, with `|` between them; none where it has fewer.
+pub fn columns(row: &str) -> Option<(&str, &str, &str)> {
+    let (first, behind) = row.split_once('|')?;
+    let (second, third) = behind.split_once('|')?;
+    Some((first.trim(), second.trim(), third.trim()))
+}
+
+/// The first numbers of a row; none where it has fewer words, or one of them is no number.
+pub fn numbers<const N: usize>(row: &str) -> Option<[u64; N]> {
+    let mut found = [0; N];
+    let mut words = row.split_whitespace();
+    for number in &mut found {
+        *number = words.next()?.parse().ok()?;
+    }
+    Some(found)
+}
+
+/// What each word is, in their order, where a separator stands between words.
+pub fn each<T: Drop, F: Fn(Global, &str) -> Option<T>>(
+    alloc: Global,
+    words: &str,
+    separator: char,
+    of: F,
+) -> Option<Items<T>>
+    requires { F.IsAlwaysCallable of }
+{
+    let mut items = Items::new(alloc);
+    for word in words.split(separator) {
+        let word = word.trim();
+        if !word.is_empty() {
+            items.push(of(alloc, word)?).ok()?;
+        }
+    }
+    Some(items)
+}
+
+/// The block of at most eight bytes, which are spelled in hex digits.
+pub fn block_of(alloc: Global, spelled: &str) -> Option<Block> {
+    let number = u64::from_str_radix(spelled, 16).ok()?;
+    let zeros = 8usize.checked_sub(spelled.len() / 2)?;
+    let bytes = number.to_be_bytes();
+    Block::copy_of(alloc, bytes.get(zeros..)?).ok()
+}
+
+/// The copy has these bytes, in hex digits; for `-` there is none.
+pub fn is_copy(alloc: Global, copy: Option<&Block>, spelled: &str) -> bool {
+    match copy {
+        Some(block) => block_of(alloc, spelled).is_some_and(|want| want.bytes() == block.bytes()),
+        None => spelled == "-",
+    }
+}
