@@ -3,12 +3,14 @@ ghost use Rattle.std.specs.Prelude.{◌≤◌, ◌<◌, length};
 ghost use Rattle.journal_model.specs.Layout.{narrow, numbers_of};
 ghost use Rattle.log_format.specs.Size.{IsBlockSize, most_tags};
 
-use crate::{write_numbers, write_tags};
+use crate::rows::{columns, each, numbers, wrong_row};
+use crate::{spelling, write_numbers, write_tags};
 use byteorder::{BigEndian, ByteOrder};
 use journal_model::{BlockNo, JournalError, Tag};
 use log_format::{
     CommitBlock, Descriptor, Header, Malformed, RevokeBlock, Super, escape, unescape,
 };
+use std::alloc::Global;
 use std::process::Abort;
 use std::test::Fail;
 
@@ -52,58 +54,163 @@ fn read_numbers(
     Some(RevokeBlock::read(block, home_blocks, numbers))
 }
 
-/// The bytes stand at the beginning, and zeros behind them.
-fn is_padded(block: &[u8], bytes: &[u8]) -> bool {
-    block.starts_with(bytes) && block.iter().skip(bytes.len()).all(|b| *b == 0)
+/// The block of 1024 bytes that begins as a word spells it. Behind that are zeros, or bytes ff where the word ends with `F`.
+fn block_of(alloc: Global, word: &str) -> Option<[u8; 1024]> {
+    let (spelled, rest) = match word.strip_suffix(",F") {
+        Some(spelled) => (spelled, 0xff),
+        None => (word, 0),
+    };
+    let begin = spelling::block_of(alloc, spelled)?;
+    let mut block = [rest; 1024];
+    for (slot, byte) in block.iter_mut().zip(begin.bytes()) {
+        *slot = *byte;
+    }
+    Some(block)
+}
+
+/// A block, and the type and the sequence in its header, or `-` where it has none.
+const HEADERS: &str = "\
+0 | -
+D,2 | 1 2
+xc03b3999,1,2 | -";
+
+/// The block of a row has the header that it says.
+fn has_header(alloc: Global, row: &str) -> Option<bool> {
+    let (word, want) = row.split_once(" | ")?;
+    let block = block_of(alloc, word)?;
+    let Some(header) = Header::read(&block) else {
+        return Some(want == "-");
+    };
+    let [block_type, sequence] = numbers::<2>(want)?;
+    Some(u64::from(header.block_type) == block_type && u64::from(header.sequence) == sequence)
 }
 
 #[test]
 fn headers(rt: HostRuntime) {
-    let descriptor = [0xc0, 0x3b, 0x39, 0x98, 0, 0, 0, 1, 0, 0, 0, 2];
-    let mut block = [0u8; 1024];
-    assert_eq!(rt; Header::read(&block), None);
-    block[..12].copy_from_slice(&descriptor);
-    assert_eq!(rt;
-        Header::read(&block),
-        Some(Header {
-            block_type: 1,
-            sequence: 2
-        })
-    );
-    block[3] = 0x99;
-    assert_eq!(rt; Header::read(&block), None);
+    for row in HEADERS.lines() {
+        assert!(rt; has_header(rt.alloc(), row) == Some(true), "{row}");
+    }
 }
 
-/// What a descriptor of sequence 2 with these tags has behind its header, and zeros behind that.
-fn spells(tags: &[Tag], bytes: &[u8]) -> bool {
-    let mut block = [0xffu8; 1024];
-    let header = [0xc0, 0x3b, 0x39, 0x98, 0, 0, 0, 1, 0, 0, 0, 2];
-    write_tags(&mut block, 2, tags) && block.starts_with(&header) && is_padded(&block[12..], bytes)
+/// The tag of a word: its block and its flags, of which 1 is escaped, 2 the same UUID, and 8 the last.
+fn tag_of(_alloc: Global, word: &str) -> Option<Tag> {
+    let (block, flags) = word.split_once(',')?;
+    let flags = flags.parse::<u32>().ok()?;
+    let block = block.parse().ok()?;
+    Some(tag(block, flags & 1 != 0, flags & 2 != 0, flags & 8 != 0))
 }
 
-/// What three tags of the blocks 9, 10 and 10 have there: a UUID stands behind the first.
-const THREE_TAGS: [u8; 40] = [
-    0, 0, 0, 9, 0, 0, 0, 0, 0xaa, 0xaa, 0xaa, 0xaa, 0xaa, 0xaa, 0xaa, 0xaa, 0xaa, 0xaa, 0xaa, 0xaa,
-    0xaa, 0xaa, 0xaa, 0xaa, 0, 0, 0, 10, 0, 0, 0, 2, 0, 0, 0, 10, 0, 0, 0, 10,
-];
+/// The number of a block that is revoked.
+fn revoked_of(_alloc: Global, word: &str) -> Option<BlockNo> {
+    Some(BlockNo(word.parse().ok()?))
+}
 
-/// A descriptor of one tag has these bytes and the UUID behind its header.
-fn spells_one(tag: Tag, bytes: [u8; 8]) -> bool {
-    let mut with_uuid = [0xaau8; 24];
-    with_uuid[..8].copy_from_slice(&bytes);
-    spells(&[tag], &with_uuid)
+/// Tags, each a block and its flags, and the descriptor of sequence 2 that has them; or `R`, and numbers of blocks, and the
+/// revoke block of sequence 3 that has these.
+const WRITTEN: &str = "\
+9,0 10,2 10,10 | D,2,9,0,U,10,2,10,10
+9,8 | D,2,9,8,U
+20,9 | D,2,20,9,U
+9,0 10,11 | D,2,9,0,U,10,11
+4294967295,8 | D,2,4294967295,8,U
+R 7 9 | R,3,24,7,9
+R 4294967295 | R,3,20,4294967295";
+
+/// Writes the tags or the numbers of some words.
+fn write_words(alloc: Global, block: &mut [u8; 1024], words: &str) -> Option<bool> {
+    if let Some(words) = words.strip_prefix('R') {
+        let numbers = each(alloc, words, ' ', revoked_of)?;
+        return Some(write_numbers(block, 3, numbers.as_slice()));
+    }
+    let tags = each(alloc, words, ' ', tag_of)?;
+    Some(write_tags(block, 2, tags.as_slice()))
+}
+
+/// The tags or the numbers of a row are written as it says.
+fn is_written(alloc: Global, row: &str) -> Option<bool> {
+    let (words, word) = row.split_once(" | ")?;
+    let want = block_of(alloc, word)?;
+    let mut block = [0xff; 1024];
+    let fits = write_words(alloc, &mut block, words)?;
+    Some(fits && block == want)
 }
 
 #[test]
-fn tags_as_bytes(rt: HostRuntime) {
-    let several = [
-        tag(9, false, false, false),
-        tag(10, false, true, false),
-        tag(10, false, true, true),
-    ];
-    assert!(rt; spells(&several, &THREE_TAGS));
-    assert!(rt; spells_one(tag(9, false, false, true), [0, 0, 0, 9, 0, 0, 0, 8]));
-    assert!(rt; spells_one(tag(20, true, false, true), [0, 0, 0, 20, 0, 0, 0, 9]));
+fn blocks_as_written(rt: HostRuntime) {
+    let alloc = rt.alloc();
+    assert_eq!(rt; wrong_row(WRITTEN, |row| is_written(alloc, row)), None);
+}
+
+/// How many home blocks there are, a block, and what is read from it: how many tags or numbers, and those that are first, or
+/// that it is malformed. `-` stands for a block that is no descriptor.
+const READ: &str = "\
+32 | 0 | -
+10 | D,2,9,8,U | 1: 9,8
+10 | D,2,9,11,U | 1: 9,11
+10 | D,2,9,0,U | malformed
+10 | D,2,9,12,U | malformed
+10 | D,2,9,24,U | malformed
+9 | D,2,9,8,U | malformed
+10 | D,2,9,x108,U | malformed
+10 | D,2,9,8,T125 | 1: 9,8
+10 | D,2,T123,9,8,T2 | 124: 9,2
+10 | D,2,T124,9,8,T1 | 125: 9,2
+10 | D,2,T125,9,8 | 126: 9,2
+10 | D,2,T126 | malformed
+10 | D,2,T124,9,0,9,8 | malformed
+11 | D,2,9,x55550000,x66666666,x66666666,x66666666,x66666666,10,x7777000b,F | 2: 9,0 10,11
+4294967295 | D,2,4294967295,8,U | malformed
+4294967296 | D,2,4294967295,8,U | 1: 4294967295,8
+9 | R,3,24,7,9 | malformed
+10 | R,3,24,7,9 | 2: 7 9
+10 | R,3,15,7,9 | malformed
+10 | R,3,16,7,9 | 0:
+10 | R,3,17,7,9 | malformed
+10 | R,3,1024,7,9 | 252: 7 9 0
+10 | R,3,1028,7,9 | malformed
+4294967295 | R,3,20,4294967295 | malformed
+4294967296 | R,3,20,4294967295 | 1: 4294967295";
+
+/// The tags that are read from a block are those that are spelled.
+fn has_tags(alloc: Global, block: &[u8; 1024], home_blocks: u64, want: &str) -> Option<bool> {
+    let mut tags = [tag(0, false, false, false); 126];
+    let Some(answer) = read_tags(block, home_blocks, &mut tags) else {
+        return Some(want == "-");
+    };
+    let Ok(count) = answer else {
+        return Some(want == "malformed");
+    };
+    let (spelled, words) = want.split_once(':')?;
+    let wanted = each(alloc, words, ' ', tag_of)?;
+    Some(spelled.parse() == Ok(count) && tags.starts_with(wanted.as_slice()))
+}
+
+/// The numbers that are read from a block are those that are spelled.
+fn has_numbers(alloc: Global, block: &[u8; 1024], home_blocks: u64, want: &str) -> Option<bool> {
+    let mut numbers = [BlockNo(0); 252];
+    let Ok(count) = read_numbers(block, home_blocks, &mut numbers)? else {
+        return Some(want == "malformed");
+    };
+    let (spelled, words) = want.split_once(':')?;
+    let wanted = each(alloc, words, ' ', revoked_of)?;
+    Some(spelled.parse() == Ok(count) && numbers.starts_with(wanted.as_slice()))
+}
+
+/// What is read from the block of a row is what it says.
+fn is_read(alloc: Global, row: &str) -> Option<bool> {
+    let (home_blocks, word, want) = columns(row)?;
+    let home_blocks = home_blocks.parse().ok()?;
+    let block = block_of(alloc, word)?;
+    if word.starts_with('R') {
+        return has_numbers(alloc, &block, home_blocks, want);
+    }
+    has_tags(alloc, &block, home_blocks, want)
+}
+
+#[test]
+fn blocks_as_read(rt: HostRuntime) {
+    let alloc = rt.alloc();
+    assert_eq!(rt; wrong_row(READ, |row| is_read(alloc, row)), None);
 }
 
 /// Block numbers from 1 on, as the writer tags them.
@@ -154,111 +261,6 @@ fn full_descriptors(rt: HostRuntime) {
     assert!(rt; ends_at(&kib4, 4076));
 }
 
-/// Flags of a tag that is alone, and what is read from its descriptor.
-const FLAGS: [(u8, Result<usize, Malformed>); 5] = [
-    (8, Ok(1)),
-    (11, Ok(1)),
-    (0, Err(Malformed)),
-    (12, Err(Malformed)),
-    (24, Err(Malformed)),
-];
-
-#[test]
-fn malformed_descriptors(rt: HostRuntime) {
-    let mut tags = [tag(0, false, false, false); 126];
-    let mut block = [0u8; 1024];
-    assert_eq!(rt; read_tags(&block, 32, &mut tags), None);
-    assert!(rt; write_tags(&mut block, 2, &[tag(9, false, false, true)]));
-    for (flags, answer) in FLAGS {
-        block[19] = flags;
-        assert_eq!(rt; read_tags(&block, 10, &mut tags), Some(answer));
-    }
-    block[19] = 8;
-    let no_home_block = read_tags(&block, 9, &mut tags);
-    block[18] = 1;
-    let unknown_flag = read_tags(&block, 10, &mut tags);
-    assert_eq!(rt; [no_home_block, unknown_flag], [Some(Err(Malformed)); 2]);
-}
-
-/// A descriptor whose tags name block 9 and fill the block, each but the last without a UUID behind it: the last one
-/// is that at this place, and has the flag 8 alone.
-fn tags_up_to(last: u8) -> [u8; 1024] {
-    let mut block = [0u8; 1024];
-    block[..12].copy_from_slice(&[0xc0, 0x3b, 0x39, 0x98, 0, 0, 0, 1, 0, 0, 0, 2]);
-    for i in 0..126 {
-        block[12 + 8 * i + 3] = 9;
-        block[12 + 8 * i + 7] = if i == usize::from(last) { 8 } else { 2 };
-    }
-    block
-}
-
-#[test]
-fn uuids_that_do_not_fit(rt: HostRuntime) {
-    let mut tags = [tag(0, false, false, false); 126];
-    for last in [0u8, 123, 124, 125] {
-        let count = usize::from(last) + 1;
-        assert_eq!(rt;
-            read_tags(&tags_up_to(last), 10, &mut tags),
-            Some(Ok(count))
-        );
-    }
-    assert_eq!(rt;
-        read_tags(&tags_up_to(126), 10, &mut tags),
-        Some(Err(Malformed))
-    );
-    let mut block = tags_up_to(125);
-    block[12 + 8 * 124 + 7] = 0;
-    assert_eq!(rt; read_tags(&block, 10, &mut tags), Some(Err(Malformed)));
-}
-
-/// Writes one byte over as many bytes of a block, from a place on.
-fn overwrite(block: &mut [u8; 1024], at: usize, count: usize, value: u8) {
-    for byte in block.iter_mut().skip(at).take(count) {
-        *byte = value;
-    }
-}
-
-#[test]
-fn bytes_of_a_descriptor_that_are_not_read(rt: HostRuntime) {
-    let written = [tag(9, false, false, false), tag(10, true, true, true)];
-    let mut tags = [tag(0, false, false, false); 126];
-    let mut block = [0u8; 1024];
-    assert!(rt; write_tags(&mut block, 2, &written));
-    overwrite(&mut block, 16, 2, 0x55);
-    overwrite(&mut block, 20, 16, 0x66);
-    overwrite(&mut block, 40, 2, 0x77);
-    overwrite(&mut block, 44, 980, 0xff);
-    assert_eq!(rt; read_tags(&block, 11, &mut tags), Some(Ok(2)));
-    assert!(rt; tags.starts_with(&written));
-}
-
-/// The greatest block number that fits the format's 32 bits.
-const GREATEST: u64 = 0xffff_ffff;
-
-#[test]
-fn home_area_of_every_tag(rt: HostRuntime) {
-    let written = [tag(GREATEST, false, false, true)];
-    let mut tags = [tag(0, false, false, false); 126];
-    let mut block = [0u8; 1024];
-    assert!(rt; write_tags(&mut block, 2, &written));
-    let outside = read_tags(&block, GREATEST, &mut tags);
-    let inside = read_tags(&block, GREATEST + 1, &mut tags);
-    assert_eq!(rt; (outside, inside), (Some(Err(Malformed)), Some(Ok(1))));
-    assert!(rt; tags.starts_with(&written));
-}
-
-#[test]
-fn home_area_of_every_revoke(rt: HostRuntime) {
-    let written = [BlockNo(GREATEST)];
-    let mut numbers = [BlockNo(0); 252];
-    let mut block = [0u8; 1024];
-    assert!(rt; write_numbers(&mut block, 2, &written));
-    let outside = read_numbers(&block, GREATEST, &mut numbers);
-    let inside = read_numbers(&block, GREATEST + 1, &mut numbers);
-    assert_eq!(rt; (outside, inside), (Some(Err(Malformed)), Some(Ok(1))));
-    assert!(rt; numbers.starts_with(&written));
-}
-
 /// Block numbers from 1 on fill a revoke block, and are read back.
 fn is_full_of_numbers(block: &mut [u8], written: &mut [BlockNo], read: &mut [BlockNo]) -> bool
     requires size { IsBlockSize (length block.old) }
@@ -286,71 +288,49 @@ fn full_revoke_blocks(rt: HostRuntime) {
     assert!(rt; is_full_of_numbers(&mut [0xff; 4096], &mut [none; 1020], &mut [none; 1020]));
 }
 
-/// A revoke block of sequence 3 with the numbers 7 and 9, without the zeros behind it.
-const SEVEN_AND_NINE: [u8; 24] = [
-    0xc0, 0x3b, 0x39, 0x98, 0, 0, 0, 5, 0, 0, 0, 3, 0, 0, 0, 0x18, 0, 0, 0, 7, 0, 0, 0, 9,
-];
-
-#[test]
-fn revoke_blocks(rt: HostRuntime) {
-    let written = [BlockNo(7), BlockNo(9)];
-    let mut block = [0xffu8; 1024];
-    let mut numbers = [BlockNo(0); 252];
-    assert!(rt; write_numbers(&mut block, 3, &written) && is_padded(&block, &SEVEN_AND_NINE));
-    let outside = read_numbers(&block, 9, &mut numbers);
-    let inside = read_numbers(&block, 10, &mut numbers);
-    assert_eq!(rt; (outside, inside), (Some(Err(Malformed)), Some(Ok(2))));
-    assert!(rt; numbers.starts_with(&written));
-}
-
-/// Counts of bytes used that a revoke block says, and what is read from it.
-const COUNTS: [(u32, Result<usize, Malformed>); 5] = [
-    (15, Err(Malformed)),
-    (16, Ok(0)),
-    (17, Err(Malformed)),
-    (1024, Ok(252)),
-    (1028, Err(Malformed)),
-];
-
-#[test]
-fn counts_of_revoke_blocks(rt: HostRuntime) {
-    let mut block = [0u8; 1024];
-    let mut numbers = [BlockNo(0); 252];
-    block[..24].copy_from_slice(&SEVEN_AND_NINE);
-    for (used, answer) in COUNTS {
-        put(&mut block, 12, used);
-        assert_eq!(rt; read_numbers(&block, 10, &mut numbers), Some(answer));
-    }
-}
-
 #[test]
 fn commit_blocks(rt: HostRuntime) {
     let mut block = [0xffu8; 1024];
     CommitBlock::write(&mut block, 3);
-    assert!(rt; is_padded(&block, &[0xc0, 0x3b, 0x39, 0x98, 0, 0, 0, 2, 0, 0, 0, 3]));
+    assert!(rt; block_of(rt.alloc(), "C,3") == Some(block));
+}
+
+/// A copy of bytes 11 but for the first four, which are spelled in hex digits.
+fn copy_of(first: &str) -> Option<[u8; 1024]> {
+    let mut copy = [0x11; 1024];
+    BigEndian::write_u32(&mut copy, u32::from_str_radix(first, 16).ok()?);
+    Some(copy)
+}
+
+/// What is done with a copy, and its first four bytes before and behind that: it is escaped, or left as it does not begin with
+/// the magic, or read under a tag that says that it is plain or that it is not.
+const ESCAPES: &str = "\
+left 11111111 11111111
+plain 11111111 11111111
+unescaped 11111111 c03b3998
+escaped c03b3998 00000000
+plain 00000000 00000000";
+
+/// What is done with the copy of a row makes of it what it says.
+fn is_escaped(row: &str) -> Option<bool> {
+    let (does, firsts) = row.split_once(' ')?;
+    let (before, behind) = firsts.split_once(' ')?;
+    let mut copy = copy_of(before)?;
+    let answered = match does {
+        "left" => !escape(&mut copy),
+        "escaped" => escape(&mut copy),
+        _ => {
+            unescape(&mut copy, does != "plain");
+            true
+        }
+    };
+    Some(answered && copy == copy_of(behind)?)
 }
 
 #[test]
 fn copies_that_begin_with_the_magic(rt: HostRuntime) {
-    let mut copy = [0x11u8; 1024];
-    assert!(rt; !escape(&mut copy));
-    assert_eq!(rt; copy, [0x11; 1024]);
-    unescape(&mut copy, false);
-    assert_eq!(rt; copy, [0x11; 1024]);
-    unescape(&mut copy, true);
-    assert!(rt; copy.starts_with(&[0xc0, 0x3b, 0x39, 0x98, 0x11]));
-    assert!(rt; escape(&mut copy));
-    assert!(rt; copy.starts_with(&[0, 0, 0, 0, 0x11]));
-    unescape(&mut copy, false);
-    assert!(rt; copy.starts_with(&[0, 0, 0, 0, 0x11]));
+    assert_eq!(rt; wrong_row(ESCAPES, is_escaped), None);
 }
-
-/// A superblock as it is formatted for 33 blocks, without the zeros behind it.
-const FORMATTED: [u8; 0x44] = [
-    0xc0, 0x3b, 0x39, 0x98, 0, 0, 0, 4, 0, 0, 0, 0, 0, 0, 4, 0, 0, 0, 0, 33, 0, 0, 0, 1, 0, 0, 0,
-    1, 0, 0, 0, 0, 0, 0, 0, 0, 0, 0, 0, 0, 0, 0, 0, 1, 0, 0, 0, 0, 0xaa, 0xaa, 0xaa, 0xaa, 0xaa,
-    0xaa, 0xaa, 0xaa, 0xaa, 0xaa, 0xaa, 0xaa, 0xaa, 0xaa, 0xaa, 0xaa, 0, 0, 0, 1,
-];
 
 /// A superblock that is formatted for 33 blocks.
 fn formatted() -> [u8; 1024] {
@@ -361,7 +341,8 @@ fn formatted() -> [u8; 1024] {
 
 #[test]
 fn a_formatted_superblock(rt: HostRuntime) {
-    assert!(rt; is_padded(&formatted(), &FORMATTED));
+    let want = block_of(rt.alloc(), "M,4,0,1024,33,1,1,0,0,0,1,0,U,1");
+    assert!(rt; want == Some(formatted()));
 }
 
 /// The fields of a formatted superblock that was written again, with a sequence and a start.
@@ -379,18 +360,19 @@ const STARTED: Super = Super {
     s_nr_users: 1,
 };
 
-#[test]
-fn a_superblock_with_a_start(rt: HostRuntime) {
+/// A formatted superblock is written with a sequence and a start: nothing else of it changes, and it is read.
+fn has_start(alloc: Global) -> Option<bool> {
+    let mut want = block_of(alloc, "M,4,0,1024,33,1,x1020304,5,0,0,1,0,U,1")?;
+    want[0x400 - 1] = 0x55;
     let mut block = formatted();
     block[0x400 - 1] = 0x55;
     Super::write(&mut block, 0x0102_0304, 5);
-    let mut bytes = FORMATTED;
-    bytes[0x18..0x20].copy_from_slice(&[1, 2, 3, 4, 0, 0, 0, 5]);
-    assert!(rt; block.starts_with(&bytes));
-    assert_eq!(rt;
-        (Super::read(&block, 33), block[0x400 - 1]),
-        (Ok(STARTED), 0x55)
-    );
+    Some(block == want && Super::read(&block, 33) == Ok(STARTED))
+}
+
+#[test]
+fn a_superblock_with_a_start(rt: HostRuntime) {
+    assert!(rt; has_start(rt.alloc()) == Some(true));
 }
 
 /// Writes a number at a place of the first 256 bytes.
@@ -398,103 +380,132 @@ fn put(block: &mut [u8; 1024], at: u8, value: u32) {
     BigEndian::write_u32(&mut block[usize::from(at)..], value);
 }
 
-/// The refusal of a formatted superblock with these fields changed, in a log area of as many blocks.
-fn refusal_of(changes: &[(u8, u32)], area: u64) -> Option<JournalError> {
-    let mut block = formatted();
-    for (at, value) in changes {
-        put(&mut block, *at, *value);
+/// Makes a change: a place in hex digits, `=`, and the number that is put there; or all bytes become zeros.
+fn change(block: &mut [u8; 1024], word: &str) -> Option<()> {
+    if word == "zeros" {
+        block.fill(0);
+        return Some(());
     }
-    Super::read(&block, area).err()
+    let (at, value) = word.split_once('=')?;
+    put(block, u8::from_str_radix(at, 16).ok()?, value.parse().ok()?);
+    Some(())
 }
 
-/// A field of a superblock that is changed, its new number, and the refusal.
-const CHANGES: [(u8, u32, JournalError); 8] = [
-    (0x00, 0, JournalError::BadMagic),
-    (0x04, 3, JournalError::BadType),
-    (0x0c, 2048, JournalError::BadBlockSize),
-    (0x10, 16, JournalError::BadLength),
-    (0x14, 18, JournalError::BadFirst),
-    (0x28, 3, JournalError::BadFeature),
-    (0x1c, 33, JournalError::BadStart),
-    (0x20, 1, JournalError::ErrnoSet),
-];
+/// A formatted superblock with these changes.
+fn changed(changes: &str) -> Option<[u8; 1024]> {
+    let mut block = formatted();
+    for word in changes.split_whitespace() {
+        change(&mut block, word)?;
+    }
+    Some(block)
+}
+
+/// The refusal that a word names, where `-` is none.
+fn refusal_of(word: &str) -> Option<Option<JournalError>> {
+    Some(Some(match word {
+        "-" => return Some(None),
+        "BadMagic" => JournalError::BadMagic,
+        "BadType" => JournalError::BadType,
+        "BadBlockSize" => JournalError::BadBlockSize,
+        "BadLength" => JournalError::BadLength,
+        "BadFirst" => JournalError::BadFirst,
+        "BadFeature" => JournalError::BadFeature,
+        "BadStart" => JournalError::BadStart,
+        "ErrnoSet" => JournalError::ErrnoSet,
+        _ => return None,
+    }))
+}
+
+/// How many bytes a block of the device has, how many blocks the log area, changes of a superblock that is formatted for 33
+/// blocks, and the refusal. The area of 2000000 has more blocks than any log.
+const SUPERBLOCKS: &str = "\
+1024 33 | | -
+1024 0 | | BadLength
+1024 32 | | BadLength
+1024 0 | zeros | BadLength
+1024 2000000 | 8=7 | -
+1024 2000000 | 18=0 | -
+1024 2000000 | 10=17 | -
+1024 2000000 | 10=1048576 | -
+1024 2000000 | 10=1048577 | BadLength
+1024 2000000 | 14=17 1c=17 | -
+1024 2000000 | 14=0 | BadFirst
+1024 2000000 | 14=5 1c=4 | BadStart
+1024 2000000 | 24=1 | BadFeature
+1024 2000000 | 28=0 | BadFeature
+1024 2000000 | 2c=1 | BadFeature
+1024 2000000 | 40=0 | BadFeature
+1024 2000000 | 40=2 | BadFeature
+0 33 | c=512 | BadMagic
+3 33 | c=512 | BadMagic
+7 33 | c=512 | BadType
+8 33 | c=512 | BadBlockSize
+512 33 | c=512 | BadBlockSize
+512 33 | c=512 4=3 | BadType
+512 33 | zeros | BadMagic";
+
+/// The superblock of a row is refused as it says.
+fn is_refused(row: &str) -> Option<bool> {
+    let (measures, changes, want) = columns(row)?;
+    let [bytes, area] = numbers::<2>(measures)?;
+    let block = changed(changes)?;
+    let read = Super::read(block.get(..bytes as usize)?, area);
+    Some(read.err() == refusal_of(want)?)
+}
 
 #[test]
 fn refused_superblocks(rt: HostRuntime) {
-    let short = Some(JournalError::BadLength);
-    let zeros = Super::read(&[0u8; 1024], 0).err();
-    let areas = [refusal_of(&[], 33), refusal_of(&[], 0), refusal_of(&[], 32)];
-    assert_eq!(rt; (zeros, areas), (short, [None, short, short]));
-    // The first other change is the same one again.
-    for (i, (at, value, refusal)) in CHANGES.iter().enumerate() {
-        for (other_at, other_value, _) in &CHANGES[i..] {
-            let changes = [(*at, *value), (*other_at, *other_value)];
-            assert_eq!(rt; refusal_of(&changes, 33), Some(*refusal));
+    for row in SUPERBLOCKS.lines() {
+        assert_eq!(rt; (row, is_refused(row)), (row, Some(true)));
+    }
+}
+
+/// A change of a formatted superblock, and the refusal, which goes before those of the rows behind it.
+const CHANGES: &str = "\
+0=0 BadMagic
+4=3 BadType
+c=2048 BadBlockSize
+10=16 BadLength
+14=18 BadFirst
+28=3 BadFeature
+1c=33 BadStart
+20=1 ErrnoSet";
+
+/// With the change of another row too, a superblock is refused as a row says.
+fn goes_before(row: &str, other: &str) -> Option<bool> {
+    let (word, want) = row.split_once(' ')?;
+    let (other_word, _) = other.split_once(' ')?;
+    let mut block = formatted();
+    change(&mut block, word)?;
+    change(&mut block, other_word)?;
+    Some(Super::read(&block, 33).err() == refusal_of(want)?)
+}
+
+/// The first row whose refusal does not go before that of another row, and that row. The first other row is the same one.
+fn wrong_order() -> Option<(&'static str, &'static str)> {
+    for (i, row) in CHANGES.lines().enumerate() {
+        for other in CHANGES.lines().skip(i) {
+            if goes_before(row, other) != Some(true) {
+                return Some((row, other));
+            }
         }
     }
-}
-
-/// Some fields of a superblock of 33 blocks that are changed, their new numbers, and the answer in a log area with
-/// more blocks than any log.
-const FIELDS: [([(u8, u32); 2], Option<JournalError>); 13] = [
-    ([(0x08, 7), (0x08, 7)], None),
-    ([(0x18, 0), (0x18, 0)], None),
-    ([(0x10, 17), (0x10, 17)], None),
-    ([(0x10, 1_048_576), (0x10, 1_048_576)], None),
-    (
-        [(0x10, 1_048_577), (0x10, 1_048_577)],
-        Some(JournalError::BadLength),
-    ),
-    ([(0x14, 17), (0x1c, 17)], None),
-    ([(0x14, 0), (0x14, 0)], Some(JournalError::BadFirst)),
-    ([(0x14, 5), (0x1c, 4)], Some(JournalError::BadStart)),
-    ([(0x24, 1), (0x24, 1)], Some(JournalError::BadFeature)),
-    ([(0x28, 0), (0x28, 0)], Some(JournalError::BadFeature)),
-    ([(0x2c, 1), (0x2c, 1)], Some(JournalError::BadFeature)),
-    ([(0x40, 0), (0x40, 0)], Some(JournalError::BadFeature)),
-    ([(0x40, 2), (0x40, 2)], Some(JournalError::BadFeature)),
-];
-
-#[test]
-fn fields_of_superblocks(rt: HostRuntime) {
-    for (changes, answer) in &FIELDS {
-        assert_eq!(rt; refusal_of(changes, 2_000_000), *answer);
-    }
-}
-
-/// The refusal of the first bytes of a block, where the device's blocks have as many.
-fn refusal_of_first(block: &[u8; 1024], bytes: usize) -> Option<JournalError>
-    requires { bytes ≤ 1024 }
-{
-    Super::read(&block[..bytes], 33).err()
-}
-
-/// The refusals of the first 0, 3, 7, 8 and 512 bytes of a block.
-fn refusals_of_first(block: &[u8; 1024]) -> [Option<JournalError>; 5] {
-    [
-        refusal_of_first(block, 0),
-        refusal_of_first(block, 3),
-        refusal_of_first(block, 7),
-        refusal_of_first(block, 8),
-        refusal_of_first(block, 512),
-    ]
+    None
 }
 
 #[test]
-fn superblocks_of_other_sizes(rt: HostRuntime) {
-    let magic = Some(JournalError::BadMagic);
-    let kind = Some(JournalError::BadType);
-    let size = Some(JournalError::BadBlockSize);
-    let mut block = formatted();
-    put(&mut block, 0x0c, 512);
-    assert_eq!(rt; Super::fields(&block).s_blocksize, 512);
-    assert_eq!(rt; refusals_of_first(&block), [magic, magic, kind, size, size]);
-    put(&mut block, 0x04, 3);
-    let others = [
-        refusal_of_first(&block, 512),
-        refusal_of_first(&[0; 1024], 512),
-    ];
-    assert_eq!(rt; others, [kind, magic]);
+fn the_order_of_refusals(rt: HostRuntime) {
+    assert_eq!(rt; wrong_order(), None);
+}
+
+/// The size of a block that a changed superblock says.
+fn size_in(changes: &str) -> Option<u32> {
+    Some(Super::fields(&changed(changes)?).s_blocksize)
+}
+
+#[test]
+fn a_superblock_of_another_size(rt: HostRuntime) {
+    assert!(rt; size_in("c=512") == Some(512));
 }
 
 #[test]

@@ -1,52 +1,10 @@
 //! Chains of logs that were made by hand.
 use crate::rows::{columns, each, is_copy, numbers, wrong_row};
+use crate::spelling::block_of;
 use journal_model::{Block, BlockNo, Items, Piece, Tag, Text};
 use journal_plain::chain::{chain, damage};
 use journal_plain::replay::newest;
 use std::alloc::Global;
-
-/// The first four bytes of a log block.
-const MAGIC: u32 = 0xc03b_3998;
-
-/// Adds a number of four bytes.
-fn push_number(bytes: &mut Vec<u8>, number: u32) -> Option<()> {
-    bytes.extend_from_slice(&number.to_be_bytes()).ok()
-}
-
-/// Adds what is spelled between two commas: `D`, `R` and `C` are the magic and the type of a descriptor, a revoke block and a
-/// commit block, `M` the magic alone, `U` the UUID, `=11` the byte 11 and three zeros, and `x11` the number 11 in hex digits.
-fn push_spelled(bytes: &mut Vec<u8>, spelled: &str) -> Option<()> {
-    let kind = match spelled {
-        "M" => return push_number(bytes, MAGIC),
-        "U" => return bytes.extend_from_slice(&[0xaa; 16]).ok(),
-        "D" => 1,
-        "C" => 2,
-        "R" => 5,
-        _ => return push_number(bytes, number_of(spelled)?),
-    };
-    push_number(bytes, MAGIC)?;
-    push_number(bytes, kind)
-}
-
-/// The number of four bytes that is spelled in decimal digits, or in hex digits behind `x`, or by its first byte behind `=`.
-fn number_of(spelled: &str) -> Option<u32> {
-    if let Some(digits) = spelled.strip_prefix('=') {
-        return Some(u32::from_str_radix(digits, 16).ok()? << 24);
-    }
-    match spelled.strip_prefix('x') {
-        Some(digits) => u32::from_str_radix(digits, 16).ok(),
-        None => spelled.parse().ok(),
-    }
-}
-
-/// The block that begins as a word spells it. What is behind that does not matter here.
-fn block_of(alloc: Global, word: &str) -> Option<Block> {
-    let mut bytes = Vec::new(alloc);
-    for spelled in word.split(',') {
-        push_spelled(&mut bytes, spelled)?;
-    }
-    Some(Block::new(bytes))
-}
 
 /// A name, the blocks of a log, and numbers: how many bytes a block has, how many home blocks there are, the number that the
 /// chain begins with, how many blocks stand in the row, how many texts and pieces of texts their chain has, and the place of

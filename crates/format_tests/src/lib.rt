@@ -11,6 +11,8 @@ mod rings;
 #[cfg(test)]
 mod rows;
 #[cfg(test)]
+mod spelling;
+#[cfg(test)]
 mod transactions;
 mod writing;
 
