@@ -3,7 +3,7 @@ ghost use Rattle.std.specs.Prelude.{◌≤◌, ◌<◌, length};
 ghost use Rattle.journal_model.specs.Layout.{narrow, numbers_of};
 ghost use Rattle.log_format.specs.Size.{IsBlockSize, most_tags};
 
-use crate::rows::{columns, each, numbers, wrong_row};
+use crate::rows::{columns, each, number_of, numbers};
 use crate::{spelling, write_numbers, write_tags};
 use byteorder::{BigEndian, ByteOrder};
 use journal_model::{BlockNo, JournalError, Tag};
@@ -100,11 +100,6 @@ fn tag_of(_alloc: Global, word: &str) -> Option<Tag> {
     Some(tag(block, flags & 1 != 0, flags & 2 != 0, flags & 8 != 0))
 }
 
-/// The number of a block that is revoked.
-fn revoked_of(_alloc: Global, word: &str) -> Option<BlockNo> {
-    Some(BlockNo(word.parse().ok()?))
-}
-
 /// Tags, each a block and its flags, and the descriptor of sequence 2 that has them; or `R`, and numbers of blocks, and the
 /// revoke block of sequence 3 that has these.
 const WRITTEN: &str = "\
@@ -119,7 +114,7 @@ R 4294967295 | R,3,20,4294967295";
 /// Writes the tags or the numbers of some words.
 fn write_words(alloc: Global, block: &mut [u8; 1024], words: &str) -> Option<bool> {
     if let Some(words) = words.strip_prefix('R') {
-        let numbers = each(alloc, words, ' ', revoked_of)?;
+        let numbers = each(alloc, words, ' ', number_of)?;
         return Some(write_numbers(block, 3, numbers.as_slice()));
     }
     let tags = each(alloc, words, ' ', tag_of)?;
@@ -137,8 +132,9 @@ fn is_written(alloc: Global, row: &str) -> Option<bool> {
 
 #[test]
 fn blocks_as_written(rt: HostRuntime) {
-    let alloc = rt.alloc();
-    assert_eq!(rt; wrong_row(WRITTEN, |row| is_written(alloc, row)), None);
+    for row in WRITTEN.lines() {
+        assert!(rt; is_written(rt.alloc(), row) == Some(true), "{row}");
+    }
 }
 
 /// How many home blocks there are, a block, and what is read from it: how many tags or numbers, and those that are first, or
@@ -171,29 +167,31 @@ const READ: &str = "\
 4294967295 | R,3,20,4294967295 | malformed
 4294967296 | R,3,20,4294967295 | 1: 4294967295";
 
+/// A block is read with the answer that is spelled.
+fn is_answer(answer: Option<Result<usize, Malformed>>, spelled: &str) -> bool {
+    match answer {
+        None => spelled == "-",
+        Some(Err(Malformed)) => spelled == "malformed",
+        Some(Ok(count)) => spelled.parse() == Ok(count),
+    }
+}
+
 /// The tags that are read from a block are those that are spelled.
 fn has_tags(alloc: Global, block: &[u8; 1024], home_blocks: u64, want: &str) -> Option<bool> {
     let mut tags = [tag(0, false, false, false); 126];
-    let Some(answer) = read_tags(block, home_blocks, &mut tags) else {
-        return Some(want == "-");
-    };
-    let Ok(count) = answer else {
-        return Some(want == "malformed");
-    };
-    let (spelled, words) = want.split_once(':')?;
+    let answer = read_tags(block, home_blocks, &mut tags);
+    let (spelled, words) = want.split_once(':').unwrap_or((want, ""));
     let wanted = each(alloc, words, ' ', tag_of)?;
-    Some(spelled.parse() == Ok(count) && tags.starts_with(wanted.as_slice()))
+    Some(is_answer(answer, spelled) && tags.starts_with(wanted.as_slice()))
 }
 
 /// The numbers that are read from a block are those that are spelled.
 fn has_numbers(alloc: Global, block: &[u8; 1024], home_blocks: u64, want: &str) -> Option<bool> {
     let mut numbers = [BlockNo(0); 252];
-    let Ok(count) = read_numbers(block, home_blocks, &mut numbers)? else {
-        return Some(want == "malformed");
-    };
-    let (spelled, words) = want.split_once(':')?;
-    let wanted = each(alloc, words, ' ', revoked_of)?;
-    Some(spelled.parse() == Ok(count) && numbers.starts_with(wanted.as_slice()))
+    let answer = read_numbers(block, home_blocks, &mut numbers);
+    let (spelled, words) = want.split_once(':').unwrap_or((want, ""));
+    let wanted = each(alloc, words, ' ', number_of)?;
+    Some(is_answer(answer, spelled) && numbers.starts_with(wanted.as_slice()))
 }
 
 /// What is read from the block of a row is what it says.
@@ -209,8 +207,9 @@ fn is_read(alloc: Global, row: &str) -> Option<bool> {
 
 #[test]
 fn blocks_as_read(rt: HostRuntime) {
-    let alloc = rt.alloc();
-    assert_eq!(rt; wrong_row(READ, |row| is_read(alloc, row)), None);
+    for row in READ.lines() {
+        assert!(rt; is_read(rt.alloc(), row) == Some(true), "{row}");
+    }
 }
 
 /// Block numbers from 1 on, as the writer tags them.
@@ -311,25 +310,32 @@ unescaped 11111111 c03b3998
 escaped c03b3998 00000000
 plain 00000000 00000000";
 
-/// What is done with the copy of a row makes of it what it says.
-fn is_escaped(row: &str) -> Option<bool> {
-    let (does, firsts) = row.split_once(' ')?;
-    let (before, behind) = firsts.split_once(' ')?;
-    let mut copy = copy_of(before)?;
-    let answered = match does {
-        "left" => !escape(&mut copy),
-        "escaped" => escape(&mut copy),
+/// Does with a copy what a word names; false where it is not answered so.
+fn does(copy: &mut [u8; 1024], name: &str) -> bool {
+    match name {
+        "left" => !escape(copy),
+        "escaped" => escape(copy),
         _ => {
-            unescape(&mut copy, does != "plain");
+            unescape(copy, name != "plain");
             true
         }
-    };
+    }
+}
+
+/// What is done with the copy of a row makes of it what it says.
+fn is_escaped(row: &str) -> Option<bool> {
+    let (name, firsts) = row.split_once(' ')?;
+    let (before, behind) = firsts.split_once(' ')?;
+    let mut copy = copy_of(before)?;
+    let answered = does(&mut copy, name);
     Some(answered && copy == copy_of(behind)?)
 }
 
 #[test]
 fn copies_that_begin_with_the_magic(rt: HostRuntime) {
-    assert_eq!(rt; wrong_row(ESCAPES, is_escaped), None);
+    for row in ESCAPES.lines() {
+        assert!(rt; is_escaped(row) == Some(true), "{row}");
+    }
 }
 
 /// A superblock that is formatted for 33 blocks.
@@ -417,7 +423,8 @@ fn refusal_of(word: &str) -> Option<Option<JournalError>> {
 }
 
 /// How many bytes a block of the device has, how many blocks the log area, changes of a superblock that is formatted for 33
-/// blocks, and the refusal. The area of 2000000 has more blocks than any log.
+/// blocks, and the refusal. The area of 2000000 has more blocks than any log. The last rows are the order of the refusals: each
+/// goes before those behind it.
 const SUPERBLOCKS: &str = "\
 1024 33 | | -
 1024 0 | | BadLength
@@ -442,7 +449,43 @@ const SUPERBLOCKS: &str = "\
 8 33 | c=512 | BadBlockSize
 512 33 | c=512 | BadBlockSize
 512 33 | c=512 4=3 | BadType
-512 33 | zeros | BadMagic";
+512 33 | zeros | BadMagic
+1024 33 | 0=0 | BadMagic
+1024 33 | 0=0 4=3 | BadMagic
+1024 33 | 0=0 c=2048 | BadMagic
+1024 33 | 0=0 10=16 | BadMagic
+1024 33 | 0=0 14=18 | BadMagic
+1024 33 | 0=0 28=3 | BadMagic
+1024 33 | 0=0 1c=33 | BadMagic
+1024 33 | 0=0 20=1 | BadMagic
+1024 33 | 4=3 | BadType
+1024 33 | 4=3 c=2048 | BadType
+1024 33 | 4=3 10=16 | BadType
+1024 33 | 4=3 14=18 | BadType
+1024 33 | 4=3 28=3 | BadType
+1024 33 | 4=3 1c=33 | BadType
+1024 33 | 4=3 20=1 | BadType
+1024 33 | c=2048 | BadBlockSize
+1024 33 | c=2048 10=16 | BadBlockSize
+1024 33 | c=2048 14=18 | BadBlockSize
+1024 33 | c=2048 28=3 | BadBlockSize
+1024 33 | c=2048 1c=33 | BadBlockSize
+1024 33 | c=2048 20=1 | BadBlockSize
+1024 33 | 10=16 | BadLength
+1024 33 | 10=16 14=18 | BadLength
+1024 33 | 10=16 28=3 | BadLength
+1024 33 | 10=16 1c=33 | BadLength
+1024 33 | 10=16 20=1 | BadLength
+1024 33 | 14=18 | BadFirst
+1024 33 | 14=18 28=3 | BadFirst
+1024 33 | 14=18 1c=33 | BadFirst
+1024 33 | 14=18 20=1 | BadFirst
+1024 33 | 28=3 | BadFeature
+1024 33 | 28=3 1c=33 | BadFeature
+1024 33 | 28=3 20=1 | BadFeature
+1024 33 | 1c=33 | BadStart
+1024 33 | 1c=33 20=1 | BadStart
+1024 33 | 20=1 | ErrnoSet";
 
 /// The superblock of a row is refused as it says.
 fn is_refused(row: &str) -> Option<bool> {
@@ -456,46 +499,8 @@ fn is_refused(row: &str) -> Option<bool> {
 #[test]
 fn refused_superblocks(rt: HostRuntime) {
     for row in SUPERBLOCKS.lines() {
-        assert_eq!(rt; (row, is_refused(row)), (row, Some(true)));
+        assert!(rt; is_refused(row) == Some(true), "{row}");
     }
-}
-
-/// A change of a formatted superblock, and the refusal, which goes before those of the rows behind it.
-const CHANGES: &str = "\
-0=0 BadMagic
-4=3 BadType
-c=2048 BadBlockSize
-10=16 BadLength
-14=18 BadFirst
-28=3 BadFeature
-1c=33 BadStart
-20=1 ErrnoSet";
-
-/// With the change of another row too, a superblock is refused as a row says.
-fn goes_before(row: &str, other: &str) -> Option<bool> {
-    let (word, want) = row.split_once(' ')?;
-    let (other_word, _) = other.split_once(' ')?;
-    let mut block = formatted();
-    change(&mut block, word)?;
-    change(&mut block, other_word)?;
-    Some(Super::read(&block, 33).err() == refusal_of(want)?)
-}
-
-/// The first row whose refusal does not go before that of another row, and that row. The first other row is the same one.
-fn wrong_order() -> Option<(&'static str, &'static str)> {
-    for (i, row) in CHANGES.lines().enumerate() {
-        for other in CHANGES.lines().skip(i) {
-            if goes_before(row, other) != Some(true) {
-                return Some((row, other));
-            }
-        }
-    }
-    None
-}
-
-#[test]
-fn the_order_of_refusals(rt: HostRuntime) {
-    assert_eq!(rt; wrong_order(), None);
 }
 
 /// The size of a block that a changed superblock says.

@@ -85,9 +85,13 @@ fn answers(ring: &mut Ring, row: &str) -> Option<bool> {
 }
 
 /// The first row whose call a ring does not answer as it says.
-fn wrong_answer<'a>(mut ring: Ring, rows: &'a str) -> Option<&'a str> {
-    rows.lines()
-        .find(|row| answers(&mut ring, row) != Some(true))
+fn wrong_answer(mut ring: Ring, rows: &'static str) -> Option<&'static str> {
+    for row in rows.lines() {
+        if answers(&mut ring, row) != Some(true) {
+            return Some(row);
+        }
+    }
+    None
 }
 
 #[test]
@@ -126,7 +130,9 @@ fn needs(row: &str) -> Option<bool> {
 
 #[test]
 fn the_room_of_transactions(rt: HostRuntime) {
-    assert_eq!(rt; NEEDS.lines().find(|row| needs(row) != Some(true)), None);
+    for row in NEEDS.lines() {
+        assert!(rt; needs(row) == Some(true), "{row}");
+    }
 }
 
 /// Bytes of a block, blocks of the ring, and the most copies of a transaction.
@@ -153,12 +159,9 @@ fn is_capacity(row: &str) -> Option<bool> {
 
 #[test]
 fn the_most_copies_of_a_transaction(rt: HostRuntime) {
-    assert_eq!(rt;
-        CAPACITIES
-            .lines()
-            .find(|row| is_capacity(row) != Some(true)),
-        None
-    );
+    for row in CAPACITIES.lines() {
+        assert!(rt; is_capacity(row) == Some(true), "{row}");
+    }
 }
 
 /// Copies and revokes of a transaction in blocks of 1024 bytes, a place in it, and what stands there: its first number, and
@@ -217,7 +220,9 @@ fn has_part(row: &str) -> Option<bool> {
 
 #[test]
 fn parts_of_transactions(rt: HostRuntime) {
-    assert_eq!(rt; PARTS.lines().find(|row| has_part(row) != Some(true)), None);
+    for row in PARTS.lines() {
+        assert!(rt; has_part(row) == Some(true), "{row}");
+    }
     let mut copies = 0..122u64;
     assert!(rt; copies.all(|k| part_of(123, 0, k + 1) == Some(Part::Copy(k))));
 }

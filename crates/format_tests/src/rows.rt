@@ -1,18 +1,6 @@
 //! Tables that are texts: a row a line, with columns of words.
-use journal_model::{Block, Items};
+use journal_model::{Block, BlockNo, Items};
 use std::alloc::Global;
-
-/// The first row of a table that does not hold.
-pub fn wrong_row<F: Fn(&str) -> Option<bool>>(table: &'static str, holds: F) -> Option<&'static str>
-    requires { F.IsAlwaysCallable holds }
-{
-    for row in table.lines() {
-        if holds(row) != Some(true) {
-            return Some(row);
-        }
-    }
-    None
-}
 
 /// The first three columns of a row, with `|` between them; none where it has fewer.
 pub fn columns(row: &str) -> Option<(&str, &str, &str)> {
@@ -48,6 +36,11 @@ pub fn each<T: Drop, F: Fn(Global, &str) -> Option<T>>(
         }
     }
     Some(items)
+}
+
+/// The number of a block.
+pub fn number_of(_alloc: Global, word: &str) -> Option<BlockNo> {
+    Some(BlockNo(word.parse().ok()?))
 }
 
 /// The block of at most eight bytes, which are spelled in hex digits.
