@@ -516,6 +516,6 @@ fn a_superblock_of_another_size(rt: HostRuntime) {
 #[test]
 fn text_of_malformed(rt: HostRuntime) -> Result<(), Fail> {
     let text = format!(in rt.alloc(); "{Malformed}")?;
-    assert_eq!(rt; text.as_str(), "malformed block");
+    assert!(rt; text.as_str() == "malformed block");
     Ok(())
 }

@@ -148,22 +148,20 @@ const TAGS: [Tag; 2] = [
     },
 ];
 
-/// The blocks have the same bytes.
-fn are_alike(blocks: &[Block], others: &[Block]) -> bool {
-    let mut pairs = blocks.iter().zip(others);
-    blocks.len() == others.len() && pairs.all(|(block, other)| block.bytes() == other.bytes())
-}
-
 /// A text is one descriptor with these tags, and its log blocks are these, in their order.
 fn is_of_copies(text: &Text, tags: &[Tag], blocks: &[Block]) -> bool {
-    let [first, behind @ .., last] = blocks else {
+    let [own, first, second, commit] = blocks else {
         return false;
     };
-    let [Piece::Copies(own, read, copies)] = text.pieces.as_slice() else {
+    let [Piece::Copies(descriptor, read, copies)] = text.pieces.as_slice() else {
         return false;
     };
-    let ends = own.bytes() == first.bytes() && text.commit.bytes() == last.bytes();
-    ends && read.as_slice() == tags && are_alike(copies.as_slice(), behind)
+    let [copy, other] = copies.as_slice() else {
+        return false;
+    };
+    let ends = descriptor.bytes() == own.bytes() && text.commit.bytes() == commit.bytes();
+    let copied = copy.bytes() == first.bytes() && other.bytes() == second.bytes();
+    ends && copied && read.as_slice() == tags
 }
 
 /// The first text of these blocks is of two copies, with these log blocks.

@@ -73,13 +73,18 @@ fn answer(ring: &mut Ring, name: &str, first: u64, second: u64) -> Result<u64, J
     }
 }
 
+/// The number of a word, or 0 where there is none.
+fn operand(word: Option<&str>) -> Option<u64> {
+    word.unwrap_or("0").parse().ok()
+}
+
 /// A ring answers to the call of a row as it says.
 fn answers(ring: &mut Ring, row: &str) -> Option<bool> {
     let (call, want) = row.split_once(" = ")?;
     let mut words = call.split(' ');
     let name = words.next()?;
-    let first = words.next().unwrap_or("0").parse().ok()?;
-    let second = words.next().unwrap_or("0").parse().ok()?;
+    let first = operand(words.next())?;
+    let second = operand(words.next())?;
     let found = answer(ring, name, first, second);
     Some(found == want.parse().or(Err(JournalError::NeedSpace)))
 }
@@ -164,22 +169,22 @@ fn the_most_copies_of_a_transaction(rt: HostRuntime) {
     }
 }
 
-/// Copies and revokes of a transaction in blocks of 1024 bytes, a place in it, and what stands there: its first number, and
-/// how many. The places are counted from 0.
+/// Copies and revokes of a transaction in blocks of 1024 bytes, a place in it, counted from 0, the first number of what stands
+/// there and how many, and what it is.
 const PARTS: &str = "\
-0 0 0: commit 0 0
-0 0 1: none 0 0
-123 0 0: descriptor 0 122
-123 0 123: descriptor 122 1
-123 0 124: copy 122 1
-123 0 125: commit 0 0
-123 0 126: none 0 0
-1 253 0: revokes 0 252
-1 253 1: revokes 252 1
-1 253 2: descriptor 0 1
-1 253 3: copy 0 1
-1 253 4: commit 0 0
-1 253 5: none 0 0";
+0 0 0 0 0: commit
+0 0 1 0 0: none
+123 0 0 0 122: descriptor
+123 0 123 122 1: descriptor
+123 0 124 122 1: copy
+123 0 125 0 0: commit
+123 0 126 0 0: none
+1 253 0 0 252: revokes
+1 253 1 252 1: revokes
+1 253 2 0 1: descriptor
+1 253 3 0 1: copy
+1 253 4 0 0: commit
+1 253 5 0 0: none";
 
 /// What a block of a transaction of so many copies and revokes is; none where it does not have so many blocks.
 fn part_of(copies: u64, revokes: u64, k: u64) -> Option<Part> {
@@ -211,10 +216,8 @@ fn part_named(name: &str, first: u64, count: u64) -> Option<Option<Part>> {
 
 /// A place of a transaction has the part of a row.
 fn has_part(row: &str) -> Option<bool> {
-    let (place, part) = row.split_once(": ")?;
-    let (name, range) = part.split_once(' ')?;
-    let [copies, revokes, k] = numbers::<3>(place)?;
-    let [first, count] = numbers::<2>(range)?;
+    let (spelled, name) = row.split_once(": ")?;
+    let [copies, revokes, k, first, count] = numbers::<5>(spelled)?;
     Some(part_of(copies, revokes, k) == part_named(name, first, count)?)
 }
 

@@ -101,15 +101,21 @@ const AFTER: &str = "\
 4 8 | cc
 3 9 | -";
 
+/// The copy of a block after the first transactions of that history, if they leave one.
+fn copy_after(alloc: Global, n: usize, block: u64) -> Option<Option<Block>> {
+    let history = each(alloc, HISTORY, '\n', sealed_of)?;
+    let content = after(alloc, history.as_slice(), n, BlockNo(block)).ok()?;
+    Some(match content {
+        Content::Copy(bytes) => Some(bytes),
+        Content::Direct => None,
+    })
+}
+
 /// After the transactions of a row its block has the byte that it says.
 fn is_after(alloc: Global, row: &str) -> Option<bool> {
     let (place, want) = row.split_once(" | ")?;
     let [n, block] = numbers::<2>(place)?;
-    let history = each(alloc, HISTORY, '\n', sealed_of)?;
-    let copy = match after(alloc, history.as_slice(), n as usize, BlockNo(block)).ok()? {
-        Content::Copy(bytes) => Some(bytes),
-        Content::Direct => None,
-    };
+    let copy = copy_after(alloc, n as usize, block)?;
     Some(is_copy(alloc, copy.as_ref(), want))
 }
 
@@ -195,24 +201,21 @@ fn the_newest_live_copy(rt: HostRuntime) {
 /// A copy, a revoke and a copy of block 8, each in a text of its own.
 const THREE_TEXTS: &str = "8=aa . -8 . 8=cc .";
 
-/// Texts of these three from which on a block is looked for, the block, and 1 where it is covered there, or else 0.
-const COVERED: &str = "\
-0 8 1
-1 8 1
-2 8 0
-3 8 0
-0 9 0";
-
-/// A block is covered as a row says.
-fn is_covered(alloc: Global, row: &str) -> Option<bool> {
-    let [i, block, want] = numbers::<3>(row)?;
+/// Whether block 8 is covered in these texts from each of them on and behind the last, and block 9 from the first on.
+fn covered_from(alloc: Global) -> Option<[bool; 5]> {
     let texts = each(alloc, THREE_TEXTS, '.', text_of)?;
-    Some(u64::from(covered(texts.as_slice(), i as usize, BlockNo(block))) == want)
+    let texts = texts.as_slice();
+    Some([
+        covered(texts, 0, BlockNo(8)),
+        covered(texts, 1, BlockNo(8)),
+        covered(texts, 2, BlockNo(8)),
+        covered(texts, 3, BlockNo(8)),
+        covered(texts, 0, BlockNo(9)),
+    ])
 }
 
 #[test]
 fn copies_that_are_covered(rt: HostRuntime) {
-    for row in COVERED.lines() {
-        assert!(rt; is_covered(rt.alloc(), row) == Some(true), "{row}");
-    }
+    let found = covered_from(rt.alloc());
+    assert_eq!(rt; found, Some([true, true, false, false, false]));
 }
