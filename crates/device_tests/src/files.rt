@@ -7,31 +7,42 @@ use std::process::Abort;
 use std::test::Fail;
 use std::{fs, io};
 
-/// A file with these bytes, open for reading and writing.
-fn make(rt: &HostRuntime, path: &str, bytes: &[u8]) -> io::Result<File> {
-    fs::write(rt, path, bytes)?;
-    open(rt, path)
+/// The path of a file in a folder.
+fn path_of(rt: &HostRuntime, folder: &str, name: &str) -> io::Result<String> {
+    Ok(format!(in rt.alloc(); "{folder}/{name}")?)
 }
 
 fn open(rt: &HostRuntime, path: &str) -> io::Result<File> {
     OpenOptions::new().read(true).write(true).open(rt, path)
 }
 
-/// Cuts the file to so many bytes.
-fn cut(rt: &HostRuntime, path: &str, length: u64) -> io::Result<()> {
-    open(rt, path)?.set_len(length)
-}
-
-/// An empty folder under this name.
-fn clear(rt: &HostRuntime, folder: &str) -> io::Result<()> {
+/// A log with these bytes, alone in a folder of this name, open for reading and writing.
+fn log_in(rt: &HostRuntime, folder: &str, bytes: &[u8]) -> io::Result<File> {
     let _ = fs::remove_dir_all(rt, folder);
-    fs::create_dir(rt, folder)
+    fs::create_dir(rt, folder)?;
+    let path = path_of(rt, folder, "log")?;
+    fs::write(rt, path.as_str(), bytes)?;
+    open(rt, path.as_str())
 }
 
-/// Whether the file holds these bytes, no more and no less.
-fn holds(rt: &HostRuntime, path: &str, bytes: &[u8]) -> io::Result<bool> {
-    let held = fs::read(rt, path)?;
+/// A home with these bytes in this folder, and its path.
+fn home_in(rt: &HostRuntime, folder: &str, bytes: &[u8]) -> io::Result<String> {
+    let path = path_of(rt, folder, "home")?;
+    fs::write(rt, path.as_str(), bytes)?;
+    Ok(path)
+}
+
+/// The file in this folder holds these bytes, no more and no less.
+fn holds(rt: &HostRuntime, folder: &str, name: &str, bytes: &[u8]) -> io::Result<bool> {
+    let held = fs::read(rt, path_of(rt, folder, name)?.as_str())?;
     Ok(held.as_slice() == bytes)
+}
+
+/// Removes this folder. Its log held these bytes.
+fn log_held(rt: &HostRuntime, folder: &str, bytes: &[u8]) -> io::Result<bool> {
+    let held = holds(rt, folder, "log", bytes)?;
+    fs::remove_dir_all(rt, folder)?;
+    Ok(held)
 }
 
 /// The size of a block, and how many blocks the log and home have.
@@ -65,17 +76,25 @@ fn expect_whole_blocks<D: Device>(rt: &impl Abort, device: &mut D) -> Result<(),
     Ok(())
 }
 
+/// A device over a log and a home with these bytes, in a folder of this name.
+fn two_files(
+    rt: &HostRuntime,
+    folder: &str,
+    log: &[u8],
+    home: &[u8],
+) -> io::Result<FileDevice<UnknownContents>> {
+    let log = log_in(rt, folder, log)?;
+    let home = open(rt, home_in(rt, folder, home)?.as_str())?;
+    FileDevice::new(UnknownContents, SIZE, log, Some(home))
+}
+
 #[test]
 fn a_device_over_two_files_has_their_whole_blocks(rt: HostRuntime) -> Result<(), Fail> {
-    clear(&rt, "two_files_test")?;
-    let log = make(&rt, "two_files_test/log", b"aaaabbbbccccdd")?;
-    let home = make(&rt, "two_files_test/home", b"eeeeffff")?;
-    let mut device = FileDevice::new(UnknownContents, SIZE, log, Some(home))?;
+    let mut device = two_files(&rt, "two_files_test", b"aaaabbbbccccdd", b"eeeeffff")?;
     expect_whole_blocks(&rt, &mut device)?;
     // Another handle sees the bytes at the blocks' places, and all others as they were.
-    assert!(rt; holds(&rt, "two_files_test/log", b"aaaa\x0a\x0a\x0a\x0accccdd")?);
-    assert!(rt; holds(&rt, "two_files_test/home", b"\x0b\x0b\x0b\x0bffff")?);
-    fs::remove_dir_all(&rt, "two_files_test")?;
+    assert!(rt; holds(&rt, "two_files_test", "home", b"\x0b\x0b\x0b\x0bffff")?);
+    assert!(rt; log_held(&rt, "two_files_test", b"aaaa\x0a\x0a\x0a\x0accccdd")?);
     Ok(())
 }
 
@@ -89,13 +108,12 @@ fn expect_lone_log<D: Device>(rt: &impl Abort, device: &mut D) -> Result<(), Dev
 
 #[test]
 fn a_log_alone_has_no_home_block(rt: HostRuntime) -> Result<(), Fail> {
-    clear(&rt, "lone_log_test")?;
-    make(&rt, "lone_log_test/log", b"aaaabbbb")?;
+    log_in(&rt, "lone_log_test", b"aaaabbbb")?;
     // It is read through a handle that can't write.
     let log = fs::open(&rt, "lone_log_test/log")?;
     let mut device = FileDevice::new(UnknownContents, SIZE, log, None)?;
     expect_lone_log(&rt, &mut device)?;
-    fs::remove_dir_all(&rt, "lone_log_test")?;
+    assert!(rt; log_held(&rt, "lone_log_test", b"aaaabbbb")?);
     Ok(())
 }
 
@@ -115,17 +133,18 @@ fn fail_a_write<D: Device>(rt: &impl Abort, device: &mut D) -> Result<(), Device
     expect_failed(rt, device)
 }
 
+/// A device over a log that can be written and a home that can't.
+fn read_only_home(rt: &HostRuntime, folder: &str) -> io::Result<FileDevice<UnknownContents>> {
+    let log = log_in(rt, folder, b"aaaabbbb")?;
+    let home = fs::open(rt, home_in(rt, folder, b"cccc")?.as_str())?;
+    FileDevice::new(UnknownContents, SIZE, log, Some(home))
+}
+
 #[test]
 fn after_a_failed_write_nothing_is_written(rt: HostRuntime) -> Result<(), Fail> {
-    clear(&rt, "failed_write_test")?;
-    let log = make(&rt, "failed_write_test/log", b"aaaabbbb")?;
-    make(&rt, "failed_write_test/home", b"cccc")?;
-    // A write through this handle fails.
-    let home = fs::open(&rt, "failed_write_test/home")?;
-    let mut device = FileDevice::new(UnknownContents, SIZE, log, Some(home))?;
+    let mut device = read_only_home(&rt, "failed_write_test")?;
     fail_a_write(&rt, &mut device)?;
-    assert!(rt; holds(&rt, "failed_write_test/log", b"aaaa\x0b\x0b\x0b\x0b")?);
-    fs::remove_dir_all(&rt, "failed_write_test")?;
+    assert!(rt; log_held(&rt, "failed_write_test", b"aaaa\x0b\x0b\x0b\x0b")?);
     Ok(())
 }
 
@@ -136,16 +155,18 @@ fn fail_a_flush<D: Device>(rt: &impl Abort, device: &mut D) -> Result<(), Device
     expect_failed(rt, device)
 }
 
+/// A device over a log, and a home that fails to be synced.
+fn unsynced_home(rt: &HostRuntime, folder: &str) -> io::Result<FileDevice<UnknownContents>> {
+    let log = log_in(rt, folder, b"aaaabbbb")?;
+    let home = open(rt, "/dev/null")?;
+    FileDevice::new(UnknownContents, SIZE, log, Some(home))
+}
+
 #[test]
 fn after_a_failed_flush_nothing_is_written(rt: HostRuntime) -> Result<(), Fail> {
-    clear(&rt, "failed_flush_test")?;
-    let log = make(&rt, "failed_flush_test/log", b"aaaabbbb")?;
-    // A sync of this file fails.
-    let home = open(&rt, "/dev/null")?;
-    let mut device = FileDevice::new(UnknownContents, SIZE, log, Some(home))?;
+    let mut device = unsynced_home(&rt, "failed_flush_test")?;
     fail_a_flush(&rt, &mut device)?;
-    assert!(rt; holds(&rt, "failed_flush_test/log", b"aaaabbbb")?);
-    fs::remove_dir_all(&rt, "failed_flush_test")?;
+    assert!(rt; log_held(&rt, "failed_flush_test", b"aaaabbbb")?);
     Ok(())
 }
 
@@ -160,14 +181,19 @@ fn expect_goes_on<D: Device>(rt: &impl Abort, device: &mut D) -> Result<(), Devi
     Ok(())
 }
 
+/// A device over a log of two blocks, of which another handle then took half of the second one away, so that a read of it
+/// meets the end of the file.
+fn cut_log(rt: &HostRuntime, folder: &str) -> io::Result<FileDevice<UnknownContents>> {
+    let log = log_in(rt, folder, b"aaaabbbb")?;
+    let device = FileDevice::new(UnknownContents, SIZE, log, None)?;
+    open(rt, path_of(rt, folder, "log")?.as_str())?.set_len(6)?;
+    Ok(device)
+}
+
 #[test]
 fn after_a_failed_read_the_device_goes_on(rt: HostRuntime) -> Result<(), Fail> {
-    clear(&rt, "failed_read_test")?;
-    let log = make(&rt, "failed_read_test/log", b"aaaabbbb")?;
-    let mut device = FileDevice::new(UnknownContents, SIZE, log, None)?;
-    // Another handle takes half of block 1 away, so that a read meets the end of the file.
-    cut(&rt, "failed_read_test/log", 6)?;
+    let mut device = cut_log(&rt, "failed_read_test")?;
     expect_goes_on(&rt, &mut device)?;
-    fs::remove_dir_all(&rt, "failed_read_test")?;
+    assert!(rt; log_held(&rt, "failed_read_test", b"aaaa\x0b\x0b\x0b\x0b")?);
     Ok(())
 }

@@ -1,10 +1,10 @@
 //! Openings of logs that were made by hand: of each block the newest copy that no revoke covers goes home.
-use Mark::{Commit, Copies, Copy, Escaped, Revoke};
 use block_device::{Device, MemDevice};
 use journal_model::{Area, JournalError};
 use log_format::Super;
 use recovery::{format, open};
 use std::alloc::Global;
+use std::fmt::Write;
 use std::test::Fail;
 
 const SIZE: usize = 1024;
@@ -21,20 +21,8 @@ const COMMIT: u8 = 2;
 
 const REVOKE: u8 = 5;
 
-/// A part of a log. What is written is one byte.
-#[derive(Clone, Copy)]
-enum Mark {
-    /// A revoke block of one home block.
-    Revoke(u8),
-    /// A descriptor with one copy of this home block.
-    Copy(u8, u8),
-    /// A descriptor with one escaped copy of this home block, for which four zeros and this byte stand in the log.
-    Escaped(u8, u8),
-    /// A descriptor with two copies, each of one home block.
-    Copies(u8, u8, u8, u8),
-    /// A commit block.
-    Commit,
-}
+/// The flag of a descriptor's last tag.
+const LAST: u8 = 8;
 
 /// Writes a log block that begins with these bytes, and has zeros behind them.
 fn put(device: &mut MemDevice, place: u64, bytes: &[u8]) -> Result<(), JournalError> {
@@ -63,45 +51,61 @@ fn put_own(
     put(device, place, &bytes)
 }
 
-/// The type of a mark's own block, and what stands in it behind the header.
-fn own_block(alloc: Global, mark: Mark) -> Result<(u8, Vec<u8>), JournalError> {
-    Ok(match mark {
-        Copy(block, _) => (DESCRIPTOR, [0, 0, 0, block, 0, 0, 0, 10].to_vec(alloc)?),
-        Escaped(block, _) => (DESCRIPTOR, [0, 0, 0, block, 0, 0, 0, 11].to_vec(alloc)?),
-        Copies(first, _, last, _) => (
-            DESCRIPTOR,
-            [0, 0, 0, first, 0, 0, 0, 2, 0, 0, 0, last, 0, 0, 0, 10].to_vec(alloc)?,
-        ),
-        Commit => (COMMIT, Vec::new(alloc)),
-        Revoke(block) => (REVOKE, [0, 0, 0, 20, 0, 0, 0, block].to_vec(alloc)?),
-    })
+/// A copy in a log: its home block, whether it is escaped, and its byte. An escaped copy is four zeros and that byte.
+type Copied = (u8, bool, u8);
+
+/// The copy that is spelled so: `8=aa` of block 8, or `8*aa`, which is escaped.
+fn copy_of(spelled: &str) -> Result<Copied, Fail> {
+    let escaped = spelled.split_once('*');
+    let (block, byte) = escaped.or(spelled.split_once('=')).ok_or(spelled)?;
+    Ok((
+        block.parse()?,
+        escaped.is_some(),
+        u8::from_str_radix(byte, 16)?,
+    ))
 }
 
-/// Writes the copies of a mark from this place on, and answers the place behind them.
-fn put_copies(device: &mut MemDevice, place: u64, mark: Mark) -> Result<u64, JournalError> {
-    match mark {
-        Copy(_, byte) => put(device, place, &[byte])?,
-        Escaped(_, byte) => put(device, place, &[0, 0, 0, 0, byte])?,
-        Copies(_, byte, _, other) => {
-            put(device, place, &[byte])?;
-            put(device, place.saturating_add(1), &[other])?;
-            return Ok(place.saturating_add(2));
-        }
-        Commit | Revoke(_) => return Ok(place),
+/// Writes a descriptor of these copies and the copies behind it, and answers the place behind them. No UUID stands behind a
+/// tag.
+fn put_copies(
+    alloc: Global,
+    device: &mut MemDevice,
+    place: u64,
+    sequence: u8,
+    word: &str,
+) -> Result<u64, Fail> {
+    let mut tags = Vec::new(alloc);
+    let mut behind = place;
+    for spelled in word.split(',') {
+        let (block, escaped, byte) = copy_of(spelled)?;
+        tags.extend_from_slice(&[0, 0, 0, block, 0, 0, 0, 2 + u8::from(escaped)])?;
+        behind = behind.saturating_add(1);
+        let bytes = [0, 0, 0, 0, byte];
+        put(device, behind, if escaped { &bytes } else { &bytes[4..] })?;
     }
-    Ok(place.saturating_add(1))
+    if let Some(flags) = tags.last_mut() {
+        *flags |= LAST;
+    }
+    put_own(alloc, device, place, (DESCRIPTOR, sequence), &tags)?;
+    Ok(behind.saturating_add(1))
 }
 
-/// Writes a log from block 1 on, whose first transaction has the number 2.
-fn put_all(alloc: Global, device: &mut MemDevice, marks: &[Mark]) -> Result<(), JournalError> {
+/// Writes a log from block 1 on, whose first transaction has the number 2. Of its words `8=aa,9*bb` is a descriptor with its
+/// copies, `-8` a revoke block of one home block, and `.` a commit block.
+fn put_log(alloc: Global, device: &mut MemDevice, log: &str) -> Result<(), Fail> {
     let mut place = 1u64;
     let mut sequence = 2u8;
-    for mark in marks {
-        let (kind, rest) = own_block(alloc, *mark)?;
-        put_own(alloc, device, place, (kind, sequence), &rest)?;
-        place = put_copies(device, place.saturating_add(1), *mark)?;
-        if let Commit = mark {
+    for word in log.split_whitespace() {
+        if let Some(block) = word.strip_prefix("-") {
+            let number = [0, 0, 0, 20, 0, 0, 0, block.parse()?];
+            put_own(alloc, device, place, (REVOKE, sequence), &number)?;
+            place = place.saturating_add(1);
+        } else if word == "." {
+            put_own(alloc, device, place, (COMMIT, sequence), &[])?;
+            place = place.saturating_add(1);
             sequence = sequence.saturating_add(1);
+        } else {
+            place = put_copies(alloc, device, place, sequence, word)?;
         }
     }
     Ok(())
@@ -120,11 +124,11 @@ fn start(device: &mut MemDevice) -> Result<(), JournalError> {
 }
 
 /// A device that lost power with this log on it.
-fn device_of(alloc: Global, marks: &[Mark]) -> Result<MemDevice, JournalError> {
+fn device_of(alloc: Global, log: &str) -> Result<MemDevice, Fail> {
     let mut device = MemDevice::new(alloc, SIZE, 33, 64);
     format(&mut device, 33, &UUID)?;
     start(&mut device)?;
-    put_all(alloc, &mut device, marks)?;
+    put_log(alloc, &mut device, log)?;
     device.flush(Area::Log)?;
     Ok(device.crash(&[]))
 }
@@ -139,127 +143,58 @@ fn home_bytes(device: &mut MemDevice, block: u64) -> Result<(u8, u8), JournalErr
     Ok((bytes[0], bytes[4]))
 }
 
-/// Those home blocks whose first byte is not zero, with their first and fifth bytes.
-fn home_of(alloc: Global, device: &mut MemDevice) -> Result<Vec<(u64, (u8, u8))>, Fail> {
-    let mut found = Vec::new(alloc);
+/// Those home blocks whose first byte is not zero, each with a blank before it: ` 8=aa00` has the first byte `aa` and the fifth
+/// `00`.
+fn home_of(alloc: Global, device: &mut MemDevice) -> Result<String, Fail> {
+    let mut found = String::new(alloc);
     for block in 0..64 {
-        let bytes = home_bytes(device, block)?;
-        if bytes.0 != 0 {
-            found.push((block, bytes))?;
+        let (first, fifth) = home_bytes(device, block)?;
+        if first != 0 {
+            write!(found, " {block}={first:02x}{fifth:02x}")?;
         }
     }
     Ok(found)
 }
 
-/// Logs, and the blocks of home that their opening writes, each with its first and its fifth byte.
-const LOGS: [(&str, &[Mark], &[(u64, (u8, u8))]); 13] = [
-    ("no text", &[], &[]),
-    (
-        "copies in the order of their blocks",
-        &[Copy(9, 0xaa), Copies(3, 0xbb, 5, 0xcc), Commit],
-        &[(3, (0xbb, 0)), (5, (0xcc, 0)), (9, (0xaa, 0))],
-    ),
-    (
-        "a revoke behind the copy, in its text",
-        &[Copy(8, 0xaa), Copy(9, 0xbb), Revoke(8), Commit],
-        &[(9, (0xbb, 0))],
-    ),
-    (
-        "a revoke before the copy, in its text",
-        &[Revoke(8), Copy(8, 0xaa), Copy(9, 0xbb), Commit],
-        &[(9, (0xbb, 0))],
-    ),
-    (
-        "a revoke in a later text",
-        &[Copies(8, 0xaa, 9, 0xbb), Commit, Revoke(8), Commit],
-        &[(9, (0xbb, 0))],
-    ),
-    (
-        "a revoke in an earlier text",
-        &[Revoke(8), Commit, Copy(8, 0xaa), Commit],
-        &[(8, (0xaa, 0))],
-    ),
-    (
-        "a revoke between two copies",
-        &[
-            Copy(8, 0xaa),
-            Commit,
-            Revoke(8),
-            Commit,
-            Copy(8, 0xcc),
-            Commit,
-        ],
-        &[(8, (0xcc, 0))],
-    ),
-    (
-        "a revoke of a block without a copy",
-        &[Copy(8, 0xaa), Revoke(7), Commit, Revoke(9), Commit],
-        &[(8, (0xaa, 0))],
-    ),
-    (
-        "copies in two texts",
-        &[
-            Copies(8, 0xaa, 9, 0x11),
-            Commit,
-            Copies(10, 0x22, 8, 0xbb),
-            Commit,
-        ],
-        &[(8, (0xbb, 0)), (9, (0x11, 0)), (10, (0x22, 0))],
-    ),
-    (
-        "two copies of one block in one text",
-        &[Copy(8, 0xaa), Copies(9, 0x11, 8, 0xbb), Commit],
-        &[(8, (0xbb, 0)), (9, (0x11, 0))],
-    ),
-    (
-        "two copies of one block in one descriptor",
-        &[Copies(8, 0xaa, 8, 0xbb), Commit],
-        &[(8, (0xbb, 0))],
-    ),
-    (
-        "an escaped copy over one that is not",
-        &[Copy(8, 0xaa), Commit, Escaped(8, 0x07), Commit],
-        &[(8, (0xc0, 0x07))],
-    ),
-    (
-        "a copy that is not escaped over one that is",
-        &[Escaped(8, 0x07), Commit, Copy(8, 0xaa), Commit],
-        &[(8, (0xaa, 0))],
-    ),
-];
+/// Logs, and the blocks of home that their opening writes.
+const LOGS: &str = "\
+no text: ->
+copies in the order of their blocks: 9=aa 3=bb,5=cc . -> 3=bb00 5=cc00 9=aa00
+a revoke behind the copy, in its text: 8=aa 9=bb -8 . -> 9=bb00
+a revoke before the copy, in its text: -8 8=aa 9=bb . -> 9=bb00
+a revoke in a later text: 8=aa,9=bb . -8 . -> 9=bb00
+a revoke in an earlier text: -8 . 8=aa . -> 8=aa00
+a revoke between two copies: 8=aa . -8 . 8=cc . -> 8=cc00
+a revoke of a block without a copy: 8=aa -7 . -9 . -> 8=aa00
+copies in two texts: 8=aa,9=11 . 10=22,8=bb . -> 8=bb00 9=1100 10=2200
+two copies of one block in one text: 8=aa 9=11,8=bb . -> 8=bb00 9=1100
+two copies of one block in one descriptor: 8=aa,8=bb . -> 8=bb00
+an escaped copy over one that is not: 8=aa . 8*07 . -> 8=c007
+a copy that is not escaped over one that is: 8*07 . 8=aa . -> 8=aa00";
 
-/// What stands at home once this log is opened.
-fn opened_home(alloc: Global, marks: &[Mark]) -> Result<Vec<(u64, (u8, u8))>, Fail> {
-    let opened = open(alloc, device_of(alloc, marks)?).map_err(|e| e.1)?;
-    let mut device = opened.into_device();
-    home_of(alloc, &mut device)
+/// This row, with what stands at home once its log is opened in the place of what should.
+fn opened_row(alloc: Global, row: &str) -> Result<String, Fail> {
+    let (name, behind) = row.split_once(':').ok_or(row)?;
+    let (log, _) = behind.split_once("->").ok_or(row)?;
+    let opened = open(alloc, device_of(alloc, log)?).map_err(|e| e.1)?;
+    let home = home_of(alloc, &mut opened.into_device())?;
+    Ok(format!(in alloc; "{name}:{log}->{home}")?)
 }
 
 #[test]
 fn the_newest_copies_go_home(rt: HostRuntime) -> Result<(), Fail> {
-    for (name, marks, wanted) in LOGS {
-        let home = opened_home(rt.alloc(), marks)?;
-        assert_eq!(rt; home.as_slice(), wanted, "{name}");
+    for row in LOGS.lines() {
+        assert_eq!(rt; opened_row(rt.alloc(), row)?.as_str(), row);
     }
     Ok(())
 }
 
 /// Three transactions: 2 copies blocks 8, 9 and 10; 3 copies block 10 and revokes 8 and 10; 4 copies block 8, escaped.
-const THREE_TRANSACTIONS: [Mark; 9] = [
-    Copies(8, 0x11, 9, 0x22),
-    Copy(10, 0x33),
-    Commit,
-    Revoke(8),
-    Revoke(10),
-    Copy(10, 0x44),
-    Commit,
-    Escaped(8, 0x55),
-    Commit,
-];
+const THREE_TRANSACTIONS: &str = "8=11,9=22 10=33 . -8 -10 10=44 . 8*55 .";
 
 #[test]
 fn a_report_tells_what_an_opening_found(rt: HostRuntime) -> Result<(), Fail> {
-    let device = device_of(rt.alloc(), &THREE_TRANSACTIONS)?;
+    let device = device_of(rt.alloc(), THREE_TRANSACTIONS)?;
     let opened = open(rt.alloc(), device).map_err(|e| e.1)?;
     let report = opened.report();
     let mut device = opened.into_device();
@@ -267,9 +202,6 @@ fn a_report_tells_what_an_opening_found(rt: HostRuntime) -> Result<(), Fail> {
     let told = (report.ends_at, report.transactions, device.writes());
     assert_eq!(rt; told, (5, 3, 3));
     let home = home_of(rt.alloc(), &mut device)?;
-    assert_eq!(rt;
-        home.as_slice(),
-        [(8, (0xc0, 0x55)), (9, (0x22, 0))].as_slice()
-    );
+    assert_eq!(rt; home.as_str(), " 8=c055 9=2200");
     Ok(())
 }
