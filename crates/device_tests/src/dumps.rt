@@ -6,53 +6,23 @@ use block_device::{Device, DeviceFault, MemDevice};
 use journal_model::{Area, JournalError};
 use log_dump::{Fault, dump};
 use std::alloc::Global;
+use std::fmt::Write;
 use std::process::Abort;
+use std::str::from_utf8;
 use std::test::Fail;
 
 mod foreign_logs;
 
-/// The first four bytes of a log block, and those of the UUID.
-const MAGIC: u32 = 0xc03b_3998;
-
-const UUID: u32 = 0xaaaa_aaaa;
-
-/// Flags of a tag: escaped, same UUID, last.
-const ESCAPED: u32 = 1;
-
-const SAME: u32 = 2;
-
-const LAST: u32 = 8;
-
-/// The words that a block of the log begins with, four bytes each, and its place. Behind them are zeros.
-type Placed<'a> = (u64, &'a [u32]);
-
-/// The superblock of a log of blocks of 1024 bytes, of these s_maxlen, s_sequence and s_start.
-fn superblock(maxlen: u32, sequence: u32, start: u32) -> [u32; 17] {
-    superblock_of(1024, maxlen, sequence, start)
-}
-
-/// The superblock of a log of blocks of this size.
-fn superblock_of(size: u32, maxlen: u32, sequence: u32, start: u32) -> [u32; 17] {
-    [
-        MAGIC, 4, 0, size, maxlen, 1, sequence, start, 0, 0, 1, 0, UUID, UUID, UUID, UUID, 1,
-    ]
-}
-
-/// A descriptor with one tag, which has these flags and the UUID behind it.
-fn descriptor(sequence: u32, block: u32, flags: u32) -> [u32; 9] {
-    [MAGIC, 1, sequence, block, flags, UUID, UUID, UUID, UUID]
-}
-
-/// A commit block.
-fn commit(sequence: u32) -> [u32; 3] {
-    [MAGIC, 2, sequence]
-}
-
-/// Adds one word, spelled in hex digits, or some words of zeros: `0*9` stands for nine.
+/// Adds some words: `magic`, the four words of the `uuid`, `0*9` for nine of zeros, or one that is spelled in hex digits.
 fn push_spelled(words: &mut Vec<u32>, spelled: &str) -> Result<(), Fail> {
-    match spelled.strip_prefix("0*") {
-        Some(count) => words.resize(words.len().saturating_add(count.parse()?), 0)?,
-        None => words.push(u32::from_str_radix(spelled, 16)?)?,
+    if spelled == "magic" {
+        words.push(0xc03b_3998)?;
+    } else if spelled == "uuid" {
+        words.extend_from_slice(&[0xaaaa_aaaa; 4])?;
+    } else if let Some(count) = spelled.strip_prefix("0*") {
+        words.resize(words.len().saturating_add(count.parse()?), 0)?;
+    } else {
+        words.push(u32::from_str_radix(spelled, 16)?)?;
     }
     Ok(())
 }
@@ -66,16 +36,14 @@ fn words_of(alloc: Global, text: &str) -> Result<Vec<u32>, Fail> {
     Ok(words)
 }
 
-/// A device whose log has these blocks, and zeros elsewhere.
-fn device_of(
-    alloc: Global,
-    size: usize,
-    log: u64,
-    blocks: &[Placed<'_>],
-) -> Result<MemDevice, JournalError> {
+/// A device whose log has these blocks, a line each: its place, and the words that it begins with, four bytes each, as
+/// `push_spelled` reads them. Behind them, and elsewhere, are zeros.
+fn device_of(alloc: Global, size: usize, log: u64, blocks: &str) -> Result<MemDevice, Fail> {
     let mut device = MemDevice::new(alloc, size, log, 1);
-    for (place, words) in blocks {
-        write_words(alloc, &mut device, *place, words)?;
+    for line in blocks.lines() {
+        let (place, spelled) = line.split_once(' ').ok_or(line)?;
+        let words = words_of(alloc, spelled)?;
+        write_words(alloc, &mut device, place.parse()?, &words)?;
     }
     Ok(device)
 }
@@ -103,323 +71,277 @@ fn write_words<D: Device>(
     Ok(())
 }
 
-/// The text that a device is dumped as.
-fn dumped<D: Device>(alloc: Global, device: &mut D) -> Result<Vec<u8>, Fail> {
+/// What a dump of a device writes, and behind it why it is refused, where it is.
+fn told<D: Device>(alloc: Global, device: &mut D) -> Result<String, Fail> {
     let mut out = Vec::new(alloc);
-    dump(alloc, device, &mut out)?;
-    Ok(out)
+    let dumped = dump(alloc, device, &mut out);
+    let mut told = String::from_str(alloc, from_utf8(&out)?)?;
+    if let Err(e) = dumped {
+        write!(told, "refused {e}\n")?;
+    }
+    Ok(told)
 }
 
-/// A device is dumped as this text.
-fn expect_text(
-    rt: &impl Abort,
-    alloc: Global,
-    device: MemDevice,
-    expected: &str,
-) -> Result<(), Fail> {
-    let mut device = device;
-    let text = dumped(alloc, &mut device)?;
-    assert_eq!(rt; text.as_slice(), expected.as_bytes());
-    Ok(())
+/// This log of a table, with what its dump tells in the place of what it should.
+fn dumped_log(alloc: Global, log: &str) -> Result<String, Fail> {
+    let (made, _) = log.split_once("----\n").ok_or(log)?;
+    let (heading, blocks) = made.split_once('\n').ok_or(log)?;
+    let (sizes, _) = heading.split_once(": ").ok_or(log)?;
+    let (log, size) = sizes.split_once(" of ").ok_or(sizes)?;
+    let mut device = device_of(alloc, size.parse()?, log.parse()?, blocks)?;
+    Ok(format!(in alloc; "{made}----\n{}", told(alloc, &mut device)?)?)
 }
 
-/// A log of so many blocks of 1024 bytes, which has these and zeros elsewhere, is dumped as this text.
-fn expect_dump(
-    rt: &impl Abort,
-    alloc: Global,
-    log: u64,
-    blocks: &[Placed<'_>],
-    expected: &str,
-) -> Result<(), Fail> {
-    expect_text(rt, alloc, device_of(alloc, 1024, log, blocks)?, expected)
-}
-
-/// Why the dump of a device is refused, if it is, and how many bytes were written.
-fn refusal<D: Device>(alloc: Global, device: &mut D) -> (Option<JournalError>, usize) {
-    let mut out = Vec::new(alloc);
-    let refused = match dump(alloc, device, &mut out) {
-        Err(Fault::Refused(e)) => Some(e),
-        Err(Fault::Output(_)) | Ok(()) => None,
-    };
-    (refused, out.len())
-}
-
-/// A log of so many blocks of 1024 bytes, which has these and zeros elsewhere, is refused, and not a byte is written.
-fn expect_refusal(
-    rt: &impl Abort,
-    alloc: Global,
-    log: u64,
-    blocks: &[Placed<'_>],
-    (name, expected): (&str, JournalError),
-) -> Result<(), Fail> {
-    let mut device = device_of(alloc, 1024, log, blocks)?;
-    let refused = refusal(alloc, &mut device);
-    assert_eq!(rt; refused, (Some(expected), 0), "{name}");
-    Ok(())
-}
-
-#[test]
-fn a_formatted_log(rt: HostRuntime) -> Result<(), Fail> {
-    let blocks: &[Placed<'_>] = &[(0, &superblock(33, 1, 0))];
-    let expected = "super blocksize=1024 maxlen=33 first=1 sequence=1 start=0\n\
-        empty sequence=1\n";
-    expect_dump(&rt, rt.alloc(), 33, blocks, expected)
-}
-
-#[test]
-fn a_copy_and_then_a_revoke(rt: HostRuntime) -> Result<(), Fail> {
-    let blocks: &[Placed<'_>] = &[
-        (0, &superblock(33, 2, 1)),
-        (1, &descriptor(2, 8, LAST)),
-        (2, &[0xaa00_0000]),
-        (3, &commit(2)),
-        (4, &[MAGIC, 5, 3, 20, 8]),
-        (5, &commit(3)),
-    ];
-    let expected = "super blocksize=1024 maxlen=33 first=1 sequence=2 start=1\n\
-        1 descriptor 2 tags=1\n\
-        2 copy 2 block=8\n\
-        3 commit 2\n\
-        4 revoke 3 blocks=8\n\
-        5 commit 3\n\
-        end sequence=4 transactions=2\n";
-    expect_dump(&rt, rt.alloc(), 33, blocks, expected)
-}
-
-#[test]
-fn a_transaction_over_the_end_of_the_ring(rt: HostRuntime) -> Result<(), Fail> {
-    let blocks: &[Placed<'_>] = &[
-        (0, &superblock(33, 12, 31)),
-        (31, &descriptor(12, 5, LAST)),
-        (32, &[0x0b00_0000]),
-        (1, &commit(12)),
-        (2, &descriptor(3, 5, LAST)),
-    ];
-    let expected = "super blocksize=1024 maxlen=33 first=1 sequence=12 start=31\n\
-        31 descriptor 12 tags=1\n\
-        32 copy 12 block=5\n\
-        1 commit 12\n\
-        end sequence=13 transactions=1\n";
-    expect_dump(&rt, rt.alloc(), 33, blocks, expected)
-}
-
-#[test]
-fn tags_and_numbers_of_each_kind(rt: HostRuntime) -> Result<(), Fail> {
-    let three_tags = [
-        MAGIC,
-        1,
-        7,
-        20,
-        ESCAPED,
-        UUID,
-        UUID,
-        UUID,
-        UUID,
-        21,
-        SAME,
-        0xffff_ffff,
-        SAME | LAST | ESCAPED,
-    ];
-    let blocks: &[Placed<'_>] = &[
-        (0, &superblock(33, 7, 1)),
-        (1, &[MAGIC, 5, 7, 16]),
-        (2, &[MAGIC, 5, 7, 28, 3, 1, 4]),
-        (3, &three_tags),
-        (7, &commit(7)),
-        (8, &commit(8)),
-    ];
-    let expected = "super blocksize=1024 maxlen=33 first=1 sequence=7 start=1\n\
-        1 revoke 7 blocks=\n\
-        2 revoke 7 blocks=3,1,4\n\
-        3 descriptor 7 tags=3\n\
-        4 copy 7 block=20 escaped\n\
-        5 copy 7 block=21\n\
-        6 copy 7 block=4294967295 escaped\n\
-        7 commit 7\n\
-        8 commit 8\n\
-        end sequence=9 transactions=2\n";
-    expect_dump(&rt, rt.alloc(), 33, blocks, expected)
-}
-
-#[test]
-fn what_is_not_complete_is_not_printed(rt: HostRuntime) -> Result<(), Fail> {
-    let blocks: &[Placed<'_>] = &[
-        (0, &superblock(33, 2, 1)),
-        (1, &commit(2)),
-        (2, &[MAGIC, 5, 3, 20, 8]),
-        (3, &descriptor(3, 5, LAST)),
-        (5, &commit(4)),
-    ];
-    let expected = "super blocksize=1024 maxlen=33 first=1 sequence=2 start=1\n\
-        1 commit 2\n\
-        end sequence=3 transactions=1\n";
-    expect_dump(&rt, rt.alloc(), 33, blocks, expected)
-}
-
-#[test]
-fn the_last_number_of_four_bytes(rt: HostRuntime) -> Result<(), Fail> {
-    let blocks: &[Placed<'_>] = &[
-        (0, &superblock(33, 0xffff_ffff, 1)),
-        (1, &commit(0xffff_ffff)),
-        (2, &commit(0)),
-    ];
-    let expected = "super blocksize=1024 maxlen=33 first=1 sequence=4294967295 start=1\n\
-        1 commit 4294967295\n\
-        end sequence=4294967296 transactions=1\n";
-    expect_dump(&rt, rt.alloc(), 33, blocks, expected)
-}
-
-/// A device with blocks of this size, whose log of 17 has one transaction over its end.
-fn device_of_blocks(alloc: Global, size: u32) -> Result<MemDevice, JournalError> {
-    let blocks: &[Placed<'_>] = &[
-        (0, &superblock_of(size, 17, 2, 16)),
-        (16, &descriptor(2, 9, ESCAPED | LAST)),
-        (2, &commit(2)),
-    ];
-    device_of(alloc, size as usize, 20, blocks)
-}
-
-/// The text that `device_of_blocks` is dumped as.
-fn text_of_blocks(alloc: Global, size: u32) -> Result<String, Fail> {
-    let text = format!(in alloc;
-        "super blocksize={size} maxlen=17 first=1 sequence=2 start=16\n\
-         16 descriptor 2 tags=1\n\
-         1 copy 2 block=9 escaped\n\
-         2 commit 2\n\
-         end sequence=3 transactions=1\n"
-    )?;
-    Ok(text)
-}
-
-#[test]
-fn blocks_of_each_size(rt: HostRuntime) -> Result<(), Fail> {
-    for size in [1024, 2048, 4096] {
-        let device = device_of_blocks(rt.alloc(), size)?;
-        let expected = text_of_blocks(rt.alloc(), size)?;
-        expect_text(&rt, rt.alloc(), device, expected.as_str())?;
+/// Each log of this table is dumped as it says there. A log is a line that tells how many blocks it has and of how many bytes, and
+/// its name; its blocks, as `device_of` reads them; a line of dashes, and what its dump tells. Between two logs is an empty line.
+fn expect_dumps(rt: &impl Abort, alloc: Global, logs: &str) -> Result<(), Fail> {
+    for log in logs.split("\n\n") {
+        let dumped = dumped_log(alloc, log)?;
+        assert_eq!(rt; dumped.as_str().strip_suffix('\n'), Some(log));
     }
     Ok(())
 }
 
-#[test]
-fn a_full_ring(rt: HostRuntime) -> Result<(), Fail> {
-    let fourteen_tags = words_of(
-        rt.alloc(),
-        "c03b3998 1 2 0 0 aaaaaaaa aaaaaaaa aaaaaaaa aaaaaaaa \
-         1 2 2 2 3 2 4 2 5 2 6 2 7 2 8 2 9 2 a 2 b 2 c 2 d a",
-    )?;
-    let blocks: &[Placed<'_>] = &[
-        (0, &superblock(17, 2, 1)),
-        (1, &fourteen_tags),
-        (16, &commit(2)),
-    ];
-    let expected = "super blocksize=1024 maxlen=17 first=1 sequence=2 start=1\n\
-        1 descriptor 2 tags=14\n\
-        2 copy 2 block=0\n\
-        3 copy 2 block=1\n\
-        4 copy 2 block=2\n\
-        5 copy 2 block=3\n\
-        6 copy 2 block=4\n\
-        7 copy 2 block=5\n\
-        8 copy 2 block=6\n\
-        9 copy 2 block=7\n\
-        10 copy 2 block=8\n\
-        11 copy 2 block=9\n\
-        12 copy 2 block=10\n\
-        13 copy 2 block=11\n\
-        14 copy 2 block=12\n\
-        15 copy 2 block=13\n\
-        16 commit 2\n\
-        end sequence=3 transactions=1\n";
-    expect_dump(&rt, rt.alloc(), 17, blocks, expected)
-}
+/// Logs that are dumped.
+const DUMPS: &str = "\
+33 of 1024: a formatted log
+0 magic 4 0 400 21 1 1 0 0 0 1 0 uuid 1
+----
+super blocksize=1024 maxlen=33 first=1 sequence=1 start=0
+empty sequence=1
+
+33 of 1024: a copy, and then a revoke
+0 magic 4 0 400 21 1 2 1 0 0 1 0 uuid 1
+1 magic 1 2 8 8 uuid
+2 aa000000
+3 magic 2 2
+4 magic 5 3 14 8
+5 magic 2 3
+----
+super blocksize=1024 maxlen=33 first=1 sequence=2 start=1
+1 descriptor 2 tags=1
+2 copy 2 block=8
+3 commit 2
+4 revoke 3 blocks=8
+5 commit 3
+end sequence=4 transactions=2
+
+33 of 1024: a transaction over the end of the ring
+0 magic 4 0 400 21 1 c 1f 0 0 1 0 uuid 1
+31 magic 1 c 5 8 uuid
+32 0b000000
+1 magic 2 c
+2 magic 1 3 5 8 uuid
+----
+super blocksize=1024 maxlen=33 first=1 sequence=12 start=31
+31 descriptor 12 tags=1
+32 copy 12 block=5
+1 commit 12
+end sequence=13 transactions=1
+
+33 of 1024: tags and numbers of each kind
+0 magic 4 0 400 21 1 7 1 0 0 1 0 uuid 1
+1 magic 5 7 10
+2 magic 5 7 1c 3 1 4
+3 magic 1 7 14 1 uuid 15 2 ffffffff b
+7 magic 2 7
+8 magic 2 8
+----
+super blocksize=1024 maxlen=33 first=1 sequence=7 start=1
+1 revoke 7 blocks=
+2 revoke 7 blocks=3,1,4
+3 descriptor 7 tags=3
+4 copy 7 block=20 escaped
+5 copy 7 block=21
+6 copy 7 block=4294967295 escaped
+7 commit 7
+8 commit 8
+end sequence=9 transactions=2
+
+33 of 1024: what is not complete is not printed
+0 magic 4 0 400 21 1 2 1 0 0 1 0 uuid 1
+1 magic 2 2
+2 magic 5 3 14 8
+3 magic 1 3 5 8 uuid
+5 magic 2 4
+----
+super blocksize=1024 maxlen=33 first=1 sequence=2 start=1
+1 commit 2
+end sequence=3 transactions=1
+
+33 of 1024: the last number of four bytes
+0 magic 4 0 400 21 1 ffffffff 1 0 0 1 0 uuid 1
+1 magic 2 ffffffff
+2 magic 2 0
+----
+super blocksize=1024 maxlen=33 first=1 sequence=4294967295 start=1
+1 commit 4294967295
+end sequence=4294967296 transactions=1
+
+20 of 1024: blocks of 1024 bytes
+0 magic 4 0 400 11 1 2 10 0 0 1 0 uuid 1
+16 magic 1 2 9 9 uuid
+2 magic 2 2
+----
+super blocksize=1024 maxlen=17 first=1 sequence=2 start=16
+16 descriptor 2 tags=1
+1 copy 2 block=9 escaped
+2 commit 2
+end sequence=3 transactions=1
+
+20 of 2048: blocks of 2048 bytes
+0 magic 4 0 800 11 1 2 10 0 0 1 0 uuid 1
+16 magic 1 2 9 9 uuid
+2 magic 2 2
+----
+super blocksize=2048 maxlen=17 first=1 sequence=2 start=16
+16 descriptor 2 tags=1
+1 copy 2 block=9 escaped
+2 commit 2
+end sequence=3 transactions=1
+
+20 of 4096: blocks of 4096 bytes
+0 magic 4 0 1000 11 1 2 10 0 0 1 0 uuid 1
+16 magic 1 2 9 9 uuid
+2 magic 2 2
+----
+super blocksize=4096 maxlen=17 first=1 sequence=2 start=16
+16 descriptor 2 tags=1
+1 copy 2 block=9 escaped
+2 commit 2
+end sequence=3 transactions=1
+
+17 of 1024: a full ring
+0 magic 4 0 400 11 1 2 1 0 0 1 0 uuid 1
+1 magic 1 2 0 0 uuid 1 2 2 2 3 2 4 2 5 2 6 2 7 2 8 2 9 2 a 2 b 2 c 2 d a
+16 magic 2 2
+----
+super blocksize=1024 maxlen=17 first=1 sequence=2 start=1
+1 descriptor 2 tags=14
+2 copy 2 block=0
+3 copy 2 block=1
+4 copy 2 block=2
+5 copy 2 block=3
+6 copy 2 block=4
+7 copy 2 block=5
+8 copy 2 block=6
+9 copy 2 block=7
+10 copy 2 block=8
+11 copy 2 block=9
+12 copy 2 block=10
+13 copy 2 block=11
+14 copy 2 block=12
+15 copy 2 block=13
+16 commit 2
+end sequence=3 transactions=1
+
+17 of 1024: more copies than the ring has
+0 magic 4 0 400 11 1 2 1 0 0 1 0 uuid 1
+1 magic 1 2 0 0 uuid 1 2 2 2 3 2 4 2 5 2 6 2 7 2 8 2 9 2 a 2 b 2 c 2 d 2 e 2 f a
+----
+super blocksize=1024 maxlen=17 first=1 sequence=2 start=1
+end sequence=2 transactions=0";
 
 #[test]
-fn more_copies_than_the_ring_has(rt: HostRuntime) -> Result<(), Fail> {
-    let sixteen_tags = words_of(
-        rt.alloc(),
-        "c03b3998 1 2 0 0 aaaaaaaa aaaaaaaa aaaaaaaa aaaaaaaa \
-         1 2 2 2 3 2 4 2 5 2 6 2 7 2 8 2 9 2 a 2 b 2 c 2 d 2 e 2 f a",
-    )?;
-    let blocks: &[Placed<'_>] = &[(0, &superblock(17, 2, 1)), (1, &sixteen_tags)];
-    let expected = "super blocksize=1024 maxlen=17 first=1 sequence=2 start=1\n\
-        end sequence=2 transactions=0\n";
-    expect_dump(&rt, rt.alloc(), 17, blocks, expected)
+fn logs_made_by_hand(rt: HostRuntime) -> Result<(), Fail> {
+    expect_dumps(&rt, rt.alloc(), DUMPS)
 }
 
-/// What is damaged, and the place and the words of the block that is.
-const DAMAGES: [(&str, u64, &[u32]); 5] = [
-    (
-        "a tag with flag 4",
-        4,
-        &[MAGIC, 1, 3, 5, 4, UUID, UUID, UUID, UUID],
-    ),
-    ("used bytes no multiple", 4, &[MAGIC, 5, 3, 17, 0]),
-    ("used bytes too few", 4, &[MAGIC, 5, 3, 12]),
-    ("used bytes too many", 4, &[MAGIC, 5, 3, 1028]),
-    ("in the first transaction", 1, &[MAGIC, 5, 2, 15]),
-];
+/// Logs that are refused before a byte is written. Where a transaction is damaged, one stands before it.
+const REFUSED: &str = "\
+33 of 1024: a tag with flag 4
+0 magic 4 0 400 21 1 2 1 0 0 1 0 uuid 1
+1 magic 1 2 8 8 uuid
+3 magic 2 2
+4 magic 1 3 5 4 uuid
+----
+refused Damage 4
+
+33 of 1024: a count of bytes used that ends within a number
+0 magic 4 0 400 21 1 2 1 0 0 1 0 uuid 1
+1 magic 1 2 8 8 uuid
+3 magic 2 2
+4 magic 5 3 11 0
+----
+refused Damage 4
+
+33 of 1024: a count below the header's bytes
+0 magic 4 0 400 21 1 2 1 0 0 1 0 uuid 1
+1 magic 1 2 8 8 uuid
+3 magic 2 2
+4 magic 5 3 c
+----
+refused Damage 4
+
+33 of 1024: a count above the block size
+0 magic 4 0 400 21 1 2 1 0 0 1 0 uuid 1
+1 magic 1 2 8 8 uuid
+3 magic 2 2
+4 magic 5 3 404
+----
+refused Damage 4
+
+33 of 1024: in the first transaction
+0 magic 4 0 400 21 1 2 1 0 0 1 0 uuid 1
+1 magic 5 2 f
+3 magic 2 2
+----
+refused Damage 1
+
+17 of 1024: behind a copy, over the end of the ring
+0 magic 4 0 400 11 1 2 f 0 0 1 0 uuid 1
+15 magic 1 2 8 8 uuid
+1 magic 5 2 d
+----
+refused Damage 1
+
+33 of 1024: another magic
+0 c03b3999 4 0 400 21 1 1 0 0 0 1 0 uuid 1
+----
+refused BadMagic
+
+33 of 1024: another type
+0 magic 3 0 400 21 1 1 0 0 0 1 0 uuid 1
+----
+refused BadType
+
+33 of 1024: another block size
+0 magic 4 0 800 21 1 1 0 0 0 1 0 uuid 1
+----
+refused BadBlockSize
+
+33 of 1024: longer than its area
+0 magic 4 0 400 22 1 1 0 0 0 1 0 uuid 1
+----
+refused BadLength
+
+33 of 1024: a first block that leaves too short a ring
+0 magic 4 0 400 21 12 1 0 0 0 1 0 uuid 1
+----
+refused BadFirst
+
+33 of 1024: an unknown feature
+0 magic 4 0 400 21 1 1 0 0 0 3 0 uuid 1
+----
+refused BadFeature
+
+33 of 1024: a start behind the ring
+0 magic 4 0 400 21 1 1 21 0 0 1 0 uuid 1
+----
+refused BadStart
+
+33 of 1024: an error that a journal noted
+0 magic 4 0 400 21 1 1 0 5 0 1 0 uuid 1
+----
+refused ErrnoSet
+
+0 of 1024: no superblock
+----
+refused BadLength";
 
 #[test]
-fn damage_is_refused_before_a_byte_is_written(rt: HostRuntime) -> Result<(), Fail> {
-    for (name, place, block) in DAMAGES {
-        let blocks: &[Placed<'_>] = &[
-            (0, &superblock(33, 2, 1)),
-            (1, &descriptor(2, 8, LAST)),
-            (3, &commit(2)),
-            (place, block),
-        ];
-        let expected = (name, JournalError::Damage(place));
-        expect_refusal(&rt, rt.alloc(), 33, blocks, expected)?;
-    }
-    Ok(())
-}
-
-#[test]
-fn damage_behind_pieces_over_the_end_of_the_ring(rt: HostRuntime) -> Result<(), Fail> {
-    let blocks: &[Placed<'_>] = &[
-        (0, &superblock(17, 2, 15)),
-        (15, &descriptor(2, 8, LAST)),
-        (1, &[MAGIC, 5, 2, 13]),
-    ];
-    let expected = ("used bytes too few", JournalError::Damage(1));
-    expect_refusal(&rt, rt.alloc(), 17, blocks, expected)
-}
-
-/// A word of a superblock, a value that it must not have, what that word is, and the refusal.
-const BAD_WORDS: [(usize, u32, (&str, JournalError)); 8] = [
-    (0, 0xc03b_3999, ("magic", JournalError::BadMagic)),
-    (1, 3, ("type", JournalError::BadType)),
-    (3, 2048, ("block size", JournalError::BadBlockSize)),
-    (4, 34, ("length", JournalError::BadLength)),
-    (5, 18, ("first block", JournalError::BadFirst)),
-    (10, 3, ("features", JournalError::BadFeature)),
-    (7, 33, ("start", JournalError::BadStart)),
-    (8, 5, ("errno", JournalError::ErrnoSet)),
-];
-
-/// The superblock of an empty log, but for this word, which has this value.
-fn bad_superblock(word: usize, value: u32) -> [u32; 17] {
-    let mut words = superblock(33, 1, 0);
-    if let Some(w) = words.get_mut(word) {
-        *w = value;
-    }
-    words
-}
-
-#[test]
-fn each_refusal_of_a_superblock(rt: HostRuntime) -> Result<(), Fail> {
-    for (word, value, expected) in BAD_WORDS {
-        let blocks: &[Placed<'_>] = &[(0, &bad_superblock(word, value))];
-        expect_refusal(&rt, rt.alloc(), 33, blocks, expected)?;
-    }
-    Ok(())
-}
-
-#[test]
-fn a_log_without_a_block(rt: HostRuntime) -> Result<(), Fail> {
-    let expected = ("no superblock", JournalError::BadLength);
-    expect_refusal(&rt, rt.alloc(), 0, &[], expected)
+fn refused_before_a_byte_is_written(rt: HostRuntime) -> Result<(), Fail> {
+    expect_dumps(&rt, rt.alloc(), REFUSED)
 }
 
 /// A device that counts how often each block of its log is read, and from read `fails_at` on fails. With 0 it never does.
@@ -477,29 +399,27 @@ impl<D: Device> Device for CountedReads<D> {
 }
 
 /// A log with two transactions: two revoke blocks, a descriptor with three copies and a commit block, and then a commit
-/// block alone. Read `fails_at` and those behind it fail, or none, where that is 0.
-fn counted(alloc: Global, fails_at: u64) -> Result<CountedReads<MemDevice>, JournalError> {
-    let three_tags = [MAGIC, 1, 7, 20, SAME, 21, SAME, 22, SAME | LAST];
-    let device = device_of(
-        alloc,
-        1024,
-        33,
-        &[
-            (0, &superblock(33, 7, 1)),
-            (1, &[MAGIC, 5, 7, 16]),
-            (2, &[MAGIC, 5, 7, 20, 3]),
-            (3, &three_tags),
-            (7, &commit(7)),
-            (8, &commit(8)),
-        ],
-    )?;
+/// block alone.
+const TWO_TRANSACTIONS: &str = "\
+0 magic 4 0 400 21 1 7 1 0 0 1 0 uuid 1
+1 magic 5 7 10
+2 magic 5 7 14 3
+3 magic 1 7 14 2 15 2 16 a
+7 magic 2 7
+8 magic 2 8";
+
+/// A device with that log. Read `fails_at` and those behind it fail, or none, where that is 0.
+fn counted(alloc: Global, fails_at: u64) -> Result<CountedReads<MemDevice>, Fail> {
     Ok(CountedReads {
-        device,
+        device: device_of(alloc, 1024, 33, TWO_TRANSACTIONS)?,
         counts: [0; 40],
         fails_at,
         faults: 0,
     })
 }
+
+/// How its dump ends.
+const ITS_END: &str = "8 commit 8\nend sequence=9 transactions=2\n";
 
 /// How often a dump reads each block of that log.
 const READS: [u8; 40] = [
@@ -510,27 +430,26 @@ const READS: [u8; 40] = [
 #[test]
 fn no_block_is_read_more_than_twice_and_no_copy_at_all(rt: HostRuntime) -> Result<(), Fail> {
     let mut device = counted(rt.alloc(), 0)?;
-    dumped(rt.alloc(), &mut device)?;
-    assert_eq!(rt; device.counts, READS);
+    let text = told(rt.alloc(), &mut device)?;
+    let complete = text.as_str().ends_with(ITS_END);
+    assert_eq!(rt; (complete, device.counts), (true, READS));
     Ok(())
 }
 
 /// A dump whose read `k` fails is refused. The first way of the log has seven reads, and no byte is written before.
-fn expect_failed_read(rt: &impl Abort, alloc: Global, k: u64) -> Result<(), Fail> {
-    let mut device = counted(alloc, k)?;
-    let (refused, written) = refusal(alloc, &mut device);
-    let expected = (Some(JournalError::Device), k <= 7);
-    assert_eq!(rt; (refused, written == 0), expected, "read {k}");
-    Ok(())
+fn is_refused_at(alloc: Global, k: u64) -> Result<bool, Fail> {
+    let told = told(alloc, &mut counted(alloc, k)?)?;
+    let refused = told.as_str().ends_with("refused Device\n");
+    Ok(refused && (told.as_str() == "refused Device\n") == (k <= 7))
 }
 
 #[test]
 fn each_read_fails_in_turn(rt: HostRuntime) -> Result<(), Fail> {
     for k in 1..=12 {
-        expect_failed_read(&rt, rt.alloc(), k)?;
+        assert!(rt; is_refused_at(rt.alloc(), k)?, "read {k}");
     }
-    let text = dumped(rt.alloc(), &mut counted(rt.alloc(), 13)?)?;
-    assert!(rt; text.ends_with(b"8 commit 8\nend sequence=9 transactions=2\n"));
+    let text = told(rt.alloc(), &mut counted(rt.alloc(), 13)?)?;
+    assert!(rt; text.as_str().ends_with(ITS_END));
     Ok(())
 }
 
