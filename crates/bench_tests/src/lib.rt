@@ -7,5 +7,7 @@ mod keeping;
 mod runs;
 #[cfg(test)]
 mod scripts;
+#[cfg(test)]
+mod tables;
 
 pub use keeping::kept;

@@ -8,6 +8,7 @@ use std::test::Fail;
 
 mod checkpoints;
 mod descriptors;
+mod listed;
 mod refusals;
 mod sizes;
 mod turns;

@@ -1,21 +1,11 @@
-use super::prints;
+//! Runs of a few operations, each from its script to its verdict.
+use super::listed::first_wrong;
 use std::test::Fail;
 
-/// One handle writes block 9 and is waited for.
-const ONE_WRITE: &str =
-    r#"{"ops": [["start",1,1],["write",1,9,"11"],["stop",1],["request",1],["commit"],["wait",1]]}"#;
-
-/// One handle writes blocks 9 and 10.
-const TWO_BLOCKS: &str = r#"{"ops": [
-    ["start",1,2],["write",1,9,"11"],["write",1,10,"22"],["stop",1],["request",1],["commit"]]}"#;
-
-/// The same, and its ticket is waited for.
-const TWO_BLOCKS_WAITED: &str = r#"{"ops": [
-    ["start",1,2],["write",1,9,"11"],["write",1,10,"22"],["stop",1],["request",1],["commit"],["wait",1]]}"#;
-
-#[test]
-fn one_write_and_a_stop_at_its_commit_block(rt: HostRuntime) -> Result<(), Fail> {
-    let wanted = "\
+/// Runs, in the form of `listed`.
+const RUNS: &str = r#"4: one write, and a stop at its commit block
+{"ops": [["start",1,1],["write",1,9,"11"],["stop",1],["request",1],["commit"],["wait",1]]}
+----
 start 1 1 = 2
 write 1 9 = ok
 stop 1 = 2
@@ -27,13 +17,10 @@ end sequence=2 transactions=0
 open end=2 next=3 n=0
 home 9 0000000000000000
 verdict ok
-";
-    prints(&rt, rt.alloc(), ONE_WRITE, Some(4), &[], wanted)
-}
-
-#[test]
-fn one_write_and_a_stop_that_keeps_its_commit_block(rt: HostRuntime) -> Result<(), Fail> {
-    let wanted = "\
+====
+4 4: one write, and a stop that keeps its commit block
+{"ops": [["start",1,1],["write",1,9,"11"],["stop",1],["request",1],["commit"],["wait",1]]}
+----
 start 1 1 = 2
 write 1 9 = ok
 stop 1 = 2
@@ -48,13 +35,10 @@ end sequence=3 transactions=1
 open end=3 next=4 n=1
 home 9 1100000000000000
 verdict ok
-";
-    prints(&rt, rt.alloc(), ONE_WRITE, Some(4), &[4], wanted)
-}
-
-#[test]
-fn one_write_without_a_stop(rt: HostRuntime) -> Result<(), Fail> {
-    let wanted = "\
+====
+-: one write without a stop
+{"ops": [["start",1,1],["write",1,9,"11"],["stop",1],["request",1],["commit"],["wait",1]]}
+----
 start 1 1 = 2
 write 1 9 = ok
 stop 1 = 2
@@ -70,15 +54,30 @@ end sequence=3 transactions=1
 open end=3 next=4 n=1
 home 9 1100000000000000
 verdict ok
-";
-    prints(&rt, rt.alloc(), ONE_WRITE, None, &[], wanted)?;
-    // It makes four writes, so a fifth never comes.
-    prints(&rt, rt.alloc(), ONE_WRITE, Some(5), &[], wanted)
-}
-
-#[test]
-fn two_blocks_and_a_stop_at_their_commit_block(rt: HostRuntime) -> Result<(), Fail> {
-    let nothing_kept = "\
+====
+5: one write makes four writes, so a fifth never comes
+{"ops": [["start",1,1],["write",1,9,"11"],["stop",1],["request",1],["commit"],["wait",1]]}
+----
+start 1 1 = 2
+write 1 9 = ok
+stop 1 = 2
+request 1 = ok
+commit = 2
+wait 1 = 2
+stopped at end
+super blocksize=1024 maxlen=33 first=1 sequence=2 start=1
+1 descriptor 2 tags=1
+2 copy 2 block=9
+3 commit 2
+end sequence=3 transactions=1
+open end=3 next=4 n=1
+home 9 1100000000000000
+verdict ok
+====
+5: two blocks, and a stop at their commit block
+{"ops": [
+    ["start",1,2],["write",1,9,"11"],["write",1,10,"22"],["stop",1],["request",1],["commit"]]}
+----
 start 1 2 = 2
 write 1 9 = ok
 write 1 10 = ok
@@ -92,8 +91,11 @@ open end=2 next=3 n=0
 home 9 0000000000000000
 home 10 0000000000000000
 verdict ok
-";
-    let kept = "\
+====
+5 5: two blocks, and a stop that keeps their commit block
+{"ops": [
+    ["start",1,2],["write",1,9,"11"],["write",1,10,"22"],["stop",1],["request",1],["commit"]]}
+----
 start 1 2 = 2
 write 1 9 = ok
 write 1 10 = ok
@@ -111,23 +113,29 @@ open end=3 next=4 n=1
 home 9 1100000000000000
 home 10 2200000000000000
 verdict ok
-";
-    prints(&rt, rt.alloc(), TWO_BLOCKS, Some(5), &[], nothing_kept)?;
-    prints(&rt, rt.alloc(), TWO_BLOCKS, Some(5), &[5], kept)?;
-    // Numbers of flushed writes, and of no write, change nothing.
-    prints(
-        &rt,
-        rt.alloc(),
-        TWO_BLOCKS,
-        Some(5),
-        &[1, 99, 2],
-        nothing_kept,
-    )
-}
-
-#[test]
-fn two_blocks_that_were_waited_for(rt: HostRuntime) -> Result<(), Fail> {
-    let wanted = "\
+====
+5 1 99 2: two blocks, and numbers of flushed writes and of no write, which change nothing
+{"ops": [
+    ["start",1,2],["write",1,9,"11"],["write",1,10,"22"],["stop",1],["request",1],["commit"]]}
+----
+start 1 2 = 2
+write 1 9 = ok
+write 1 10 = ok
+stop 1 = 2
+request 1 = ok
+commit = refused 2 Device
+stopped 5
+super blocksize=1024 maxlen=33 first=1 sequence=2 start=1
+end sequence=2 transactions=0
+open end=2 next=3 n=0
+home 9 0000000000000000
+home 10 0000000000000000
+verdict ok
+====
+-: two blocks that were waited for
+{"ops": [
+    ["start",1,2],["write",1,9,"11"],["write",1,10,"22"],["stop",1],["request",1],["commit"],["wait",1]]}
+----
 start 1 2 = 2
 write 1 9 = ok
 write 1 10 = ok
@@ -146,13 +154,10 @@ open end=3 next=4 n=1
 home 9 1100000000000000
 home 10 2200000000000000
 verdict ok
-";
-    prints(&rt, rt.alloc(), TWO_BLOCKS_WAITED, None, &[], wanted)
-}
-
-#[test]
-fn a_stop_at_the_superblock_leaves_a_clean_log(rt: HostRuntime) -> Result<(), Fail> {
-    let wanted = "\
+====
+1: one write, and a stop at the superblock, which leaves a clean log
+{"ops": [["start",1,1],["write",1,9,"11"],["stop",1],["request",1],["commit"],["wait",1]]}
+----
 start 1 1 = 2
 write 1 9 = ok
 stop 1 = 2
@@ -164,15 +169,10 @@ empty sequence=1
 open clean next=2 n=0
 home 9 0000000000000000
 verdict ok
-";
-    prints(&rt, rt.alloc(), ONE_WRITE, Some(1), &[], wanted)
-}
-
-#[test]
-fn a_block_that_begins_with_the_magic(rt: HostRuntime) -> Result<(), Fail> {
-    let script =
-        r#"{"ops": [["start",1,1],["write",1,20,"c03b399800000007"],["stop",1],["request",1],["commit"]]}"#;
-    let wanted = "\
+====
+-: a block that begins with the magic
+{"ops": [["start",1,1],["write",1,20,"c03b399800000007"],["stop",1],["request",1],["commit"]]}
+----
 start 1 1 = 2
 write 1 20 = ok
 stop 1 = 2
@@ -187,14 +187,10 @@ end sequence=3 transactions=1
 open end=3 next=4 n=1
 home 20 c03b399800000007
 verdict ok
-";
-    prints(&rt, rt.alloc(), script, None, &[], wanted)
-}
-
-#[test]
-fn a_transaction_without_entries(rt: HostRuntime) -> Result<(), Fail> {
-    let script = r#"{"ops": [["start",1,0],["stop",1],["request",1],["commit"]]}"#;
-    let wanted = "\
+====
+-: a transaction without entries
+{"ops": [["start",1,0],["stop",1],["request",1],["commit"]]}
+----
 start 1 0 = 2
 stop 1 = 2
 request 1 = ok
@@ -205,29 +201,22 @@ super blocksize=1024 maxlen=33 first=1 sequence=2 start=1
 end sequence=3 transactions=1
 open end=3 next=4 n=1
 verdict ok
-";
-    prints(&rt, rt.alloc(), script, None, &[], wanted)
-}
-
-#[test]
-fn a_script_without_operations(rt: HostRuntime) -> Result<(), Fail> {
-    let wanted = "\
+====
+-: a script without operations
+{"ops": []}
+----
 stopped at end
 super blocksize=1024 maxlen=33 first=1 sequence=1 start=0
 empty sequence=1
 open clean next=2 n=0
 verdict ok
-";
-    prints(&rt, rt.alloc(), r#"{"ops": []}"#, None, &[], wanted)
-}
-
-#[test]
-fn tickets_before_and_after_a_commit(rt: HostRuntime) -> Result<(), Fail> {
-    let script = r#"{"ops": [
+====
+-: tickets before and after a commit
+{"ops": [
         ["start",1,1],["write",1,3,"0A0b"],["start",2,0],["stop",1],
         ["status",1],["wait",1],["request",1],["commit"],["stop",2],["commit"],
-        ["status",1],["wait",1],["wait",1],["status",1],["request",1],["request",2],["wait",2],["commit"]]}"#;
-    let wanted = "\
+        ["status",1],["wait",1],["wait",1],["status",1],["request",1],["request",2],["wait",2],["commit"]]}
+----
 start 1 1 = 2
 write 1 3 = ok
 start 2 0 = 2
@@ -255,6 +244,10 @@ end sequence=3 transactions=1
 open end=3 next=4 n=1
 home 3 0a0b000000000000
 verdict ok
-";
-    prints(&rt, rt.alloc(), script, None, &[], wanted)
+"#;
+
+#[test]
+fn whole_runs(rt: HostRuntime) -> Result<(), Fail> {
+    assert_eq!(rt; first_wrong(rt.alloc(), RUNS)?, None);
+    Ok(())
 }

@@ -1,0 +1,57 @@
+//! Reads the tables of tests, which are texts: numbers of a line, and what stands in a text more than once.
+use std::alloc::Global;
+use std::fmt::Write;
+use std::test::Fail;
+
+/// The numbers of this line, which blanks separate. A `-` is no number.
+pub fn numbers_of(alloc: Global, line: &str) -> Result<Vec<u64>, Fail> {
+    let mut all = Vec::new(alloc);
+    for word in line.split(' ') {
+        if word != "-" {
+            all.push(word.parse()?)?;
+        }
+    }
+    Ok(all)
+}
+
+/// Writes the text with this number for each `#`, the other one for each `@`, and that as two digits of base 16 for each `$`.
+fn write_numbered(all: &mut String, text: &str, number: u64, other: u64) -> Result<(), Fail> {
+    for c in text.chars() {
+        match c {
+            '#' => write!(all, "{number}")?,
+            '@' => write!(all, "{other}")?,
+            '$' => write!(all, "{other:02x}")?,
+            _ => all.push(c)?,
+        }
+    }
+    Ok(())
+}
+
+/// Writes a repetition, which is `first last more|text`.
+fn write_repetition(all: &mut String, alloc: Global, repetition: &str) -> Result<(), Fail> {
+    let (line, text) = repetition.split_once('|').ok_or(repetition)?;
+    let numbers = numbers_of(alloc, line)?;
+    let [first, last, more] = *numbers.as_slice() else {
+        return Err(Fail::new(repetition));
+    };
+    for number in first..=last {
+        write_numbered(all, text, number, number.saturating_add(more))?;
+    }
+    Ok(())
+}
+
+/// The text with its repetitions written out. A repetition is `<2 4 1|#=@ >`, which is here `2=3 3=4 4=5 `: the text behind the
+/// bar for each number from 2 to 4, which stands for `#`, and the number that is 1 more, for `@`, or for `$` in base 16.
+pub fn written_out(alloc: Global, text: &str) -> Result<String, Fail> {
+    let mut all = String::new(alloc);
+    for part in text.split('<') {
+        match part.split_once('>') {
+            Some((repetition, behind)) => {
+                write_repetition(&mut all, alloc, repetition)?;
+                all.push_str(behind)?;
+            }
+            None => all.push_str(part)?,
+        }
+    }
+    Ok(all)
+}
