@@ -2,8 +2,6 @@
 use bench_run::run;
 use bench_script::read;
 use std::alloc::Global;
-use std::process::Abort;
-use std::str::from_utf8;
 use std::test::Fail;
 
 mod checkpoints;
@@ -16,7 +14,7 @@ mod verdicts;
 mod whole_runs;
 
 /// What a run prints, and its verdict.
-#[derive(Debug, Drop)]
+#[derive(Drop)]
 struct Said {
     verdict: bool,
     out: Vec<u8>,
@@ -28,19 +26,4 @@ fn said_of(alloc: Global, script: &str, stop: Option<u64>, keep: &[u64]) -> Resu
     let mut out = Vec::new(alloc);
     let verdict = run(alloc, &script, stop, keep, &mut out)?;
     Ok(Said { verdict, out })
-}
-
-/// A run of this script prints this, and its verdict is ok.
-fn prints(
-    rt: &impl Abort,
-    alloc: Global,
-    script: &str,
-    stop: Option<u64>,
-    keep: &[u64],
-    wanted: &str,
-) -> Result<(), Fail> {
-    let said = said_of(alloc, script, stop, keep)?;
-    assert_eq!(rt; from_utf8(&said.out)?, wanted);
-    assert!(rt; said.verdict);
-    Ok(())
 }

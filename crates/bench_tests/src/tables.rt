@@ -1,6 +1,7 @@
-//! Reads the tables of tests, which are texts: numbers of a line, and what stands in a text more than once.
+//! Reads the tables of tests, which are texts: their rows, the numbers of a line, and what stands in a text more than once.
 use std::alloc::Global;
 use std::fmt::Write;
+use std::process::Abort;
 use std::test::Fail;
 
 /// The numbers of this line, which blanks separate. A `-` is no number.
@@ -12,6 +13,19 @@ pub fn numbers_of(alloc: Global, line: &str) -> Result<Vec<u64>, Fail> {
         }
     }
     Ok(all)
+}
+
+/// What stands before the first such mark, and what stands behind it.
+pub fn cut<'a>(text: &'a str, mark: &str) -> Result<(&'a str, &'a str), Fail> {
+    Ok(text.split_once(mark).ok_or(text)?)
+}
+
+/// Writes bytes as digits of base 16.
+pub fn write_hex(all: &mut String, bytes: &[u8]) -> Result<(), Fail> {
+    for byte in bytes {
+        write!(all, "{byte:02x}")?;
+    }
+    Ok(())
 }
 
 /// Writes the text with this number for each `#`, the other one for each `@`, and that as two digits of base 16 for each `$`.
@@ -29,7 +43,7 @@ fn write_numbered(all: &mut String, text: &str, number: u64, other: u64) -> Resu
 
 /// Writes a repetition, which is `first last more|text`.
 fn write_repetition(all: &mut String, alloc: Global, repetition: &str) -> Result<(), Fail> {
-    let (line, text) = repetition.split_once('|').ok_or(repetition)?;
+    let (line, text) = cut(repetition, "|")?;
     let numbers = numbers_of(alloc, line)?;
     let [first, last, more] = *numbers.as_slice() else {
         return Err(Fail::new(repetition));
@@ -54,4 +68,29 @@ pub fn written_out(alloc: Global, text: &str) -> Result<String, Fail> {
         }
     }
     Ok(all)
+}
+
+/// What a test makes of a row: the row with what is found in the place of what is wanted.
+pub type Found = fn(Global, &str) -> Result<String, Fail>;
+
+/// This is found where this row stands.
+fn holds(rt: &impl Abort, found: &str, row: &str) {
+    assert_eq!(rt; found, row);
+}
+
+/// In each row of this table stands what is found. The text between two rows is `between`.
+pub fn rows_hold(
+    rt: &impl Abort,
+    alloc: Global,
+    table: &str,
+    between: &str,
+    found: Found,
+) -> Result<(), Fail>
+    requires { Found.IsAlwaysCallable found }
+{
+    let rows = written_out(alloc, table)?;
+    for row in rows.split(between) {
+        holds(rt, &found(alloc, row)?, row);
+    }
+    Ok(())
 }

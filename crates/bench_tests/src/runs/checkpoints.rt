@@ -1,55 +1,23 @@
 //! Runs with checkpoint rounds: the ring is used lap after lap, and reads see the newest copies. The expected lines of the
 //! longer ones were made by another program, written from the format alone.
-ghost use Rattle.std.specs.Prelude.{◌<◌};
-
-use super::{prints, said_of};
+use super::listed::run_of;
+use super::said_of;
+use crate::tables::{rows_hold, written_out};
 use std::alloc::{AllocError, Global};
-use std::fmt::Write;
-use std::process::Abort;
 use std::str::from_utf8;
 use std::test::Fail;
 
-/// A transaction with one write of block 5, which ends with its request, for each number from `first` to `last`. Handle i
-/// writes i + 1, the number of its transaction.
-fn transactions(script: &mut String, first: u8, last: u8) -> Result<(), AllocError>
-    requires { last < 255 }
-{
-    for i in first..=last {
-        let tid = i + 1;
-        write!(
-            script,
-            r#"["start",{i},1],["write",{i},5,"{tid:02x}"],["stop",{i}],["request",{i}],["commit"],"#
-        )?;
-    }
-    Ok(())
-}
-
-/// Their lines.
-fn lines(text: &mut String, first: u8, last: u8) -> Result<(), AllocError>
-    requires { last < 255 }
-{
-    for i in first..=last {
-        let tid = i + 1;
-        write!(
-            text,
-            "start {i} 1 = {tid}\nwrite {i} 5 = ok\nstop {i} = {tid}\nrequest {i} = ok\ncommit = {tid}\n"
-        )?;
-    }
-    Ok(())
-}
-
-/// Ten transactions fill the ring. A round frees it, and the eleventh wraps to the first ring block.
-#[test]
-fn a_round_frees_a_full_ring(rt: HostRuntime) -> Result<(), Fail> {
-    let alloc = rt.alloc();
-    let mut script = String::from_str(alloc, r#"{"ops": ["#)?;
-    transactions(&mut script, 1, 11)?;
-    script.push_str(r#"["check"],["commit"]]}"#)?;
-    let mut wanted = String::new(alloc);
-    lines(&mut wanted, 1, 10)?;
-    wanted.push_str(
-        "\
-start 11 1 = 12
+/// Runs, in the form of `listed`.
+const RUNS: &str =
+    r#"-: ten transactions fill the ring; a round frees it, and the eleventh wraps to the first ring block
+{"ops": [<1 11 1|["start",#,1],["write",#,5,"$"],["stop",#],["request",#],["commit"],>["check"],["commit"]]}
+----
+<1 10 1|start # 1 = @
+write # 5 = ok
+stop # = @
+request # = ok
+commit = @
+>start 11 1 = 12
 write 11 5 = ok
 stop 11 = 12
 request 11 = ok
@@ -65,27 +33,18 @@ end sequence=13 transactions=1
 open end=13 next=14 n=11
 home 5 0c00000000000000
 verdict ok
-",
-    )?;
-    prints(&rt, alloc, &script, None, &[], &wanted)
-}
-
-/// The commit block of an earlier lap does not end a transaction of this one.
-#[test]
-fn a_stale_commit_block_ends_nothing(rt: HostRuntime) -> Result<(), Fail> {
-    let alloc = rt.alloc();
-    let mut script = String::from_str(alloc, r#"{"ops": ["#)?;
-    transactions(&mut script, 1, 10)?;
-    script.push_str(
-        r#"["check"],
+====
+41: the commit block of an earlier lap does not end a transaction of this one
+{"ops": [<1 10 1|["start",#,1],["write",#,5,"$"],["stop",#],["request",#],["commit"],>["check"],
     ["start",11,3],["write",11,6,"06"],["write",11,7,"07"],["write",11,8,"08"],["stop",11],["request",11],["commit"],
-    ["start",12,1],["write",12,5,"0d"],["stop",12],["request",12],["commit"]]}"#,
-    )?;
-    let mut wanted = String::new(alloc);
-    lines(&mut wanted, 1, 10)?;
-    wanted.push_str(
-        "\
-check = idle
+    ["start",12,1],["write",12,5,"0d"],["stop",12],["request",12],["commit"]]}
+----
+<1 10 1|start # 1 = @
+write # 5 = ok
+stop # = @
+request # = ok
+commit = @
+>check = idle
 start 11 3 = 12
 write 11 6 = ok
 write 11 7 = ok
@@ -112,62 +71,15 @@ home 6 0600000000000000
 home 7 0700000000000000
 home 8 0800000000000000
 verdict ok
-",
-    )?;
-    prints(&rt, alloc, &script, Some(41), &[], &wanted)
-}
-
-/// 33 transactions with rounds behind the tenth, twentieth and thirtieth.
-fn three_laps(alloc: Global) -> Result<String, AllocError> {
-    let mut script = String::from_str(alloc, r#"{"ops": ["#)?;
-    for (first, last) in [(1, 10), (11, 20), (21, 30)] {
-        transactions(&mut script, first, last)?;
-        script.push_str(r#"["check"],"#)?;
-    }
-    transactions(&mut script, 31, 33)?;
-    script.push_str(r#"["status",33]]}"#)?;
-    Ok(script)
-}
-
-/// A run of this script that stops at write `k` says so, and what it leaves opens right.
-fn stops(
-    rt: &impl Abort,
-    alloc: Global,
-    script: &str,
-    k: u64,
-    keep: &[u64],
-    wanted: &str,
-) -> Result<(), Fail> {
-    let said = said_of(alloc, script, Some(k), keep)?;
-    let is_told = from_utf8(&said.out)?.contains(wanted);
-    assert_eq!(rt; (is_told, said.verdict), (true, true), "write {k}");
-    Ok(())
-}
-
-/// They make 106 writes. A device that stops at any of them leaves what opens right.
-#[test]
-fn a_stop_at_each_write_of_three_laps(rt: HostRuntime) -> Result<(), Fail> {
-    let script = three_laps(rt.alloc())?;
-    for k in 1..107u64 {
-        let stopped = format!(in rt.alloc(); "\nstopped {k}\n")?;
-        for keep in [&[][..], &[k], &[k - 1]] {
-            stops(&rt, rt.alloc(), &script, k, keep, &stopped)?;
-        }
-    }
-    let ended = "\nstatus 33 = committed\nstopped at end\n";
-    stops(&rt, rt.alloc(), &script, 107, &[], ended)
-}
-
-/// A round releases what was committed when it began, whatever is committed between its steps.
-#[test]
-fn commits_between_the_steps_of_a_round(rt: HostRuntime) -> Result<(), Fail> {
-    let script = r#"{"ops": [
+====
+-: a round releases what was committed when it began, whatever is committed between its steps
+{"ops": [
     ["start",1,2],["write",1,5,"01"],["write",1,3,"02"],["stop",1],["request",1],["commit"],
     ["start",2,1],["write",2,9,"03"],["stop",2],["request",2],["commit"],["ckturn"],["start",3,2],
     ["write",3,9,"04"],["write",3,7,"05"],["stop",3],["request",3],["commit"],["ckturn"],
     ["start",4,1],["write",4,5,"06"],["stop",4],["request",4],["commit"],["ckturn"],["ckturn"],
-    ["ckturn"],["ckturn"],["ckturn"],["check"]]}"#;
-    let wanted = "\
+    ["ckturn"],["ckturn"],["ckturn"],["check"]]}
+----
 start 1 2 = 2
 write 1 5 = ok
 write 1 3 = ok
@@ -207,18 +119,13 @@ home 5 0600000000000000
 home 7 0500000000000000
 home 9 0400000000000000
 verdict ok
-";
-    prints(&rt, rt.alloc(), script, None, &[], wanted)
-}
-
-/// A copy that is replaced before its turn is written home by the next round alone, as the newer one.
-#[test]
-fn a_pending_copy_is_replaced_during_a_round(rt: HostRuntime) -> Result<(), Fail> {
-    let script = r#"{"ops": [
+====
+-: a copy that is replaced before its turn is written home by the next round alone, as the newer one
+{"ops": [
     ["start",1,2],["write",1,4,"01"],["write",1,6,"02"],["stop",1],["request",1],["commit"],
     ["ckturn"],["start",2,1],["write",2,6,"03"],["stop",2],["request",2],["commit"],["ckturn"],
-    ["ckturn"],["ckturn"],["ckturn"],["ckturn"],["ckturn"],["ckturn"],["ckturn"]]}"#;
-    let wanted = "\
+    ["ckturn"],["ckturn"],["ckturn"],["ckturn"],["ckturn"],["ckturn"],["ckturn"]]}
+----
 start 1 2 = 2
 write 1 4 = ok
 write 1 6 = ok
@@ -246,19 +153,14 @@ open end=4 next=5 n=2
 home 4 0100000000000000
 home 6 0300000000000000
 verdict ok
-";
-    prints(&rt, rt.alloc(), script, None, &[], wanted)
-}
-
-/// A round releases nothing of the transaction that is being committed when it begins.
-#[test]
-fn a_round_begins_while_a_transaction_commits(rt: HostRuntime) -> Result<(), Fail> {
-    let script = r#"{"ops": [
+====
+-: a round releases nothing of the transaction that is being committed when it begins
+{"ops": [
     ["start",1,1],["write",1,4,"01"],["stop",1],["request",1],["commit"],["start",2,1],
     ["write",2,4,"02"],["stop",2],["request",2],["turn"],["turn"],["ckturn"],["turn"],["ckturn"],
     ["turn"],["ckturn"],["turn"],["ckturn"],["turn"],["ckturn"],["turn"],["ckturn"],["ckturn"],
-    ["ckturn"],["ckturn"]]}"#;
-    let wanted = "\
+    ["ckturn"],["ckturn"]]}
+----
 start 1 1 = 2
 write 1 4 = ok
 stop 1 = 2
@@ -290,19 +192,14 @@ end sequence=4 transactions=0
 open end=4 next=5 n=2
 home 4 0200000000000000
 verdict ok
-";
-    prints(&rt, rt.alloc(), script, None, &[], wanted)
-}
-
-/// A read sees the running transaction, then the one that is being committed, then pending copies, then home.
-#[test]
-fn reads_see_the_newest_copy(rt: HostRuntime) -> Result<(), Fail> {
-    let script = r#"{"ops": [
+====
+-: a read sees the running transaction, then the one that is being committed, then pending copies, then home
+{"ops": [
     ["start",1,2],["read",1,5],["write",1,5,"01"],["read",1,5],["write",1,6,"c03b3998"],["stop",1],
     ["request",1],["turn"],["turn"],["start",2,1],["read",2,5],["read",2,6],["stop",2],["commit"],
     ["start",3,1],["read",3,5],["check"],["read",3,5],["read",3,6],["read",3,7],["read",3,64],
-    ["stop",3]]}"#;
-    let wanted = "\
+    ["stop",3]]}
+----
 start 1 2 = 2
 read 1 5 = 0000000000000000
 write 1 5 = ok
@@ -333,6 +230,57 @@ home 5 0100000000000000
 home 6 c03b399800000000
 home 7 0000000000000000
 verdict ok
-";
-    prints(&rt, rt.alloc(), script, None, &[], wanted)
+"#;
+
+#[test]
+fn runs_with_rounds(rt: HostRuntime) -> Result<(), Fail> {
+    rows_hold(&rt, rt.alloc(), RUNS, "====\n", run_of)
+}
+
+/// A transaction with one write of block 5, which ends with its request. A handle writes the number of its transaction.
+const TRANSACTION: &str = r#"["start",#,1],["write",#,5,"$"],["stop",#],["request",#],["commit"],"#;
+
+/// 33 of them, with rounds behind the tenth, twentieth and thirtieth.
+const THREE_LAPS: &str =
+    r#"{"ops": [<1 10 1|T>["check"],<11 20 1|T>["check"],<21 30 1|T>["check"],<31 33 1|T>["status",33]]}"#;
+
+/// Their script.
+fn three_laps(alloc: Global) -> Result<String, Fail> {
+    let laps = THREE_LAPS.replace(alloc, "T", TRANSACTION)?;
+    written_out(alloc, &laps)
+}
+
+/// They make 106 writes, so the next never comes.
+const WRITES: u64 = 106;
+
+/// What a run of them prints that stops at write `k`.
+fn stopped(alloc: Global, k: u64) -> Result<String, AllocError> {
+    if k > WRITES {
+        String::from_str(alloc, "\nstatus 33 = committed\nstopped at end\n")
+    } else {
+        format!(in alloc; "\nstopped {k}\n")
+    }
+}
+
+/// A run that stops at write `k` and keeps these says so, and what it leaves opens right.
+fn stops(alloc: Global, script: &str, k: u64, keep: &[u64]) -> Result<bool, Fail> {
+    let said = said_of(alloc, script, Some(k), keep)?;
+    let is_told = from_utf8(&said.out)?.contains(stopped(alloc, k)?.as_str());
+    Ok(is_told && said.verdict)
+}
+
+/// The number of a write at which runs stop, where nothing, this write or the one before is kept, and `wrong` where one of them
+/// does not leave what opens right.
+fn stop_of(alloc: Global, row: &str) -> Result<String, Fail> {
+    let script = three_laps(alloc)?;
+    let k = row.parse::<u64>()?;
+    let is_right = stops(alloc, &script, k, &[])?
+        && stops(alloc, &script, k, &[k])?
+        && stops(alloc, &script, k, &[k.saturating_sub(1)])?;
+    Ok(String::from_str(alloc, if is_right { row } else { "wrong" })?)
+}
+
+#[test]
+fn a_stop_at_each_write_of_three_laps(rt: HostRuntime) -> Result<(), Fail> {
+    rows_hold(&rt, rt.alloc(), "<1 106 0|# >107", " ", stop_of)
 }

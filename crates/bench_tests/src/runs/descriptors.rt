@@ -1,151 +1,176 @@
 //! Transactions of one descriptor that is full and one that has a single tag: their lines, and their bytes.
-use super::prints;
+use super::listed::run_of;
+use crate::tables::{cut, numbers_of, rows_hold, write_hex};
 use bench_run::run_operations;
 use bench_script::read;
 use block_device::{Device, MemDevice};
 use journal_model::Area;
 use std::alloc::Global;
-use std::io;
-use std::io::{Write, sink};
-use std::process::Abort;
-use std::str::from_utf8;
+use std::fmt::Write;
+use std::io::sink;
 use std::test::Fail;
 
-/// Keys of a script, the line of its superblock behind the commit, and how many tags a full descriptor has.
-const SIZES: [(&str, &str, u64); 3] = [
-    (
-        r#""length": 1025, "home": 200"#,
-        "super blocksize=1024 maxlen=1025 first=1 sequence=2 start=1",
-        122,
-    ),
-    (
-        r#""block": 2048, "length": 1025, "home": 300"#,
-        "super blocksize=2048 maxlen=1025 first=1 sequence=2 start=1",
-        250,
-    ),
-    (
-        r#""block": 4096, "length": 2053, "home": 600"#,
-        "super blocksize=4096 maxlen=2053 first=1 sequence=2 start=1",
-        506,
-    ),
-];
-
-/// A script with these keys, in which one handle writes home blocks 0 to `copies - 1`.
-fn write_script(out: &mut Vec<u8>, keys: &str, copies: u64) -> io::Result<()> {
-    write!(out, "{{{keys}, \"ops\": [[\"start\",1,{copies}]")?;
-    for block in 0..copies {
-        write!(out, ",[\"write\",1,{block},\"01\"]")?;
-    }
-    write!(out, ",[\"stop\",1],[\"request\",1],[\"commit\"]]}}")
-}
-
-/// The lines of its operations.
-fn write_operations(out: &mut Vec<u8>, copies: u64) -> io::Result<()> {
-    writeln!(out, "start 1 {copies} = 2")?;
-    for block in 0..copies {
-        writeln!(out, "write 1 {block} = ok")?;
-    }
-    writeln!(
-        out,
-        "stop 1 = 2\nrequest 1 = ok\ncommit = 2\nstopped at end"
-    )
-}
-
-/// The lines of its log, where the first descriptor is full and the second has one tag.
-fn write_log(out: &mut Vec<u8>, tags: u64) -> io::Result<()> {
-    writeln!(out, "1 descriptor 2 tags={tags}")?;
-    for block in 0..tags {
-        writeln!(out, "{} copy 2 block={block}", block.saturating_add(2))?;
-    }
-    writeln!(out, "{} descriptor 2 tags=1", tags.saturating_add(2))?;
-    writeln!(out, "{} copy 2 block={tags}", tags.saturating_add(3))?;
-    writeln!(
-        out,
-        "{} commit 2\nend sequence=3 transactions=1",
-        tags.saturating_add(4)
-    )
-}
-
-/// The lines of its opening and of the verdict.
-fn write_opening(out: &mut Vec<u8>, copies: u64) -> io::Result<()> {
-    writeln!(out, "open end=3 next=4 n=1")?;
-    for block in 0..copies {
-        writeln!(out, "home {block} 0100000000000000")?;
-    }
-    writeln!(out, "verdict ok")
-}
+/// Runs, in the form of `listed`, with one copy more than a descriptor has tags.
+const RUNS: &str = r#"-: 123 copies, at length: 1025, home: 200
+{"length": 1025, "home": 200, "ops": [["start",1,123]<0 122 0|,["write",1,#,"01"]>,["stop",1],["request",1],["commit"]]}
+----
+start 1 123 = 2
+<0 122 0|write 1 # = ok
+>stop 1 = 2
+request 1 = ok
+commit = 2
+stopped at end
+super blocksize=1024 maxlen=1025 first=1 sequence=2 start=1
+1 descriptor 2 tags=122
+<0 121 2|@ copy 2 block=#
+>124 descriptor 2 tags=1
+125 copy 2 block=122
+126 commit 2
+end sequence=3 transactions=1
+open end=3 next=4 n=1
+<0 122 0|home # 0100000000000000
+>verdict ok
+====
+-: 251 copies, at block: 2048, length: 1025, home: 300
+{"block": 2048, "length": 1025, "home": 300, "ops": [["start",1,251]<0 250 0|,["write",1,#,"01"]>,["stop",1],["request",1],["commit"]]}
+----
+start 1 251 = 2
+<0 250 0|write 1 # = ok
+>stop 1 = 2
+request 1 = ok
+commit = 2
+stopped at end
+super blocksize=2048 maxlen=1025 first=1 sequence=2 start=1
+1 descriptor 2 tags=250
+<0 249 2|@ copy 2 block=#
+>252 descriptor 2 tags=1
+253 copy 2 block=250
+254 commit 2
+end sequence=3 transactions=1
+open end=3 next=4 n=1
+<0 250 0|home # 0100000000000000
+>verdict ok
+====
+-: 507 copies, at block: 4096, length: 2053, home: 600
+{"block": 4096, "length": 2053, "home": 600, "ops": [["start",1,507]<0 506 0|,["write",1,#,"01"]>,["stop",1],["request",1],["commit"]]}
+----
+start 1 507 = 2
+<0 506 0|write 1 # = ok
+>stop 1 = 2
+request 1 = ok
+commit = 2
+stopped at end
+super blocksize=4096 maxlen=2053 first=1 sequence=2 start=1
+1 descriptor 2 tags=506
+<0 505 2|@ copy 2 block=#
+>508 descriptor 2 tags=1
+509 copy 2 block=506
+510 commit 2
+end sequence=3 transactions=1
+open end=3 next=4 n=1
+<0 506 0|home # 0100000000000000
+>verdict ok
+"#;
 
 #[test]
 fn one_copy_more_than_a_descriptor_has_tags(rt: HostRuntime) -> Result<(), Fail> {
-    for (keys, superblock, tags) in SIZES {
-        let copies = tags.saturating_add(1);
-        let mut script = Vec::new(rt.alloc());
-        write_script(&mut script, keys, copies)?;
-        let mut wanted = Vec::new(rt.alloc());
-        write_operations(&mut wanted, copies)?;
-        writeln!(wanted, "{superblock}")?;
-        write_log(&mut wanted, tags)?;
-        write_opening(&mut wanted, copies)?;
-        let (script, wanted) = (from_utf8(&script)?, from_utf8(&wanted)?);
-        prints(&rt, rt.alloc(), script, None, &[], wanted)?;
-    }
-    Ok(())
+    rows_hold(&rt, rt.alloc(), RUNS, "====\n", run_of)
 }
 
-const UUID: [u8; 16] = [0xaa; 16];
+/// Their scripts, each with lines of a log block, the place of bytes in it, and the bytes. A full descriptor's last tag is
+/// marked, and the second descriptor has the copy that is one too many.
+const BYTES: &str =
+    r#"{"length": 1025, "home": 200, "ops": [["start",1,123]<0 122 0|,["write",1,#,"01"]>,["stop",1],["request",1],["commit"]]}
+1 0: c03b39980000000100000002
+1 12: 0000000000000000
+1 20: aaaaaaaaaaaaaaaaaaaaaaaaaaaaaaaa
+1 36: 0000000100000002
+1 996: 000000790000000a
+1 1004: 0000000000000000
+124 0: c03b39980000000100000002
+124 12: 0000007a00000008
+124 20: aaaaaaaaaaaaaaaaaaaaaaaaaaaaaaaa
+124 36: 0000000000000000
+====
+{"block": 2048, "length": 1025, "home": 300, "ops": [["start",1,251]<0 250 0|,["write",1,#,"01"]>,["stop",1],["request",1],["commit"]]}
+1 0: c03b39980000000100000002
+1 12: 0000000000000000
+1 20: aaaaaaaaaaaaaaaaaaaaaaaaaaaaaaaa
+1 36: 0000000100000002
+1 2020: 000000f90000000a
+1 2028: 0000000000000000
+252 0: c03b39980000000100000002
+252 12: 000000fa00000008
+252 20: aaaaaaaaaaaaaaaaaaaaaaaaaaaaaaaa
+252 36: 0000000000000000
+====
+{"block": 4096, "length": 2053, "home": 600, "ops": [["start",1,507]<0 506 0|,["write",1,#,"01"]>,["stop",1],["request",1],["commit"]]}
+1 0: c03b39980000000100000002
+1 12: 0000000000000000
+1 20: aaaaaaaaaaaaaaaaaaaaaaaaaaaaaaaa
+1 36: 0000000100000002
+1 4068: 000001f90000000a
+1 4076: 0000000000000000
+508 0: c03b39980000000100000002
+508 12: 000001fa00000008
+508 20: aaaaaaaaaaaaaaaaaaaaaaaaaaaaaaaa
+508 36: 0000000000000000
+"#;
 
-/// What a descriptor of sequence 2 begins with: its header.
-const DESCRIPTOR: [u8; 12] = [0xc0, 0x3b, 0x39, 0x98, 0, 0, 0, 1, 0, 0, 0, 2];
-
-/// The device behind its run.
-fn written(alloc: Global, keys: &str, copies: u64) -> Result<MemDevice, Fail> {
-    let mut text = Vec::new(alloc);
-    write_script(&mut text, keys, copies)?;
-    let script = read(alloc, &text)?;
+/// The device behind the run of this script.
+fn written(alloc: Global, text: &str) -> Result<MemDevice, Fail> {
+    let script = read(alloc, text.as_bytes())?;
     Ok(run_operations(alloc, &script, None, &mut sink())?.device)
 }
 
-/// A log block has these bytes from place `from` on.
-fn has(
-    rt: &impl Abort,
+/// This block of the device's log.
+pub fn log_block<D: Device>(alloc: Global, device: &mut D, block: u64) -> Result<Vec<u8>, Fail> {
+    let mut bytes = vec![in alloc; 0; device.block_size()]?;
+    if block >= device.blocks(Area::Log) {
+        return Err(Fail::new(block));
+    }
+    device.read(Area::Log, block, &mut bytes)?;
+    Ok(bytes)
+}
+
+/// As many bytes of the block as have these digits, from place `from` on.
+fn part<'a>(bytes: &'a [u8], from: u64, digits: &str) -> Result<&'a [u8], Fail> {
+    let from = from as usize;
+    let to = from.saturating_add(digits.len() / 2);
+    Ok(bytes.get(from..to).ok_or(from)?)
+}
+
+/// Writes a line of bytes as the device has them.
+fn write_bytes(
+    all: &mut String,
     alloc: Global,
     device: &mut MemDevice,
-    block: u64,
-    from: usize,
-    wanted: &[u8],
+    line: &str,
 ) -> Result<(), Fail> {
-    let mut bytes = vec![in alloc; 0; device.block_size()]?;
-    assert!(rt; block < device.blocks(Area::Log));
-    device.read(Area::Log, block, &mut bytes)?;
-    let part = bytes.get(from..from.saturating_add(wanted.len()));
-    assert_eq!(rt; part, Some(wanted), "block {block} at {from}");
+    let (places, digits) = cut(line, ": ")?;
+    let numbers = numbers_of(alloc, places)?;
+    let [block, from] = *numbers.as_slice() else {
+        return Err(Fail::new(line));
+    };
+    let bytes = log_block(alloc, device, block)?;
+    write!(all, "{places}: ")?;
+    write_hex(all, part(&bytes, from, digits)?)?;
+    all.push('\n')?;
     Ok(())
 }
 
-/// A full descriptor's last tag is marked, and the second descriptor has the copy that is one too many.
+/// This script with its bytes as its run writes them.
+fn bytes_of(alloc: Global, row: &str) -> Result<String, Fail> {
+    let (text, lines) = cut(row, "\n")?;
+    let mut device = written(alloc, text)?;
+    let mut all = format!(in alloc; "{text}\n")?;
+    for line in lines.lines() {
+        write_bytes(&mut all, alloc, &mut device, line)?;
+    }
+    Ok(all)
+}
+
 #[test]
 fn the_bytes_of_both_descriptors(rt: HostRuntime) -> Result<(), Fail> {
-    for (keys, _, tags) in SIZES {
-        let mut device = written(rt.alloc(), keys, tags.saturating_add(1))?;
-        let [_, _, _, _, _, _, high, low] = tags.saturating_sub(1).to_be_bytes();
-        let [_, _, _, _, _, _, next_high, next_low] = tags.to_be_bytes();
-        let last_tag = (tags as usize).saturating_mul(8).saturating_add(20);
-        let second = tags.saturating_add(2);
-        let rows = [
-            (1, 0, DESCRIPTOR.as_slice()),
-            (1, 12, &[0; 8]),
-            (1, 20, &UUID),
-            (1, 36, &[0, 0, 0, 1, 0, 0, 0, 2]),
-            (1, last_tag, &[0, 0, high, low, 0, 0, 0, 10]),
-            (1, last_tag.saturating_add(8), &[0; 8]),
-            (second, 0, &DESCRIPTOR),
-            (second, 12, &[0, 0, next_high, next_low, 0, 0, 0, 8]),
-            (second, 20, &UUID),
-            (second, 36, &[0; 8]),
-        ];
-        for (block, from, wanted) in rows {
-            has(&rt, rt.alloc(), &mut device, block, from, wanted)?;
-        }
-    }
-    Ok(())
+    rows_hold(&rt, rt.alloc(), BYTES, "====\n", bytes_of)
 }

@@ -1,63 +1,59 @@
 //! What handles and commits are refused.
-use super::prints;
-use std::alloc::{AllocError, Global};
+use super::listed::run_of;
+use crate::tables::rows_hold;
 use std::test::Fail;
 
-/// What a run prints behind its operations where nothing was committed and no block is named.
-const NOTHING_COMMITTED: &str = "\
-stopped at end
-super blocksize=1024 maxlen=33 first=1 sequence=1 start=0
-empty sequence=1
-open clean next=2 n=0
-";
-
-/// Scripts in which handles are refused, the lines of their operations, and those of the blocks that they name.
-const REFUSALS: [(&str, &str, &str); 4] = [
-    // Credits that are not there.
-    (
-        r#"{"ops": [["start",9,7],["start",1,3],["start",2,3],["start",3,1],["stop",1],["start",4,1]]}"#,
-        "\
+/// Runs, in the form of `listed`.
+const RUNS: &str = r#"-: credits that are not there
+{"ops": [["start",9,7],["start",1,3],["start",2,3],["start",3,1],["stop",1],["start",4,1]]}
+----
 start 9 7 = refused 6 TooMany
 start 1 3 = 2
 start 2 3 = 2
 start 3 1 = refused 5 Full
 stop 1 = 2
 start 4 1 = 2
-",
-        "",
-    ),
-    // A handle without a credit left.
-    (
-        r#"{"ops": [["start",1,1],["write",1,5,"01"],["write",1,5,"02"],["write",1,6,"03"]]}"#,
-        "\
+stopped at end
+super blocksize=1024 maxlen=33 first=1 sequence=1 start=0
+empty sequence=1
+open clean next=2 n=0
+verdict ok
+====
+-: a handle without a credit left
+{"ops": [["start",1,1],["write",1,5,"01"],["write",1,5,"02"],["write",1,6,"03"]]}
+----
 start 1 1 = 2
 write 1 5 = ok
 write 1 5 = ok
 write 1 6 = refused 4 NoCredit
-",
-        "\
+stopped at end
+super blocksize=1024 maxlen=33 first=1 sequence=1 start=0
+empty sequence=1
+open clean next=2 n=0
 home 5 0000000000000000
 home 6 0000000000000000
-",
-    ),
-    // Blocks that home does not have.
-    (
-        r#"{"ops": [["start",1,1],["write",1,64,"01"],["write",1,18446744073709551615,""],["write",1,63,""]]}"#,
-        "\
+verdict ok
+====
+-: blocks that home does not have
+{"ops": [["start",1,1],["write",1,64,"01"],["write",1,18446744073709551615,""],["write",1,63,""]]}
+----
 start 1 1 = 2
 write 1 64 = refused 8 BadBlock
 write 1 18446744073709551615 = refused 8 BadBlock
 write 1 63 = ok
-",
-        "home 63 0000000000000000\n",
-    ),
-    // Operations behind a refused start: the ticket of before is gone too, up to the next start.
-    (
-        r#"{"ops": [
+stopped at end
+super blocksize=1024 maxlen=33 first=1 sequence=1 start=0
+empty sequence=1
+open clean next=2 n=0
+home 63 0000000000000000
+verdict ok
+====
+-: operations behind a refused start: the ticket of before is gone too, up to the next start
+{"ops": [
         ["start",1,0],["stop",1],["status",1],["start",1,7],["write",1,9,"01"],["stop",1],
         ["request",1],["status",1],["wait",1],["start",1,1],["stop",1],["status",1],
-        ["start",2,18446744073709551615],["write",2,70,"01"]]}"#,
-        "\
+        ["start",2,18446744073709551615],["write",2,70,"01"]]}
+----
 start 1 0 = 2
 stop 1 = 2
 status 1 = open
@@ -72,67 +68,25 @@ stop 1 = 2
 status 1 = open
 start 2 18446744073709551615 = refused 6 TooMany
 write 2 70 = skipped
-",
-        "home 9 0000000000000000\n",
-    ),
-];
-
-#[test]
-fn handles_are_refused(rt: HostRuntime) -> Result<(), Fail> {
-    for (script, lines, homes) in REFUSALS {
-        let wanted = format!(in rt.alloc(); "{lines}{NOTHING_COMMITTED}{homes}verdict ok\n")?;
-        prints(&rt, rt.alloc(), script, None, &[], &wanted)?;
-    }
-    Ok(())
-}
-
-/// A script of eleven transactions, each with one write of block 5, and of one start behind them.
-fn eleven_transactions(alloc: Global) -> Result<String, AllocError> {
-    let mut script = String::from_str(alloc, r#"{"ops": ["#)?;
-    for i in 1..12u8 {
-        write!(
-            &mut script,
-            r#"["start",{i},1],["write",{i},5,"{i:02x}"],["stop",{i}],["request",{i}],["commit"],"#
-        )?;
-    }
-    script.push_str(r#"["status",10],["status",11],["start",12,1],["stop",12],["commit"]]}"#)?;
-    Ok(script)
-}
-
-/// The lines of its operations.
-fn eleven_lines(alloc: Global) -> Result<String, AllocError> {
-    let mut text = String::new(alloc);
-    for i in 1..12u8 {
-        let tid = i + 1;
-        write!(
-            &mut text,
-            "start {i} 1 = {tid}\nwrite {i} 5 = ok\nstop {i} = {tid}\nrequest {i} = ok\n"
-        )?;
-        if i < 11 {
-            writeln!(&mut text, "commit = {tid}")?;
-        }
-    }
-    Ok(text)
-}
-
-/// The dump lines of the first ten: each takes three blocks of the ring, and two are left.
-fn ten_texts(alloc: Global) -> Result<String, AllocError> {
-    let mut text = String::new(alloc);
-    for i in 0..10u8 {
-        let place = 3 * i + 1;
-        let tid = i + 2;
-        writeln!(&mut text, "{place} descriptor {tid} tags=1")?;
-        writeln!(&mut text, "{} copy {tid} block=5", place + 1)?;
-        writeln!(&mut text, "{} commit {tid}", place + 2)?;
-    }
-    Ok(text)
-}
-
-#[test]
-fn a_ring_that_is_full(rt: HostRuntime) -> Result<(), Fail> {
-    let script = eleven_transactions(rt.alloc())?;
-    let lines = eleven_lines(rt.alloc())?;
-    let behind = "\
+stopped at end
+super blocksize=1024 maxlen=33 first=1 sequence=1 start=0
+empty sequence=1
+open clean next=2 n=0
+home 9 0000000000000000
+verdict ok
+====
+-: a ring that is full: each of ten transactions takes three blocks of it, and two are left
+{"ops": [<1 11 0|["start",#,1],["write",#,5,"$"],["stop",#],["request",#],["commit"],>["status",10],["status",11],["start",12,1],["stop",12],["commit"]]}
+----
+<1 10 1|start # 1 = @
+write # 5 = ok
+stop # = @
+request # = ok
+commit = @
+>start 11 1 = 12
+write 11 5 = ok
+stop 11 = 12
+request 11 = ok
 commit = refused 11 NeedSpace
 status 10 = committed
 status 11 = open
@@ -141,14 +95,43 @@ stop 12 = skipped
 commit = refused 11 NeedSpace
 stopped at end
 super blocksize=1024 maxlen=33 first=1 sequence=2 start=1
-";
-    let texts = ten_texts(rt.alloc())?;
-    let ending = "\
+1 descriptor 2 tags=1
+2 copy 2 block=5
+3 commit 2
+4 descriptor 3 tags=1
+5 copy 3 block=5
+6 commit 3
+7 descriptor 4 tags=1
+8 copy 4 block=5
+9 commit 4
+10 descriptor 5 tags=1
+11 copy 5 block=5
+12 commit 5
+13 descriptor 6 tags=1
+14 copy 6 block=5
+15 commit 6
+16 descriptor 7 tags=1
+17 copy 7 block=5
+18 commit 7
+19 descriptor 8 tags=1
+20 copy 8 block=5
+21 commit 8
+22 descriptor 9 tags=1
+23 copy 9 block=5
+24 commit 9
+25 descriptor 10 tags=1
+26 copy 10 block=5
+27 commit 10
+28 descriptor 11 tags=1
+29 copy 11 block=5
+30 commit 11
 end sequence=12 transactions=10
 open end=12 next=13 n=10
 home 5 0a00000000000000
 verdict ok
-";
-    let wanted = format!(in rt.alloc(); "{lines}{behind}{texts}{ending}")?;
-    prints(&rt, rt.alloc(), &script, None, &[], &wanted)
+"#;
+
+#[test]
+fn handles_and_commits_are_refused(rt: HostRuntime) -> Result<(), Fail> {
+    rows_hold(&rt, rt.alloc(), RUNS, "====\n", run_of)
 }

@@ -1,6 +1,7 @@
 //! Runs at other measures than those of a script without keys.
-use super::{prints, said_of};
-use crate::scripts::{script_of_bytes, script_of_commits};
+use super::descriptors::log_block;
+use super::listed::run_of;
+use crate::tables::{numbers_of, rows_hold, write_hex};
 use bench_run::empty_disk;
 use bench_script::Measures;
 use block_device::Device;
@@ -8,134 +9,90 @@ use journal_model::Area;
 use journal_plain::room::capacity;
 use log_ring::Layout;
 use std::alloc::Global;
-use std::process::Abort;
 use std::test::Fail;
 
-/// Keys of scripts, and how the most credits of a transaction are answered, and one more.
-const CAPACITIES: [(&str, u64); 7] = [
-    (r#""length": 17"#, 2),
-    (r#""length": 33"#, 6),
-    (r#""length": 1025"#, 252),
-    (r#""length": 1025, "block": 2048"#, 253),
-    (r#""length": 1025, "block": 4096"#, 254),
-    (r#""length": 17, "block": 4096"#, 2),
-    (r#""length": 4097"#, 1014),
-];
-
-/// A run of this script begins with these lines.
-fn begins(
-    rt: &impl Abort,
-    alloc: Global,
-    script: &str,
-    lines: &str,
-    name: &str,
-) -> Result<(), Fail> {
-    let said = said_of(alloc, script, None, &[])?;
-    let are_first = said.out.starts_with(lines.as_bytes());
-    assert_eq!(rt; (are_first, said.verdict), (true, true), "{name}");
-    Ok(())
-}
-
-#[test]
-fn the_most_credits_of_a_transaction(rt: HostRuntime) -> Result<(), Fail> {
-    for (keys, most) in CAPACITIES {
-        let more = most.saturating_add(1);
-        let script = format!(in rt.alloc();
-            "{{{keys}, \"ops\": [[\"start\",1,{more}],[\"start\",2,{most}]]}}"
-        )?;
-        let lines = format!(in rt.alloc();
-            "start 1 {more} = refused 6 TooMany\nstart 2 {most} = 2\nstopped at end\n"
-        )?;
-        begins(&rt, rt.alloc(), &script, &lines, keys)?;
-    }
-    Ok(())
-}
-
-/// A log of 2,053 blocks of 4096 bytes.
-const LARGE: Measures = Measures {
-    block_size: 4096,
-    log_blocks: 2053,
-    home_blocks: 600,
-    uuid: [0x5c; 16],
-};
-
-/// How its superblock begins when it was just formatted, up to the UUID.
-const SUPERBLOCK: [u8; 48] = [
-    0xc0, 0x3b, 0x39, 0x98, 0, 0, 0, 4, 0, 0, 0, 0, 0, 0, 0x10, 0, 0, 0, 0x08, 0x05, 0, 0, 0, 1, 0,
-    0, 0, 1, 0, 0, 0, 0, 0, 0, 0, 0, 0, 0, 0, 0, 0, 0, 0, 1, 0, 0, 0, 0,
-];
-
-/// The parts of that superblock, each with the place where it begins.
-const PARTS: [(usize, &[u8]); 4] = [
-    (0, &SUPERBLOCK),
-    (48, &[0x5c; 16]),
-    (64, &[0, 0, 0, 1]),
-    (68, &[0; 4028]),
-];
-
-/// A device's bytes of a block, and its log and home blocks.
-fn measured(disk: &impl Device) -> (usize, u64, u64) {
-    (
-        disk.block_size(),
-        disk.blocks(Area::Log),
-        disk.blocks(Area::Home),
-    )
-}
-
-/// The first block of its log.
-fn first_block<D: Device>(alloc: Global, disk: &mut D) -> Result<Vec<u8>, Fail> {
-    let mut block = vec![in alloc; 1; disk.block_size()]?;
-    if disk.blocks(Area::Log) > 0 {
-        disk.read(Area::Log, 0, &mut block)?;
-    }
-    Ok(block)
-}
-
-#[test]
-fn a_disk_is_formatted_with_its_measures(rt: HostRuntime) -> Result<(), Fail> {
-    let mut disk = empty_disk(rt.alloc(), &LARGE, None)?;
-    assert_eq!(rt; measured(&disk), (4096, 2053, 600));
-    let block = first_block(rt.alloc(), &mut disk)?;
-    for (from, wanted) in PARTS {
-        let part = block.get(from..from.saturating_add(wanted.len()));
-        assert_eq!(rt; part, Some(wanted), "at {from}");
-    }
-    Ok(())
-}
-
-/// Bytes of a block, and blocks of a ring, in which the most credits are compared with the plain program's.
-const RINGS: [(usize, u64); 8] = [
-    (1024, 16),
-    (1024, 509),
-    (1024, 516),
-    (2048, 1023),
-    (2048, 4020),
-    (4096, 2052),
-    (4096, 9999),
-    (1024, 1_048_575),
-];
-
-#[test]
-fn the_capacity_is_that_of_the_plain_program(rt: HostRuntime) -> Result<(), Fail> {
-    for (size, ring) in RINGS {
-        if (size == 1024 || size == 2048 || size == 4096) && ring >= 16 {
-            let plain = capacity(size, 4, ring as usize) as u64;
-            assert_eq!(rt;
-                Layout::capacity(size, ring),
-                plain,
-                "{ring} blocks of {size}"
-            );
-        }
-    }
-    Ok(())
-}
-
-#[test]
-fn the_smallest_log(rt: HostRuntime) -> Result<(), Fail> {
-    let script =
-        r#"{"length": 17, "ops": [["start",1,3],["start",2,2],["write",2,5,"11"],["write",2,6,"22"],
-        ["stop",2],["request",2],["commit"],["wait",2]]}"#;
-    let wanted = "\
+/// Runs, in the form of `listed`.
+const RUNS: &str = r#"-: the most credits of a transaction, at length: 17
+{"length": 17, "ops": [["start",1,3],["start",2,2]]}
+----
+start 1 3 = refused 6 TooMany
+start 2 2 = 2
+stopped at end
+super blocksize=1024 maxlen=17 first=1 sequence=1 start=0
+empty sequence=1
+open clean next=2 n=0
+verdict ok
+====
+-: the most credits of a transaction, at length: 33
+{"length": 33, "ops": [["start",1,7],["start",2,6]]}
+----
+start 1 7 = refused 6 TooMany
+start 2 6 = 2
+stopped at end
+super blocksize=1024 maxlen=33 first=1 sequence=1 start=0
+empty sequence=1
+open clean next=2 n=0
+verdict ok
+====
+-: the most credits of a transaction, at length: 1025
+{"length": 1025, "ops": [["start",1,253],["start",2,252]]}
+----
+start 1 253 = refused 6 TooMany
+start 2 252 = 2
+stopped at end
+super blocksize=1024 maxlen=1025 first=1 sequence=1 start=0
+empty sequence=1
+open clean next=2 n=0
+verdict ok
+====
+-: the most credits of a transaction, at length: 1025, block: 2048
+{"length": 1025, "block": 2048, "ops": [["start",1,254],["start",2,253]]}
+----
+start 1 254 = refused 6 TooMany
+start 2 253 = 2
+stopped at end
+super blocksize=2048 maxlen=1025 first=1 sequence=1 start=0
+empty sequence=1
+open clean next=2 n=0
+verdict ok
+====
+-: the most credits of a transaction, at length: 1025, block: 4096
+{"length": 1025, "block": 4096, "ops": [["start",1,255],["start",2,254]]}
+----
+start 1 255 = refused 6 TooMany
+start 2 254 = 2
+stopped at end
+super blocksize=4096 maxlen=1025 first=1 sequence=1 start=0
+empty sequence=1
+open clean next=2 n=0
+verdict ok
+====
+-: the most credits of a transaction, at length: 17, block: 4096
+{"length": 17, "block": 4096, "ops": [["start",1,3],["start",2,2]]}
+----
+start 1 3 = refused 6 TooMany
+start 2 2 = 2
+stopped at end
+super blocksize=4096 maxlen=17 first=1 sequence=1 start=0
+empty sequence=1
+open clean next=2 n=0
+verdict ok
+====
+-: the most credits of a transaction, at length: 4097
+{"length": 4097, "ops": [["start",1,1015],["start",2,1014]]}
+----
+start 1 1015 = refused 6 TooMany
+start 2 1014 = 2
+stopped at end
+super blocksize=1024 maxlen=4097 first=1 sequence=1 start=0
+empty sequence=1
+open clean next=2 n=0
+verdict ok
+====
+-: the smallest log
+{"length": 17, "ops": [["start",1,3],["start",2,2],["write",2,5,"11"],["write",2,6,"22"],
+        ["stop",2],["request",2],["commit"],["wait",2]]}
+----
 start 1 3 = refused 6 TooMany
 start 2 2 = 2
 write 2 5 = ok
@@ -155,31 +112,155 @@ open end=3 next=4 n=1
 home 5 1100000000000000
 home 6 2200000000000000
 verdict ok
-";
-    prints(&rt, rt.alloc(), script, None, &[], wanted)
+====
+-: as many bytes as a block has
+{"ops": [["start",1,1],["write",1,9,"<1 1024 0|Ab>"]]}
+----
+start 1 1 = 2
+write 1 9 = ok
+stopped at end
+super blocksize=1024 maxlen=33 first=1 sequence=1 start=0
+empty sequence=1
+open clean next=2 n=0
+home 9 0000000000000000
+verdict ok
+====
+-: keys at their limits: block: 2048
+{"block": 2048, "ops": [["start",1,1],["write",1,9,"<1 2048 0|Ab>"]]}
+----
+start 1 1 = 2
+write 1 9 = ok
+stopped at end
+super blocksize=2048 maxlen=33 first=1 sequence=1 start=0
+empty sequence=1
+open clean next=2 n=0
+home 9 0000000000000000
+verdict ok
+====
+-: keys at their limits: block: 4096
+{"block": 4096, "ops": [["start",1,1],["write",1,9,"<1 4096 0|Ab>"]]}
+----
+start 1 1 = 2
+write 1 9 = ok
+stopped at end
+super blocksize=4096 maxlen=33 first=1 sequence=1 start=0
+empty sequence=1
+open clean next=2 n=0
+home 9 0000000000000000
+verdict ok
+====
+-: keys at their limits: home: 1
+{"home": 1, "ops": [["start",1,1],["write",1,9,""]]}
+----
+start 1 1 = 2
+write 1 9 = refused 8 BadBlock
+stopped at end
+super blocksize=1024 maxlen=33 first=1 sequence=1 start=0
+empty sequence=1
+open clean next=2 n=0
+verdict ok
+====
+-: keys at their limits: home: 1048576
+{"home": 1048576, "ops": [["start",1,1],["write",1,9,""]]}
+----
+start 1 1 = 2
+write 1 9 = ok
+stopped at end
+super blocksize=1024 maxlen=33 first=1 sequence=1 start=0
+empty sequence=1
+open clean next=2 n=0
+home 9 0000000000000000
+verdict ok
+====
+-: keys at their limits: uuid: 00112233445566778899aabbccddeeff
+{"uuid": "00112233445566778899aabbccddeeff", "ops": [["start",1,1],["write",1,9,""]]}
+----
+start 1 1 = 2
+write 1 9 = ok
+stopped at end
+super blocksize=1024 maxlen=33 first=1 sequence=1 start=0
+empty sequence=1
+open clean next=2 n=0
+home 9 0000000000000000
+verdict ok
+====
+-: as many operations as a script may have
+{"ops": [["commit"]<2 100000 0|,["commit"]>]}
+----
+<1 100000 0|commit = 1
+>stopped at end
+super blocksize=1024 maxlen=33 first=1 sequence=1 start=0
+empty sequence=1
+open clean next=2 n=0
+verdict ok
+"#;
+
+#[test]
+fn runs_at_other_measures(rt: HostRuntime) -> Result<(), Fail> {
+    rows_hold(&rt, rt.alloc(), RUNS, "====\n", run_of)
 }
 
-/// Keys of scripts at their limits, and how many bytes a handle writes.
-const GREATEST: [(&str, usize); 6] = [
-    ("", 1024),
-    (r#""block": 2048, "#, 2048),
-    (r#""block": 4096, "#, 4096),
-    (r#""home": 1, "#, 0),
-    (r#""home": 1048576, "#, 0),
-    (r#""uuid": "00112233445566778899aabbccddeeff", "#, 0),
-];
+/// A log of 2,053 blocks of 4096 bytes.
+const LARGE: Measures = Measures {
+    block_size: 4096,
+    log_blocks: 2053,
+    home_blocks: 600,
+    uuid: [0x5c; 16],
+};
 
-/// The verdict of this script is ok.
-fn runs(rt: &impl Abort, alloc: Global, script: &str, name: &str) -> Result<(), Fail> {
-    assert!(rt; said_of(alloc, script, None, &[])?.verdict, "{name}");
-    Ok(())
+/// Its bytes of a block, and its log and home blocks; and its superblock when it was just formatted: the fields up to the UUID,
+/// the UUID, how many users it has, and zeros.
+const FORMATTED: &str = "4096 2053 600: \
+    c03b39980000000400000000000010000000080500000001\
+    000000010000000000000000000000000000000100000000\
+    5c5c5c5c5c5c5c5c5c5c5c5c5c5c5c5c\
+    00000001<1 4028 0|00>";
+
+/// The same of a disk.
+fn disk_of(alloc: Global, _: &str) -> Result<String, Fail> {
+    let mut disk = empty_disk(alloc, &LARGE, None)?;
+    let (log, home) = (disk.blocks(Area::Log), disk.blocks(Area::Home));
+    let mut all = format!(in alloc; "{} {log} {home}: ", disk.block_size())?;
+    write_hex(&mut all, &log_block(alloc, &mut disk, 0)?)?;
+    Ok(all)
 }
 
 #[test]
-fn the_greatest_scripts_run(rt: HostRuntime) -> Result<(), Fail> {
-    let alloc = rt.alloc();
-    for (keys, bytes) in GREATEST {
-        runs(&rt, alloc, &script_of_bytes(alloc, keys, bytes)?, keys)?;
+fn a_disk_is_formatted_with_its_measures(rt: HostRuntime) -> Result<(), Fail> {
+    rows_hold(&rt, rt.alloc(), FORMATTED, "\n", disk_of)
+}
+
+/// Bytes of a block, and blocks of a ring, in which the most credits are compared with the plain program's.
+const RINGS: &str = "\
+1024 16
+1024 509
+1024 516
+2048 1023
+2048 4020
+4096 2052
+4096 9999
+1024 1048575";
+
+/// The most credits at these measures are the plain program's.
+fn is_plain(size: usize, ring: u64) -> bool {
+    if (size == 1024 || size == 2048 || size == 4096) && ring >= 16 {
+        Layout::capacity(size, ring) == capacity(size, 4, ring as usize) as u64
+    } else {
+        false
     }
-    runs(&rt, alloc, &script_of_commits(alloc, 100_000)?, "commits")
+}
+
+/// These measures, or `wrong` where the most credits are not the plain program's.
+fn ring_of(alloc: Global, row: &str) -> Result<String, Fail> {
+    let numbers = numbers_of(alloc, row)?;
+    let [size, ring] = *numbers.as_slice() else {
+        return Err(Fail::new(row));
+    };
+    let is_right = is_plain(size as usize, ring);
+    Ok(String::from_str(alloc, if is_right { row } else { "wrong" })?)
+}
+
+#[test]
+fn the_capacity_is_that_of_the_plain_program(rt: HostRuntime) -> Result<(), Fail> {
+    rows_hold(&rt, rt.alloc(), RINGS, "\n", ring_of)
 }

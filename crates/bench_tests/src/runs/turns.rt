@@ -1,17 +1,19 @@
 //! Turns one by one, and a stop at each write of three transactions with each set of kept writes.
-use super::{prints, said_of};
+use super::listed::run_of;
+use super::said_of;
 use crate::kept;
+use crate::tables::rows_hold;
+use std::alloc::Global;
 use std::str::from_utf8;
 use std::test::Fail;
 
 /// A turn seals a transaction once its last handle has stopped, and each later one makes a device call. What a refused
 /// start had reserved is free again: the second one is refused for the same cause.
-#[test]
-fn a_turn_tells_what_it_did(rt: HostRuntime) -> Result<(), Fail> {
-    let script = r#"{"ops": [
+const TURNS: &str = r#"-: a turn tells what it did
+{"ops": [
     ["turn"],["start",1,1],["start",2,1],["stop",1],["request",1],["turn"],["start",3,4],["start",4,4],
-    ["stop",2],["turn"],["turn"],["turn"],["turn"],["turn"],["turn"],["turn"],["status",1]]}"#;
-    let wanted = "\
+    ["stop",2],["turn"],["turn"],["turn"],["turn"],["turn"],["turn"],["turn"],["status",1]]}
+----
 turn = idle
 start 1 1 = 2
 start 2 1 = 2
@@ -35,8 +37,11 @@ super blocksize=1024 maxlen=33 first=1 sequence=2 start=1
 end sequence=3 transactions=1
 open end=3 next=4 n=1
 verdict ok
-";
-    prints(&rt, rt.alloc(), script, None, &[], wanted)
+"#;
+
+#[test]
+fn a_turn_tells_what_it_did(rt: HostRuntime) -> Result<(), Fail> {
+    rows_hold(&rt, rt.alloc(), TURNS, "====\n", run_of)
 }
 
 /// Transactions 2 to 4, which make twelve writes.
@@ -53,15 +58,30 @@ const ENDINGS: [&str; 4] = [
     " n=3\nhome 9 3300000000000000\nhome 10 5500000000000000\nhome 20 4400000000000000\nverdict ok\n",
 ];
 
-#[test]
-fn a_stop_at_any_write_keeps_whole_transactions(rt: HostRuntime) -> Result<(), Fail> {
-    for k in 1..14u64 {
-        for bits in 0..16u64 {
-            let said = said_of(rt.alloc(), THREE, Some(k), &kept(k, bits))?;
-            let out = from_utf8(&said.out)?;
-            let ends_right = ENDINGS.iter().any(|ending| out.ends_with(*ending));
-            assert!(&rt; ends_right, "stopped at {k}, kept {bits}");
+/// A run of them that stops at write `k` and keeps the writes of these bits ends in one of these ways.
+fn ends_right(alloc: Global, k: u64, bits: u64) -> Result<bool, Fail> {
+    let said = said_of(alloc, THREE, Some(k), &kept(k, bits))?;
+    let out = from_utf8(&said.out)?;
+    for ending in ENDINGS {
+        if out.ends_with(ending) {
+            return Ok(true);
         }
     }
-    Ok(())
+    Ok(false)
+}
+
+/// The number of the write at which a run stops, and with it the bits of writes whose keeping makes it end in no such way.
+fn stop_of(alloc: Global, row: &str) -> Result<String, Fail> {
+    let k = row.parse::<u64>()?;
+    for bits in 0..16u64 {
+        if !ends_right(alloc, k, bits)? {
+            return Ok(format!(in alloc; "{row}, kept {bits}")?);
+        }
+    }
+    Ok(String::from_str(alloc, row)?)
+}
+
+#[test]
+fn a_stop_at_any_write_keeps_whole_transactions(rt: HostRuntime) -> Result<(), Fail> {
+    rows_hold(&rt, rt.alloc(), "<1 12 0|# >13", " ", stop_of)
 }

@@ -1,5 +1,6 @@
 //! Runs of a few operations, each from its script to its verdict.
-use super::listed::first_wrong;
+use super::listed::run_of;
+use crate::tables::rows_hold;
 use std::test::Fail;
 
 /// Runs, in the form of `listed`.
@@ -248,6 +249,5 @@ verdict ok
 
 #[test]
 fn whole_runs(rt: HostRuntime) -> Result<(), Fail> {
-    assert_eq!(rt; first_wrong(rt.alloc(), RUNS)?, None);
-    Ok(())
+    rows_hold(&rt, rt.alloc(), RUNS, "====\n", run_of)
 }

@@ -1,117 +1,107 @@
 //! Texts that are no script, and how long one may be.
-use super::{error_of, is_bad, is_good, script_of_bytes, script_of_commits};
+use super::{answer_of, error_of};
+use crate::tables::rows_hold;
 use bench_script::ScriptError;
 use std::test::Fail;
 
 /// Texts that are no script.
-const NO_SCRIPTS: [&str; 11] = [
-    "",
-    "[]",
-    "{}",
-    "ops",
-    r#"{"ops": []"#,
-    r#"{"ops": []} x"#,
-    r#"{"ops": {}}"#,
-    r#"{"ops": null}"#,
-    r#"{"Ops": []}"#,
-    r#"{"ops": [], "seed": 1}"#,
-    r#"{"block": 1024, "length": 33, "home": 64}"#,
-];
+const NO_SCRIPTS: &str = r#"no script|
+no script|[]
+no script|{}
+no script|ops
+no script|{"ops": []
+no script|{"ops": []} x
+no script|{"ops": {}}
+no script|{"ops": null}
+no script|{"Ops": []}
+no script|{"ops": [], "seed": 1}
+no script|{"block": 1024, "length": 33, "home": 64}"#;
 
 /// Operations that make a script bad by their form.
-const BAD_FORMS: [&str; 34] = [
-    "1",
-    r#""commit""#,
-    "{}",
-    "[]",
-    "[1]",
-    r#"["begin"]"#,
-    r#"["Commit"]"#,
-    r#"["commit",1]"#,
-    r#"["start",1]"#,
-    r#"["start",1,1,1]"#,
-    r#"["start",10000,1]"#,
-    r#"["start",18446744073709551616,1]"#,
-    r#"["start",-1,1]"#,
-    r#"["start",1,-1]"#,
-    r#"["start",1,1.0]"#,
-    r#"["start",1,1e0]"#,
-    r#"["start",1.0,1]"#,
-    r#"["start",true,1]"#,
-    r#"["start","1",1]"#,
-    r#"["start",1,"1"]"#,
-    r#"["start",1,null]"#,
-    r#"["start",1,[1]]"#,
-    r#"["start",1,18446744073709551616]"#,
-    r#"["stop"]"#,
-    r#"["revoke",1,9]"#,
-    r#"["read",1]"#,
-    r#"["extend",1,1]"#,
-    r#"["restart",1,1]"#,
-    r#"["lock"]"#,
-    r#"["turn",1]"#,
-    r#"["ckturn",1]"#,
-    r#"["check",1]"#,
-    r#"["direct",9,"11"]"#,
-    r#"["sync"]"#,
-];
+const BAD_FORMS: &str = r#"no script|{"ops": [["commit"],1]}
+no script|{"ops": [["commit"],"commit"]}
+no script|{"ops": [["commit"],{}]}
+no script|{"ops": [["commit"],[]]}
+no script|{"ops": [["commit"],[1]]}
+no script|{"ops": [["commit"],["begin"]]}
+no script|{"ops": [["commit"],["Commit"]]}
+no script|{"ops": [["commit"],["commit",1]]}
+no script|{"ops": [["commit"],["start",1]]}
+no script|{"ops": [["commit"],["start",1,1,1]]}
+no script|{"ops": [["commit"],["start",10000,1]]}
+no script|{"ops": [["commit"],["start",18446744073709551616,1]]}
+no script|{"ops": [["commit"],["start",-1,1]]}
+no script|{"ops": [["commit"],["start",1,-1]]}
+no script|{"ops": [["commit"],["start",1,1.0]]}
+no script|{"ops": [["commit"],["start",1,1e0]]}
+no script|{"ops": [["commit"],["start",1.0,1]]}
+no script|{"ops": [["commit"],["start",true,1]]}
+no script|{"ops": [["commit"],["start","1",1]]}
+no script|{"ops": [["commit"],["start",1,"1"]]}
+no script|{"ops": [["commit"],["start",1,null]]}
+no script|{"ops": [["commit"],["start",1,[1]]]}
+no script|{"ops": [["commit"],["start",1,18446744073709551616]]}
+no script|{"ops": [["commit"],["stop"]]}
+no script|{"ops": [["commit"],["revoke",1,9]]}
+no script|{"ops": [["commit"],["read",1]]}
+no script|{"ops": [["commit"],["extend",1,1]]}
+no script|{"ops": [["commit"],["restart",1,1]]}
+no script|{"ops": [["commit"],["lock"]]}
+no script|{"ops": [["commit"],["turn",1]]}
+no script|{"ops": [["commit"],["ckturn",1]]}
+no script|{"ops": [["commit"],["check",1]]}
+no script|{"ops": [["commit"],["direct",9,"11"]]}
+no script|{"ops": [["commit"],["sync"]]}"#;
 
-/// What stands behind `["start",1,1]` and makes the script bad: bad bytes, and handles in the wrong state.
-const BAD_BEHIND_A_START: [&str; 19] = [
-    r#"["write",1,9]"#,
-    r#"["write",1,9,"1"]"#,
-    r#"["write",1,9,"1g"]"#,
-    r#"["write",1,9," 11"]"#,
-    r#"["write",1,9,"é"]"#,
-    r#"["write",1,9,17]"#,
-    r#"["write",1,"9","11"]"#,
-    r#"["write",1,9,"11",1]"#,
-    r#"["write",2,9,"11"]"#,
-    r#"["read",1,9,9]"#,
-    r#"["read",2,9]"#,
-    r#"["stop",1],["read",1,9]"#,
-    r#"["start",1,1]"#,
-    r#"["request",1]"#,
-    r#"["status",1]"#,
-    r#"["wait",1]"#,
-    r#"["stop",2]"#,
-    r#"["stop",1],["stop",1]"#,
-    r#"["stop",1],["write",1,9,"11"]"#,
-];
+/// Scripts that are bad by what stands behind a start: bad bytes, and handles in the wrong state.
+const BAD_BEHIND_A_START: &str = r#"no script|{"ops": [["start",1,1],["write",1,9]]}
+no script|{"ops": [["start",1,1],["write",1,9,"1"]]}
+no script|{"ops": [["start",1,1],["write",1,9,"1g"]]}
+no script|{"ops": [["start",1,1],["write",1,9," 11"]]}
+no script|{"ops": [["start",1,1],["write",1,9,"é"]]}
+no script|{"ops": [["start",1,1],["write",1,9,17]]}
+no script|{"ops": [["start",1,1],["write",1,"9","11"]]}
+no script|{"ops": [["start",1,1],["write",1,9,"11",1]]}
+no script|{"ops": [["start",1,1],["write",2,9,"11"]]}
+no script|{"ops": [["start",1,1],["read",1,9,9]]}
+no script|{"ops": [["start",1,1],["read",2,9]]}
+no script|{"ops": [["start",1,1],["stop",1],["read",1,9]]}
+no script|{"ops": [["start",1,1],["start",1,1]]}
+no script|{"ops": [["start",1,1],["request",1]]}
+no script|{"ops": [["start",1,1],["status",1]]}
+no script|{"ops": [["start",1,1],["wait",1]]}
+no script|{"ops": [["start",1,1],["stop",2]]}
+no script|{"ops": [["start",1,1],["stop",1],["stop",1]]}
+no script|{"ops": [["start",1,1],["stop",1],["write",1,9,"11"]]}"#;
+
+/// The greatest scripts, and greater ones.
+const GREATEST: &str = r#"no script|{"ops": [["start",1,1],["write",1,9,"<1 1025 0|Ab>"]]}
+no script|{"ops": [["commit"]<2 100001 0|,["commit"]>]}
+script|{"ops": [["start",1,1],["write",1,9,"<1 1024 0|Ab>"]]}
+script|{"ops": [["commit"]<2 100000 0|,["commit"]>]}"#;
 
 #[test]
 fn texts_that_are_no_script(rt: HostRuntime) -> Result<(), Fail> {
-    for script in NO_SCRIPTS {
-        is_bad(&rt, rt.alloc(), script)?;
-    }
+    rows_hold(&rt, rt.alloc(), NO_SCRIPTS, "\n", answer_of)
+}
+
+#[test]
+fn bytes_that_are_no_text(rt: HostRuntime) {
     let no_text = b"{\"ops\": [\"\xff\"]}".as_slice();
     assert_eq!(rt; error_of(rt.alloc(), no_text), Some(ScriptError::BadScript));
-    Ok(())
 }
 
 #[test]
 fn operations_of_another_form(rt: HostRuntime) -> Result<(), Fail> {
-    for operation in BAD_FORMS {
-        let script = format!(in rt.alloc(); r#"{{"ops": [["commit"],{operation}]}}"#)?;
-        is_bad(&rt, rt.alloc(), &script)?;
-    }
-    Ok(())
+    rows_hold(&rt, rt.alloc(), BAD_FORMS, "\n", answer_of)
 }
 
 #[test]
 fn bad_bytes_and_handles_in_the_wrong_state(rt: HostRuntime) -> Result<(), Fail> {
-    for operations in BAD_BEHIND_A_START {
-        let script = format!(in rt.alloc(); r#"{{"ops": [["start",1,1],{operations}]}}"#)?;
-        is_bad(&rt, rt.alloc(), &script)?;
-    }
-    Ok(())
+    rows_hold(&rt, rt.alloc(), BAD_BEHIND_A_START, "\n", answer_of)
 }
 
 #[test]
 fn the_greatest_scripts(rt: HostRuntime) -> Result<(), Fail> {
-    let alloc = rt.alloc();
-    is_bad(&rt, alloc, &script_of_bytes(alloc, "", 1025)?)?;
-    is_bad(&rt, alloc, &script_of_commits(alloc, 100_001)?)?;
-    is_good(&rt, alloc, &script_of_bytes(alloc, "", 1024)?)?;
-    is_good(&rt, alloc, &script_of_commits(alloc, 100_000)?)
+    rows_hold(&rt, rt.alloc(), GREATEST, "\n", answer_of)
 }
