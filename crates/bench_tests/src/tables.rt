@@ -48,8 +48,13 @@ fn write_repetition(all: &mut String, alloc: Global, repetition: &str) -> Result
     let [first, last, more] = *numbers.as_slice() else {
         return Err(Fail::new(repetition));
     };
+    let is_same = !text.contains('#') && !text.contains('@') && !text.contains('$');
     for number in first..=last {
-        write_numbered(all, text, number, number.saturating_add(more))?;
+        if is_same {
+            all.push_str(text)?;
+        } else {
+            write_numbered(all, text, number, number.saturating_add(more))?;
+        }
     }
     Ok(())
 }

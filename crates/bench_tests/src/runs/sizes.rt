@@ -8,7 +8,7 @@ use block_device::Device;
 use journal_model::Area;
 use journal_plain::room::capacity;
 use log_ring::Layout;
-use std::alloc::Global;
+use std::alloc::{AllocError, Global};
 use std::test::Fail;
 
 /// Runs, in the form of `listed`.
@@ -216,11 +216,16 @@ const FORMATTED: &str = "4096 2053 600: \
     5c5c5c5c5c5c5c5c5c5c5c5c5c5c5c5c\
     00000001<1 4028 0|00>";
 
-/// The same of a disk.
+/// A device's bytes of a block, and its log and home blocks.
+fn measures_of<D: Device>(alloc: Global, disk: &D) -> Result<String, AllocError> {
+    let (log, home) = (disk.blocks(Area::Log), disk.blocks(Area::Home));
+    format!(in alloc; "{} {log} {home}: ", disk.block_size())
+}
+
+/// The same of a disk that was just formatted.
 fn disk_of(alloc: Global, _: &str) -> Result<String, Fail> {
     let mut disk = empty_disk(alloc, &LARGE, None)?;
-    let (log, home) = (disk.blocks(Area::Log), disk.blocks(Area::Home));
-    let mut all = format!(in alloc; "{} {log} {home}: ", disk.block_size())?;
+    let mut all = measures_of(alloc, &disk)?;
     write_hex(&mut all, &log_block(alloc, &mut disk, 0)?)?;
     Ok(all)
 }

@@ -1,5 +1,4 @@
 //! Verdicts on devices and records that are made by hand, where a run never leaves them so.
-use crate::tables::{cut, numbers_of, rows_hold};
 use bench_run::Record;
 use block_device::{Device, MemDevice};
 use journal_model::{Area, Block, BlockNo, HandleNo, Items, Op, Sealed, Step, Tid};
@@ -24,35 +23,35 @@ fn transaction(alloc: Global, tid: u32, byte: u8) -> Result<Sealed, AllocError> 
     })
 }
 
-/// The greatest transaction that was shown committed, or 0, the end that an opening found, and what block 3 and block 4 then read;
-/// and behind the bar how many recorded transactions are below that end, and the verdict.
-const VERDICTS: &str = "\
-the transactions are there, and the blocks are as they left them: 0 2 0 0 | 0 true
-the transactions are there, and the blocks are as they left them: 0 3 7 0 | 1 true
-the transactions are there, and the blocks are as they left them: 0 4 8 0 | 2 true
-the transactions are there, and the blocks are as they left them: 2 3 7 0 | 1 true
-the transactions are there, and the blocks are as they left them: 3 4 8 0 | 2 true
-the transactions are there, and the blocks are as they left them: 3 9 8 0 | 2 true
-an acknowledged transaction is lost: 2 2 0 0 | 0 false
-an acknowledged transaction is lost: 3 3 7 0 | 1 false
-a block is not as they left it: 0 3 8 0 | 1 false
-a block is not as they left it: 0 4 7 0 | 2 false
-a block is not as they left it: 0 4 0 0 | 2 false
-a block is not as they left it: 0 2 7 0 | 0 false
-a block that none of them touched is not zeros: 0 4 8 1 | 2 false";
+/// The greatest transaction that was shown committed, the end that an opening found, what block 3 and block 4 then read, how
+/// many recorded transactions are below that end, and the verdict.
+const VERDICTS: [(Option<u32>, u64, u8, u8, usize, bool); 13] = [
+    (None, 2, 0, 0, 0, true),
+    (None, 3, 7, 0, 1, true),
+    (None, 4, 8, 0, 2, true),
+    (Some(2), 3, 7, 0, 1, true),
+    (Some(3), 4, 8, 0, 2, true),
+    (Some(3), 9, 8, 0, 2, true),
+    // An acknowledged transaction is lost.
+    (Some(2), 2, 0, 0, 0, false),
+    (Some(3), 3, 7, 0, 1, false),
+    // A block is not as they left it.
+    (None, 3, 8, 0, 1, false),
+    (None, 4, 7, 0, 2, false),
+    (None, 4, 0, 0, 2, false),
+    (None, 2, 7, 0, 0, false),
+    // A block that none of them touched is not zeros.
+    (None, 4, 8, 1, 2, false),
+];
 
 /// A record of transactions 2 and 3, in which block 3 becomes 7 and then 8.
-fn two_transactions(alloc: Global, acknowledged: u32) -> Result<Record, AllocError> {
+fn two_transactions(alloc: Global, acknowledged: Option<u32>) -> Result<Record, AllocError> {
     let mut sealed = Vec::new(alloc);
     sealed.push(transaction(alloc, 2, 7)?)?;
     sealed.push(transaction(alloc, 3, 8)?)?;
     Ok(Record {
         sealed,
-        acknowledged: if acknowledged > 0 {
-            Some(Tid(acknowledged))
-        } else {
-            None
-        },
+        acknowledged: acknowledged.map(|tid| Tid(tid)),
     })
 }
 
@@ -72,22 +71,26 @@ fn both(alloc: Global) -> Result<BTreeSet<u64>, AllocError> {
     Ok(named)
 }
 
-/// This record and these blocks with the verdict on them.
-fn verdict_of(alloc: Global, row: &str) -> Result<String, Fail> {
-    let (asked, _) = cut(row, " | ")?;
-    let (_, line) = cut(asked, ": ")?;
-    let numbers = numbers_of(alloc, line)?;
-    let [acknowledged, end, third, fourth] = *numbers.as_slice() else {
-        return Err(Fail::new(row));
-    };
-    let record = two_transactions(alloc, u32::try_from(acknowledged)?)?;
-    let mut device = two_blocks(alloc, u8::try_from(third)?, u8::try_from(fourth)?)?;
-    let n = record.count_below(end);
-    let verdict = record.judge(alloc, &mut device, &both(alloc)?, n)?;
-    Ok(format!(in alloc; "{asked} | {n} {verdict}")?)
+/// How many of the transactions of this record are below the end, and the verdict on these blocks for `n` of them.
+fn judged(
+    alloc: Global,
+    record: &Record,
+    end: u64,
+    device: &mut MemDevice,
+    n: usize,
+) -> Result<(usize, bool), Fail> {
+    let verdict = record.judge(alloc, device, &both(alloc)?, n)?;
+    Ok((record.count_below(end), verdict))
 }
 
 #[test]
 fn a_verdict_can_be_false(rt: HostRuntime) -> Result<(), Fail> {
-    rows_hold(&rt, rt.alloc(), VERDICTS, "\n", verdict_of)
+    for (i, row) in VERDICTS.iter().enumerate() {
+        let (acknowledged, end, third, fourth, n, verdict) = *row;
+        let record = two_transactions(rt.alloc(), acknowledged)?;
+        let mut device = two_blocks(rt.alloc(), third, fourth)?;
+        let found = judged(rt.alloc(), &record, end, &mut device, n)?;
+        assert_eq!(rt; found, (n, verdict), "row {i}");
+    }
+    Ok(())
 }
