@@ -2,6 +2,8 @@
 //! tests, and `keeping`, which chooses the writes that a stopped device keeps in them.
 #![tactic(auto)]
 
+#[cfg(test)]
+mod commands;
 mod keeping;
 #[cfg(test)]
 mod runs;

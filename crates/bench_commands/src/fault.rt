@@ -28,7 +28,7 @@ impl From<Status> for ExitCode {
 
 /// Why a command can't go on.
 #[derive(Debug, Drop)]
-pub enum Fault {
+pub(crate) enum Fault {
     /// A file can't be opened or read.
     File,
     /// The script is no script.
@@ -41,7 +41,7 @@ pub enum Fault {
 
 impl Fault {
     /// Why a file can't be opened or read.
-    pub fn of_file(e: io::Error) -> Fault {
+    pub(crate) fn of_file(e: io::Error) -> Fault {
         match e.kind() {
             ErrorKind::OutOfMemory => Fault::Refused(JournalError::Memory),
             _ => Fault::File,
@@ -84,11 +84,32 @@ impl From<log_dump::Fault> for Fault {
 
 /// Writes the line that says why a command can't go on. `path` names its file. Of output that can't be written there is
 /// nothing to say.
-pub fn report(err: &mut impl Write, path: &str, fault: &Fault) -> io::Result<()> {
+///
+/// # Errors
+///
+/// The line can't be written.
+pub(crate) fn report(err: &mut impl Write, path: &str, fault: &Fault) -> io::Result<()> {
     match fault {
         Fault::File => writeln!(err, "jbench: file {path}"),
         Fault::BadScript => writeln!(err, "jbench: bad script"),
         Fault::Refused(e) => writeln!(err, "jbench: refusal {} {e}", e.number()),
         Fault::Output(_) => Ok(()),
     }
+}
+
+/// Says that the file of this path can't be opened, or that memory ran out.
+///
+/// # Errors
+///
+/// The line can't be written.
+pub fn refuse_file(err: &mut impl Write, path: &str, e: io::Error) -> io::Result<Status> {
+    report(err, path, &Fault::of_file(e))?;
+    Ok(Status::Refused)
+}
+
+/// Says why the program can't go on that failed so, where it is for want of memory. Where its own output can't be written,
+/// there is nobody to tell.
+pub fn refuse_rest(err: &mut impl Write, e: io::Error) -> Status {
+    let _ = report(err, "", &Fault::from(e));
+    Status::Refused
 }

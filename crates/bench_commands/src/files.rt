@@ -1,29 +1,37 @@
-//! Opens the files of logs.
+//! Opens the files of logs, and says which files may be one.
 ghost use Rattle.std.specs.Prelude.{IfOk};
 ghost use Rattle.log_format.specs.Size.{IsBlockSize};
 
 use bench_script::{Measures, is_block_size};
 use file_device::{FileDevice, UnknownContents};
-use std::fs::{File, OpenOptions};
+use std::fs::{File, Files, OpenOptions};
 use std::io::ErrorKind;
 use std::os::unix::fs::{FileExt, MetadataExt};
 use std::{fs, io};
 
-/// A device over files that may hold anything.
-pub type Files = FileDevice<UnknownContents>;
+/// A device over the files of a log, which may hold anything.
+pub type LogFiles = FileDevice<UnknownContents>;
 
 /// Where the superblock says how many bytes a block has.
 const BLOCK_SIZE_PLACE: u64 = 0x0c;
 
 /// Opens a log to be read. A block has as many bytes as its superblock says, where a block may have so many, else 1024.
-pub fn open_log(rt: &HostRuntime, path: &str) -> io::Result<Files> {
+///
+/// # Errors
+///
+/// There is no regular file of this path, or it can't be read.
+pub fn open_log<R: Files<File = File>>(rt: &R, path: &str) -> io::Result<LogFiles> {
     let log = fs::open(rt, path)?;
     check_file(&log)?;
     FileDevice::new(UnknownContents, block_size_of(&log)?, log, None)
 }
 
 /// Opens a file to be written, and makes it where there is none. What it holds stays.
-pub fn open_or_make(rt: &HostRuntime, path: &str) -> io::Result<File> {
+///
+/// # Errors
+///
+/// What has this path is no regular file, or can't be written, or nothing can be made there.
+pub fn open_or_make<R: Files<File = File>>(rt: &R, path: &str) -> io::Result<File> {
     let file = OpenOptions::new()
         .read(true)
         .write(true)
@@ -33,8 +41,13 @@ pub fn open_or_make(rt: &HostRuntime, path: &str) -> io::Result<File> {
     Ok(file)
 }
 
-/// Opens the file of a home area to be written, which is not that of its log, and makes it where there is none.
-pub fn open_home(rt: &HostRuntime, path: &str, log: &File) -> io::Result<File> {
+/// Opens the file of a home area to be written, which is not that of its log, and makes it where there is none. What it holds
+/// stays.
+///
+/// # Errors
+///
+/// Those of `open_or_make`; the file is that of the log.
+pub fn open_home<R: Files<File = File>>(rt: &R, path: &str, log: &File) -> io::Result<File> {
     let home = open_or_make(rt, path)?;
     if are_one(log, &home)? {
         return Err(io::Error::from(ErrorKind::InvalidInput));
@@ -50,7 +63,12 @@ fn are_one(log: &File, home: &File) -> io::Result<bool> {
 }
 
 /// Makes the files as long as these measures say, all zeros, and a device of them.
-pub fn make_device(measures: &Measures, log: File, home: File) -> io::Result<Files> {
+///
+/// # Errors
+///
+/// A block can't have so many bytes, and both files are as they were; or a file can't be made so long, and what both held may
+/// be lost.
+pub fn make_device(measures: &Measures, log: File, home: File) -> io::Result<LogFiles> {
     let size = measures.block_size as u64;
     if !is_block_size(size) {
         return Err(io::Error::from(ErrorKind::InvalidInput));

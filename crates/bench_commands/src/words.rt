@@ -2,11 +2,15 @@
 ghost use Rattle.std.specs.Prelude.{◌≡◌, ◌≤◌, IfOk, IfSome};
 ghost use Rattle.bench_script.specs.Measures.{AreLimited};
 
+use crate::fault::{self, Fault, Status};
 use bench_script::{DEFAULTS, HOMES, LENGTHS, Measures, is_block_size, limited, uuid_of};
 use clap::error::ErrorKind;
 use clap::{Arg, ArgMatches, Command, Error};
+use journal_model::JournalError;
 use std::alloc::{AllocError, Global};
 use std::convert::AsStr;
+use std::io;
+use std::io::Write;
 
 /// What the program does, in a line.
 const ABOUT: &str =
@@ -386,6 +390,19 @@ fn words_of<'a>(alloc: Global, matches: &ArgMatches<'a>) -> Result<Words<'a>, Wa
     Ok(Words::Dump(dump.get_str("log").unwrap_or("")))
 }
 
+/// Reads the words of this program.
+fn parse_as<'a, S: AsStr>(
+    alloc: Global,
+    program: &mut Command<'a>,
+    words: &'a [S],
+) -> Result<Words<'a>, Error> {
+    let matches = program.try_get_matches_from_mut(words)?;
+    match words_of(alloc, &matches) {
+        Ok(words) => Ok(words),
+        Err(wanted) => Err(fault_of(program, wanted)?),
+    }
+}
+
 /// Reads the words, the first of which is the program's own name.
 ///
 /// # Errors
@@ -393,9 +410,25 @@ fn words_of<'a>(alloc: Global, matches: &ArgMatches<'a>) -> Result<Words<'a>, Wa
 /// The fault of the words as `clap` words it; a request for help; memory ran out.
 pub fn parse<'a, S: AsStr>(alloc: Global, words: &'a [S]) -> Result<Words<'a>, Error> {
     let mut program = program(alloc)?;
-    let matches = program.try_get_matches_from_mut(words)?;
-    match words_of(alloc, &matches) {
-        Ok(words) => Ok(words),
-        Err(wanted) => Err(fault_of(&mut program, wanted)?),
+    parse_as(alloc, &mut program, words)
+}
+
+/// Writes what the words are answered where they tell nothing to do: help to `out`, which is no refusal, or else what is wrong
+/// with them to `err`.
+///
+/// # Errors
+///
+/// The answer can't be written.
+pub fn answer(e: &Error, out: &mut impl Write, err: &mut impl Write) -> io::Result<Status> {
+    if e.kind() == ErrorKind::OutOfMemory {
+        fault::report(err, "", &Fault::Refused(JournalError::Memory))?;
+        return Ok(Status::Refused);
+    }
+    if e.use_stderr() {
+        write!(err, "{e}")?;
+        Ok(Status::Refused)
+    } else {
+        write!(out, "{e}")?;
+        Ok(Status::Fine)
     }
 }

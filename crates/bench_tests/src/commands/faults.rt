@@ -1,0 +1,73 @@
+//! Readers and writers that fail.
+use super::{ONE_WRITE, said_of};
+use bench_commands::run::run;
+use bench_commands::words::RunWords;
+use std::alloc::Global;
+use std::io;
+use std::io::{ErrorKind, Read, Write};
+use std::test::Fail;
+
+/// A reader that fails.
+#[derive(Drop)]
+struct BrokenReader;
+
+impl Read for BrokenReader {
+    fn read(&mut self, _buf: &mut [u8]) -> io::Result<usize> {
+        Err(io::Error::from(ErrorKind::Other))
+    }
+}
+
+/// A writer that fails behind so many calls.
+#[derive(Drop)]
+struct BrokenWriter {
+    calls: u32,
+}
+
+impl Write for BrokenWriter {
+    fn write(&mut self, buf: &[u8]) -> io::Result<usize> {
+        if self.calls == 0 {
+            return Err(io::Error::from(ErrorKind::BrokenPipe));
+        }
+        self.calls -= 1;
+        Ok(buf.len().min(7))
+    }
+
+    fn flush(&mut self) -> io::Result<()> {
+        Ok(())
+    }
+}
+
+#[test]
+fn a_script_that_cannot_be_read(rt: HostRuntime) -> Result<(), Fail> {
+    let said = said_of(rt.alloc(), BrokenReader, None, Vec::new(rt.alloc()))?;
+    assert_eq!(rt; said.as_str(), "| jbench: file a.json\nRefused");
+    Ok(())
+}
+
+/// Whether a run whose output breaks behind so many calls fails, and says nothing of it.
+fn is_broken(alloc: Global, calls: u32) -> bool {
+    let words = RunWords {
+        script: "a.json",
+        stop: None,
+        keep: Vec::new(alloc),
+    };
+    let mut err = Vec::new(alloc);
+    let writer = BrokenWriter { calls };
+    let answer = run(alloc, &words, ONE_WRITE.as_bytes(), writer, &mut err);
+    answer.is_err() && err.is_empty()
+}
+
+/// The first number of calls up to nine behind which it is otherwise.
+fn first_whole(alloc: Global) -> Option<u32> {
+    for calls in 0..10 {
+        if !is_broken(alloc, calls) {
+            return Some(calls);
+        }
+    }
+    None
+}
+
+#[test]
+fn output_that_cannot_be_written(rt: HostRuntime) {
+    assert_eq!(rt; first_whole(rt.alloc()), None);
+}

@@ -1,0 +1,168 @@
+//! The commands `format` and `dump`, over devices and over files.
+use super::text_of;
+use bench_commands::files::{make_device, open_home, open_log, open_or_make};
+use bench_commands::logs::{dump, format};
+use bench_script::{DEFAULTS, Measures};
+use block_device::{Device, MemDevice};
+use std::alloc::Global;
+use std::fs;
+use std::test::Fail;
+
+/// What `dump` says of the log in this file.
+fn dump_of(rt: &HostRuntime, log: &str) -> Result<String, Fail> {
+    let device = open_log(rt, log)?;
+    let mut out = Vec::new(rt.alloc());
+    let mut err = Vec::new(rt.alloc());
+    let status = dump(rt.alloc(), "a.log", device, &mut out, &mut err)?;
+    text_of(rt.alloc(), &out, &err, status)
+}
+
+/// What `format` says of an empty log on this device.
+fn format_of<D: Device + Drop>(
+    alloc: Global,
+    measures: &Measures,
+    device: D,
+) -> Result<String, Fail> {
+    let mut out = Vec::new(alloc);
+    let mut err = Vec::new(alloc);
+    let status = format("a.log", measures, device, &mut out, &mut err)?;
+    text_of(alloc, &out, &err, status)
+}
+
+/// Makes an empty log of the files `empty_log` and `empty_home`. The answer is what `format` says of it.
+fn make(rt: &HostRuntime, measures: &Measures) -> Result<String, Fail> {
+    let log = open_or_make(rt, "empty_log")?;
+    let home = open_home(rt, "empty_home", &log)?;
+    let device = make_device(measures, log, home)?;
+    format_of(rt.alloc(), measures, device)
+}
+
+/// How many bytes both files have, and how many of those of the home area are not zero.
+fn lengths(rt: &HostRuntime) -> Result<(usize, usize, usize), Fail> {
+    let log = fs::read(rt, "empty_log")?;
+    let home = fs::read(rt, "empty_home")?;
+    let others = home.iter().filter(|byte| **byte != 0).count();
+    Ok((log.len(), home.len(), others))
+}
+
+/// Makes such a log. The answer is what `format` and then `dump` say of it, and the lengths of its files.
+fn made(rt: &HostRuntime, measures: &Measures) -> Result<String, Fail> {
+    let formatted = make(rt, measures)?;
+    let dumped = dump_of(rt, "empty_log")?;
+    let lengths = lengths(rt)?;
+    Ok(format!(in rt.alloc(); "{formatted}\n{dumped}\n{lengths:?}")?)
+}
+
+/// Makes such a log of files that are longer than most, and hold no zeros.
+fn made_of_longer(rt: &HostRuntime, measures: &Measures) -> Result<String, Fail> {
+    let longer = vec![in rt.alloc(); 7; 100_000]?;
+    fs::write(rt, "empty_log", &longer)?;
+    fs::write(rt, "empty_home", &longer)?;
+    made(rt, measures)
+}
+
+/// What is said of a log of the default measures.
+const DEFAULT_LOG: &str = "\
+formatted 33 blocks of 1024
+| Fine
+super blocksize=1024 maxlen=33 first=1 sequence=1 start=0
+empty sequence=1
+| Fine
+(33792, 65536, 0)";
+
+/// Measures of larger blocks, with the shortest log and home.
+const SHORTEST: Measures = Measures {
+    block_size: 4096,
+    log_blocks: 17,
+    home_blocks: 1,
+    uuid: [0x5c; 16],
+};
+
+/// What is said of a log of these measures.
+const SHORTEST_LOG: &str = "\
+formatted 17 blocks of 4096
+| Fine
+super blocksize=4096 maxlen=17 first=1 sequence=1 start=0
+empty sequence=1
+| Fine
+(69632, 4096, 0)";
+
+#[test]
+fn logs_in_new_files_and_in_longer_ones(rt: HostRuntime) -> Result<(), Fail> {
+    assert_eq!(rt; made(&rt, &DEFAULTS)?.as_str(), DEFAULT_LOG);
+    assert_eq!(rt; made_of_longer(&rt, &DEFAULTS)?.as_str(), DEFAULT_LOG);
+    assert_eq!(rt; made(&rt, &SHORTEST)?.as_str(), SHORTEST_LOG);
+    assert_eq!(rt; made_of_longer(&rt, &SHORTEST)?.as_str(), SHORTEST_LOG);
+    fs::remove_file(&rt, "empty_log")?;
+    fs::remove_file(&rt, "empty_home")?;
+    Ok(())
+}
+
+/// Which are refused: a folder as a log to be read and to be made, a file that is missing, and one file under both names.
+fn are_refused(rt: &HostRuntime) -> Result<[bool; 4], Fail> {
+    let log = open_or_make(rt, "refused/log")?;
+    Ok([
+        open_log(rt, "refused").is_err(),
+        open_or_make(rt, "refused").is_err(),
+        open_log(rt, "refused/missing").is_err(),
+        open_home(rt, "refused/log", &log).is_err(),
+    ])
+}
+
+#[test]
+fn paths_that_are_refused(rt: HostRuntime) -> Result<(), Fail> {
+    let _ = fs::remove_dir_all(&rt, "refused");
+    fs::create_dir(&rt, "refused")?;
+    assert_eq!(rt; are_refused(&rt)?, [true; 4]);
+    fs::remove_dir_all(&rt, "refused")?;
+    Ok(())
+}
+
+/// How long a file is that holds no log, all zeros but the byte that tells of blocks of 4096 bytes, and what its dump says.
+const NO_LOGS: &str = "\
+0 jbench: refusal 16 BadLength
+1500 jbench: refusal 16 BadLength
+4096 jbench: refusal 13 BadMagic";
+
+/// Writes the file `no_log`, which is so long.
+fn write_no_log(rt: &HostRuntime, length: usize) -> Result<(), Fail> {
+    let mut bytes = vec![in rt.alloc(); 0; length]?;
+    if let Some(place) = bytes.get_mut(14) {
+        *place = 0x10;
+    }
+    fs::write(rt, "no_log", &bytes)?;
+    Ok(())
+}
+
+/// Whether a file of this length has no log, and its dump says this.
+fn is_no_log(rt: &HostRuntime, length: &str, line: &str) -> Result<bool, Fail> {
+    write_no_log(rt, length.parse()?)?;
+    let said = dump_of(rt, "no_log")?;
+    Ok(said == format!(in rt.alloc(); "| {line}\nRefused")?)
+}
+
+/// The first of these rows that is otherwise.
+fn first_log<'a>(rt: &HostRuntime, rows: &'a str) -> Result<Option<&'a str>, Fail> {
+    for row in rows.lines() {
+        let (length, line) = row.split_once(' ').unwrap_or((row, ""));
+        if !is_no_log(rt, length, line)? {
+            return Ok(Some(row));
+        }
+    }
+    Ok(None)
+}
+
+#[test]
+fn files_that_hold_no_log(rt: HostRuntime) -> Result<(), Fail> {
+    assert_eq!(rt; first_log(&rt, NO_LOGS)?, None);
+    fs::remove_file(&rt, "no_log")?;
+    Ok(())
+}
+
+#[test]
+fn a_device_that_is_too_small_for_a_log(rt: HostRuntime) -> Result<(), Fail> {
+    let device = MemDevice::new(rt.alloc(), 1024, 32, 64);
+    let said = format_of(rt.alloc(), &DEFAULTS, device)?;
+    assert_eq!(rt; said.as_str(), "| jbench: refusal 16 BadLength\nRefused");
+    Ok(())
+}
