@@ -87,12 +87,20 @@ empty sequence=1
 | Fine
 (69632, 4096, 0)";
 
+/// Whether this is said of such a log of new files, and of longer ones.
+fn is_made(rt: &HostRuntime, measures: &Measures, wanted: &str) -> Result<bool, Fail> {
+    let of_new = made(rt, measures)?;
+    let of_longer = made_of_longer(rt, measures)?;
+    Ok(of_new.as_str() == wanted && of_longer.as_str() == wanted)
+}
+
 #[test]
 fn logs_in_new_files_and_in_longer_ones(rt: HostRuntime) -> Result<(), Fail> {
-    assert_eq!(rt; made(&rt, &DEFAULTS)?.as_str(), DEFAULT_LOG);
-    assert_eq!(rt; made_of_longer(&rt, &DEFAULTS)?.as_str(), DEFAULT_LOG);
-    assert_eq!(rt; made(&rt, &SHORTEST)?.as_str(), SHORTEST_LOG);
-    assert_eq!(rt; made_of_longer(&rt, &SHORTEST)?.as_str(), SHORTEST_LOG);
+    assert!(rt;
+        is_made(&rt, &DEFAULTS, DEFAULT_LOG)?,
+        "the default measures"
+    );
+    assert!(rt; is_made(&rt, &SHORTEST, SHORTEST_LOG)?, "the shortest log");
     fs::remove_file(&rt, "empty_log")?;
     fs::remove_file(&rt, "empty_home")?;
     Ok(())
@@ -118,13 +126,7 @@ fn paths_that_are_refused(rt: HostRuntime) -> Result<(), Fail> {
     Ok(())
 }
 
-/// How long a file is that holds no log, all zeros but the byte that tells of blocks of 4096 bytes, and what its dump says.
-const NO_LOGS: &str = "\
-0 jbench: refusal 16 BadLength
-1500 jbench: refusal 16 BadLength
-4096 jbench: refusal 13 BadMagic";
-
-/// Writes the file `no_log`, which is so long.
+/// Writes the file `no_log`, which is so long and all zeros but for the byte that tells of blocks of 4096 bytes.
 fn write_no_log(rt: &HostRuntime, length: usize) -> Result<(), Fail> {
     let mut bytes = vec![in rt.alloc(); 0; length]?;
     if let Some(place) = bytes.get_mut(14) {
@@ -134,27 +136,23 @@ fn write_no_log(rt: &HostRuntime, length: usize) -> Result<(), Fail> {
     Ok(())
 }
 
-/// Whether a file of this length has no log, and its dump says this.
-fn is_no_log(rt: &HostRuntime, length: &str, line: &str) -> Result<bool, Fail> {
-    write_no_log(rt, length.parse()?)?;
-    let said = dump_of(rt, "no_log")?;
-    Ok(said == format!(in rt.alloc(); "| {line}\nRefused")?)
+/// Whether the dump of such a file says this.
+fn is_no_log(rt: &HostRuntime, length: usize, wanted: &str) -> Result<bool, Fail> {
+    write_no_log(rt, length)?;
+    Ok(dump_of(rt, "no_log")?.as_str() == wanted)
 }
 
-/// The first of these rows that is otherwise.
-fn first_log<'a>(rt: &HostRuntime, rows: &'a str) -> Result<Option<&'a str>, Fail> {
-    for row in rows.lines() {
-        let (length, line) = row.split_once(' ').unwrap_or((row, ""));
-        if !is_no_log(rt, length, line)? {
-            return Ok(Some(row));
-        }
-    }
-    Ok(None)
-}
+/// What the dump of a file says that has not one block.
+const TOO_SHORT: &str = "| jbench: refusal 16 BadLength\nRefused";
+
+/// What the dump of a file says whose first block is no superblock.
+const NO_SUPERBLOCK: &str = "| jbench: refusal 13 BadMagic\nRefused";
 
 #[test]
 fn files_that_hold_no_log(rt: HostRuntime) -> Result<(), Fail> {
-    assert_eq!(rt; first_log(&rt, NO_LOGS)?, None);
+    assert!(rt; is_no_log(&rt, 0, TOO_SHORT)?, "no bytes");
+    assert!(rt; is_no_log(&rt, 1500, TOO_SHORT)?, "1500 bytes");
+    assert!(rt; is_no_log(&rt, 4096, NO_SUPERBLOCK)?, "4096 bytes");
     fs::remove_file(&rt, "no_log")?;
     Ok(())
 }
