@@ -2,10 +2,11 @@
 //! longer ones were made by another program, written from the format alone.
 use super::listed::run_of;
 use super::said_of;
-use crate::tables::{rows_hold, written_out};
+use crate::rows::rows_hold;
 use std::alloc::{AllocError, Global};
 use std::str::from_utf8;
 use std::test::Fail;
+use text_tables::written_out;
 
 /// Runs, in the form of `listed`.
 const RUNS: &str =
@@ -269,18 +270,20 @@ fn stops(alloc: Global, script: &str, k: u64, keep: &[u64]) -> Result<bool, Fail
     Ok(is_told && said.verdict)
 }
 
-/// The number of a write at which runs stop, where nothing, this write or the one before is kept, and `wrong` where one of them
-/// does not leave what opens right.
-fn stop_of(alloc: Global, row: &str) -> Result<String, Fail> {
-    let script = three_laps(alloc)?;
-    let k = row.parse::<u64>()?;
-    let is_right = stops(alloc, &script, k, &[])?
-        && stops(alloc, &script, k, &[k])?
-        && stops(alloc, &script, k, &[k.saturating_sub(1)])?;
-    Ok(String::from_str(alloc, if is_right { row } else { "wrong" })?)
+/// Runs that stop at write `k` leave what opens right, where nothing, this write or the one before is kept.
+fn is_right_at(alloc: Global, script: &str, k: u64) -> Result<bool, Fail> {
+    Ok(
+        stops(alloc, script, k, &[])?
+            && stops(alloc, script, k, &[k])?
+            && stops(alloc, script, k, &[k.saturating_sub(1)])?,
+    )
 }
 
 #[test]
 fn a_stop_at_each_write_of_three_laps(rt: HostRuntime) -> Result<(), Fail> {
-    rows_hold(&rt, rt.alloc(), "<1 106 0|# >107", " ", stop_of)
+    let script = three_laps(rt.alloc())?;
+    for k in 1..=WRITES + 1 {
+        assert!(rt; is_right_at(rt.alloc(), script.as_str(), k)?, "write {k}");
+    }
+    Ok(())
 }

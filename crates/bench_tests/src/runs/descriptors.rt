@@ -1,6 +1,6 @@
 //! Transactions of one descriptor that is full and one that has a single tag: their lines, and their bytes.
 use super::listed::run_of;
-use crate::tables::{cut, numbers_of, rows_hold, write_hex};
+use crate::rows::rows_hold;
 use bench_run::run_operations;
 use bench_script::read;
 use block_device::{Device, MemDevice};
@@ -9,6 +9,7 @@ use std::alloc::Global;
 use std::fmt::Write;
 use std::io::sink;
 use std::test::Fail;
+use text_tables::{cut, numbers_of, write_hex};
 
 /// Runs, in the form of `listed`, with one copy more than a descriptor has tags.
 const RUNS: &str = r#"-: 123 copies, at length: 1025, home: 200

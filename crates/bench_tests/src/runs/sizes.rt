@@ -1,7 +1,7 @@
 //! Runs at other measures than those of a script without keys.
 use super::descriptors::log_block;
 use super::listed::run_of;
-use crate::tables::{numbers_of, rows_hold, write_hex};
+use crate::rows::rows_hold;
 use bench_run::empty_disk;
 use bench_script::Measures;
 use block_device::Device;
@@ -10,6 +10,7 @@ use journal_plain::room::capacity;
 use log_ring::Layout;
 use std::alloc::{AllocError, Global};
 use std::test::Fail;
+use text_tables::{numbers_of, write_hex};
 
 /// Runs, in the form of `listed`.
 const RUNS: &str = r#"-: the most credits of a transaction, at length: 17

@@ -2,7 +2,7 @@
 use super::listed::run_of;
 use super::said_of;
 use crate::kept;
-use crate::tables::rows_hold;
+use crate::rows::rows_hold;
 use std::alloc::Global;
 use std::str::from_utf8;
 use std::test::Fail;

@@ -1,6 +1,6 @@
 //! Runs of a few operations, each from its script to its verdict.
 use super::listed::run_of;
-use crate::tables::rows_hold;
+use crate::rows::rows_hold;
 use std::test::Fail;
 
 /// Runs, in the form of `listed`.

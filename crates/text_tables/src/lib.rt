@@ -1,7 +1,8 @@
-//! Reads the tables of tests, which are texts: their rows, the numbers of a line, and what stands in a text more than once.
+//! Reads the tables of tests, which are texts: the numbers of a line, and what stands in a text more than once.
+#![tactic(auto)]
+
 use std::alloc::Global;
 use std::fmt::Write;
-use std::process::Abort;
 use std::test::Fail;
 
 /// The numbers of this line, which blanks separate. A `-` is no number.
@@ -73,29 +74,4 @@ pub fn written_out(alloc: Global, text: &str) -> Result<String, Fail> {
         }
     }
     Ok(all)
-}
-
-/// What a test makes of a row: the row with what is found in the place of what is wanted.
-pub type Found = fn(Global, &str) -> Result<String, Fail>;
-
-/// This is found where this row stands.
-fn holds(rt: &impl Abort, found: &str, row: &str) {
-    assert_eq!(rt; found, row);
-}
-
-/// In each row of this table stands what is found. The text between two rows is `between`.
-pub fn rows_hold(
-    rt: &impl Abort,
-    alloc: Global,
-    table: &str,
-    between: &str,
-    found: Found,
-) -> Result<(), Fail>
-    requires { Found.IsAlwaysCallable found }
-{
-    let rows = written_out(alloc, table)?;
-    for row in rows.split(between) {
-        holds(rt, &found(alloc, row)?, row);
-    }
-    Ok(())
 }
