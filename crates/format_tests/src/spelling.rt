@@ -12,7 +12,7 @@ fn push_number(bytes: &mut Vec<u8>, number: u32) -> Option<()> {
 
 /// Adds the number that is spelled, or as many tags.
 fn push_numbers(bytes: &mut Vec<u8>, spelled: &str) -> Option<()> {
-    let Some(count) = spelled.strip_prefix('T') else {
+    let Some(count) = spelled.strip_prefix('*') else {
         return push_number(bytes, number_of(spelled)?);
     };
     for _ in 0..count.parse::<u8>().ok()? {
@@ -23,7 +23,7 @@ fn push_numbers(bytes: &mut Vec<u8>, spelled: &str) -> Option<()> {
 }
 
 /// Adds what is spelled between two commas: `D`, `R` and `C` are the magic and the type of a descriptor, a revoke block and a
-/// commit block, `M` the magic alone, `U` the UUID, `=11` the byte 11 and three zeros, `x11` the number 11 in hex digits, and `T3`
+/// commit block, `M` the magic alone, `U` the UUID, `=11` the byte 11 and three zeros, `x11` the number 11 in hex digits, and `*3`
 /// three tags of block 9 with the flag 2.
 fn push_spelled(bytes: &mut Vec<u8>, spelled: &str) -> Option<()> {
     let kind = match spelled {
