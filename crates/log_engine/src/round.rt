@@ -3,6 +3,7 @@
 //! Source: fs/jbd2/checkpoint.c by behaviour; the order of the copies and that each step is one device call are this
 //! project's own.
 ghost use Rattle.std.specs.Prelude.{◌≡◌, ◌≢◌, ◌+◌, ◌-◌, ◌<◌, ℕ, IsTrue, false, length};
+ghost use Rattle.journal_model.specs.Chain.{ring_place};
 ghost use Rattle.journal_model.specs.Superblock.{Shape};
 ghost use Rattle.journal_world.specs.declared.round.Round.TheVariants.{Idle as NoRound, TailWrite, TailFlush};
 ghost use Rattle.journal_world.specs.Checkpoint.{HasRound, begun};
@@ -60,8 +61,8 @@ impl Ledger {
                 None => Due::Flush(Area::Home),
             },
             Round::TailWrite => {
-                let start = self.ring.place(self.bound_position);
-                writer.write_superblock(&self.superblock, self.number_behind(), start as u32);
+                let number = self.number_behind();
+                writer.write_superblock(&self.superblock, number, self.new_tail());
                 Due::Write(Area::Log, 0)
             }
             Round::TailFlush => Due::Flush(Area::Log),
@@ -102,6 +103,13 @@ impl Ledger {
         ensures { result ≡ self.now.first + self.now.bound }
     {
         self.first + self.bound as u32
+    }
+
+    /// The place behind the round's transactions, where the log begins once they are released.
+    fn new_tail(&self) -> u32
+        ensures { result ≡ ring_place self.now.ring.ring self.now.bound_position }
+    {
+        self.ring.place(self.bound_position) as u32
     }
 
     /// The bytes of a pending copy.
@@ -161,9 +169,9 @@ impl Ledger {
         ensures round { self.new.round ≡ TailFlush }
         ensures step { result ≡ Step }
     {
-        let start = self.ring.place(self.bound_position);
         let number = self.number_behind();
-        Super::write(&mut self.superblock, number, start as u32);
+        let start = self.new_tail();
+        Super::write(&mut self.superblock, number, start);
         self.go_round(Round::TailFlush)
     }
 

@@ -18,8 +18,8 @@ returns-in-None-clause-due c = λ shape runs.
 pub returns-in-TailWrite-clause-due : goal.returns-in-TailWrite-clause-due
 returns-in-TailWrite-clause-due c = λ shape runs.
     due-tail (engine_of shape c.args.self.now) _ _ _ c.in-TailWrite.is
-    (c.write_superblock.ensures.block ∙ ap (λ (sb : List ℕ). with_tail sb c.number_behind.result c.place-start.result) c.deref.ensures.value)
-    c.number_behind.ensures c.place-start.ensures.place
+    (c.write_superblock.ensures.block ∙ ap (λ (sb : List ℕ). with_tail sb c.number_behind-number.result c.new_tail.result) c.deref.ensures.value)
+    c.number_behind-number.ensures c.new_tail.ensures
 
 -- the log has that block
 pub returns-in-TailWrite-clause-fits : goal.returns-in-TailWrite-clause-fits

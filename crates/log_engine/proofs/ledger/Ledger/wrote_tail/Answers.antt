@@ -23,11 +23,11 @@ pub returns-clause-gone : goal.returns-clause-gone
 returns-clause-gone c = λ shape runs.
     let l = c.args.self.now in
     let old = l.superblock in
-    let before = ap (λ (sb : List ℕ). with_tail sb c.number_behind-number.result c.place-start.result) c.deref_mut.ensures.value in
+    let before = ap (λ (sb : List ℕ). with_tail sb c.number_behind-number.result c.new_tail-start.result) c.deref_mut.ensures.value in
     let size : length c.write.new.block ≡ old.len =
     ap length (c.write.ensures ∙ before)
-    ∙ length-tail old.items c.number_behind-number.result c.place-start.result (round-long l _ c.requires.can_run) ∙ sym old.ok.0 in
-    let tail = ap₂ (with_tail old.items) c.number_behind-number.ensures c.place-start.ensures.place in
+    ∙ length-tail old.items c.number_behind-number.result c.new_tail-start.result (round-long l _ c.requires.can_run) ∙ sym old.ok.0 in
+    let tail = ap₂ (with_tail old.items) c.number_behind-number.ensures c.new_tail-start.ensures in
     let block = with_items_is old c.write.new.block size ∙ c.write.ensures ∙ before ∙ tail in
     let e = engine_of shape l in
     let is = ap (engine_of shape) c.go_round.ensures.round
