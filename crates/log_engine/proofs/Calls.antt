@@ -3,11 +3,11 @@ use Rattle.std.proofs.Common.{sym, ap, subst, ◌∙◌}
 use Rattle.std.specs.Prelude.{◌≡◌, ℕ, List, Some, Result, Ok, Err, OnOk, OnErr}
 use Rattle.std.proofs.lemmas.Option.{same_Some}
 use Rattle.journal_model.specs.declared.number.Area.{Area}
-use Rattle.journal_model.specs.Disk.{Disk, flushed}
+use Rattle.journal_model.specs.Disk.{Disk, flushed, written}
 use Rattle.block_device.specs.State.{DeviceState, EachMoment, Moves, Stays, Writes}
 use Rattle.block_device.specs.State.Writes.{Undone, Whole, HandedOver}
 use Rattle.block_device.proofs.Moments.{each-moves, each-stays}
-use Rattle.journal_world.specs.Call.{Call, IsAfterFault}
+use Rattle.journal_world.specs.Call.{Call, IsAfterFault, after_success}
 use Rattle.journal_world.specs.Call.Call.{Write, Flush}
 use Rattle.journal_world.specs.Call.IsAfterFault.{Undone as NotDone, Whole as AllDone, HandedOver as Given}
 use Rattle.log_engine.specs.declared.call.Due.{Due}
@@ -24,6 +24,25 @@ on-err (Err e) p = p
 pub err-map : {T E P Q : Type 0} (r : Result T E) → (P → Q) → OnErr r P → OnErr r Q
 err-map (Ok x) f p = tt
 err-map (Err e) f p = f p
+
+-- and of a success
+pub ok-map : {T E P Q : Type 0} (r : Result T E) → (P → Q) → OnOk r P → OnOk r Q
+ok-map (Ok x) f p = f p
+ok-map (Err e) f p = tt
+
+-- a write that was due and succeeded
+pub done-write : (due : Due) (area : Area) (place : ℕ) (bytes : List ℕ) (call : Call) (old new : DeviceState) → due ≡ WriteDue area place →
+    call_of due bytes ≡ Some call → Moves old new (written old.disk area place bytes) → new.disk ≡ after_success call old.disk
+done-write due area place bytes call old new is named moves =
+    let same : Write area place bytes ≡ call = same_Some (Write area place bytes) call (sym (ap (λ d. call_of d bytes) is) ∙ named) in
+    subst (λ c. new.disk ≡ after_success c old.disk) same moves.now
+
+-- and a flush
+pub done-flush : (due : Due) (area : Area) (bytes : List ℕ) (call : Call) (old new : DeviceState) → due ≡ FlushDue area →
+    call_of due bytes ≡ Some call → Moves old new (flushed old.disk area) → new.disk ≡ after_success call old.disk
+done-flush due area bytes call old new is named moves =
+    let same : Flush area ≡ call = same_Some (Flush area) call (sym (ap (λ d. call_of d bytes) is) ∙ named) in
+    subst (λ c. new.disk ≡ after_success c old.disk) same moves.now
 
 -- a write, whether it answered Ok or failed, leaves what a failed one may leave
 pub fault-write : (area : Area) (place : ℕ) (bytes : List ℕ) (old new : DeviceState) → Writes old new area place bytes →

@@ -2,7 +2,7 @@
 use Rattle.std.proofs.Common.{arith, refl, sym, ap, ap₂, subst, ◌∙◌}
 use Rattle.std.proofs.lemmas.Bool.Decides.{nat_tests}
 use Rattle.std.proofs.lemmas.Option.{slice_get_past}
-use Rattle.std.specs.Prelude.{◌≡◌, ◌≢◌, ℕ, ◌+◌, ◌-◌, ◌^◌, ◌<◌, Bool, true, ◌≤◌, List, [], ◌∷◌, ◌++◌, length, Option, Some, None, Result, Ok, Err, IfOk, IfErr, slice_get, map, nat_eq, nat_le, nat_lt, if◌then◌else◌, IsTrue, ◌↔◌}
+use Rattle.std.specs.Prelude.{◌≡◌, ◌≢◌, ℕ, ◌+◌, ◌-◌, ◌^◌, ◌<◌, Bool, false, true, ◌≤◌, List, [], ◌∷◌, ◌++◌, length, Option, Some, None, Result, Ok, Err, IfOk, IfErr, slice_get, map, nat_eq, nat_le, nat_lt, if◌then◌else◌, IsTrue, ◌↔◌}
 use Rattle.journal_model.specs.declared.entry.Batch.{Batch}
 use Rattle.journal_model.specs.declared.refusal.JournalError.{JournalError}
 use Rattle.journal_model.specs.declared.refusal.JournalError.TheVariants.{NeedSpace}
@@ -133,7 +133,11 @@ call-block e k is below =
 pub call-commit : (e : Engine) (n : ℕ) → e.stage ≡ CommitWrite → n ≡ length (due_blocks e) → Some (write_block e (n - 1)) ≡ call_due e
 call-commit e n is last = ap (λ (m : ℕ). Some (write_block e (m - 1))) last ∙ ap (call_in e) (sym is)
 
--- and that of the superblock
+-- behind the last but one of the blocks comes the commit block
+pub last-block : (k n : ℕ) → n ≤ k + 1 → CommitWrite ≡ (if nat_lt (k + 1) n then Blocks (k + 1) else CommitWrite)
+last-block k n last = let test : nat_lt (k + 1) n ≡ false = grind (arith, nat_tests) in rw test refl
+
+-- the write of the superblock is the call that is due
 pub call-superblock : (e : Engine) (block : List ℕ) (sequence start : ℕ) → e.stage ≡ SuperblockWrite → block ≡ with_tail e.superblock sequence start →
     sequence ≡ e.first + e.committed → start ≡ ring_place e.ring e.start → Some (Write Log 0 block) ≡ call_due e
 call-superblock e block sequence start is made number place =

@@ -28,6 +28,10 @@ returns-then-not-is_allowed-clause-err g c =
     c.if-not-is_allowed.true in
     rw (← c.self.view_is) (ReadRefused.ReadOutside c.if-self.false refused refl refl)
 
+-- and the buffer is as before
+pub returns-then-not-is_allowed-clause-untouched : goal.returns-then-not-is_allowed-clause-untouched
+returns-then-not-is_allowed-clause-untouched g c = λ other. refl
+
 -- a pending copy stands where the pending copies say
 pub copy-requires : goal.copy-requires
 copy-requires g c =

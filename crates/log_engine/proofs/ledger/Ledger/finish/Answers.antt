@@ -7,7 +7,7 @@ use Rattle.journal_model.specs.declared.entry.Batch.{Batch}
 use Rattle.journal_model.specs.declared.entry.Entry.{Entry}
 use Rattle.journal_model.specs.OwnText.{copied}
 use Rattle.journal_world.specs.declared.stage.Stage.TheVariants.{CommitFlush}
-use Rattle.journal_world.specs.Engine.{stepped_from}
+use Rattle.journal_world.specs.Engine.{due_blocks, stepped_from}
 use Rattle.log_engine.specs.Ledger.{engine_of}
 use Rattle.log_engine.proofs.Advancing.{finishes}
 use Rattle.log_engine.proofs.Ledgers.{on-commit, on-distinct, on-due}
@@ -39,6 +39,16 @@ commit-requires-clause-room c =
     let there = slice_get-get_or l.accepted.items l.committed c.index-batch.result.now (on-due l _ on (λ idle. cc)) in
     subst (λ (es : List (ℕ × Entry)). length l.pending.queue + length (copied es) ≤ l.pending.room) (sym c.as_slice.ensures)
     (on-commit l _ on c.index-batch.result.now c.requires.stage (there ∙ ap (λ (b : Batch). Some b) (sym c.index-batch.ensures))).1
+
+-- it is one step further
+pub returns-clause-stepped : goal.returns-clause-stepped
+returns-clause-stepped c = λ shape same.
+    let l = c.args.self.now in
+    let on = c.requires.can_run in
+    let size = sym on.size_is ∙ sym same in
+    let start = c.head-self.ensures.head ∙ on.runs.taken.head
+    ∙ ap (λ (n : ℕ). l.start + length (due_blocks (engine_of (record shape { block_size = n }) l))) size in
+    ap (λ (n : ℕ). record (stepped_from (engine_of shape l) CommitFlush) { start = n }) start
 
 -- the ledger can run then
 pub returns-clause-runs : goal.returns-clause-runs
