@@ -15,6 +15,14 @@ own-reads disk n v = let same : (n == n) ≡ true = grind (arith, nat_tests) in 
 other-cell : (disk : Disk) (n m : ℕ) (v : List ℕ) → (m ≡ n → ⊥) → written disk Log n v Log m ≡ disk Log m
 other-cell disk n m v other = let apart : (m == n) ≡ false = grind (arith, nat_tests) in rw apart refl
 
+-- before the first write
+pub zeros-none : (zeros : List ℕ) (disk : Disk) → HasZeros zeros 1 disk disk
+zeros-none zeros disk = record {
+  reads = λ n above below. absurd (omega (arith, above, below));
+  behind = λ n from. refl;
+  home = λ b. refl;
+}
+
 -- one more block is zeros
 pub zeros-more : (zeros : List ℕ) (n : ℕ) (old disk new : Disk) → HasZeros zeros n old disk → new ≡ written disk Log n zeros → HasZeros zeros (n + 1) old new
 zeros-more zeros n old disk new has is = subst (HasZeros zeros (n + 1) old) (sym is) (record {

@@ -1,5 +1,5 @@
 //! Gathering: which copy of each block replay writes home, found in one pass over the chain.
-ghost use Rattle.std.specs.Prelude.{◌≡◌, ◌==◌, ℕ, None, OnOk, IfOk, if◌then◌else◌, map};
+ghost use Rattle.std.specs.Prelude.{◌≡◌, ◌==◌, ℕ, [], ◌∷◌, None, OnOk, IfOk, if◌then◌else◌, map};
 ghost use Rattle.std.specs.List.{list_any, zip};
 ghost use Rattle.journal_model.specs.Escape.{unescaped};
 ghost use Rattle.journal_model.specs.Text.{text_copies, text_revokes};
@@ -22,7 +22,20 @@ pub(crate) struct StoredCopy<'a> {
 /// a model and whose values borrow.
 pub(crate) type NewestCopies<'a> = BTreeMap<u64, StoredCopy<'a>>;
 
-/// Adds the copies behind a descriptor. Each takes the place of an older one of its block.
+/// Adds a copy. It takes the place of an older one of its block.
+fn add_copy<'a>(
+    newest: &mut NewestCopies<'a>,
+    tag: &Tag,
+    block: &'a Block,
+) -> Result<(), AllocError>
+    ensures { OnOk result ((b : ℕ) → gathered newest.new b ≡ last_of b ((tag.now.block, unescaped tag.now.escaped block.now) ∷ []) (gathered newest.old b)) }
+{
+    let escaped = tag.escaped;
+    newest.insert(tag.block.0, StoredCopy { block, escaped })?;
+    Ok(())
+}
+
+/// Adds the copies behind a descriptor.
 fn add_copies<'a>(
     newest: &mut NewestCopies<'a>,
     tags: &[Tag],
@@ -31,8 +44,7 @@ fn add_copies<'a>(
     ensures { OnOk result ((b : ℕ) → gathered newest.new b ≡ last_of b (map (λ p. (p.0.block, unescaped p.0.escaped p.1)) (zip tags.now copies.now)) (gathered newest.old b)) }
 {
     for (tag, block) in tags.iter().zip(copies) {
-        let escaped = tag.escaped;
-        newest.insert(tag.block.0, StoredCopy { block, escaped })?;
+        add_copy(newest, tag, block)?;
     }
     Ok(())
 }

@@ -7,7 +7,7 @@ ghost use Rattle.recovery.specs.Values.{IsNextNamed};
 ghost use Rattle.recovery.specs.Opening.{IsDuringOpening, IsExamined, IsExaminedOf, OpeningRefused, Tells};
 
 use crate::replay::bring_home;
-use crate::scan::{Read, read_log, scan};
+use crate::scan::{Read, is_clean, read_log, scan};
 use block_device::Device;
 use journal_model::{Area, Items, JournalError, Text, Tid};
 use std::alloc::Global;
@@ -212,7 +212,7 @@ fn examine<D: Device>(alloc: Global, device: &mut D) -> Result<Found, JournalErr
     } = log;
     Ok(Found {
         superblock,
-        clean: fields.s_start == 0,
+        clean: is_clean(&fields),
         texts,
         limit,
     })

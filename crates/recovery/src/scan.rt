@@ -1,5 +1,5 @@
 //! Reading a log, and testing all that stands in it.
-ghost use Rattle.std.specs.Prelude.{◌≡◌, ◌⊎◌, ◌+◌, ◌<◌, ◌≤◌, ◌↔◌, length, IsTrue, IfOk, IfErr, MatchOption, MatchResult};
+ghost use Rattle.std.specs.Prelude.{◌≡◌, ◌==◌, ◌⊎◌, ◌+◌, ◌<◌, ◌≤◌, ◌↔◌, length, IsTrue, IfOk, IfErr, MatchOption, MatchResult};
 ghost use Rattle.journal_model.specs.declared.number.Area.TheVariants.{Log};
 ghost use Rattle.journal_model.specs.declared.refusal.JournalError.TheVariants.{Memory};
 ghost use Rattle.journal_model.specs.Chain.{lap, place_from};
@@ -113,6 +113,13 @@ fn read_block<D: Device>(alloc: Global, device: &mut D, place: u64) -> Result<Bl
     let mut bytes = vec![in alloc; 0; device.block_size()]?;
     device.read(Area::Log, place, &mut bytes)?;
     Ok(Block::new(bytes))
+}
+
+/// Whether a log with these fields is clean.
+pub(crate) fn is_clean(fields: &Super) -> bool
+    ensures { result ≡ (fields.now.s_start == 0) }
+{
+    fields.s_start == 0
 }
 
 /// The complete transactions of the log, or why it is refused.

@@ -1,8 +1,12 @@
-use Rattle.std.proofs.Common.{◌≡◌, ◌∙◌, arith, subst}
+use Rattle.std.proofs.Common.{◌≡◌, ◌∙◌, arith, refl, subst}
 use Rattle.std.specs.Prelude.{ℕ}
 use Rattle.recovery.specs.Opening.{HasZeros}
-use Rattle.recovery.proofs.Zeroed.{zeros-more}
+use Rattle.recovery.proofs.Zeroed.{zeros-more, zeros-none}
 use Rattle.recovery.proofs.empty_log.write_zeros.Goals as goal
+
+-- none is written yet
+pub loop-n-init : goal.loop-n-init
+loop-n-init g c = (zeros-none c.args.zeros.now (g.D.Device.state c.args.device.now).disk, refl, refl, λ honest. honest)
 
 -- one more block is zeros
 pub loop-n-preserved : goal.loop-n-preserved

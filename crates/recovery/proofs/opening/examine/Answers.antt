@@ -1,7 +1,6 @@
 use Rattle.std.proofs.Common.{ap, sym, ◌∙◌, subst, Bool}
-use Rattle.std.specs.Prelude.{◌==◌}
 use Rattle.std.proofs.lemmas.Result.{err_from_is_err_and}
-use Rattle.journal_model.specs.Superblock.{Shape, Super}
+use Rattle.journal_model.specs.Superblock.{Shape}
 use Rattle.recovery.specs.Opening.{IsExamined}
 use Rattle.recovery.proofs.Recovering.{examined, examined-of, log-refused, reading-refused}
 use Rattle.recovery.proofs.opening.examine.Goals as goal
@@ -29,7 +28,7 @@ pub returns-clause-found : goal.returns-clause-found
 returns-clause-found g c =
     let shape : Shape = (g.D.Device.state c.args.device.now).shape in
     subst (λ (clean : Bool). IsExamined shape c.in_ok-log.log.superblock.items clean c.in_ok-texts.texts c.in_ok-texts.limit)
-    (ap (λ (s : Super). s.s_start == 0) (sym c.fields.view_is))
+    (sym c.is_clean.ensures)
     (examined shape c.in_ok-log.log.superblock.items c.in_ok-log.log.fields c.blocks-home_blocks.result c.in_ok-log.log.lap
     c.in_ok-texts.texts c.in_ok-texts.limit c.in_ok-log.ensures.superblock c.in_ok-log.ensures.lap
     (c.blocks-home_blocks.ensures ∙ ap (λ (s : Shape). s.home_blocks) c.read_log.ensures.stays.shape) c.in_ok-texts.ensures.found)
