@@ -1,6 +1,7 @@
 //! Opening a log: what a stop left is replayed to home, and the log is left clean.
 ghost use Rattle.std.specs.Prelude.{◌<◌, ◌≡◌, ◌+◌, OnOk, IfOk, IfErr, MatchResult};
 ghost use Rattle.journal_model.specs.Disk.{reading};
+ghost use Rattle.journal_model.specs.Opening.{greatest_number};
 ghost use Rattle.block_device.specs.State.{EachMoment, Stays};
 ghost use Rattle.journal_world.specs.Opening.{IsOpenedLog, IsOpening};
 ghost use Rattle.recovery.specs.Values.{IsNextNamed};
@@ -160,6 +161,14 @@ struct Found {
     limit: u64,
 }
 
+/// The number of the next transaction, behind the transactions that end at this number.
+fn number_from(limit: u64) -> u32
+    requires { limit < greatest_number }
+    ensures { result ≡ limit + 1 }
+{
+    (limit + 1) as u32
+}
+
 /// Reads the log, replays it and leaves it clean. The answer is block 0, the number of the next transaction and what was
 /// found.
 fn recover<D: Device>(alloc: Global, device: &mut D) -> Result<(Vec<u8>, Tid, Report), JournalError>
@@ -179,7 +188,7 @@ fn recover<D: Device>(alloc: Global, device: &mut D) -> Result<(Vec<u8>, Tid, Re
         limit,
     } = examine(alloc, device)?;
     device.flush(Area::Log)?;
-    let next = (limit + 1) as u32;
+    let next = number_from(limit);
     let report = Report {
         clean,
         ends_at: limit,

@@ -15,9 +15,10 @@ pub returns-then-clean-clause-opened : goal.returns-then-clean-clause-opened
 returns-then-clean-clause-opened g c = λ honest.
     let s : DeviceState = g.D.Device.state c.args.device.now in
     let clean = rw c.if-clean.true at c.in_ok-superblock.ensures.found in
-    clean-opening s (g.D.Device.state c.examine.new.device) (g.D.Device.state c.flush.new.self) c.in_ok-superblock.field-0.superblock.items
+    rw c.number_from-next.ensures
+    (clean-opening s (g.D.Device.state c.examine.new.device) (g.D.Device.state c.flush.new.self) c.in_ok-superblock.field-0.superblock.items
     c.in_ok-superblock.field-0.texts c.in_ok-superblock.field-0.limit clean c.examine.ensures.stays c.in_ok-flush.ensures.ok
-    (c.in_ok-superblock.ensures.read (c.flush.ensures.honest honest))
+    (c.in_ok-superblock.ensures.read (c.flush.ensures.honest honest)))
 
 -- what that tells
 pub returns-then-clean-clause-report : goal.returns-then-clean-clause-report
@@ -54,7 +55,7 @@ returns-in_err-superblock-2-clause-moments g c = λ honest.
     replayed-moments s (g.D.Device.state c.examine.new.device) u w c.in_ok-superblock.field-0.superblock.items c.in_ok-superblock.field-0.texts
     c.in_ok-superblock.field-0.limit other c.examine.ensures.stays c.in_ok-flush.ensures.ok
     (same-moments u.shape.home_blocks s.shape.home_blocks c.as_slice.result.now c.in_ok-superblock.field-0.texts
-    (with_tail c.in_ok-superblock.field-0.superblock.items (c.in_ok-superblock.field-0.limit + 1) 0) u w home c.as_slice.ensures c.bring_home.ensures.moments)
+    (with_tail c.in_ok-superblock.field-0.superblock.items (c.in_ok-superblock.field-0.limit + 1) 0) u w home c.as_slice.ensures (rw c.number_from-next.ensures at c.bring_home.ensures.moments))
     (c.in_ok-superblock.ensures.read (c.flush.ensures.honest (c.bring_home.ensures.honest honest)))
 
 -- the log is clean again
@@ -69,7 +70,7 @@ returns-clause-moments g c = λ honest.
     replayed-moments s (g.D.Device.state c.examine.new.device) u w c.in_ok-superblock.field-0.superblock.items c.in_ok-superblock.field-0.texts
     c.in_ok-superblock.field-0.limit other c.examine.ensures.stays c.in_ok-flush.ensures.ok
     (same-moments u.shape.home_blocks s.shape.home_blocks c.as_slice.result.now c.in_ok-superblock.field-0.texts
-    (with_tail c.in_ok-superblock.field-0.superblock.items (c.in_ok-superblock.field-0.limit + 1) 0) u w home c.as_slice.ensures c.bring_home.ensures.moments)
+    (with_tail c.in_ok-superblock.field-0.superblock.items (c.in_ok-superblock.field-0.limit + 1) 0) u w home c.as_slice.ensures (rw c.number_from-next.ensures at c.bring_home.ensures.moments))
     (c.in_ok-superblock.ensures.read (c.flush.ensures.honest (c.bring_home.ensures.honest honest)))
 
 -- its superblock names the next transaction
@@ -77,12 +78,13 @@ pub returns-clause-named : goal.returns-clause-named
 returns-clause-named g c =
     let s : DeviceState = g.D.Device.state c.args.device.now in
     let shape = c.bring_home.ensures.shape ∙ c.in_ok-flush.ensures.ok.shape ∙ c.examine.ensures.stays.shape in
-    subst (λ (block : List ℕ). IsNextNamed (g.D.Device.state c.bring_home.new.device).shape block (c.in_ok-superblock.field-0.limit + 1))
-    (sym c.in_ok-superblock-2.ensures.superblock)
+    rw c.number_from-next.ensures
+    (subst (λ (block : List ℕ). IsNextNamed (g.D.Device.state c.bring_home.new.device).shape block (c.in_ok-superblock.field-0.limit + 1))
+    (sym (rw c.number_from-next.ensures at c.in_ok-superblock-2.ensures.superblock))
     (subst (λ (m : Shape). IsNextNamed m (with_tail c.in_ok-superblock.field-0.superblock.items (c.in_ok-superblock.field-0.limit + 1) 0) (c.in_ok-superblock.field-0.limit + 1))
     (sym shape)
     (replayed-named s.shape c.in_ok-superblock.field-0.superblock.items c.in_ok-superblock.field-0.clean c.in_ok-superblock.field-0.texts
-    c.in_ok-superblock.field-0.limit c.in_ok-superblock.ensures.found))
+    c.in_ok-superblock.field-0.limit c.in_ok-superblock.ensures.found)))
 
 -- it is opened
 pub returns-clause-opened : goal.returns-clause-opened
@@ -94,15 +96,16 @@ returns-clause-opened g c = λ honest.
     let other = rw c.if-clean.false at c.in_ok-superblock.ensures.found in
     let shape : u.shape ≡ s.shape = c.in_ok-flush.ensures.ok.shape ∙ c.examine.ensures.stays.shape in
     let home : u.shape.home_blocks ≡ s.shape.home_blocks = ap (λ (m : Shape). m.home_blocks) shape in
-    subst (λ (block : List ℕ). IsOpening s.shape s.disk w.disk block (c.in_ok-superblock.field-0.limit + 1)) (sym c.in_ok-superblock-2.ensures.superblock)
+    rw c.number_from-next.ensures
+    (subst (λ (block : List ℕ). IsOpening s.shape s.disk w.disk block (c.in_ok-superblock.field-0.limit + 1)) (sym (rw c.number_from-next.ensures at c.in_ok-superblock-2.ensures.superblock))
     (replayed-opening s (g.D.Device.state c.examine.new.device) u w c.in_ok-superblock.field-0.superblock.items c.in_ok-superblock.field-0.texts
     c.in_ok-superblock.field-0.limit other c.examine.ensures.stays c.in_ok-flush.ensures.ok
     (same-moments u.shape.home_blocks s.shape.home_blocks c.as_slice.result.now c.in_ok-superblock.field-0.texts tail u w home
-    c.as_slice.ensures c.bring_home.ensures.moments)
+    c.as_slice.ensures (rw c.number_from-next.ensures at c.bring_home.ensures.moments))
     (same-replayed u.shape.home_blocks s.shape.home_blocks c.as_slice.result.now c.in_ok-superblock.field-0.texts u w home
     c.as_slice.ensures c.in_ok-superblock-2.ensures.home)
-    c.in_ok-superblock-2.ensures.durable
-    (c.in_ok-superblock.ensures.read (c.flush.ensures.honest (c.bring_home.ensures.honest honest))))
+    (rw c.number_from-next.ensures at c.in_ok-superblock-2.ensures.durable)
+    (c.in_ok-superblock.ensures.read (c.flush.ensures.honest (c.bring_home.ensures.honest honest)))))
 
 -- and that tells of its chain
 pub returns-clause-report : goal.returns-clause-report
