@@ -12,7 +12,7 @@ use Rattle.block_device.specs.Memory.{MemState, crashed, state_of}
 use Rattle.block_device.specs.State.{DeviceState, Stays}
 use Rattle.recovery.specs.Opening.{Tells}
 use Rattle.recovery.specs.Opening.Tells.{OfClean, OfChain}
-use Rattle.bench_run.specs.Verdict.{IsAsLeft, IsRight, IsVerdict, owed}
+use Rattle.bench_run.specs.Verdict.{IsAsLeft, IsImageVerdict, IsRight, IsVerdict, owed}
 
 or_false : (b : Bool) → b ≡ (b || false)
 or_false true = refl
@@ -31,42 +31,52 @@ IsAsLeft-stays sealed n b old new s h =
     let on_disk : Disk → Type 0 = λ disk. IsAsLeft sealed n old.shape.block_size (reading disk Home) b in
     subst on_disk s.disk (subst on_shape s.shape h)
 
+-- and it is as right
+pub IsRight-stays : (sealed : History) (shown : Option ℕ) (named : List ℕ) (n : ℕ) (right : Bool) (old new : DeviceState) → Stays old new
+    → (IsTrue right ↔ IsRight sealed shown named n new.shape.block_size (reading new.disk Home))
+    → (IsTrue right ↔ IsRight sealed shown named n old.shape.block_size (reading old.disk Home))
+IsRight-stays sealed shown named n right old new s h =
+    let on_shape : Shape → Type 0 = λ shape. IsTrue right ↔ IsRight sealed shown named n shape.block_size (reading new.disk Home) in
+    let on_disk : Disk → Type 0 = λ disk. IsTrue right ↔ IsRight sealed shown named n old.shape.block_size (reading disk Home) in
+    subst on_disk s.disk (subst on_shape s.shape h)
+
 -- an opening tells the limit of what it opened
 pub HasLimit-from_tells : (shape : Shape) (image : Image) (clean : Bool) (ends_at transactions : ℕ)
     → Tells shape image clean ends_at transactions → HasLimit shape image ends_at
 HasLimit-from_tells shape image clean ends_at transactions (OfClean h) = CleanLimit h
 HasLimit-from_tells shape image clean ends_at transactions (OfChain texts h) = ChainLimit texts h
 
--- The verdict on a device: what a crash left, which stays until it is opened, and what that gave, which stays until it
--- is judged.
-pub IsVerdict-from : (device : MemState) (keep : List ℕ) (sealed : History) (shown : Option ℕ) (named : List ℕ) (right : Bool)
-    (left image opened home : MemState) (limit n : ℕ)
-    → ((a : Area) (n : ℕ) → (state_of left).disk a n ≡ record { reads = crashed keep device a n; others = [] })
-    → left.shape ≡ device.shape
-    → Stays (state_of left) (state_of image)
+-- the verdict on an image: what opening it gave, which stays until it is judged
+pub IsImageVerdict-from : (sealed : History) (shown : Option ℕ) (named : List ℕ) (right : Bool) (image opened : MemState) (limit n : ℕ)
     → HasLimit image.shape (reading (state_of image).disk) limit
     → OpensAs image.shape (reading (state_of image).disk) (reading (state_of opened).disk Home)
     → opened.shape ≡ image.shape
-    → Stays (state_of opened) (state_of home)
     → n ≡ numbered_below limit sealed
-    → (IsTrue right ↔ IsRight sealed shown named n home.shape.block_size (reading (state_of home).disk Home))
-    → IsVerdict device keep sealed shown named right
-IsVerdict-from device keep sealed shown named right left image opened home limit n crash left_shape image_stays has_limit opens opened_shape home_stays count right_is =
-    let shape : image.shape ≡ device.shape = image_stays.shape ∙ left_shape in
-    let disk : reading (state_of image).disk ≡ crashed keep device =
-    ap reading image_stays.disk ∙ (λ i a n. (crash a n i).reads) in
-    let got : reading (state_of home).disk Home ≡ reading (state_of opened).disk Home =
-    ap (λ (d : Disk). reading d Home) home_stays.disk in
-    let size : home.shape ≡ device.shape = home_stays.shape ∙ opened_shape ∙ shape in
-    let on_limit : Shape → Image → Type 0 = λ s m. HasLimit s m limit in
-    let on_opens : Shape → Image → Type 0 = λ s m. OpensAs s m (reading (state_of opened).disk Home) in
-    let on_right : ℕ → Shape → Volume → Type 0 = λ m s v. IsTrue right ↔ IsRight sealed shown named m s.block_size v in
-    let at_count : on_right (numbered_below limit sealed) home.shape (reading (state_of home).disk Home) =
-    subst (λ m. on_right m home.shape (reading (state_of home).disk Home)) count right_is in
+    → (IsTrue right ↔ IsRight sealed shown named n opened.shape.block_size (reading (state_of opened).disk Home))
+    → IsImageVerdict image.shape (reading (state_of image).disk) sealed shown named right
+IsImageVerdict-from sealed shown named right image opened limit n has_limit opens shape count right_is =
+    let on_shape : Shape → Type 0 = λ s. IsTrue right ↔ IsRight sealed shown named (numbered_below limit sealed) s.block_size (reading (state_of opened).disk Home) in
+    let on_count : ℕ → Type 0 = λ m. IsTrue right ↔ IsRight sealed shown named m opened.shape.block_size (reading (state_of opened).disk Home) in
     record {
       limit = limit;
-      has_limit = subst (on_limit device.shape) disk (subst (λ s. on_limit s (reading (state_of image).disk)) shape has_limit);
+      has_limit = has_limit;
       got = reading (state_of opened).disk Home;
-      opens = subst (on_opens device.shape) disk (subst (λ s. on_opens s (reading (state_of image).disk)) shape opens);
-      right_is = subst (on_right (numbered_below limit sealed) device.shape) got (subst (λ s. on_right (numbered_below limit sealed) s (reading (state_of home).disk Home)) size at_count);
+      opens = opens;
+      right_is = subst on_shape shape (subst on_count count right_is);
     }
+
+-- the verdict on a device: that on what a crash left, which stays until it is opened
+pub IsVerdict-from : (device : MemState) (keep : List ℕ) (sealed : History) (shown : Option ℕ) (named : List ℕ) (right : Bool) (left image : MemState)
+    → ((a : Area) (n : ℕ) → (state_of left).disk a n ≡ record { reads = crashed keep device a n; others = [] })
+    → left.shape ≡ device.shape
+    → Stays (state_of left) (state_of image)
+    → IsImageVerdict image.shape (reading (state_of image).disk) sealed shown named right
+    → IsVerdict device keep sealed shown named right
+IsVerdict-from device keep sealed shown named right left image crash left_shape stays verdict =
+    let shape : image.shape ≡ device.shape = stays.shape ∙ left_shape in
+    let disk : reading (state_of image).disk ≡ crashed keep device =
+    ap reading stays.disk ∙ (λ i a n. (crash a n i).reads) in
+    let on_shape : Shape → Type 0 = λ s. IsImageVerdict s (reading (state_of image).disk) sealed shown named right in
+    let on_disk : Image → Type 0 = λ m. IsImageVerdict device.shape m sealed shown named right in
+    let moved = subst on_disk disk (subst on_shape shape verdict) in
+    record { limit = moved.limit; has_limit = moved.has_limit; got = moved.got; opens = moved.opens; right_is = moved.right_is }

@@ -1,7 +1,9 @@
 -- What an opening owes after a run, and when it gave that back.
 use Rattle.std.specs.Prelude.{◌≡◌, ◌↔◌, ℕ, ◌≤◌, Bool, IsTrue, List, [], ◌∷◌, length, replicate, Option, Some, None, All}
+use Rattle.journal_model.specs.Disk.{Image}
 use Rattle.journal_model.specs.Opening.{HasLimit, OpensAs, numbered_below}
 use Rattle.journal_model.specs.Record.{acknowledged}
+use Rattle.journal_model.specs.Superblock.{Shape}
 use Rattle.journal_model.specs.Transaction.{History, Volume, after, bytes_of}
 use Rattle.block_device.specs.Memory.{MemState, crashed}
 
@@ -20,6 +22,14 @@ pub record IsRight (sealed : History) (shown : Option ℕ) (named : List ℕ) (n
   pub kept : owed shown sealed ≤ n
   pub known : n ≤ length sealed
   pub home_is : All (IsAsLeft sealed n size home) named
+
+-- the verdict on an image: it was opened, and what that gave is right, or it is not
+pub record IsImageVerdict (shape : Shape) (image : Image) (sealed : History) (shown : Option ℕ) (named : List ℕ) (right : Bool) : Type 0 where
+  pub limit : ℕ
+  pub has_limit : HasLimit shape image limit
+  pub got : Volume
+  pub opens : OpensAs shape image got
+  pub right_is : IsTrue right ↔ IsRight sealed shown named (numbered_below limit sealed) shape.block_size got
 
 -- the verdict on a device that stopped: what a crash of it left was opened, and what that gave is right, or it is not
 pub record IsVerdict (device : MemState) (keep : List ℕ) (sealed : History) (shown : Option ℕ) (named : List ℕ) (right : Bool) : Type 0 where

@@ -25,14 +25,21 @@ pub struct Interpreter {
     acknowledged: Option<Tid>,
 }
 
+/// Copies bytes to the front of others, as many as both have.
+fn copy_front(to: &mut [u8], from: &[u8])
+    ensures { length to.new ≡ length to.old }
+{
+    for (place, byte) in to.iter_mut().zip(from) {
+        *place = *byte;
+    }
+}
+
 /// A block of `size` bytes: these, at most one block of them, and zeros behind them.
 fn block_of(alloc: Global, size: usize, bytes: &[u8]) -> Result<Vec<u8>, AllocError>
     ensures { IfOk result (λ block. length block.items ≡ size) }
 {
     let mut block = vec![in alloc; 0; size]?;
-    for (place, byte) in block.iter_mut().zip(bytes) {
-        *place = *byte;
-    }
+    copy_front(&mut block, bytes);
     Ok(block)
 }
 
@@ -44,15 +51,20 @@ impl Interpreter {
     /// The log is refused, or memory runs out.
     pub fn new(alloc: Global, device: StopAt<MemDevice>) -> Result<Self, JournalError> {
         let slots = Slots::new(alloc)?;
-        let opened = open(alloc, device).map_err(|(_, e)| e)?;
-        let (journal, seat) = Journal::new(alloc, opened).map_err(|(_, e)| e)?;
-        Ok(Interpreter {
-            alloc,
-            journal,
-            seat,
-            slots,
-            acknowledged: None,
-        })
+        let opened = match open(alloc, device) {
+            Ok(opened) => opened,
+            Err((_, e)) => return Err(e),
+        };
+        match Journal::new(alloc, opened) {
+            Ok((journal, seat)) => Ok(Interpreter {
+                alloc,
+                journal,
+                seat,
+                slots,
+                acknowledged: None,
+            }),
+            Err((_, e)) => Err(e),
+        }
     }
 
     /// Runs one operation.
@@ -173,9 +185,7 @@ impl Interpreter {
         let mut bytes = vec![in self.alloc; 0; self.journal.block_size()]?;
         self.journal.read(handle, block, &mut bytes)?;
         let mut begins = [0; PRINTED_BYTES];
-        for (place, byte) in begins.iter_mut().zip(&bytes) {
-            *place = *byte;
-        }
+        copy_front(&mut begins, &bytes);
         Ok(begins)
     }
 

@@ -7,7 +7,7 @@ use std::fmt;
 pub const PRINTED_BYTES: usize = 8;
 
 /// What an operation came to.
-#[derive(Clone, Copy, Debug, PartialEq, Eq)]
+#[derive(Clone, Copy)]
 pub enum Outcome {
     /// It is accepted, and this is the number of the transaction that it is about.
     Transaction(Tid),
@@ -34,23 +34,33 @@ impl fmt::Display for Outcome {
         match self {
             Outcome::Transaction(tid) => write!(f, "{}", tid.0),
             Outcome::Done => f.write_str("ok"),
-            Outcome::Begins(bytes) => write_hex(f, bytes),
+            Outcome::Begins(bytes) => Hex(bytes).fmt(f),
             Outcome::Turn(turn) => write_turn(f, *turn),
             Outcome::CheckTurn(turn) => write_check_turn(f, *turn),
             Outcome::Committed => f.write_str("committed"),
             Outcome::Open => f.write_str("open"),
             Outcome::Skipped => f.write_str("skipped"),
-            Outcome::Refused(e) => write!(f, "refused {} {e}", e.number()),
+            Outcome::Refused(e) => write_refusal(f, *e),
         }
     }
 }
 
-/// Writes bytes in hex digits.
-pub fn write_hex<W: fmt::Write>(f: &mut fmt::Formatter<W>, bytes: &[u8]) -> fmt::Result {
-    for byte in bytes {
-        write!(f, "{byte:02x}")?;
+/// Bytes, which are written in hex digits.
+#[derive(Clone, Copy)]
+pub struct Hex<'a>(pub &'a [u8]);
+
+impl fmt::Display for Hex<'_> {
+    fn fmt<W: fmt::Write>(&self, f: &mut fmt::Formatter<W>) -> fmt::Result {
+        for byte in self.0 {
+            write!(f, "{byte:02x}")?;
+        }
+        Ok(())
     }
-    Ok(())
+}
+
+/// Writes why an operation is refused.
+fn write_refusal<W: fmt::Write>(f: &mut fmt::Formatter<W>, e: JournalError) -> fmt::Result {
+    write!(f, "refused {} {e}", e.number())
 }
 
 /// Writes what a commit turn did.

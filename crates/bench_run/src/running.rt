@@ -1,17 +1,17 @@
 //! A script's operations over a device that stops, and then the verdict on what an opening gives back.
-ghost use Rattle.std.specs.Prelude.{◌≡◌, IfOk};
+ghost use Rattle.std.specs.Prelude.{◌≡◌, ◌↔◌, IfOk, IsTrue};
 ghost use Rattle.std.specs.BTreeSet.{keys};
 ghost use Rattle.journal_model.specs.declared.number.Area.TheVariants.{Home};
 ghost use Rattle.journal_model.specs.Disk.{reading};
 ghost use Rattle.journal_model.specs.Opening.{HasLimit, OpensAs};
 ghost use Rattle.block_device.specs.Memory.{state_of};
 ghost use Rattle.block_device.specs.State.{Stays};
-ghost use Rattle.bench_run.specs.Verdict.{IsVerdict};
+ghost use Rattle.bench_run.specs.Verdict.{IsImageVerdict, IsRight, IsVerdict};
 
 use crate::blocks::read_block;
 use crate::disk::empty_disk;
 use crate::interpreter::Interpreter;
-use crate::outcome::{Outcome, PRINTED_BYTES};
+use crate::outcome::{Hex, Outcome, PRINTED_BYTES};
 use crate::verdict::Record;
 use bench_script::{Operation, Script};
 use block_device::{Device, MemDevice};
@@ -82,7 +82,7 @@ fn perform_all(
     for operation in operations {
         let outcome = interpreter.perform(operation);
         writeln!(out, "{operation} = {outcome}")?;
-        if outcome == Outcome::Refused(JournalError::Device) {
+        if matches!(outcome, Outcome::Refused(JournalError::Device)) {
             break;
         }
     }
@@ -131,12 +131,41 @@ pub fn judge(
     write_stop(out, at_write)?;
     let mut image = device.crash(keep);
     dump(alloc, &mut image, out)?;
+    judge_image(alloc, image, &recorded, named, out)
+}
+
+/// Opens an image, and prints what the opening found, how the named blocks of home then begin, and the verdict.
+fn judge_image(
+    alloc: Global,
+    image: MemDevice,
+    recorded: &Record,
+    named: &BTreeSet<u64>,
+    out: &mut impl Write,
+) -> Result<bool, Fault>
+    ensures { IfOk result (IsImageVerdict image.shape (reading (state_of image).disk) recorded.now.sealed.items recorded.now.acknowledged (keys named.now)) }
+{
     let opened = open_image(alloc, image)?;
     let n = recorded.count_below(opened.report().ends_at);
     write_opening(out, &opened, n)?;
     let mut device = opened.into_device();
-    write_home(alloc, &mut device, named, out)?;
-    let verdict = recorded.judge(alloc, &mut device, named, n)?;
+    judge_home(alloc, &mut device, recorded, named, n, out)
+}
+
+/// Prints how the named blocks of home begin on a device whose opening found the first `n` recorded transactions, and the
+/// verdict.
+fn judge_home<D: Device>(
+    alloc: Global,
+    device: &mut D,
+    recorded: &Record,
+    named: &BTreeSet<u64>,
+    n: usize,
+    out: &mut impl Write,
+) -> Result<bool, Fault>
+    ensures { IfOk result (λ right. D.honest device.new → IsTrue right ↔
+        IsRight recorded.now.sealed.items recorded.now.acknowledged (keys named.now) n (D.state device.old).shape.block_size (reading (D.state device.old).disk Home)) }
+{
+    write_home(alloc, device, named, out)?;
+    let verdict = recorded.judge(alloc, device, named, n)?;
     write_verdict(out, verdict)?;
     Ok(verdict)
 }
@@ -195,9 +224,6 @@ fn write_home<D: Device>(
 
 /// Prints how one block begins.
 fn write_home_line(out: &mut impl Write, block: u64, bytes: &[u8]) -> io::Result<()> {
-    write!(out, "home {block} ")?;
-    for byte in bytes.iter().take(PRINTED_BYTES) {
-        write!(out, "{byte:02x}")?;
-    }
-    writeln!(out)
+    let begins = &bytes[..bytes.len().min(PRINTED_BYTES)];
+    writeln!(out, "home {block} {}", Hex(begins))
 }

@@ -5,7 +5,7 @@ use std::alloc::{AllocError, Global};
 use std::mem;
 
 /// What a name stands for.
-#[derive(Debug, Drop)]
+#[derive(Drop)]
 pub enum Slot {
     /// Nothing: its handle's start was refused, or none was tried.
     Empty,
@@ -18,7 +18,7 @@ pub enum Slot {
 }
 
 /// What each name stands for.
-#[derive(Debug, Drop)]
+#[derive(Drop)]
 pub struct Slots {
     slots: Vec<Slot>,
 }
