@@ -4,7 +4,7 @@ use crate::script::{HANDLE_NAMES, Operation};
 use std::alloc::Global;
 
 /// The state of a name of a handle.
-#[derive(Clone, Copy, Debug, PartialEq, Eq)]
+#[derive(Clone, Copy)]
 enum State {
     /// It names nothing yet.
     Unused,
@@ -35,8 +35,13 @@ fn follow(states: &mut [State], operation: &Operation) -> Result<(), ScriptError
     let Some(state) = states.get_mut(handle.index()) else {
         return Err(ScriptError::BadScript);
     };
-    *state = state_behind(*state, operation).ok_or(ScriptError::BadScript)?;
-    Ok(())
+    match state_behind(*state, operation) {
+        Some(behind) => {
+            *state = behind;
+            Ok(())
+        }
+        None => Err(ScriptError::BadScript),
+    }
 }
 
 /// Tests the operations of a whole script.

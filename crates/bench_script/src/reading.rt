@@ -26,22 +26,42 @@ pub fn read(alloc: Global, text: &[u8]) -> Result<Script, ScriptError>
     ensures measures { IfOk result (λ script. AreLimited script.measures) }
 {
     let value = read_value(alloc, text)?;
-    let members = value.as_object().ok_or(ScriptError::BadScript)?;
-    if KEYS
-        .iter()
-        .filter(|key| members.contains_key(**key))
-        .count()
-        != members.len()
-    {
-        return Err(ScriptError::BadScript);
+    match value.as_object() {
+        Some(members) if has_only_keys(members) => read_members(alloc, members),
+        _ => Err(ScriptError::BadScript),
     }
+}
+
+/// Whether an object has no other keys than a script.
+fn has_only_keys(members: &Map<String, Value>) -> bool {
+    let known = KEYS.iter().filter(|key| members.contains_key(**key));
+    known.count() == members.len()
+}
+
+/// The script of an object.
+fn read_members(alloc: Global, members: &Map<String, Value>) -> Result<Script, ScriptError>
+    ensures operations { IfOk result (λ script. length script.operations.items ≤ 100_000) }
+    ensures measures { IfOk result (λ script. AreLimited script.measures) }
+{
     let measures = read_measures(alloc, members)?;
-    let operations = read_operations(alloc, list_of(members)?, measures.block_size)?;
-    order::check(alloc, &operations)?;
+    let operations = read_ordered(alloc, list_of(members)?, measures.block_size)?;
     Ok(Script {
         measures,
         operations,
     })
+}
+
+/// The operations of a list, which name handles in the right state.
+fn read_ordered(
+    alloc: Global,
+    list: &[Value],
+    block_size: usize,
+) -> Result<Vec<Operation>, ScriptError>
+    ensures { IfOk result (λ operations. length operations.items ≡ length list.now) }
+{
+    let operations = read_operations(alloc, list, block_size)?;
+    order::check(alloc, &operations)?;
+    Ok(operations)
 }
 
 /// The value of a JSON text.
@@ -96,7 +116,9 @@ fn read_uuid(alloc: Global, members: &Map<String, Value>) -> Result<[u8; 16], Sc
     let Some(value) = members.get("uuid") else {
         return Ok(DEFAULTS.uuid);
     };
-    let digits = value.as_str().ok_or(ScriptError::BadScript)?;
+    let Some(digits) = value.as_str() else {
+        return Err(ScriptError::BadScript);
+    };
     uuid_of(alloc, digits)?.ok_or(ScriptError::BadScript)
 }
 
@@ -132,51 +154,72 @@ fn read_operation(
     value: &Value,
     block_size: usize,
 ) -> Result<Operation, ScriptError> {
-    let words = value.as_array().ok_or(ScriptError::BadScript)?;
-    let (name, words) = words.split_first().ok_or(ScriptError::BadScript)?;
-    let name = name.as_str().ok_or(ScriptError::BadScript)?;
-    match words {
-        [] => plain_operation(name),
-        [handle] => handle_operation(name, handle_of(handle)?),
-        [handle, number] => number_operation(name, handle_of(handle)?, number_of(number)?),
-        [handle, block, hex] if name == "write" => Ok(Operation::Write(
-            handle_of(handle)?,
-            BlockNo(number_of(block)?),
-            bytes_of(alloc, hex, block_size)?,
-        )),
+    let Some(words) = value.as_array() else {
+        return Err(ScriptError::BadScript);
+    };
+    match words.as_slice() {
+        [name] => plain_operation(name),
+        [name, handle] => handle_operation(name, handle),
+        [name, handle, number] => number_operation(name, handle, number),
+        [name, handle, block, hex] => write_operation(alloc, name, handle, block, hex, block_size),
         _ => Err(ScriptError::BadScript),
     }
 }
 
 /// An operation that is a name alone.
-fn plain_operation(name: &str) -> Result<Operation, ScriptError> {
-    match name {
-        "turn" => Ok(Operation::Turn),
-        "commit" => Ok(Operation::Commit),
-        "ckturn" => Ok(Operation::CheckpointTurn),
-        "check" => Ok(Operation::Check),
+fn plain_operation(name: &Value) -> Result<Operation, ScriptError> {
+    match name.as_str() {
+        Some("turn") => Ok(Operation::Turn),
+        Some("commit") => Ok(Operation::Commit),
+        Some("ckturn") => Ok(Operation::CheckpointTurn),
+        Some("check") => Ok(Operation::Check),
         _ => Err(ScriptError::BadScript),
     }
 }
 
 /// An operation of a handle.
-fn handle_operation(name: &str, handle: HandleName) -> Result<Operation, ScriptError> {
-    match name {
-        "stop" => Ok(Operation::Stop(handle)),
-        "request" => Ok(Operation::Request(handle)),
-        "status" => Ok(Operation::Status(handle)),
-        "wait" => Ok(Operation::Wait(handle)),
+fn handle_operation(name: &Value, handle: &Value) -> Result<Operation, ScriptError> {
+    let handle = handle_of(handle)?;
+    match name.as_str() {
+        Some("stop") => Ok(Operation::Stop(handle)),
+        Some("request") => Ok(Operation::Request(handle)),
+        Some("status") => Ok(Operation::Status(handle)),
+        Some("wait") => Ok(Operation::Wait(handle)),
         _ => Err(ScriptError::BadScript),
     }
 }
 
 /// An operation of a handle and a number: credits, or a block.
-fn number_operation(name: &str, handle: HandleName, number: u64) -> Result<Operation, ScriptError> {
-    match name {
-        "start" => Ok(Operation::Start(handle, number)),
-        "read" => Ok(Operation::Read(handle, BlockNo(number))),
+fn number_operation(
+    name: &Value,
+    handle: &Value,
+    number: &Value,
+) -> Result<Operation, ScriptError> {
+    let handle = handle_of(handle)?;
+    let number = number_of(number)?;
+    match name.as_str() {
+        Some("start") => Ok(Operation::Start(handle, number)),
+        Some("read") => Ok(Operation::Read(handle, BlockNo(number))),
         _ => Err(ScriptError::BadScript),
     }
+}
+
+/// An operation of a handle, a block and its bytes, where a block has so many.
+fn write_operation(
+    alloc: Global,
+    name: &Value,
+    handle: &Value,
+    block: &Value,
+    hex: &Value,
+    block_size: usize,
+) -> Result<Operation, ScriptError> {
+    let Some("write") = name.as_str() else {
+        return Err(ScriptError::BadScript);
+    };
+    let handle = handle_of(handle)?;
+    let block = BlockNo(number_of(block)?);
+    let bytes = bytes_of(alloc, hex, block_size)?;
+    Ok(Operation::Write(handle, block, bytes))
 }
 
 /// A whole number from 0 to 2^64 - 1.

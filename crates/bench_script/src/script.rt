@@ -15,7 +15,7 @@ pub const MOST_OPERATIONS: usize = 100_000;
 pub const HANDLE_NAMES: u16 = 10_000;
 
 /// A script's own name of a handle, 0 to 9999.
-#[derive(Clone, Copy, Debug, PartialEq, Eq)]
+#[derive(Clone, Copy, Debug)]
 pub struct HandleName(u16);
 
 impl Model for HandleName {
@@ -54,7 +54,7 @@ pub enum Operation {
 }
 
 /// A script whose operations all have a right form, and name handles in the right state.
-#[derive(Debug, Drop)]
+#[derive(Drop)]
 pub struct Script {
     /// The measures of its device.
     pub measures: Measures,
@@ -105,6 +105,34 @@ impl Operation {
             _ => None,
         }
     }
+
+    /// The word that its line begins with.
+    fn word(&self) -> &'static str {
+        match self {
+            Operation::Start(..) => "start",
+            Operation::Write(..) => "write",
+            Operation::Read(..) => "read",
+            Operation::Stop(_) => "stop",
+            Operation::Request(_) => "request",
+            Operation::Turn => "turn",
+            Operation::Commit => "commit",
+            Operation::CheckpointTurn => "ckturn",
+            Operation::Check => "check",
+            Operation::Status(_) => "status",
+            Operation::Wait(_) => "wait",
+        }
+    }
+
+    /// The number in its line, of credits or of a block.
+    fn number(&self) -> Option<u64> {
+        match self {
+            Operation::Start(_, credits) => Some(*credits),
+            _ => match self.block() {
+                Some(block) => Some(block.0),
+                None => None,
+            },
+        }
+    }
 }
 
 impl Script {
@@ -131,18 +159,13 @@ impl fmt::Display for HandleName {
 /// The left side of an operation's line.
 impl fmt::Display for Operation {
     fn fmt<W: fmt::Write>(&self, f: &mut fmt::Formatter<W>) -> fmt::Result {
-        match self {
-            Operation::Start(handle, credits) => write!(f, "start {handle} {credits}"),
-            Operation::Write(handle, block, _) => write!(f, "write {handle} {}", block.0),
-            Operation::Read(handle, block) => write!(f, "read {handle} {}", block.0),
-            Operation::Stop(handle) => write!(f, "stop {handle}"),
-            Operation::Request(handle) => write!(f, "request {handle}"),
-            Operation::Turn => f.write_str("turn"),
-            Operation::Commit => f.write_str("commit"),
-            Operation::CheckpointTurn => f.write_str("ckturn"),
-            Operation::Check => f.write_str("check"),
-            Operation::Status(handle) => write!(f, "status {handle}"),
-            Operation::Wait(handle) => write!(f, "wait {handle}"),
+        f.write_str(self.word())?;
+        if let Some(handle) = self.handle() {
+            write!(f, " {handle}")?;
         }
+        if let Some(number) = self.number() {
+            write!(f, " {number}")?;
+        }
+        Ok(())
     }
 }
