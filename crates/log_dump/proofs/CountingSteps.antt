@@ -1,12 +1,13 @@
 -- One step of the first way over a log.
-use Rattle.std.proofs.Common.{◌≡◌, ℕ, ◌+◌, ◌∙◌, subst, ap, arith}
+use Rattle.std.proofs.Common.{◌≡◌, ℕ, ◌+◌, ◌∙◌, subst, sym, ap, arith}
 use Rattle.journal_model.specs.declared.refusal.JournalError.{JournalError}
-use Rattle.journal_model.specs.declared.refusal.JournalError.TheVariants.{Damage}
+use Rattle.journal_model.specs.declared.refusal.JournalError.TheVariants.{Damage, Device, Memory}
 use Rattle.journal_model.specs.Chain.{lap, place_from}
 use Rattle.journal_model.specs.Disk.{Disk, Image, reading}
 use Rattle.journal_model.specs.Opening.{layout_of, ring_of}
-use Rattle.journal_model.specs.Superblock.{Super}
+use Rattle.journal_model.specs.Superblock.{Shape, Super}
 use Rattle.block_device.specs.State.{DeviceState, Stays}
+use Rattle.log_format.specs.Accepted.{IsAccepted}
 use Rattle.log_dump.specs.declared.finding.Found.{Found}
 use Rattle.log_dump.specs.declared.finding.Found.TheVariants.{RevokeBlock, Descriptor, CommitBlock, Malformed, Nothing}
 use Rattle.log_dump.specs.Dumping.{IsCounted, IsDamageOf}
@@ -20,6 +21,18 @@ stays-joins s t u first second = record {
   disk = second.disk ∙ first.disk;
   past = second.past ∙ first.past;
 }
+
+-- damage is neither a failure of the device nor of memory
+pub no-failure : (place : ℕ) → Damage place ≡ Device → ⊥
+no-failure place e = cc
+
+pub no-memory : (place : ℕ) → Damage place ≡ Memory → ⊥
+no-memory place e = cc
+
+-- a log that was accepted on a device is so while that stays
+pub accepted-stays : (log : Super) (old new : DeviceState) → Stays old new → IsAccepted old.shape.block_size old.shape.log_blocks log →
+    IsAccepted new.shape.block_size new.shape.log_blocks log
+accepted-stays log old new stays accepted = subst (λ (s : Shape). IsAccepted s.block_size s.log_blocks log) (sym stays.shape) accepted
 
 -- what was found in a device whose blocks are those of another, where a block of this number is due
 pub found-there : (s : Super) (old mid : DeviceState) (number due position : ℕ) (f : FinderValue) (found : Found) → number ≡ due → Stays old mid →

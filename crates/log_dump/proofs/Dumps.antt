@@ -16,12 +16,19 @@ use Rattle.journal_model.specs.Dump.IsDumpRefused.{ByDamage, BySuperblock}
 use Rattle.journal_model.specs.Opening.{HasChain, IsStarted, super_of}
 use Rattle.journal_model.specs.Superblock.{Shape, Super, first_failed, super_refusal, super_tests}
 use Rattle.block_device.specs.State.{DeviceState, one_more_fault}
+use Rattle.log_format.specs.Accepted.{IsAccepted}
 use Rattle.log_dump.specs.declared.fault.Fault.{Fault}
 use Rattle.log_dump.specs.declared.fault.Fault.TheVariants.{Refused, Output}
 use Rattle.log_dump.specs.Dumping.{AreTextsOf, DumpRefused, HasDump, IsCounted, IsCountRefused, IsDamageOf, IsDumpFault, IsLogRefused, IsPrintRefused, IsReadLog, shape_of}
 use Rattle.log_dump.specs.Finding.{every_block}
 use Rattle.log_dump.specs.Lines.{ended, placed_lines}
 use Rattle.log_dump.proofs.Written.{appends-joins, appends-same}
+
+-- fields that were accepted for a block and an area of these sizes are so for the device's
+pub accepted-for : (told block_size tells log_blocks : ℕ) (fields log : Super) → told ≡ block_size → tells ≡ log_blocks → log ≡ fields →
+    IsAccepted told tells fields → IsAccepted block_size log_blocks log
+accepted-for told block_size tells log_blocks fields log size count same accepted =
+    subst (λ (n : ℕ). IsAccepted n log_blocks log) size (subst (λ (n : ℕ). IsAccepted told n log) count (subst (λ (s : Super). IsAccepted told tells s) (sym same) accepted))
 
 -- the lines of a clean log are its dump
 text-clean : (s : Super) → s.s_start ≡ 0 → ended (super_line s) ++ ended (codes "empty sequence=" ++ decimal s.s_sequence) ≡ dump_text s []

@@ -1,20 +1,34 @@
 -- What a block that was read says of itself says what stands at its position of the lap.
-use Rattle.std.proofs.Common.{◌≡◌, ℕ, suc, ◌-◌, ◌<◌, List, ◌∷◌, ◌++◌, length, take, sym, ◌∙◌, ap, subst, arith}
+use Rattle.std.proofs.Common.{◌≡◌, ℕ, suc, ◌+◌, ◌-◌, ◌<◌, ◌≤◌, List, ◌∷◌, ◌++◌, length, take, sym, ◌∙◌, ap, subst, arith}
 use Rattle.std.proofs.Math.Seq.{take-append_seam}
 use Rattle.journal_model.specs.declared.number.Area.TheVariants.{Log}
 use Rattle.journal_model.specs.Chain.{place_from}
 use Rattle.journal_model.specs.Disk.{Image}
-use Rattle.journal_model.specs.Layout.{narrow}
+use Rattle.journal_model.specs.Layout.{Layout, narrow}
 use Rattle.journal_model.specs.Opening.{layout_of, ring_of}
 use Rattle.journal_model.specs.Superblock.{Super}
 use Rattle.log_dump.specs.declared.finding.Found.{Found}
-use Rattle.log_dump.specs.Finding.{FinderValue, IsFound, Says, blocks_from, every_block}
+use Rattle.log_dump.specs.declared.finding.Found.TheVariants.{RevokeBlock, Descriptor, CommitBlock, Malformed, Nothing}
+use Rattle.log_dump.specs.Finding.{FinderValue, Fits, IsFound, Says, blocks_from, every_block}
 use Rattle.log_dump.proofs.Found.{found-says}
 use Rattle.log_dump.proofs.Laps.{from-within, length-from}
 
 -- a buffer that was read into over its whole length is what was read
 pub whole-buffer : {X : Type 0} (n : ℕ) (read behind : List X) → n ≡ length read → take n (read ++ behind) ≡ read
 whole-buffer n read behind size = ap (λ (k : ℕ). take k (read ++ behind)) size ∙ take-append_seam read behind
+
+-- and it is as long as it was
+pub as-long : {X : Type 0} (n size : ℕ) (read behind : List X) → n ≡ length read → n ≡ size → length (take n (read ++ behind)) ≡ size
+as-long n size read behind all same = ap length (whole-buffer n read behind all) ∙ (sym all ∙ same)
+
+-- what a block says of itself stands within the ring
+pub fits-says : (l : Layout) (count sequence behind blocks position : ℕ) (block : List ℕ) (f : FinderValue) (found : Found) → position < blocks →
+    behind ≡ blocks - position - 1 → Says l count sequence behind block f found → Fits blocks position f found
+fits-says l count sequence behind blocks position block f (RevokeBlock n) below rest says = (says.0, omega arith)
+fits-says l count sequence behind blocks position block f (Descriptor n) below rest says = (says.0, let few = says.1 in omega arith)
+fits-says l count sequence behind blocks position block f CommitBlock below rest says = omega arith
+fits-says l count sequence behind blocks position block f Malformed below rest says = tt
+fits-says l count sequence behind blocks position block f Nothing below rest says = tt
 
 -- what the block at a position says of itself
 pub found-at : (s : Super) (image : Image) (sequence position behind : ℕ) (block : List ℕ) (f : FinderValue) (found : Found) → position < (ring_of s).blocks →

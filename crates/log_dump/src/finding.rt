@@ -45,7 +45,7 @@ const NO_TAG: Tag = Tag {
 };
 
 /// What stands at a place of the log, where a block of one transaction is due.
-#[derive(Clone, Copy, Debug, PartialEq, Eq)]
+#[derive(Clone, Copy)]
 pub(crate) enum Found {
     /// A revoke block with so many numbers.
     RevokeBlock(usize),

@@ -1,7 +1,7 @@
 use Rattle.std.proofs.Common.{ℕ, ◌+◌, refl, ap, ◌∙◌, arith, inr}
 use Rattle.journal_model.specs.Disk.{reading}
 use Rattle.log_dump.specs.declared.finding.Found.TheVariants.{CommitBlock, Descriptor, Malformed, Nothing, RevokeBlock}
-use Rattle.log_dump.proofs.CountingSteps.{found-there, read-all, read-commit, read-descriptor, read-malformed, read-none, read-revokes, stays-joins}
+use Rattle.log_dump.proofs.CountingSteps.{accepted-stays, found-there, no-failure, no-memory, read-all, read-commit, read-descriptor, read-malformed, read-none, read-revokes, stays-joins}
 use Rattle.log_dump.proofs.counting.count_transactions.Goals as goal
 
 -- nothing is read yet
@@ -75,8 +75,8 @@ pub returns-in-Malformed-clause-refused : goal.returns-in-Malformed-clause-refus
 returns-in-Malformed-clause-refused g c =
     let before = c.loop-position.invariant in
     inr (
-      λ e. cc,
-      λ e. cc,
+      no-failure c.place.result,
+      no-memory c.place.result,
       c.in_ok-look.ensures.faults ∙ before.faults,
       λ h. read-malformed c.args.log.now (reading (g.D.Device.state c.args.device.now).disk) c.loop-position.count c.loop-position.position c.look.new.self
           (before.read (c.look.ensures.honest h)) _ c.place.result refl c.place.ensures.place
@@ -92,3 +92,31 @@ returns-in-Nothing-clause-counted g c = λ h.
     (before.read (c.look.ensures.honest h))
     (found-there c.args.log.now (g.D.Device.state c.args.device.now) (g.D.Device.state c.loop-position.device) _ _ c.loop-position.position c.look.new.self Nothing
     (ap (λ (n : ℕ). n + c.loop-position.count) c.first_number.ensures.value) before.stays (rw c.in-Nothing.is at (c.in_ok-look.ensures.found h)))
+
+-- the device stays, so that the log is accepted on it
+pub look-requires-clause-accepted : goal.look-requires-clause-accepted
+look-requires-clause-accepted g c =
+    accepted-stays c.args.log.now (g.D.Device.state c.args.device.now) (g.D.Device.state c.loop-position.device) c.loop-position.invariant.stays c.requires.accepted
+
+-- each step stands within the ring
+pub loop-position-smaller-in-Descriptor : goal.loop-position-smaller-in-Descriptor
+loop-position-smaller-in-Descriptor g c = let fits = rw c.in-Descriptor.is at c.in_ok-look.ensures.fits in let low = fits.1 in omega arith
+
+pub loop-position-smaller-in-RevokeBlock : goal.loop-position-smaller-in-RevokeBlock
+loop-position-smaller-in-RevokeBlock g c = let fits = rw c.in-RevokeBlock.is at c.in_ok-look.ensures.fits in let low = fits.1 in omega arith
+
+pub overflow_add-position-in-Descriptor : goal.overflow_add-position-in-Descriptor
+overflow_add-position-in-Descriptor g c = let fits = rw c.in-Descriptor.is at c.in_ok-look.ensures.fits in let low = fits.1 in omega arith
+
+pub overflow_add-position-in-Descriptor-2 : goal.overflow_add-position-in-Descriptor-2
+overflow_add-position-in-Descriptor-2 g c = let fits = rw c.in-Descriptor.is at c.in_ok-look.ensures.fits in let low = fits.1 in omega arith
+
+pub loop-position-smaller : goal.loop-position-smaller
+loop-position-smaller g c = let fits = rw c.in-CommitBlock.is at c.in_ok-look.ensures.fits in omega arith
+
+-- and a device that is honest at the end was so before
+pub returns-in-Nothing-clause-honest : goal.returns-in-Nothing-clause-honest
+returns-in-Nothing-clause-honest g c = λ h. c.loop-position.invariant.honest (c.look.ensures.honest h)
+
+pub returns-in-Malformed-clause-honest : goal.returns-in-Malformed-clause-honest
+returns-in-Malformed-clause-honest g c = λ h. c.loop-position.invariant.honest (c.look.ensures.honest h)

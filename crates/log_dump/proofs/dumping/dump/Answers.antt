@@ -3,8 +3,9 @@ use Rattle.std.specs.Io.KnownBytes.{Appends}
 use Rattle.std.proofs.lemmas.Result.{IfErr-weaker, err_from_is_err_and, on_ok_weaker}
 use Rattle.journal_model.specs.Disk.{Disk, reading}
 use Rattle.journal_model.specs.Dump.{dump_text}
-use Rattle.journal_model.specs.Superblock.{Super}
+use Rattle.journal_model.specs.Superblock.{Shape, Super}
 use Rattle.log_dump.specs.Dumping.{AreTextsOf, HasDump, IsCounted, IsReadLog, shape_of}
+use Rattle.log_dump.proofs.CountingSteps.{accepted-stays, stays-joins}
 use Rattle.log_dump.proofs.Dumps.{chain-dump, clean-dump, count-refused, counted-dump, log-refused, on-err, print-refused, test-clean, test-started}
 use Rattle.log_dump.proofs.dumping.dump.Given.{Over}
 use Rattle.log_dump.proofs.dumping.dump.Goals as goal
@@ -111,3 +112,36 @@ returns-clause-refused g c =
 
 pub returns-clause-tested : goal.returns-clause-tested
 returns-clause-tested g c = on-err c.write_log.result (inr (λ h. has-chain g c h))
+
+-- the device stays, so that the log is accepted on it
+pub count_transactions-requires-clause-accepted : goal.count_transactions-requires-clause-accepted
+count_transactions-requires-clause-accepted g c =
+    accepted-stays c.in_ok-log.log (g.D.Device.state c.args.device.now) (g.D.Device.state c.read_log.new.device) c.read_log.ensures.stays c.in_ok-log.ensures.accepted
+
+pub write_log-requires-clause-accepted : goal.write_log-requires-clause-accepted
+write_log-requires-clause-accepted g c =
+    accepted-stays c.in_ok-log.log (g.D.Device.state c.args.device.now) (g.D.Device.state c.count_transactions.new.device)
+    (stays-joins _ _ _ c.read_log.ensures.stays c.count_transactions.ensures.stays) c.in_ok-log.ensures.accepted
+
+pub make_finder-requires : goal.make_finder-requires
+make_finder-requires g c =
+    let accepted = accepted-stays c.in_ok-log.log (g.D.Device.state c.args.device.now) (g.D.Device.state c.read_log.new.device) c.read_log.ensures.stays c.in_ok-log.ensures.accepted in
+    accepted.allowed
+
+pub write_log-requires-clause-size : goal.write_log-requires-clause-size
+write_log-requires-clause-size g c =
+    c.in_ok-transactions.ensures.size ∙ c.in_ok-finder.ensures.size ∙ ap (λ (s : Shape). s.block_size) (sym c.count_transactions.ensures.stays.shape)
+
+pub write_log-requires-clause-few : goal.write_log-requires-clause-few
+write_log-requires-clause-few g c = c.in_ok-transactions.ensures.few
+
+-- and nothing that a crash or a read could tell has changed at the end
+pub returns-clause-stays : goal.returns-clause-stays
+returns-clause-stays g c = stays-joins _ _ _ c.read_log.ensures.stays (stays-joins _ _ _ c.count_transactions.ensures.stays c.write_log.ensures.stays)
+
+pub returns-clause-honest : goal.returns-clause-honest
+returns-clause-honest g c = λ h. c.read_log.ensures.honest (c.count_transactions.ensures.honest (c.write_log.ensures.honest h))
+
+pub returns-clause-no_fault : goal.returns-clause-no_fault
+returns-clause-no_fault g c =
+    on_ok_weaker c.write_log.result (λ same. same ∙ c.in_ok-transactions.ensures.faults ∙ c.in_ok-log.ensures.faults) c.write_log.ensures.faults

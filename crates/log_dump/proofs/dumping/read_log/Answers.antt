@@ -3,7 +3,7 @@ use Rattle.std.specs.Prelude.{None, Some}
 use Rattle.std.proofs.lemmas.Result.{err_from_is_err_and}
 use Rattle.journal_model.specs.Superblock.{super_in}
 use Rattle.log_dump.specs.Finding.{every_block}
-use Rattle.log_dump.proofs.Dumps.{refused-other, tested-for}
+use Rattle.log_dump.proofs.Dumps.{accepted-for, refused-other, tested-for}
 use Rattle.log_dump.proofs.dumping.read_log.Goals as goal
 
 -- the superblock is refused
@@ -28,3 +28,8 @@ returns-clause-read g c = λ h. record {
       (c.deref.ensures.value ∙ c.in_ok-superblock.ensures.read h) (c.in_ok-fields.ensures.tests every_block);
   same = c.new.ensures ∙ c.in_ok-fields.ensures.fields ∙ ap super_in (c.deref.ensures.value ∙ c.in_ok-superblock.ensures.read h);
 }
+
+pub returns-clause-accepted : goal.returns-clause-accepted
+returns-clause-accepted g c =
+    accepted-for (length c.deref.result.now) (g.D.Device.state c.args.device.now).shape.block_size c.blocks-log_blocks.result (g.D.Device.state c.args.device.now).shape.log_blocks
+    c.in_ok-fields.fields c.new.result (ap length c.deref.ensures.value ∙ c.in_ok-superblock.ensures.size) c.blocks-log_blocks.ensures c.new.ensures c.in_ok-fields.ensures.accepted

@@ -1,15 +1,16 @@
-use Rattle.std.proofs.Common.{ℕ, ◌+◌, ◌++◌, List, [], map, refl, ◌∙◌, arith, inl, inr, subst}
+use Rattle.std.proofs.Common.{ℕ, ◌+◌, ◌++◌, length, ap, List, [], map, refl, ◌∙◌, arith, inl, inr, subst}
 use Rattle.std.specs.Prelude.{codes}
 use Rattle.std.specs.Fmt.{decimal}
 use Rattle.std.specs.Io.KnownBytes.{Appends}
 use Rattle.std.specs.List.{join_with_byte}
+use Rattle.std.proofs.lemmas.List.{length-take-le}
 use Rattle.journal_model.specs.declared.log.Tag.{Tag}
 use Rattle.journal_model.specs.declared.log.Piece.TheVariants.{Revokes}
 use Rattle.journal_model.specs.Disk.{reading}
 use Rattle.journal_model.specs.Dump.{comma, piece_captions}
 use Rattle.log_dump.specs.declared.finding.Found.TheVariants.{CommitBlock, Descriptor, Malformed, Nothing, RevokeBlock}
 use Rattle.log_dump.specs.Lines.{placed_lines, tags_captions}
-use Rattle.log_dump.proofs.CountingSteps.{found-there, stays-joins}
+use Rattle.log_dump.proofs.CountingSteps.{accepted-stays, found-there, no-failure, no-memory, stays-joins}
 use Rattle.log_dump.proofs.PrintingSteps.{line-placed, printed-none, printed-piece, printed-text, unprinted-malformed, unprinted-nothing}
 use Rattle.log_dump.proofs.printing.write_text.Goals as goal
 
@@ -87,8 +88,8 @@ pub returns-in-Malformed-clause-refused : goal.returns-in-Malformed-clause-refus
 returns-in-Malformed-clause-refused g c =
     let before = c.loop-numbers.invariant in
     inr (
-      λ e. cc,
-      λ e. cc,
+      no-failure c.place-place.result,
+      no-memory c.place-place.result,
       c.in_ok-numbers.ensures.faults ∙ before.faults,
       λ h. elim c.in-Malformed.is [
         | inl bad ↦
@@ -103,3 +104,35 @@ returns-in-Malformed-clause-refused g c =
             Nothing refl before.stays (rw nothing at (c.in_ok-numbers.ensures.found h)))
       ],
     )
+
+-- the device stays, so that the log is accepted on it
+pub look-requires-clause-accepted : goal.look-requires-clause-accepted
+look-requires-clause-accepted g c =
+    accepted-stays c.args.log.now (g.D.Device.state c.args.device.now) (g.D.Device.state c.loop-numbers.device) c.loop-numbers.invariant.stays c.requires.accepted
+
+-- each step stands within the ring
+pub loop-numbers-smaller : goal.loop-numbers-smaller
+loop-numbers-smaller g c = let fits = rw c.in-Descriptor.is at c.in_ok-numbers.ensures.fits in let low = fits.1 in omega arith
+
+pub loop-numbers-smaller-in-RevokeBlock : goal.loop-numbers-smaller-in-RevokeBlock
+loop-numbers-smaller-in-RevokeBlock g c = let fits = rw c.in-RevokeBlock.is at c.in_ok-numbers.ensures.fits in let low = fits.1 in omega arith
+
+pub overflow_add-position-in-Descriptor : goal.overflow_add-position-in-Descriptor
+overflow_add-position-in-Descriptor g c = let fits = rw c.in-Descriptor.is at c.in_ok-numbers.ensures.fits in let low = fits.1 in omega arith
+
+pub overflow_add-position-in-Descriptor-2 : goal.overflow_add-position-in-Descriptor-2
+overflow_add-position-in-Descriptor-2 g c = let fits = rw c.in-Descriptor.is at c.in_ok-numbers.ensures.fits in let low = fits.1 in omega arith
+
+pub write_copies-requires-clause-within : goal.write_copies-requires-clause-within
+write_copies-requires-clause-within g c =
+    let fits = rw c.in-Descriptor.is at c.in_ok-numbers.ensures.fits in let low = fits.1 in let count = ap length c.tags.ensures in let all = length-take-le c.in-Descriptor.tags c.look.new.self.tags fits.0 in omega arith
+
+pub tags-requires : goal.tags-requires
+tags-requires g c = let fits = rw c.in-Descriptor.is at c.in_ok-numbers.ensures.fits in fits.0
+
+pub returns-in-CommitBlock-clause-within : goal.returns-in-CommitBlock-clause-within
+returns-in-CommitBlock-clause-within g c =
+    let fits = rw c.in-CommitBlock.is at c.in_ok-numbers.ensures.fits in let low = c.loop-numbers.invariant.low in (omega arith, fits)
+
+pub returns-in-CommitBlock-clause-honest : goal.returns-in-CommitBlock-clause-honest
+returns-in-CommitBlock-clause-honest g c = λ h. c.loop-numbers.invariant.honest (c.look.ensures.honest h)

@@ -1,13 +1,14 @@
-use Rattle.std.proofs.Common.{◌≡◌, ℕ, ◌-◌, List, ◌++◌, take, drop, length, ap, ◌∙◌, arith, subst}
+use Rattle.std.proofs.Common.{◌≡◌, ◌≤◌, ℕ, ◌-◌, List, ◌++◌, take, drop, length, ap, sym, ◌∙◌, arith, subst}
 use Rattle.journal_model.specs.declared.number.Area.TheVariants.{Log}
-use Rattle.journal_model.specs.Layout.{narrow}
+use Rattle.journal_model.specs.Layout.{narrow, numbers_of}
 use Rattle.journal_model.specs.Superblock.{Super}
 use Rattle.journal_model.specs.Disk.{reading}
-use Rattle.journal_model.specs.Opening.{layout_of}
+use Rattle.journal_model.specs.Opening.{layout_of, ring_of}
+use Rattle.log_format.specs.Size.{IsBlockSize, most_tags}
 use Rattle.log_dump.specs.Finding.{FinderValue, Says, every_block}
 use Rattle.log_dump.proofs.Found.{found-none}
 use Rattle.log_dump.proofs.Laps.{from-end}
-use Rattle.log_dump.proofs.Looking.{found-at, whole-buffer}
+use Rattle.log_dump.proofs.Looking.{as-long, fits-says, found-at, whole-buffer}
 use Rattle.log_dump.proofs.finding.Finder.look.Goals as goal
 
 -- the ring ends
@@ -36,3 +37,50 @@ returns-clause-found g c = λ honest.
     found-at s (reading (g.D.Device.state c.args.device.now).disk) c.args.sequence c.args.position (c.blocks-3.result - c.args.position - 1) block c.parse.new.self c.parse.result
     (omega arith) (omega arith) size
     (c.in_ok-read.ensures.bytes honest ∙ ap (λ (place : ℕ). ((g.D.Device.state c.args.device.now).disk Log place).reads) c.place.ensures.place) says
+
+-- what was read fits
+pub returns-clause-fits : goal.returns-clause-fits
+returns-clause-fits g c =
+    let block : List ℕ = take c.self.inside.block.len (c.read.new.into ++ drop (length c.read.new.into) c.self.inside.block.items) in
+    fits-says (narrow (length block)) every_block c.args.sequence (c.blocks-3.result - c.args.position - 1) (ring_of c.args.log.now).blocks c.args.position block
+    c.parse.new.self c.parse.result (omega arith) (omega arith) c.parse.ensures.says
+
+-- the buffer is as long as before
+pub returns-clause-size : goal.returns-clause-size
+returns-clause-size g c =
+    let new = c.read.auto.into in
+    let old = c.deref_mut.ensures.len in
+    let own = ap length c.deref_mut.ensures.value in
+    let seen = ap (λ (f : FinderValue). length f.block) c.self.view_is in
+    ap length c.parse.ensures.block
+    ∙ as-long c.self.inside.block.len (length c.args.self.now.block) c.read.new.into (drop (length c.read.new.into) c.self.inside.block.items) (omega arith) (omega arith)
+
+pub returns-in_err-read-clause-size : goal.returns-in_err-read-clause-size
+returns-in_err-read-clause-size g c =
+    let new = c.read.auto.into in
+    let old = c.deref_mut.ensures.len in
+    let own = ap length c.deref_mut.ensures.value in
+    let seen = ap (λ (f : FinderValue). length f.block) c.self.view_is in
+    as-long c.self.inside.block.len (length c.args.self.now.block) c.read.new.into (drop (length c.read.new.into) c.self.inside.block.items) (omega arith) (omega arith)
+
+-- what a finder has room for, whose block, tags and numbers are so many
+abbrev HasRoom : ℕ → ℕ → ℕ → Type 0
+HasRoom block tags numbers = IsBlockSize block × (most_tags (narrow block) ≤ tags) × (numbers_of (narrow block) ≤ numbers)
+
+pub invariant_of-self : goal.invariant_of-self
+invariant_of-self g c =
+    let new = c.read.auto.into in
+    let old = c.deref_mut.ensures.len in
+    let own = ap length c.deref_mut.ensures.value in
+    subst (λ (n : ℕ). HasRoom n (length c.self.inside.tags.items) (length c.self.inside.numbers.items))
+    (sym (as-long c.self.inside.block.len (length c.self.inside.block.items) c.read.new.into (drop (length c.read.new.into) c.self.inside.block.items) (omega arith) (omega arith)))
+    c.self.invariant
+
+pub invariant_of-self-2 : goal.invariant_of-self-2
+invariant_of-self-2 g c =
+    let new = c.read.auto.into in
+    let old = c.deref_mut.ensures.len in
+    let own = ap length c.deref_mut.ensures.value in
+    subst (λ (n : ℕ). HasRoom n (length c.self.inside.tags.items) (length c.self.inside.numbers.items))
+    (sym (as-long c.self.inside.block.len (length c.self.inside.block.items) c.read.new.into (drop (length c.read.new.into) c.self.inside.block.items) (omega arith) (omega arith)))
+    c.self.invariant
