@@ -68,16 +68,18 @@ not-device [] e all refused = cc
 not-device ((true, f) ∷ tests) e all refused = not-device tests e all.1 refused
 not-device ((false, f) ∷ tests) e all refused = λ is. all.0 (cc)
 
--- a refused superblock is not a failure of the device
-pub refused-other : (shape : Shape) (block : List ℕ) (e : JournalError) → super_refusal shape block ≡ Some e → e ≢ Device
-refused-other shape block e refused = either (shape.log_blocks == 0) refused
-  where
-    others : AllByRecursion (λ t. t.1 ≢ Device) (super_tests shape block)
-    others = ((λ e. cc), ((λ e. cc), ((λ e. cc), ((λ e. cc), ((λ e. cc), ((λ e. cc), ((λ e. cc), ((λ e. cc), tt))))))))
+-- no test of a superblock tells of a failure of the device
+tests-other : (shape : Shape) (block : List ℕ) → AllByRecursion (λ t. t.1 ≢ Device) (super_tests shape block)
+tests-other shape block = ((λ e. cc), ((λ e. cc), ((λ e. cc), ((λ e. cc), ((λ e. cc), ((λ e. cc), ((λ e. cc), ((λ e. cc), tt))))))))
 
-    either : (none : Bool) → (if none then Some BadLength else first_failed (super_tests shape block)) ≡ Some e → e ≢ Device
-    either true is = λ other. cc
-    either false is = not-device (super_tests shape block) e others is
+-- so a refused superblock is none, whether there is a block or not
+either-other : (shape : Shape) (block : List ℕ) (e : JournalError) (none : Bool) →
+    (if none then Some BadLength else first_failed (super_tests shape block)) ≡ Some e → e ≢ Device
+either-other shape block e true is = λ other. cc
+either-other shape block e false is = not-device (super_tests shape block) e (tests-other shape block) is
+
+pub refused-other : (shape : Shape) (block : List ℕ) (e : JournalError) → super_refusal shape block ≡ Some e → e ≢ Device
+refused-other shape block e refused = either-other shape block e (shape.log_blocks == 0) refused
 
 -- what the tests say of a block says so of the device's measures
 pub tested-for : (size blocks length_is count : ℕ) (block other : List ℕ) (answer : Option JournalError) → length_is ≡ size → count ≡ blocks → block ≡ other →

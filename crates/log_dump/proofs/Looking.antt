@@ -4,9 +4,10 @@ use Rattle.std.proofs.Math.Seq.{take-append_seam}
 use Rattle.journal_model.specs.declared.number.Area.TheVariants.{Log}
 use Rattle.journal_model.specs.Chain.{place_from}
 use Rattle.journal_model.specs.Disk.{Image}
-use Rattle.journal_model.specs.Layout.{Layout, narrow}
+use Rattle.journal_model.specs.Layout.{Layout, narrow, numbers_of}
 use Rattle.journal_model.specs.Opening.{layout_of, ring_of}
 use Rattle.journal_model.specs.Superblock.{Super}
+use Rattle.log_format.specs.Size.{IsBlockSize, most_tags}
 use Rattle.log_dump.specs.declared.finding.Found.{Found}
 use Rattle.log_dump.specs.declared.finding.Found.TheVariants.{RevokeBlock, Descriptor, CommitBlock, Malformed, Nothing}
 use Rattle.log_dump.specs.Finding.{FinderValue, Fits, IsFound, Says, blocks_from, every_block}
@@ -20,6 +21,10 @@ whole-buffer n read behind size = ap (λ (k : ℕ). take k (read ++ behind)) siz
 -- and it is as long as it was
 pub as-long : {X : Type 0} (n size : ℕ) (read behind : List X) → n ≡ length read → n ≡ size → length (take n (read ++ behind)) ≡ size
 as-long n size read behind all same = ap length (whole-buffer n read behind all) ∙ (sym all ∙ same)
+
+-- what a finder has room for, whose block, tags and numbers are so many
+abbrev pub HasRoom : ℕ → ℕ → ℕ → Type 0
+HasRoom block tags numbers = IsBlockSize block × (most_tags (narrow block) ≤ tags) × (numbers_of (narrow block) ≤ numbers)
 
 -- what a block says of itself stands within the ring
 pub fits-says : (l : Layout) (count sequence behind blocks position : ℕ) (block : List ℕ) (f : FinderValue) (found : Found) → position < blocks →

@@ -1,14 +1,13 @@
-use Rattle.std.proofs.Common.{◌≡◌, ◌≤◌, ℕ, ◌-◌, List, ◌++◌, take, drop, length, ap, sym, ◌∙◌, arith, subst}
+use Rattle.std.proofs.Common.{◌≡◌, ℕ, ◌-◌, List, ◌++◌, take, drop, length, ap, sym, ◌∙◌, arith, subst}
 use Rattle.journal_model.specs.declared.number.Area.TheVariants.{Log}
-use Rattle.journal_model.specs.Layout.{narrow, numbers_of}
+use Rattle.journal_model.specs.Layout.{narrow}
 use Rattle.journal_model.specs.Superblock.{Super}
 use Rattle.journal_model.specs.Disk.{reading}
 use Rattle.journal_model.specs.Opening.{layout_of, ring_of}
-use Rattle.log_format.specs.Size.{IsBlockSize, most_tags}
 use Rattle.log_dump.specs.Finding.{FinderValue, Says, every_block}
 use Rattle.log_dump.proofs.Found.{found-none}
 use Rattle.log_dump.proofs.Laps.{from-end}
-use Rattle.log_dump.proofs.Looking.{as-long, fits-says, found-at, whole-buffer}
+use Rattle.log_dump.proofs.Looking.{HasRoom, as-long, fits-says, found-at, whole-buffer}
 use Rattle.log_dump.proofs.finding.Finder.look.Goals as goal
 
 -- the ring ends
@@ -63,10 +62,7 @@ returns-in_err-read-clause-size g c =
     let seen = ap (λ (f : FinderValue). length f.block) c.self.view_is in
     as-long c.self.inside.block.len (length c.args.self.now.block) c.read.new.into (drop (length c.read.new.into) c.self.inside.block.items) (omega arith) (omega arith)
 
--- what a finder has room for, whose block, tags and numbers are so many
-abbrev HasRoom : ℕ → ℕ → ℕ → Type 0
-HasRoom block tags numbers = IsBlockSize block × (most_tags (narrow block) ≤ tags) × (numbers_of (narrow block) ≤ numbers)
-
+-- so the finder has room for as much
 pub invariant_of-self : goal.invariant_of-self
 invariant_of-self g c =
     let new = c.read.auto.into in

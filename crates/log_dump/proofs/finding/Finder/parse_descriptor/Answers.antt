@@ -5,7 +5,7 @@ use Rattle.log_dump.specs.declared.finding.Found.{Found}
 use Rattle.log_dump.specs.declared.finding.Found.TheVariants.{Descriptor, Malformed, Nothing}
 use Rattle.log_dump.specs.Finding.{FinderValue, Says, every_block}
 use Rattle.log_dump.proofs.Found.{other-many}
-use Rattle.log_dump.proofs.Looking.{whole-buffer}
+use Rattle.log_dump.proofs.Looking.{HasRoom, as-long, whole-buffer}
 use Rattle.std.proofs.lemmas.List.{length-take-le}
 use Rattle.log_dump.proofs.finding.Finder.parse_descriptor.Goals as goal
 use Rattle.log_dump.proofs.finding.Finder.parse_descriptor.Goals.{Joined-read, in-Ok, in-Ok-2, in-Err}
@@ -46,3 +46,13 @@ returns-clause-says c =
     let whole = whole-buffer c.self.inside.tags.len c.read.new.tags (drop (length c.read.new.tags) c.self.inside.tags.items)
     (let new = c.read.auto.tags in let old = c.deref_mut.ensures.len in omega arith) in
     subst (λ (ts : List Tag). says c c.match-read.result ts c.args.self.now.block) (sym whole) (tags-said c)
+
+-- there is room for as many tags as before
+pub invariant_of-self : goal.invariant_of-self
+invariant_of-self c =
+    let new = c.read.auto.tags in
+    let old = c.deref_mut.ensures.len in
+    let own = ap length c.deref_mut.ensures.value in
+    subst (λ (n : ℕ). HasRoom (length c.self.inside.block.items) n (length c.self.inside.numbers.items))
+    (sym (as-long c.self.inside.tags.len (length c.self.inside.tags.items) c.read.new.tags (drop (length c.read.new.tags) c.self.inside.tags.items) (omega arith) (omega arith)))
+    c.self.invariant

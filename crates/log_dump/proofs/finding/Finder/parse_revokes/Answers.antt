@@ -3,7 +3,7 @@ use Rattle.journal_model.specs.Layout.{HasHeader, narrow, revoke_type, sequence_
 use Rattle.log_dump.specs.declared.finding.Found.{Found}
 use Rattle.log_dump.specs.declared.finding.Found.TheVariants.{Malformed, RevokeBlock}
 use Rattle.log_dump.specs.Finding.{FinderValue, Says, every_block}
-use Rattle.log_dump.proofs.Looking.{whole-buffer}
+use Rattle.log_dump.proofs.Looking.{HasRoom, as-long, whole-buffer}
 use Rattle.log_dump.proofs.finding.Finder.parse_revokes.Goals as goal
 use Rattle.log_dump.proofs.finding.Finder.parse_revokes.Goals.{Joined-read, in-Ok, in-Err}
 
@@ -39,3 +39,13 @@ returns-clause-says c behind =
     let whole = whole-buffer c.self.inside.numbers.len c.read.new.numbers (drop (length c.read.new.numbers) c.self.inside.numbers.items)
     (let new = c.read.auto.numbers in let old = c.deref_mut.ensures.len in omega arith) in
     subst (λ (ns : List ℕ). says c behind c.match-read.result ns c.args.self.now.block) (sym whole) (numbers-said c behind)
+
+-- there is room for as many numbers as before
+pub invariant_of-self : goal.invariant_of-self
+invariant_of-self c =
+    let new = c.read.auto.numbers in
+    let old = c.deref_mut.ensures.len in
+    let own = ap length c.deref_mut.ensures.value in
+    subst (λ (n : ℕ). HasRoom (length c.self.inside.block.items) (length c.self.inside.tags.items) n)
+    (sym (as-long c.self.inside.numbers.len (length c.self.inside.numbers.items) c.read.new.numbers (drop (length c.read.new.numbers) c.self.inside.numbers.items) (omega arith) (omega arith)))
+    c.self.invariant

@@ -1,0 +1,22 @@
+use Rattle.std.proofs.Common.{◌++◌, length, drop, ap, ◌∙◌, arith}
+use Rattle.bench_run.proofs.Buffers.{as-long, whole-buffer}
+use Rattle.bench_run.proofs.blocks.read_block.Goals as goal
+
+-- the buffer is a block, and is what was read
+pub returns-clause-size : goal.returns-clause-size
+returns-clause-size g c =
+    let new = c.read.auto.into in
+    let old = c.deref_mut.ensures.len in
+    let made = c.in_ok-bytes.ensures.len in
+    let told = c.block_size.ensures.size in
+    ap length c.new.ensures
+    ∙ as-long c.in_ok-bytes.bytes.len (g.D.Device.state c.args.device.now).shape.block_size c.read.new.into
+    (drop (length c.read.new.into) c.in_ok-bytes.bytes.items) (omega arith) (omega arith)
+
+pub returns-clause-bytes : goal.returns-clause-bytes
+returns-clause-bytes g c = λ h.
+    let new = c.read.auto.into in
+    let old = c.deref_mut.ensures.len in
+    c.new.ensures
+    ∙ whole-buffer c.in_ok-bytes.bytes.len c.read.new.into (drop (length c.read.new.into) c.in_ok-bytes.bytes.items) (omega arith)
+    ∙ c.in_ok-read.ensures.bytes h
