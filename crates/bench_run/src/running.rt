@@ -13,7 +13,7 @@ use crate::disk::empty_disk;
 use crate::interpreter::Interpreter;
 use crate::outcome::{Hex, Outcome, PRINTED_BYTES};
 use crate::verdict::Record;
-use bench_script::{Operation, Script};
+use bench_script::{Measures, Operation, Script};
 use block_device::{Device, MemDevice};
 use journal_model::{Area, JournalError};
 use log_dump::{Fault, dump};
@@ -67,10 +67,22 @@ pub fn run_operations(
     stop: Option<u64>,
     out: &mut impl Write,
 ) -> Result<Stopped, Fault> {
-    let disk = empty_disk(alloc, &script.measures, stop)?;
-    let mut interpreter = Interpreter::new(alloc, disk)?;
-    perform_all(&mut interpreter, &script.operations, out)?;
-    Ok(stopped_of(interpreter, stop))
+    let mut interpreter = make_interpreter(alloc, &script.measures, stop)?;
+    let performed = perform_all(&mut interpreter, &script.operations, out);
+    let stopped = stopped_of(interpreter, stop);
+    match performed {
+        Ok(()) => Ok(stopped),
+        Err(e) => Err(Fault::Output(e)),
+    }
+}
+
+/// An interpreter on an empty disk, which stops at write `stop`, or never.
+fn make_interpreter(
+    alloc: Global,
+    measures: &Measures,
+    stop: Option<u64>,
+) -> Result<Interpreter, JournalError> {
+    Interpreter::new(alloc, empty_disk(alloc, measures, stop)?)
 }
 
 /// Performs operations up to the first that the device refuses, and prints a line for each.
