@@ -7,7 +7,7 @@ use Rattle.journal_model.specs.Disk.{Disk, Image, reading}
 use Rattle.journal_model.specs.Opening.{HasLimit, OpensAs, numbered_below}
 use Rattle.journal_model.specs.Opening.HasLimit.{OfClean as CleanLimit, OfChain as ChainLimit}
 use Rattle.journal_model.specs.Superblock.{Shape}
-use Rattle.journal_model.specs.Transaction.{History, Volume}
+use Rattle.journal_model.specs.Transaction.{History}
 use Rattle.block_device.specs.Memory.{MemState, crashed, state_of}
 use Rattle.block_device.specs.State.{DeviceState, Stays}
 use Rattle.recovery.specs.Opening.{Tells}

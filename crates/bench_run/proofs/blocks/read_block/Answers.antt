@@ -1,4 +1,4 @@
-use Rattle.std.proofs.Common.{◌++◌, length, drop, ap, ◌∙◌, arith}
+use Rattle.std.proofs.Common.{length, drop, ap, ◌∙◌, arith}
 use Rattle.bench_run.proofs.Buffers.{as-long, whole-buffer}
 use Rattle.bench_run.proofs.blocks.read_block.Goals as goal
 

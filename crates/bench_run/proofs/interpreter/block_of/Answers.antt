@@ -1,4 +1,4 @@
-use Rattle.std.proofs.Common.{◌++◌, length, drop, ap, arith}
+use Rattle.std.proofs.Common.{length, drop, arith}
 use Rattle.bench_run.proofs.Buffers.{as-long}
 use Rattle.bench_run.proofs.interpreter.block_of.Goals as goal
 
