@@ -27,7 +27,7 @@ impl From<Status> for ExitCode {
 }
 
 /// Why a command can't go on.
-#[derive(Debug, Drop)]
+#[derive(Drop)]
 pub(crate) enum Fault {
     /// A file can't be opened or read.
     File,

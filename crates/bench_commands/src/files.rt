@@ -21,8 +21,7 @@ const BLOCK_SIZE_PLACE: u64 = 0x0c;
 ///
 /// There is no regular file of this path, or it can't be read.
 pub fn open_log<R: Files<File = File>>(rt: &R, path: &str) -> io::Result<LogFiles> {
-    let log = fs::open(rt, path)?;
-    check_file(&log)?;
+    let log = regular(fs::open(rt, path)?)?;
     FileDevice::new(UnknownContents, block_size_of(&log)?, log, None)
 }
 
@@ -37,8 +36,7 @@ pub fn open_or_make<R: Files<File = File>>(rt: &R, path: &str) -> io::Result<Fil
         .write(true)
         .create(true)
         .open(rt, path)?;
-    check_file(&file)?;
-    Ok(file)
+    regular(file)
 }
 
 /// Opens the file of a home area to be written, which is not that of its log, and makes it where there is none. What it holds
@@ -84,10 +82,10 @@ fn clear(file: &File, bytes: u64) -> io::Result<()> {
     file.set_len(bytes)
 }
 
-/// What is no regular file holds no log.
-fn check_file(file: &File) -> io::Result<()> {
+/// A regular file; what is none holds no log.
+fn regular(file: File) -> io::Result<File> {
     if file.metadata()?.is_file() {
-        Ok(())
+        Ok(file)
     } else {
         Err(io::Error::from(ErrorKind::InvalidInput))
     }

@@ -20,21 +20,23 @@ pub fn format<D: Device + Drop, W: Write + Drop, E: Write + Drop>(
     out: W,
     err: E,
 ) -> io::Result<Status> {
-    end(path, format_device(measures, device, out), err)
+    match make_log(measures, device) {
+        Ok(()) => end(path, say_made(measures, out), err),
+        Err(fault) => end(path, Err(fault), err),
+    }
 }
 
 /// Makes an empty log, and makes home durable.
-fn format_device<D: Device + Drop, W: Write + Drop>(
-    measures: &Measures,
-    device: D,
-    out: W,
-) -> Result<(), Fault> {
-    let mut device = device;
-    let mut out = out;
+fn make_log<D: Device + Drop>(measures: &Measures, mut device: D) -> Result<(), Fault> {
     recovery::format(&mut device, measures.log_blocks, &measures.uuid)?;
-    device
-        .flush(Area::Home)
-        .map_err(|e| Fault::Refused(e.into()))?;
+    match device.flush(Area::Home) {
+        Ok(()) => Ok(()),
+        Err(e) => Err(Fault::Refused(e.into())),
+    }
+}
+
+/// Says what was made.
+fn say_made<W: Write + Drop>(measures: &Measures, mut out: W) -> Result<(), Fault> {
     writeln!(
         out,
         "formatted {} blocks of {}",
@@ -62,10 +64,9 @@ pub fn dump<D: Device + Drop, W: Write + Drop, E: Write + Drop>(
 /// Prints the log of a device.
 fn dump_device<D: Device + Drop, W: Write + Drop>(
     alloc: Global,
-    device: D,
+    mut device: D,
     out: W,
 ) -> Result<(), Fault> {
-    let mut device = device;
     let mut out = BufWriter::new(alloc, out)?;
     log_dump::dump(alloc, &mut device, &mut out)?;
     out.flush()?;
@@ -73,8 +74,7 @@ fn dump_device<D: Device + Drop, W: Write + Drop>(
 }
 
 /// How a command ends, and the line that says why it couldn't go on.
-fn end<E: Write + Drop>(path: &str, done: Result<(), Fault>, err: E) -> io::Result<Status> {
-    let mut err = err;
+fn end<E: Write + Drop>(path: &str, done: Result<(), Fault>, mut err: E) -> io::Result<Status> {
     match done {
         Ok(()) => Ok(Status::Fine),
         Err(Fault::Output(e)) => Err(e),

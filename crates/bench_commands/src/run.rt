@@ -17,10 +17,13 @@ pub fn run<R: Read + Drop, W: Write + Drop, E: Write + Drop>(
     words: &RunWords<'_>,
     script: R,
     out: W,
-    err: E,
+    mut err: E,
 ) -> io::Result<Status> {
-    let mut err = err;
-    match run_script(alloc, words, script, out) {
+    let verdict = match read_script(alloc, script) {
+        Ok(script) => run_script(alloc, words, &script, out),
+        Err(fault) => Err(fault),
+    };
+    match verdict {
         Ok(true) => Ok(Status::Fine),
         Ok(false) => Ok(Status::VerdictFalse),
         Err(Fault::Output(e)) => Err(e),
@@ -32,22 +35,20 @@ pub fn run<R: Read + Drop, W: Write + Drop, E: Write + Drop>(
 }
 
 /// Runs a script. The answer is the verdict.
-fn run_script<R: Read + Drop, W: Write + Drop>(
+fn run_script<W: Write + Drop>(
     alloc: Global,
     words: &RunWords<'_>,
-    script: R,
+    script: &Script,
     out: W,
 ) -> Result<bool, Fault> {
-    let script = read_script(alloc, script)?;
     let mut out = BufWriter::new(alloc, out)?;
-    let verdict = bench_run::run(alloc, &script, words.stop, &words.keep, &mut out)?;
+    let verdict = bench_run::run(alloc, script, words.stop, &words.keep, &mut out)?;
     out.flush()?;
     Ok(verdict)
 }
 
 /// Reads a script to its end, and tests it.
-fn read_script<R: Read + Drop>(alloc: Global, script: R) -> Result<Script, Fault> {
-    let mut reader = script;
+fn read_script<R: Read + Drop>(alloc: Global, mut reader: R) -> Result<Script, Fault> {
     let mut text = Vec::new(alloc);
     match reader.read_to_end(&mut text) {
         Ok(_) => Ok(bench_script::read(alloc, &text)?),

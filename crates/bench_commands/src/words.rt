@@ -1,6 +1,7 @@
 //! The words that the program is called with.
 ghost use Rattle.std.specs.Prelude.{◌≡◌, ◌≤◌, IfOk, IfSome};
 ghost use Rattle.bench_script.specs.Measures.{AreLimited};
+ghost use Rattle.log_format.specs.Size.{IsBlockSize};
 
 use crate::fault::{self, Fault, Status};
 use bench_script::{DEFAULTS, HOMES, LENGTHS, Measures, is_block_size, limited, uuid_of};
@@ -12,24 +13,7 @@ use std::convert::AsStr;
 use std::io;
 use std::io::Write;
 
-/// What the program does, in a line.
-const ABOUT: &str =
-    "Runs scripts of journal operations over a disk in memory that loses power and judges what is left; makes logs; prints logs";
-
-/// What stands at the end of the program's help.
-const AFTER_HELP: &str = "\
-run SCRIPT [--stop K] [--keep LIST]: SCRIPT is a file, K a write number from 1 on (default: the device stops at the end), LIST
-write numbers with commas (default: none). jbench run --help says what a script is.
-format LOG HOME [--block B] [--length M] [--home N] [--uuid DIGITS]: two files become an empty log of M blocks (default: 33) and
-a home area of N zero blocks (default: 64), of B bytes each (default: 1024).
-dump LOG: prints the log in a file.
-
-Exit status: 0 done, 1 refused (words, file, script, refusal), 2 a verdict is false.
-
-Example: jbench run examples/one_write.json --stop 4 --keep 4";
-
 /// A command as its help tells of it.
-#[derive(Clone, Copy)]
 struct Usage {
     name: &'static str,
     /// What it does, in a line.
@@ -41,13 +25,33 @@ struct Usage {
 }
 
 /// A value that has to stand behind a command, or one that may, behind `--NAME`.
-#[derive(Clone, Copy)]
 struct Word {
     name: &'static str,
     value: &'static str,
     is_option: bool,
     help: &'static str,
 }
+
+/// What the program does, in a line.
+const ABOUT: &str =
+    "Runs scripts of journal operations over a disk in memory that loses power and judges what is left; makes logs; prints logs";
+
+/// The program itself.
+const PROGRAM: Usage = Usage {
+    name: "jbench",
+    about: ABOUT,
+    after_help: "\
+run SCRIPT [--stop K] [--keep LIST]: SCRIPT is a file, K a write number from 1 on (default: the device stops at the end), LIST
+write numbers with commas (default: none). jbench run --help says what a script is.
+format LOG HOME [--block B] [--length M] [--home N] [--uuid DIGITS]: two files become an empty log of M blocks (default: 33) and
+a home area of N zero blocks (default: 64), of B bytes each (default: 1024).
+dump LOG: prints the log in a file.
+
+Exit status: 0 done, 1 refused (words, file, script, refusal), 2 a verdict is false.
+
+Example: jbench run examples/one_write.json --stop 4 --keep 4",
+    words: &[],
+};
 
 /// The command `run`.
 const RUN: Usage = Usage {
@@ -205,7 +209,7 @@ pub struct RunWords<'a> {
 }
 
 /// A word as `clap` has it.
-fn arg_of<'a>(alloc: Global, word: Word) -> Arg<'a> {
+fn arg_of<'a>(alloc: Global, word: &Word) -> Arg<'a> {
     let arg = Arg::new(alloc, word.name)
         .value_name(word.value)
         .help(word.help);
@@ -216,32 +220,55 @@ fn arg_of<'a>(alloc: Global, word: Word) -> Arg<'a> {
     }
 }
 
-/// A command as `clap` has it.
-fn command_of<'a>(alloc: Global, usage: Usage) -> Result<Command<'a>, AllocError> {
-    let mut command = Command::new(alloc, usage.name)
+/// A command with no words behind it.
+fn bare_command<'a>(alloc: Global, usage: &Usage) -> Command<'a> {
+    Command::new(alloc, usage.name)
         .about(usage.about)
-        .after_help(usage.after_help);
-    for word in usage.words {
-        command = command.arg(arg_of(alloc, *word))?;
+        .after_help(usage.after_help)
+}
+
+/// A command with these words behind it.
+fn with_words<'a>(
+    alloc: Global,
+    mut command: Command<'a>,
+    words: &[Word],
+) -> Result<Command<'a>, AllocError> {
+    for word in words {
+        command = command.arg(arg_of(alloc, word))?;
     }
     Ok(command)
 }
 
+/// A command as `clap` has it.
+fn command_of<'a>(alloc: Global, usage: &Usage) -> Result<Command<'a>, AllocError> {
+    with_words(alloc, bare_command(alloc, usage), usage.words)
+}
+
 /// The program without its commands.
 fn bare_program<'a>(alloc: Global) -> Result<Command<'a>, AllocError> {
-    Command::new(alloc, "jbench")
-        .about(ABOUT)
-        .after_help(AFTER_HELP)
+    bare_command(alloc, &PROGRAM)
         .disable_help_subcommand(true)
         .subcommand_required(true)
         .bin_name("jbench")
 }
 
+/// The program with one more command.
+fn with_command<'a>(
+    alloc: Global,
+    program: Command<'a>,
+    usage: &Usage,
+) -> Result<Command<'a>, AllocError> {
+    match command_of(alloc, usage) {
+        Ok(command) => program.subcommand(command),
+        Err(e) => Err(e),
+    }
+}
+
 /// The program.
 fn program<'a>(alloc: Global) -> Result<Command<'a>, AllocError> {
     let mut program = bare_program(alloc)?;
-    for usage in [RUN, FORMAT, DUMP] {
-        program = program.subcommand(command_of(alloc, usage)?)?;
+    for usage in [&RUN, &FORMAT, &DUMP] {
+        program = with_command(alloc, program, usage)?;
     }
     Ok(program)
 }
@@ -253,16 +280,16 @@ fn list_of(alloc: Global, text: &str) -> Result<Option<Vec<u64>>, AllocError> {
         return Ok(Some(numbers));
     }
     for word in text.split(',') {
-        let Ok(number) = word.parse::<u64>() else {
-            return Ok(None);
-        };
-        numbers.push(number)?;
+        match word.parse::<u64>() {
+            Ok(number) => numbers.push(number)?,
+            Err(_) => return Ok(None),
+        }
     }
     Ok(Some(numbers))
 }
 
 /// What is wanted of words that `clap` takes.
-#[derive(Clone, Copy, Debug, PartialEq, Eq)]
+#[derive(Clone, Copy)]
 enum Wanted {
     /// A write number behind `--stop`.
     WriteNumber,
@@ -305,11 +332,13 @@ fn line_of(wanted: Wanted) -> &'static str {
 }
 
 /// The fault that says what is wanted.
-fn fault_of(program: &mut Command<'_>, wanted: Wanted) -> Result<Error, AllocError> {
-    if wanted == Wanted::Memory {
-        return Err(AllocError);
+fn fault_of(program: &mut Command<'_>, wanted: Wanted) -> Error {
+    match wanted {
+        Wanted::Memory => Error::from(AllocError),
+        _ => program
+            .error(ErrorKind::ValueValidation, line_of(wanted))
+            .unwrap_or_else(Error::from),
     }
-    program.error(ErrorKind::ValueValidation, line_of(wanted))
 }
 
 /// The number behind a word, which has to be within limits that both count, or `None` where the word is not there.
@@ -323,7 +352,10 @@ fn number_of(
     ensures most { IfOk result (λ told. IfSome told (λ number. number ≤ limits.1)) }
 {
     match matches.get_str(name) {
-        Some(word) => Ok(Some(limited(word, limits).ok_or(wanted)?)),
+        Some(word) => match limited(word, limits) {
+            Some(number) => Ok(Some(number)),
+            None => Err(wanted),
+        },
         None => Ok(None),
     }
 }
@@ -331,12 +363,14 @@ fn number_of(
 /// What `run` is told.
 fn run_words<'a>(alloc: Global, matches: &ArgMatches<'a>) -> Result<RunWords<'a>, Wanted> {
     let stop = number_of(matches, "stop", (1, u64::MAX), Wanted::WriteNumber)?;
-    let keep = list_of(alloc, matches.get_str("keep").unwrap_or(""))?;
-    Ok(RunWords {
-        script: matches.get_str("script").unwrap_or(""),
-        stop,
-        keep: keep.ok_or(Wanted::WriteNumbers)?,
-    })
+    match list_of(alloc, matches.get_str("keep").unwrap_or(""))? {
+        Some(keep) => Ok(RunWords {
+            script: matches.get_str("script").unwrap_or(""),
+            stop,
+            keep,
+        }),
+        None => Err(Wanted::WriteNumbers),
+    }
 }
 
 /// The limits of a number of blocks.
@@ -346,26 +380,39 @@ fn wide(limits: (u32, u32)) -> (u64, u64)
     (u64::from(limits.0), u64::from(limits.1))
 }
 
+/// The bytes of a block that `format` is told.
+fn block_size_told(matches: &ArgMatches<'_>) -> Result<usize, Wanted>
+    ensures { IfOk result IsBlockSize }
+{
+    let told = number_of(matches, "block", (1024, 4096), Wanted::BlockSize)?;
+    let bytes = told.unwrap_or(DEFAULTS.block_size as u64);
+    if is_block_size(bytes) {
+        Ok(bytes as usize)
+    } else {
+        Err(Wanted::BlockSize)
+    }
+}
+
+/// The UUID that `format` is told.
+fn uuid_told(alloc: Global, matches: &ArgMatches<'_>) -> Result<[u8; 16], Wanted> {
+    match matches.get_str("uuid") {
+        Some(digits) => uuid_of(alloc, digits)?.ok_or(Wanted::HexDigits),
+        None => Ok(DEFAULTS.uuid),
+    }
+}
+
 /// The measures that `format` is told.
 fn measures_of(alloc: Global, matches: &ArgMatches<'_>) -> Result<Measures, Wanted>
     ensures { IfOk result AreLimited }
 {
-    let bytes = number_of(matches, "block", (1024, 4096), Wanted::BlockSize)?;
-    let block_size = bytes.unwrap_or(DEFAULTS.block_size as u64);
-    if !is_block_size(block_size) {
-        return Err(Wanted::BlockSize);
-    }
+    let block_size = block_size_told(matches)?;
     let log_blocks = number_of(matches, "length", wide(LENGTHS), Wanted::LogBlocks)?;
     let home_blocks = number_of(matches, "home", wide(HOMES), Wanted::HomeBlocks)?;
-    let uuid = match matches.get_str("uuid") {
-        Some(digits) => uuid_of(alloc, digits)?.ok_or(Wanted::HexDigits)?,
-        None => DEFAULTS.uuid,
-    };
     Ok(Measures {
-        block_size: block_size as usize,
+        block_size,
         log_blocks: log_blocks.unwrap_or(u64::from(DEFAULTS.log_blocks)) as u32,
         home_blocks: home_blocks.unwrap_or(DEFAULTS.home_blocks),
-        uuid,
+        uuid: uuid_told(alloc, matches)?,
     })
 }
 
@@ -381,13 +428,27 @@ fn format_words<'a>(alloc: Global, matches: &ArgMatches<'a>) -> Result<FormatWor
 /// What a command is told.
 fn words_of<'a>(alloc: Global, matches: &ArgMatches<'a>) -> Result<Words<'a>, Wanted> {
     if let Some(run) = matches.subcommand_matches("run") {
-        return Ok(Words::Run(run_words(alloc, run)?));
+        return run_words(alloc, run).map(Words::Run);
     }
     if let Some(format) = matches.subcommand_matches("format") {
-        return Ok(Words::Format(format_words(alloc, format)?));
+        return format_words(alloc, format).map(Words::Format);
     }
-    let dump = matches.subcommand_matches("dump").ok_or(Wanted::Command)?;
-    Ok(Words::Dump(dump.get_str("log").unwrap_or("")))
+    match matches.subcommand_matches("dump") {
+        Some(dump) => Ok(Words::Dump(dump.get_str("log").unwrap_or(""))),
+        None => Err(Wanted::Command),
+    }
+}
+
+/// What the program is told, or the fault of it.
+fn told<'a>(
+    alloc: Global,
+    program: &mut Command<'_>,
+    matches: &ArgMatches<'a>,
+) -> Result<Words<'a>, Error> {
+    match words_of(alloc, matches) {
+        Ok(words) => Ok(words),
+        Err(wanted) => Err(fault_of(program, wanted)),
+    }
 }
 
 /// Reads the words of this program.
@@ -396,10 +457,9 @@ fn parse_as<'a, S: AsStr>(
     program: &mut Command<'a>,
     words: &'a [S],
 ) -> Result<Words<'a>, Error> {
-    let matches = program.try_get_matches_from_mut(words)?;
-    match words_of(alloc, &matches) {
-        Ok(words) => Ok(words),
-        Err(wanted) => Err(fault_of(program, wanted)?),
+    match program.try_get_matches_from_mut(words) {
+        Ok(matches) => told(alloc, program, &matches),
+        Err(e) => Err(e),
     }
 }
 
@@ -409,8 +469,10 @@ fn parse_as<'a, S: AsStr>(
 ///
 /// The fault of the words as `clap` words it; a request for help; memory ran out.
 pub fn parse<'a, S: AsStr>(alloc: Global, words: &'a [S]) -> Result<Words<'a>, Error> {
-    let mut program = program(alloc)?;
-    parse_as(alloc, &mut program, words)
+    match program(alloc) {
+        Ok(mut program) => parse_as(alloc, &mut program, words),
+        Err(e) => Err(Error::from(e)),
+    }
 }
 
 /// Writes what the words are answered where they tell nothing to do: help to `out`, which is no refusal, or else what is wrong
