@@ -3,6 +3,9 @@
 //! given the program's words, the files that these name, and standard output and error.
 #![tactic(auto)]
 
+#[cfg(test)]
+mod commands;
+
 use bench_commands::fault::{Status, refuse_file, refuse_rest};
 use bench_commands::words::{FormatWords, RunWords, Words};
 use bench_commands::{files, logs, run, words};

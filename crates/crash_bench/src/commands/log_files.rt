@@ -1,5 +1,5 @@
 //! The commands `format` and `dump`, over devices and over files.
-use crate::text_of;
+use super::text_of;
 use bench_commands::files::{make_device, open_home, open_log, open_or_make};
 use bench_commands::logs::{dump, format};
 use bench_script::{DEFAULTS, Measures};
