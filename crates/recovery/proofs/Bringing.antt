@@ -5,7 +5,7 @@ use Rattle.journal_model.specs.declared.log.Text.{Text}
 use Rattle.journal_model.specs.declared.number.Area.TheVariants.{Log, Home}
 use Rattle.journal_model.specs.Disk.{Cell, Disk, IsOneOf, held, reading}
 use Rattle.journal_model.specs.HomeChange.{HomeAddsOnly}
-use Rattle.journal_model.specs.Replay.{IsNewest, IsReplayed}
+use Rattle.journal_model.specs.Replay.{HasNoLive, IsNewest, IsReplayed}
 use Rattle.block_device.specs.State.{DeviceState, EachMoment}
 use Rattle.block_device.proofs.Moments.{each-joins}
 use Rattle.journal_world.specs.Sound.{durable_cell}
@@ -48,6 +48,13 @@ ending-done : (count : ℕ) (texts : List Text) (old middle disk : Disk) → IsR
 ending-done count texts old middle disk replayed durable b v below one =
     let is : v ≡ (middle Home b).reads = durable-one (disk Home b) (middle Home b).reads v (durable b) one in
     ⊎_elim (λ newest. inl (subst (IsNewest texts b) (sym is) newest)) (λ none. inr (none.0, inl (is ∙ none.1))) (replayed b below)
+
+-- home that is made durable as it reads is as replay made it
+pub durable-replayed : (count : ℕ) (texts : List Text) (old middle disk : Disk) → IsReplayed count texts (reading old Home) (reading middle Home) →
+    IsHomeDurable middle disk → IsReplayed count texts (reading old Home) (reading disk Home)
+durable-replayed count texts old middle disk replayed durable b below =
+    subst (λ (v : List ℕ). IsNewest texts b v ⊎ (HasNoLive texts b × (v ≡ (old Home b).reads))) (sym (ap (λ (c : Cell). c.reads) (durable b)))
+    (replayed b below)
 
 -- at the end
 ending-replaying : (count : ℕ) (texts : List Text) (superblock : List ℕ) (old middle disk : Disk) → IsWritingHome (IsNewest texts) old middle →

@@ -1,11 +1,13 @@
 -- The texts of a log that was read, or the damaged block behind them.
-use Rattle.std.proofs.Common.{sym, subst}
-use Rattle.std.specs.Prelude.{◌≡◌, ℕ, ◌+◌, ◌≤◌, List, length}
+use Rattle.std.proofs.Common.{sym, ap, subst, arith, length-append}
+use Rattle.std.specs.Prelude.{◌≡◌, ℕ, ◌+◌, ◌<◌, ◌≤◌, List, ◌∷◌, ◌++◌, length}
 use Rattle.journal_model.specs.declared.log.Text.{Text}
 use Rattle.journal_model.specs.declared.refusal.JournalError.TheVariants.{Ahead, Damage, SequenceEnd}
-use Rattle.journal_model.specs.Chain.{IsChain, IsDamaged, place_from}
+use Rattle.journal_model.specs.Chain.{IsChain, IsDamaged, place_from, texts_blocks}
+use Rattle.journal_model.specs.Layout.{Layout}
 use Rattle.journal_model.specs.Opening.{greatest_number, layout_of, ring_of}
 use Rattle.journal_model.specs.Superblock.{Super}
+use Rattle.journal_model.specs.Text.{pieces_blocks}
 use Rattle.recovery.specs.Opening.{AreTextsOf, IsLowestAhead, IsRefusedLog, NoneAhead}
 use Rattle.recovery.specs.Opening.IsRefusedLog.{ForAhead, ForDamage, ForNumber}
 
@@ -24,6 +26,17 @@ damaged-refused : (s : Super) (count sequence : ℕ) (blocks : List (List ℕ)) 
 damaged-refused s count sequence blocks k place started same damaged at =
     subst (λ (p : ℕ). IsRefusedLog s count blocks (Damage p)) (sym at)
     (ForDamage k started (subst (λ (n : ℕ). IsDamaged (layout_of s) count n blocks k) same damaged))
+
+-- it is one of these blocks
+pub damaged-within : (l : Layout) (count sequence : ℕ) (blocks : List (List ℕ)) (k : ℕ) → IsDamaged l count sequence blocks k → k < length blocks
+damaged-within l count sequence blocks k damaged =
+    let long = ap length damaged.split in
+    let place = damaged.place in
+    omega (
+      arith,
+      length-append (texts_blocks damaged.texts ++ pieces_blocks damaged.pieces) (damaged.block ∷ damaged.rest),
+      length-append (texts_blocks damaged.texts) (pieces_blocks damaged.pieces),
+    )
 
 -- it is one for other fields that are the same
 pub damaged-same : (s t : Super) (count sequence : ℕ) (blocks : List (List ℕ)) (k place : ℕ) → s ≡ t → (s.s_start ≡ 0 → ⊥) → sequence ≡ s.s_sequence →

@@ -92,6 +92,13 @@ first-size shape newest b copy rest s t allowed fits is =
     stored-size shape.block_size copy.escaped copy.block.now (omega arith)
     (fits.whole b (bytes_home copy) (first-gathered newest b copy (bytes_home copy) rest s t refl is))
 
+-- and home has its block
+pub first-within : (newest : Copies) (b : ℕ) (copy : StoredCopy) (rest : List (ℕ × StoredCopy)) (s t : DeviceState) →
+    FitsHome s.shape (IsGathered newest) → IsWrittenTo newest ((b, copy) ∷ rest) s t → b < t.shape.home_blocks
+first-within newest b copy rest s t fits is =
+    subst (λ (m : Shape). b < m.home_blocks) (sym is.shape)
+    (fits.within b (bytes_home copy) (first-gathered newest b copy (bytes_home copy) rest s t refl is))
+
 -- a block that is not written next is left or was written
 written-behind : (b m : ℕ) (copy : StoredCopy) (rest : List (ℕ × StoredCopy)) → (m ≡ b → ⊥) → IsWritten rest m → IsWritten ((b, copy) ∷ rest) m
 written-behind b m copy rest other written = let apart : is_at (nat_cmp m) b ≡ false = grind (arith, nat_tests) in rw apart written

@@ -1,7 +1,13 @@
 -- Gathering copies: the last copy of a block among some, and what one more piece adds.
-use Rattle.std.proofs.Common.{refl, sym, ◌∙◌, ap, inl, inr, get_or}
-use Rattle.std.specs.Prelude.{◌≡◌, ◌⊎◌, ℕ, ◌+◌, ◌<◌, ◌==◌, if◌then◌else◌, List, [], ◌∷◌, ◌++◌, length, map, take, Option, Some}
-use Rattle.std.specs.List.{flat_map, zip}
+use Rattle.std.proofs.Common.{refl, sym, ◌∙◌, ap, arith, inl, inr, get_or}
+use Rattle.std.specs.Prelude.{◌≡◌, ◌⊎◌, ℕ, ◌+◌, ◌<◌, ◌==◌, ◌||◌, Bool, true, false, if◌then◌else◌, List, [], ◌∷◌, ◌++◌, length, map, take, Option, Some, None}
+use Rattle.std.specs.BTreeMap.{BTreeMap, get, is_at}
+use Rattle.std.specs.List.{flat_map, list_any, zip}
+use Rattle.std.specs.Option.{option_map}
+use Rattle.std.specs.Ordering.{nat_cmp}
+use Rattle.std.proofs.lemmas.Bool.{cases_eq}
+use Rattle.std.proofs.lemmas.Bool.Decides.{nat_tests}
+use Rattle.std.proofs.lemmas.List.Folds.{list_any-append}
 use Rattle.std.proofs.lemmas.Grind.{flat_map-append}
 use Rattle.std.proofs.lemmas.List.{append-nil}
 use Rattle.journal_model.proofs.ListElements.{take-more_read}
@@ -9,7 +15,8 @@ use Rattle.journal_model.specs.declared.log.Piece.{Piece}
 use Rattle.journal_model.specs.declared.log.Tag.{Tag}
 use Rattle.journal_model.specs.Escape.{unescaped}
 use Rattle.journal_model.specs.Text.{piece_copies}
-use Rattle.recovery.specs.Gather.{last_of}
+use Rattle.recovery.specs.declared.gather.StoredCopy.{StoredCopy}
+use Rattle.recovery.specs.Gather.{bytes_home, gathered, last_of}
 
 -- a tag and its copy in the log, as the home block and the bytes that replay writes there
 abbrev pub written_home : Tag × List ℕ → ℕ × List ℕ
@@ -49,3 +56,30 @@ added-more b pieces i piece before here new below read was adds =
     adds ∙ ap (last_of b (piece_copies piece)) was
     ∙ sym (last_of-append b (flat_map piece_copies (take i pieces)) (piece_copies piece) before)
     ∙ ap (λ copies. last_of b copies before) (sym (pieces-more pieces i piece below read))
+
+-- of two tests, either one removes
+either-removes : (any here : Bool) (before : Option (List ℕ)) →
+    (if here then None else (if any then None else before)) ≡ (if any || (here || false) then None else before)
+either-removes true true before = refl
+either-removes true false before = refl
+either-removes false true before = refl
+either-removes false false before = refl
+
+-- where the blocks of the numbers before it were removed, and then its own, that of one more number was removed too
+pub removed-more : (b : ℕ) (numbers : List ℕ) (i number : ℕ) (before here new : Option (List ℕ)) → i < length numbers → number ≡ get_or numbers i number →
+    here ≡ (if list_any (λ n. n == b) (take i numbers) then None else before) → new ≡ (if number == b then None else here) →
+    new ≡ (if list_any (λ n. n == b) (take (i + 1) numbers) then None else before)
+removed-more b numbers i number before here new below read was removes =
+    removes ∙ ap (λ found. if number == b then None else found) was
+    ∙ either-removes (list_any (λ n. n == b) (take i numbers)) (number == b) before
+    ∙ ap (λ any. if any then None else before)
+    (sym (ap (list_any (λ n. n == b)) (take-more_read numbers i number below read) ∙ list_any-append (λ n. n == b) (take i numbers) (number ∷ [])))
+
+-- what a map without the block of a number gives
+pub removed-own : (key number b : ℕ) (newest : BTreeMap ℕ StoredCopy) → key ≡ number →
+    option_map bytes_home (if is_at (nat_cmp key) b then None else get nat_cmp newest b) ≡ (if number == b then None else gathered newest b)
+removed-own key number b newest is =
+    elim (cases_eq key b) [
+      | inl same ↦ let here : is_at (nat_cmp key) b ≡ true = grind (arith, nat_tests) in let also : (number == b) ≡ true = grind (arith, nat_tests) in rw (here, also) refl
+      | inr other ↦ let apart : is_at (nat_cmp key) b ≡ false = grind (arith, nat_tests) in let also : (number == b) ≡ false = grind (arith, nat_tests) in rw (apart, also) refl
+    ]

@@ -1,14 +1,27 @@
 -- Block 0 of a log, as it was read, and why it is refused.
-use Rattle.std.proofs.Common.{◌∙◌, ap₂, subst, arith, inl, inr}
-use Rattle.std.specs.Prelude.{◌≡◌, ◌≢◌, ℕ, ◌<◌, ◌==◌, Bool, true, false, if◌then◌else◌, List, [], ◌∷◌, length, Option, Some, None}
+use Rattle.std.proofs.Common.{sym, ◌∙◌, ap, ap₂, subst, arith, inl, inr}
+use Rattle.std.specs.Prelude.{◌≡◌, ◌≢◌, ℕ, ◌<◌, ◌==◌, Bool, true, false, if◌then◌else◌, List, [], ◌∷◌, ◌++◌, length, take, Option, Some, None}
 use Rattle.std.specs.List.{AllByRecursion}
+use Rattle.std.proofs.Math.Seq.{take-append_seam}
 use Rattle.std.proofs.lemmas.Bool.{cases_lt}
 use Rattle.std.proofs.lemmas.Bool.Decides.{nat_tests}
+use Rattle.journal_model.specs.declared.number.Area.TheVariants.{Log}
 use Rattle.journal_model.specs.declared.refusal.JournalError.{JournalError}
 use Rattle.journal_model.specs.declared.refusal.JournalError.TheVariants.{BadLength, Device}
+use Rattle.journal_model.specs.Chain.{lap}
+use Rattle.journal_model.specs.Disk.{Image}
+use Rattle.journal_model.specs.Opening.{ring_of}
 use Rattle.journal_model.specs.Superblock.{Shape, Super, first_failed, super_in, super_refusal, super_tests}
 use Rattle.log_format.specs.Accepted.{IsAccepted}
-use Rattle.recovery.specs.Opening.{IsWellRead}
+use Rattle.recovery.specs.Opening.{IsReadFrom, IsWellRead}
+
+-- a buffer that was read into over its whole length is what was read
+pub whole-buffer : (n : ℕ) (read behind : List ℕ) → n ≡ length read → take n (read ++ behind) ≡ read
+whole-buffer n read behind size = ap (λ (k : ℕ). take k (read ++ behind)) size ∙ take-append_seam read behind
+
+-- and it is as long as it was
+pub as-long : (n size : ℕ) (read behind : List ℕ) → n ≡ length read → n ≡ size → length (take n (read ++ behind)) ≡ size
+as-long n size read behind all same = ap length (whole-buffer n read behind all) ∙ (sym all ∙ same)
 
 -- the refusal of tests that are not the device's is not the device's
 not-device : (tests : List (Bool × JournalError)) (e : JournalError) → AllByRecursion (λ t. t.1 ≢ Device) tests → first_failed tests ≡ Some e → e ≢ Device
@@ -50,6 +63,12 @@ refused-read shape block other e same refused =
       | inr none ↦ let zero : (shape.log_blocks == 0) ≡ true = grind (arith, nat_tests) in rw zero (rw zero at refused)
     ]
 
+-- what an opening may rely on in a superblock it may rely on for the device's measures
+pub accepted-for : (shape : Shape) (size log_blocks : ℕ) (fields : Super) → size ≡ shape.block_size → log_blocks ≡ shape.log_blocks →
+    IsAccepted size log_blocks fields → IsAccepted shape.block_size shape.log_blocks fields
+accepted-for shape size log_blocks fields same also accepted =
+    subst (λ (b : ℕ). IsAccepted shape.block_size b fields) also (subst (λ (a : ℕ). IsAccepted a log_blocks fields) same accepted)
+
 -- an accepted superblock was read
 pub well-read : (shape : Shape) (size log_blocks : ℕ) (block : List ℕ) (fields : Super) → length block ≡ size → size ≡ shape.block_size →
     log_blocks ≡ shape.log_blocks →
@@ -59,5 +78,17 @@ well-read shape size log_blocks block fields long same also tested is accepted =
   size = long ∙ same;
   tested = tested-for shape size log_blocks block None same also tested;
   fields_are = is;
-  accepted = subst (λ (b : ℕ). IsAccepted shape.block_size b fields) also (subst (λ (a : ℕ). IsAccepted a log_blocks fields) same accepted);
+  accepted = accepted-for shape size log_blocks fields same also accepted;
 }
+
+-- what was read is what the image has
+pub read-from : (shape : Shape) (image : Image) (superblock : List ℕ) (fields : Super) (blocks : List (List ℕ)) → IsWellRead shape superblock fields →
+    (0 < shape.log_blocks → superblock ≡ image Log 0) → blocks ≡ lap (ring_of fields) image fields.s_start → IsReadFrom image superblock blocks
+read-from shape image superblock fields blocks well read blocks_are =
+    let least = well.accepted.least in
+    let within = well.accepted.within in
+    let is : superblock ≡ image Log 0 = read (omega arith) in
+    record {
+      superblock_is = is;
+      lap_is = blocks_are ∙ ap (λ (f : Super). lap (ring_of f) image f.s_start) (well.fields_are ∙ ap super_in is);
+    }

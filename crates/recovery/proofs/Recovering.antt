@@ -162,6 +162,11 @@ failure-refused honest s t e (inr (is, same)) = record {
   content = λ other more. absurd (more is);
 }
 
+-- so it is where calls that did not fail came before
+pub failure-behind : (honest : Type 0) (s t u : DeviceState) (e : JournalError) → t.faults ≡ s.faults → IsFailure t u e → OpeningRefused honest s u e
+failure-behind honest s t u e same (inl (device, one)) = failure-refused honest s u e (inl (device, one ∙ ap one_more_fault same))
+failure-behind honest s t u e same (inr (memory, kept)) = failure-refused honest s u e (inr (memory, kept ∙ same))
+
 -- so is what is wrong with the superblock
 pub reading-refused : (honest : Type 0) (s t : DeviceState) (e : JournalError) → Stays s t → IsReadingRefused honest s t e → OpeningRefused honest s t e
 reading-refused honest s t e stays (inl failure) = failure-refused honest s t e failure

@@ -1,11 +1,14 @@
 -- The blocks of a log that is made: zeros, one after another, and then the superblock.
 use Rattle.std.proofs.Common.{refl, sym, ◌∙◌, ap, subst, arith, inl, inr}
-use Rattle.std.specs.Prelude.{◌≡◌, ℕ, ◌+◌, ◌==◌, true, false, List}
+use Rattle.std.specs.Prelude.{◌≡◌, ℕ, ◌+◌, ◌==◌, ◌<◌, ◌≤◌, true, false, List, replicate}
 use Rattle.std.proofs.lemmas.Bool.{cases_eq}
 use Rattle.std.proofs.lemmas.Bool.Decides.{nat_tests}
 use Rattle.journal_model.specs.declared.number.Area.TheVariants.{Log}
-use Rattle.journal_model.specs.Disk.{Cell, Disk, written}
-use Rattle.recovery.specs.Opening.{HasZeros}
+use Rattle.journal_model.specs.Disk.{Cell, Disk, flushed, written}
+use Rattle.journal_model.specs.Superblock.{Shape, formatted_super, greatest_length, least_length}
+use Rattle.log_format.specs.Size.{IsBlockSize}
+use Rattle.journal_world.specs.Sound.{durable_cell}
+use Rattle.recovery.specs.Opening.{HasZeros, IsFormatted}
 
 -- what the block itself reads after a write
 own-reads : (disk : Disk) (n : ℕ) (v : List ℕ) → (written disk Log n v Log n).reads ≡ v
@@ -34,3 +37,26 @@ zeros-more zeros n old disk new has is = subst (HasZeros zeros (n + 1) old) (sym
   behind = λ m from. other-cell disk n m zeros (λ same. omega arith) ∙ has.behind m (omega arith);
   home = has.home;
 })
+
+-- what the log leaves once it is flushed: the superblock, the zeros and what lies behind them
+pub formatted : (shape : Shape) (maxlen : ℕ) (uuid block : List ℕ) (old zeroed first second new : Disk) → IsBlockSize shape.block_size →
+    least_length ≤ maxlen → maxlen ≤ greatest_length → maxlen ≤ shape.log_blocks → block ≡ formatted_super shape.block_size maxlen uuid →
+    HasZeros (replicate shape.block_size 0) maxlen old zeroed → first ≡ flushed zeroed Log → second ≡ written first Log 0 block →
+    new ≡ flushed second Log → IsFormatted shape maxlen uuid old new
+formatted shape maxlen uuid block old zeroed first second new allowed least most there is has flush write last =
+    subst (IsFormatted shape maxlen uuid old) (sym all) (record {
+      block_size = allowed;
+      least = least;
+      most = most;
+      within = there;
+      superblock = ap durable_cell (own-reads (flushed zeroed Log) 0 block ∙ is);
+      zeros = λ n above below. ap durable_cell (ap (λ (c : Cell). c.reads) (apart n above) ∙ has.reads n above below);
+      behind = λ n from. ap durable_cell (ap (λ (c : Cell). c.reads) (apart n (omega (arith, from)) ∙ ap (λ (c : Cell). durable_cell c.reads) (has.behind n from)));
+      home = λ b. has.home b;
+    })
+  where
+    all : new ≡ flushed (written (flushed zeroed Log) Log 0 block) Log
+    all = last ∙ ap (λ (d : Disk). flushed d Log) (write ∙ ap (λ (d : Disk). written d Log 0 block) flush)
+
+    apart : (n : ℕ) → 0 < n → written (flushed zeroed Log) Log 0 block Log n ≡ flushed zeroed Log Log n
+    apart n above = other-cell (flushed zeroed Log) 0 n block (λ none. omega (arith, above, none))

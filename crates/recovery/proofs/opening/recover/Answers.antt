@@ -1,4 +1,5 @@
 use Rattle.std.proofs.Common.{◌≡◌, ◌+◌, ℕ, List, ap, sym, subst, ◌∙◌, refl}
+use Rattle.std.proofs.lemmas.Result.{err_from_is_err_and}
 use Rattle.journal_model.specs.declared.log.Text.{Text}
 use Rattle.journal_model.specs.Replay.{IsNewest}
 use Rattle.journal_model.specs.Superblock.{Shape, with_tail}
@@ -7,7 +8,7 @@ use Rattle.recovery.specs.Opening.{FitsHome}
 use Rattle.recovery.specs.Values.{IsNextNamed}
 use Rattle.journal_world.specs.Opening.{IsOpening}
 use Rattle.recovery.proofs.During.{flush-moments}
-use Rattle.recovery.proofs.Recovering.{chain-tells, clean-opening, clean-tells, replayed-moments, replayed-named, replayed-opening, same-moments, same-replayed}
+use Rattle.recovery.proofs.Recovering.{chain-tells, clean-opening, clean-tells, failure-behind, replayed-moments, replayed-named, replayed-opening, same-moments, same-replayed}
 use Rattle.recovery.proofs.opening.recover.Goals as goal
 
 -- a clean log is opened
@@ -43,7 +44,21 @@ bring_home-requires-clause-copies g c =
     subst (λ (s : Shape). FitsHome s (IsNewest c.as_slice.result.now)) (sym shape)
     (subst (λ (ts : List Text). FitsHome (g.D.Device.state c.args.device.now).shape (IsNewest ts)) (sym c.as_slice.ensures) (other.copies refl))
 
+-- the superblock fills a block
+pub bring_home-requires-clause-size : goal.bring_home-requires-clause-size
+bring_home-requires-clause-size g c =
+    c.in_ok-superblock.ensures.found.size
+    ∙ sym (ap (λ (s : Shape). s.block_size) (c.in_ok-flush.ensures.ok.shape ∙ c.examine.ensures.stays.shape))
+
 -- replay or its end failed
+pub returns-in_err-superblock-2-clause-refused : goal.returns-in_err-superblock-2-clause-refused
+returns-in_err-superblock-2-clause-refused g c =
+    let p = err_from_is_err_and c.from_residual-in_err-superblock-2.result c.from_residual-in_err-superblock-2.ensures.1 in
+    rw (p.1, p.2)
+    (failure-behind (g.D.Device.honest c.bring_home.new.device) (g.D.Device.state c.args.device.now) (g.D.Device.state c.flush.new.self)
+    (g.D.Device.state c.bring_home.new.device) c.in_err-superblock-2.field-0.0 (c.in_ok-flush.ensures.faults ∙ c.in_ok-superblock.ensures.faults)
+    c.in_err-superblock-2.ensures.faults)
+
 pub returns-in_err-superblock-2-clause-moments : goal.returns-in_err-superblock-2-clause-moments
 returns-in_err-superblock-2-clause-moments g c = λ honest.
     let s : DeviceState = g.D.Device.state c.args.device.now in
@@ -116,3 +131,9 @@ returns-clause-report g c = λ honest.
     (chain-tells s.shape _ c.in_ok-superblock.field-0.superblock.items
     c.in_ok-superblock.field-0.texts c.in_ok-superblock.field-0.limit c.len.result other c.len.ensures
     (c.in_ok-superblock.ensures.read (c.flush.ensures.honest (c.bring_home.ensures.honest honest))))
+
+pub returns-clause-honest : goal.returns-clause-honest
+returns-clause-honest g c = λ honest. c.examine.ensures.honest (c.flush.ensures.honest (c.bring_home.ensures.honest honest))
+
+pub returns-then-clean-clause-honest : goal.returns-then-clean-clause-honest
+returns-then-clean-clause-honest g c = λ honest. c.examine.ensures.honest (c.flush.ensures.honest honest)

@@ -1,9 +1,10 @@
 use Rattle.std.proofs.Common.{ap, sym, ◌∙◌}
 use Rattle.std.proofs.lemmas.List.Elements.{recursion_from_All}
 use Rattle.journal_model.specs.Escape.{unescaped}
+use Rattle.journal_model.specs.Superblock.{Shape}
 use Rattle.recovery.specs.Gather.{IsGathered}
 use Rattle.recovery.proofs.Copying.{copying-writes}
-use Rattle.recovery.proofs.Gathered.{first-gathered, first-size, written-more, written-none}
+use Rattle.recovery.proofs.Gathered.{first-gathered, first-size, first-within, written-more, written-none}
 use Rattle.recovery.proofs.replay.write_copies.Goals as goal
 
 -- nothing is written yet
@@ -41,3 +42,16 @@ returns-in_err-write-clause-moments g c =
     (g.D.Device.state c.loop-b.device) (g.D.Device.state c.write.new.self)
     (first-gathered c.args.newest.now c.in-Some.b.now c.in-Some.copy.now c.unescape.new.copy c.next.new.self (g.D.Device.state c.args.device.now)
     (g.D.Device.state c.loop-b.device) same is) is.moments c.write.ensures.writes
+
+-- home has the block
+pub write-requires-clause-there : goal.write-requires-clause-there
+write-requires-clause-there g c =
+    let is = rw c.in-Some.ensures.steps at c.loop-b.invariant.0 in
+    first-within c.args.newest.now c.in-Some.b.now c.in-Some.copy.now c.next.new.self
+    (g.D.Device.state c.args.device.now) (g.D.Device.state c.loop-b.device) c.requires.copies is
+
+-- the buffer is a block
+pub write-requires-clause-block : goal.write-requires-clause-block
+write-requires-clause-block g c =
+    c.unescape.auto.copy ∙ c.copy_from_slice.ensures.len ∙ c.loop-b.auto.block ∙ c.requires.block
+    ∙ sym (ap (λ (s : Shape). s.block_size) c.loop-b.invariant.0.shape)

@@ -1,8 +1,12 @@
 use Rattle.std.proofs.Common.{◌≡◌, ℕ, List, ap, sym, subst, ◌∙◌, inr}
 use Rattle.std.specs.Prelude.{length, Some, None}
 use Rattle.std.proofs.lemmas.Result.{err_from_is_err_and}
+use Rattle.journal_model.specs.Chain.{lap}
+use Rattle.journal_model.specs.Disk.{Disk, reading}
+use Rattle.journal_model.specs.Opening.{ring_of}
 use Rattle.journal_model.specs.Superblock.{Shape, super_in, super_refusal}
-use Rattle.recovery.proofs.Reading.{refused-other, refused-read, tested-for, well-read}
+use Rattle.block_device.specs.State.{DeviceState}
+use Rattle.recovery.proofs.Reading.{accepted-for, read-from, refused-other, refused-read, tested-for, well-read}
 use Rattle.recovery.proofs.scan.read_log.Goals as goal
 
 -- block 0 is refused
@@ -21,6 +25,13 @@ returns-in_err-fields-clause-faults g c =
       λ honest. refused-read shape block _ c.in_err-fields.field-0.0 (λ some. c.deref.ensures.value ∙ c.in_ok-superblock.ensures.read honest some) refused,
     ))
 
+-- the ring of an accepted log lies within the log area
+pub read_lap-requires-clause-accepted : goal.read_lap-requires-clause-accepted
+read_lap-requires-clause-accepted g c =
+    accepted-for (g.D.Device.state c.read_superblock.new.device).shape (length c.deref.result.now) c.blocks-2.result c.in_ok-fields.fields
+    (ap length c.deref.ensures.value ∙ c.in_ok-superblock.ensures.size ∙ sym (ap (λ (s : Shape). s.block_size) c.read_superblock.ensures.stays.shape))
+    c.blocks-2.ensures c.in_ok-fields.ensures.accepted
+
 -- it is accepted
 pub returns-clause-superblock : goal.returns-clause-superblock
 returns-clause-superblock g c =
@@ -30,3 +41,19 @@ returns-clause-superblock g c =
     (ap length (sym c.deref.ensures.value)) same (c.blocks-2.ensures ∙ ap (λ (s : Shape). s.log_blocks) c.read_superblock.ensures.stays.shape)
     (subst (λ (b : List ℕ). let s : Shape = record { block_size = length c.deref.result.now; log_blocks = c.blocks-2.result; home_blocks = shape.home_blocks } in super_refusal s b ≡ None) c.deref.ensures.value (c.in_ok-fields.ensures.tests shape.home_blocks))
     (c.in_ok-fields.ensures.fields ∙ ap super_in c.deref.ensures.value) c.in_ok-fields.ensures.accepted
+
+-- all of the ring was read
+pub returns-clause-lap : goal.returns-clause-lap
+returns-clause-lap g c = c.in_ok-lap.ensures.lap
+
+pub returns-clause-honest : goal.returns-clause-honest
+returns-clause-honest g c = λ honest. c.read_superblock.ensures.honest (c.read_lap.ensures.honest honest)
+
+-- what was read is what the device has
+pub returns-clause-read : goal.returns-clause-read
+returns-clause-read g c = λ honest.
+    let s : DeviceState = g.D.Device.state c.args.device.now in
+    read-from s.shape (reading s.disk) c.in_ok-superblock.superblock.items c.in_ok-fields.fields c.in_ok-lap.lap (returns-clause-superblock g c)
+    (c.in_ok-superblock.ensures.read (c.read_lap.ensures.honest honest))
+    (c.in_ok-lap.ensures.read honest
+    ∙ ap (λ (d : Disk). lap (ring_of c.in_ok-fields.fields) (reading d) c.in_ok-fields.fields.s_start) c.read_superblock.ensures.stays.disk)

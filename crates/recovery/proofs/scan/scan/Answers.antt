@@ -16,3 +16,14 @@ returns-then-limit-ge-GREATEST_NUMBER-clause-refused c =
     let sequence : c.from.result ≡ c.args.log.now.fields.s_sequence = c.from.ensures ∙ ap (λ (r : Read). r.fields.s_sequence) c.log.view_is in
     inr (number-refused c.args.log.now.fields c.args.home_blocks c.args.log.now.lap c.in_ok-texts.texts (c.from.result + c.len.result)
     (ap₂ (λ (a b : ℕ). a + b) sequence c.len.ensures) c.in_ok-texts.ensures.texts c.in_default.ensures c.if-limit-ge-GREATEST_NUMBER.true)
+
+-- the log is taken
+pub returns-clause-found : goal.returns-clause-found
+returns-clause-found c =
+    let sequence : c.from.result ≡ c.args.log.now.fields.s_sequence = c.from.ensures ∙ ap (λ (r : Read). r.fields.s_sequence) c.log.view_is in
+    record {
+      texts_of = c.in_ok-texts.ensures.texts;
+      limit_is = ap₂ (λ (a b : ℕ). a + b) sequence c.len.ensures;
+      none_ahead = c.in_default.ensures;
+      number = c.if-limit-ge-GREATEST_NUMBER.false;
+    }

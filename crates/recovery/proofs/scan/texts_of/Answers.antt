@@ -1,7 +1,7 @@
-use Rattle.std.proofs.Common.{inr, subst}
+use Rattle.std.proofs.Common.{ℕ, ◌<◌, inr, subst}
 use Rattle.journal_model.specs.Superblock.{Super}
 use Rattle.recovery.specs.Opening.{AreTextsOf}
-use Rattle.recovery.proofs.Chains.{damaged-same, texts-started}
+use Rattle.recovery.proofs.Chains.{damaged-same, damaged-within, texts-started}
 use Rattle.recovery.proofs.WholeCopies.{chain-few}
 use Rattle.recovery.proofs.scan.texts_of.Goals as goal
 
@@ -23,3 +23,9 @@ returns-clause-texts c =
 -- each has a block
 pub returns-clause-few : goal.returns-clause-few
 returns-clause-few c = chain-few _ _ _ _ _ (rw c.as_slice-lap.ensures at c.in_ok-chain.ensures)
+
+-- a damaged block is one of the ring
+pub lap_place-requires-clause-there : goal.lap_place-requires-clause-there
+lap_place-requires-clause-there c =
+    let damaged = rw c.in-Some.is at c.in_ok-k.ensures in
+    subst (λ (n : ℕ). c.in-Some.k < n) c.requires.lap.count (damaged-within _ _ _ _ _ (rw c.as_slice-lap.ensures at damaged))

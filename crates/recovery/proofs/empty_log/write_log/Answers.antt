@@ -1,0 +1,35 @@
+use Rattle.std.proofs.Common.{sym, ◌∙◌, ap, subst}
+use Rattle.std.specs.Prelude.{List, ℕ, replicate}
+use Rattle.journal_model.specs.Disk.{Disk}
+use Rattle.journal_model.specs.Superblock.{Shape, formatted_super}
+use Rattle.recovery.specs.Opening.{HasZeros}
+use Rattle.recovery.proofs.Zeroed.{formatted}
+use Rattle.recovery.proofs.empty_log.write_log.Goals as goal
+
+-- an empty log was made
+pub returns-clause-ok : goal.returns-clause-ok
+returns-clause-ok g c =
+    let shape : Shape = (g.D.Device.state c.args.device.now).shape in
+    let old : Disk = (g.D.Device.state c.args.device.now).disk in
+    let zeroed : Disk = (g.D.Device.state c.write_zeros.new.device).disk in
+    let zeros : HasZeros c.fill.new.self c.args.maxlen old zeroed =
+    subst (λ (n : ℕ). HasZeros c.fill.new.self n old zeroed) c.from.ensures c.in_ok-write_zeros.ensures.ok in
+    formatted shape c.args.maxlen c.args.uuid.now c.format.new.block old zeroed (g.D.Device.state c.flush.new.self).disk
+    (g.D.Device.state c.write.new.self).disk (g.D.Device.state c.flush-2.new.self).disk c.requires.allowed c.requires.least c.requires.most c.requires.there
+    (c.format.ensures ∙ ap (λ (n : ℕ). formatted_super n c.args.maxlen c.args.uuid.now) (c.fill.auto.self ∙ c.requires.block))
+    (subst (λ (bytes : List ℕ). HasZeros bytes c.args.maxlen old zeroed) (c.fill.ensures.after (λ y same. same) ∙ ap (λ (n : ℕ). replicate n 0) c.requires.block) zeros)
+    c.in_ok-flush.ensures.ok.now c.in_ok-write.ensures.ok.now c.in_ok-flush-2.ensures.ok.now
+
+pub returns-clause-honest : goal.returns-clause-honest
+returns-clause-honest g c = λ honest.
+    c.write_zeros.ensures.honest (c.flush.ensures.honest (c.write.ensures.honest (c.flush-2.ensures.honest honest)))
+
+pub returns-clause-faults : goal.returns-clause-faults
+returns-clause-faults g c =
+    c.in_ok-flush-2.ensures.faults ∙ c.in_ok-write.ensures.faults ∙ c.in_ok-flush.ensures.faults ∙ c.in_ok-write_zeros.ensures.faults
+
+-- the buffer is a block
+pub write-requires-clause-block : goal.write-requires-clause-block
+write-requires-clause-block g c =
+    c.format.auto.block ∙ c.fill.auto.self ∙ c.requires.block
+    ∙ sym (ap (λ (s : Shape). s.block_size) (c.in_ok-flush.ensures.ok.shape ∙ c.write_zeros.ensures.shape))
