@@ -1,7 +1,7 @@
 -- What a plain reader has read of the front of log blocks, and what it may read behind it.
-use Rattle.std.proofs.Common.{◌≡◌, ℕ, suc, ◌+◌, ◌<◌, List, [], ◌∷◌, ◌++◌, length, drop, arith, refl, sym, ◌∙◌, subst, ap, append_assoc, append-nil, length-append}
+use Rattle.std.proofs.Common.{◌≡◌, ℕ, suc, ◌+◌, ◌<◌, ◌≤◌, List, [], ◌∷◌, ◌++◌, length, take, drop, arith, refl, sym, ◌∙◌, subst, ap, ap₂, append_assoc, append-nil, length-append}
 use Rattle.std.specs.List.{flat_map, AllByRecursion}
-use Rattle.std.proofs.lemmas.List.{append_cancel_left, drop-drop}
+use Rattle.std.proofs.lemmas.List.{append_cancel_left, drop-drop, length-take, take-append-drop}
 use Rattle.std.proofs.lemmas.Grind.{flat_map-append}
 use Rattle.journal_model.specs.declared.log.Tag.{Tag}
 use Rattle.journal_model.specs.declared.log.Piece.{Piece}
@@ -12,9 +12,9 @@ use Rattle.journal_model.specs.Descriptor.{IsDescriptor}
 use Rattle.journal_model.specs.RevokeBlock.{IsRevokeBlock}
 use Rattle.journal_model.specs.Text.{IsPiece, IsText, IsCommitBlock, piece_blocks, pieces_blocks, text_blocks}
 use Rattle.journal_model.specs.Chain.{AreTexts, texts_blocks, IsChain, IsMalformed, IsDamaged}
-use Rattle.journal_model.specs.ReadingLog.{StandsFirst, NoPieceBegins, PiecesBegin, NoTextBegins, TextBegins, TextsBegin}
+use Rattle.journal_model.specs.ReadingLog.{StandsFirst, NoPieceBegins, PieceBegins, PiecesBegin, NoTextBegins, TextBegins, TextsBegin}
 use Rattle.journal_model.proofs.ReadingPieces.{commits, damages, none_at_end, one_list_of_pieces}
-use Rattle.journal_model.proofs.ReadingTags.{one_descriptor}
+use Rattle.journal_model.proofs.ReadingTags.{TagsSoFar, one_descriptor}
 use Rattle.journal_model.proofs.ReadingTexts.{most_texts, one_chain_of}
 
 -- a front with a further one behind it is a front
@@ -28,6 +28,11 @@ front_more front next blocks n m f g = record {
   size = let sizes = length-append front next in let first = f.size in let second = g.size in omega arith;
 }
 
+-- a front takes no more than all
+pub front_within : (front blocks : List (List ℕ)) (n : ℕ) → StandsFirst front blocks n → n ≤ length blocks
+front_within front blocks n f =
+    let sizes = ap length f.split ∙ length-append front (drop n blocks) in let size = f.size in omega arith
+
 -- the first block is a front
 front_one :
     (block : List ℕ) (blocks behind : List (List ℕ)) → blocks ≡ block ∷ behind → StandsFirst (block ∷ []) blocks 1
@@ -37,6 +42,73 @@ front_one block blocks behind e = record { split = e ∙ ap (λ xs. block ∷ xs
 joined_push :
     {X : Type 0} (f : X → List (List ℕ)) (xs : List X) (x : X) → flat_map f (xs ++ x ∷ []) ≡ flat_map f xs ++ f x
 joined_push f xs x = flat_map-append f xs (x ∷ []) ∙ ap (λ ys. flat_map f xs ++ ys) (append-nil (f x))
+
+-- before the first tag
+pub tags_none : (l : Layout) (count : ℕ) (bytes : List ℕ) → TagsSoFar l count bytes 0 []
+tags_none l count bytes = record {
+  below = λ k tag low. absurd (omega (arith, low));
+  on = λ rest within is. is;
+  only = λ whole is. (whole, refl, omega arith, is);
+}
+
+-- pieces and one more
+pieces_push :
+    (l : Layout) (count sequence : ℕ) (ps : List Piece) (p : Piece) → AllByRecursion (IsPiece l count sequence) ps
+    → IsPiece l count sequence p → AllByRecursion (IsPiece l count sequence) (ps ++ p ∷ [])
+pieces_push l count sequence [] p are is = (is, tt)
+pieces_push l count sequence (q ∷ ps) p are is = (are.0, pieces_push l count sequence ps p are.1 is)
+
+module _ (l : Layout) (count sequence : ℕ) where
+  -- a piece takes a block at least, and no more than all
+  pub piece_within :
+      (blocks : List (List ℕ)) (p : Piece) (n : ℕ) → PieceBegins l count sequence blocks p n
+      → (0 < n) × (n ≤ length blocks)
+  piece_within blocks p n is = (positive p is.front.size, front_within (piece_blocks p) blocks n is.front)
+    where
+      positive : (p : Piece) → n ≡ length (piece_blocks p) → 0 < n
+      positive (Revokes block numbers) size = omega arith
+      positive (Copies block tags copies) size = omega arith
+
+  -- so does a text
+  pub text_within :
+      (blocks : List (List ℕ)) (t : Text) (n : ℕ) → TextBegins l count sequence blocks t n → (0 < n) × (n ≤ length blocks)
+  text_within blocks t n is =
+      let size = is.front.size in let sizes = length-append (pieces_blocks t.pieces) (t.commit ∷ []) in
+      (omega arith, front_within (text_blocks t) blocks n is.front)
+
+  -- a descriptor stands there, and behind it a copy for each of its tags
+  pub copies_begin :
+      (block : List ℕ) (tags : List Tag) (copies blocks behind : List (List ℕ)) → blocks ≡ block ∷ behind
+      → IsDescriptor l count sequence block tags → copies ≡ take (length tags) behind → length tags ≤ length behind
+      → PieceBegins l count sequence blocks (Copies block tags copies) (1 + length tags)
+  copies_begin block tags copies blocks behind e is taken enough =
+      let sizes : length copies ≡ length tags = ap length taken ∙ length-take (length tags) behind ∙ omega arith in
+      let all : 1 + length tags ≡ suc (length tags) = omega arith in
+      let rest : drop (1 + length tags) blocks ≡ drop (length tags) behind =
+      ap (λ n. drop n blocks) all ∙ ap (drop (suc (length tags))) e in
+      record {
+        well_formed = record { descriptor = is; each_tag = sizes };
+        front = record {
+          split =
+              e
+              ∙ ap (λ xs. block ∷ xs)
+              (sym (take-append-drop (length tags) behind) ∙ ap₂ (λ xs ys. xs ++ ys) (sym taken) (sym rest));
+          size = omega arith;
+        };
+      }
+
+  -- one more piece
+  pub pieces_more :
+      (blocks : List (List ℕ)) (ps : List Piece) (n : ℕ) → PiecesBegin l count sequence blocks ps n
+      → (rest : List (List ℕ)) → rest ≡ drop n blocks → (p : Piece) (m : ℕ) → PieceBegins l count sequence rest p m
+      → PiecesBegin l count sequence blocks (ps ++ p ∷ []) (n + m)
+  pieces_more blocks ps n so rest here p m more = record {
+    well_formed = pieces_push l count sequence ps p so.well_formed more.well_formed;
+    front =
+        subst (λ xs. StandsFirst xs blocks (n + m)) (sym (joined_push piece_blocks ps p))
+        (front_more (pieces_blocks ps) (piece_blocks p) blocks n m so.front
+        (subst (λ xs. StandsFirst (piece_blocks p) xs m) here more.front));
+  }
 
 module _ (l : Layout) (count sequence : ℕ) where
   -- a descriptor stands there with fewer blocks behind it than it has tags

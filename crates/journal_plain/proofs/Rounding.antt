@@ -1,6 +1,7 @@
 -- Division, rounded up.
-use Rattle.std.proofs.Common.{◌≡◌, ℕ, ◌+◌, ◌*◌, ◌<◌, ◌≤◌, ap, sym, ◌∙◌, arith}
+use Rattle.std.proofs.Common.{◌≡◌, ℕ, ◌+◌, ◌*◌, ◌/◌, ◌<◌, ◌≤◌, inl, inr, ap, sym, ◌∙◌, arith}
 use Rattle.std.proofs.Math.Nat.{div-eq_of_lt-le}
+use Rattle.std.proofs.lemmas.Bool.{cases_lt}
 use Rattle.std.proofs.lemmas.Grind.{div_ceil_times}
 use Rattle.std.specs.Int.{div_ceil}
 use Rattle.journal_model.specs.OwnText.{ceil_div}
@@ -14,3 +15,14 @@ div_ceil-is a b positive =
 -- the same of a result and a divisor that a program has
 pub rounded_up : (a d m n : ℕ) → n ≡ div_ceil a m → m ≡ d → 0 < d → n ≡ ceil_div a d
 rounded_up a d m n rounded divisor positive = rounded ∙ ap (div_ceil a) divisor ∙ div_ceil-is a d positive
+
+-- where so many copies take more than a quarter of a ring of at least four blocks, there are some
+pub some_copies : (ring tags copies : ℕ) → 4 ≤ ring → 0 < tags → (copies + ceil_div copies tags + 1 ≤ ring / 4 → ⊥) → 1 ≤ copies
+some_copies ring tags copies large positive above =
+    elim (cases_lt 0 copies) [
+      | inl some ↦ some
+      | inr none ↦
+          let zero : copies ≡ 0 = omega arith in
+          let no_tags : ceil_div 0 tags ≡ 0 = div-eq_of_lt-le tags (omega arith) (omega arith) in
+          absurd (above (rw (zero, no_tags) (omega arith)))
+    ]

@@ -1,4 +1,4 @@
-use Rattle.std.proofs.Common.{sym, subst}
+use Rattle.std.proofs.Common.{arith, sym, subst}
 use Rattle.std.proofs.lemmas.Bool.{iff_false}
 use Rattle.journal_model.specs.ReadingLog.{layout_with}
 use Rattle.journal_model.specs.Chain.{IsMalformed}
@@ -30,3 +30,11 @@ returns c =
     c.in-Some.ensures.cases.0
     (subst (IsMalformed (layout_with c.args.block_size c.args.number_bytes) c.args.count c.in_ok-next.next)
     c.bytes.ensures (c.in_ok-is_malformed.ensures.0 c.if-not-branch.false))
+
+-- its place is one of the blocks
+pub overflow_add-result : goal.overflow_add-result
+overflow_add-result c =
+    let before = c.in_ok-next.ensures.within in
+    let left = c.split_at.ensures.back_len in
+    let taken = c.in_ok-taken.ensures.within in
+    omega (arith, before, left, taken)

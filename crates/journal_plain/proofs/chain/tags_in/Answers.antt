@@ -1,7 +1,12 @@
 use Rattle.std.proofs.Common.{◌+◌, arith, ap}
 use Rattle.std.proofs.lemmas.Bool.{iff_false}
 use Rattle.journal_model.proofs.ReadingTags.{tags_more, tags_last, tags_stop, tags_above}
+use Rattle.journal_plain.proofs.ReadingFronts.{tags_none}
 use Rattle.journal_plain.proofs.chain.tags_in.Goals as goal
+
+-- no tag is read yet
+pub loop-at-init : goal.loop-at-init
+loop-at-init c = rw c.new-tags.ensures (tags_none _ _ _)
 
 -- no tag stands at the place
 pub returns-in_default : goal.returns-in_default

@@ -1,4 +1,5 @@
-use Rattle.journal_plain.proofs.ReadingFronts.{texts_more, texts_are_chain}
+use Rattle.std.proofs.Common.{arith}
+use Rattle.journal_plain.proofs.ReadingFronts.{front_within, text_within, texts_more, texts_are_chain}
 use Rattle.journal_plain.proofs.chain.texts.Goals as goal
 
 -- no further text begins
@@ -13,3 +14,18 @@ loop-texts-preserved c =
     rw c.in_ok-push.ensures.ok
     (texts_more _ _ _ _ _ _ _ c.loop-texts.invariant _ c.split_at.ensures.back c.in-Some.text c.in-Some.size
     (rw c.in-Some.is at c.in_ok-text.ensures.begins))
+
+-- its blocks are among those that are left
+pub overflow_add-taken : goal.overflow_add-taken
+overflow_add-taken c =
+    let left = c.split_at.ensures.back_len in
+    let before = front_within _ _ _ c.loop-texts.invariant.front in
+    let within = (text_within _ _ _ _ _ _ (rw c.in-Some.is at c.in_ok-text.ensures.begins)).1 in
+    omega (arith, left, before, within)
+
+-- so fewer are left
+pub loop-texts-smaller : goal.loop-texts-smaller
+loop-texts-smaller c =
+    let left = c.split_at.ensures.back_len in
+    let text = text_within _ _ _ _ _ _ (rw c.in-Some.is at c.in_ok-text.ensures.begins) in
+    omega (arith, left, text.0, text.1)

@@ -1,7 +1,20 @@
-use Rattle.std.proofs.Common.{◌≡◌, ◌≤◌, ℕ, List, Some, slice_get, get_or, sym, ◌∙◌, ap, subst, true≢false}
+use Rattle.std.proofs.Common.{◌≡◌, ◌<◌, ◌≤◌, ℕ, List, Some, slice_get, get_or, length, arith, sym, ◌∙◌, ap, subst, true≢false}
+use Rattle.std.proofs.lemmas.Option.{slice_get_within}
 use Rattle.journal_model.specs.Text.{text_copies}
 use Rattle.journal_model.proofs.Newest.{live-among, live-last}
 use Rattle.journal_plain.proofs.replay.last_live.Goals as goal
+
+-- the copy that was found is one of them
+pub bounds-as_slice-k : goal.bounds-as_slice-k
+bounds-as_slice-k c =
+    subst (λ copies. c.in-Some.k < length copies) (c.as_slice.ensures ∙ sym c.as_slice-in-Some.ensures)
+    (slice_get_within c.as_slice.result.now c.in-Some.k (c.args.block, c.in-Some.ensures.0.0) c.in-Some.ensures.0.1)
+
+pub offset_bounds-as_slice-k : goal.offset_bounds-as_slice-k
+offset_bounds-as_slice-k c =
+    let within = bounds-as_slice-k c in
+    let fits = c.as_slice-in-Some.type_inv.1 in
+    omega (arith, within, fits)
 
 pub returns-in-Some : goal.returns-in-Some
 returns-in-Some c =
