@@ -83,3 +83,12 @@ removed-own key number b newest is =
       | inl same ↦ let here : is_at (nat_cmp key) b ≡ true = grind (arith, nat_tests) in let also : (number == b) ≡ true = grind (arith, nat_tests) in rw (here, also) refl
       | inr other ↦ let apart : is_at (nat_cmp key) b ≡ false = grind (arith, nat_tests) in let also : (number == b) ≡ false = grind (arith, nat_tests) in rw (apart, also) refl
     ]
+
+-- what a map with a copy for the block of a number gives
+pub added-own : (key number b : ℕ) (copy : StoredCopy) (newest : BTreeMap ℕ StoredCopy) → key ≡ number →
+    option_map bytes_home (if is_at (nat_cmp key) b then Some copy else get nat_cmp newest b) ≡ (if number == b then Some (bytes_home copy) else gathered newest b)
+added-own key number b copy newest is =
+    elim (cases_eq key b) [
+      | inl same ↦ let here : is_at (nat_cmp key) b ≡ true = grind (arith, nat_tests) in let also : (number == b) ≡ true = grind (arith, nat_tests) in rw (here, also) refl
+      | inr other ↦ let apart : is_at (nat_cmp key) b ≡ false = grind (arith, nat_tests) in let also : (number == b) ≡ false = grind (arith, nat_tests) in rw (apart, also) refl
+    ]

@@ -2,6 +2,7 @@ use Rattle.std.proofs.Common.{sym, ◌∙◌, ap, subst}
 use Rattle.std.specs.Prelude.{List, ℕ, replicate}
 use Rattle.journal_model.specs.Disk.{Disk}
 use Rattle.journal_model.specs.Superblock.{Shape, formatted_super}
+use Rattle.log_format.specs.Size.{IsBlockSize}
 use Rattle.recovery.specs.Opening.{HasZeros}
 use Rattle.recovery.proofs.Zeroed.{formatted}
 use Rattle.recovery.proofs.empty_log.write_log.Goals as goal
@@ -33,3 +34,10 @@ pub write-requires-clause-block : goal.write-requires-clause-block
 write-requires-clause-block g c =
     c.format.auto.block ∙ c.fill.auto.self ∙ c.requires.block
     ∙ sym (ap (λ (s : Shape). s.block_size) (c.in_ok-flush.ensures.ok.shape ∙ c.write_zeros.ensures.shape))
+
+pub returns-clause-shape : goal.returns-clause-shape
+returns-clause-shape g c =
+    c.in_ok-flush-2.ensures.ok.shape ∙ c.in_ok-write.ensures.ok.shape ∙ c.in_ok-flush.ensures.ok.shape ∙ c.write_zeros.ensures.shape
+
+pub format-requires : goal.format-requires
+format-requires g c = subst IsBlockSize (sym (c.fill.auto.self ∙ c.requires.block)) c.requires.allowed

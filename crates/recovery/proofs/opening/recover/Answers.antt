@@ -1,4 +1,4 @@
-use Rattle.std.proofs.Common.{◌≡◌, ◌+◌, ℕ, List, ap, sym, subst, ◌∙◌, refl}
+use Rattle.std.proofs.Common.{◌≡◌, ◌<◌, ◌+◌, ℕ, List, ap, sym, subst, ◌∙◌, refl}
 use Rattle.std.proofs.lemmas.Result.{err_from_is_err_and}
 use Rattle.journal_model.specs.declared.log.Text.{Text}
 use Rattle.journal_model.specs.Replay.{IsNewest}
@@ -49,6 +49,11 @@ pub bring_home-requires-clause-size : goal.bring_home-requires-clause-size
 bring_home-requires-clause-size g c =
     c.in_ok-superblock.ensures.found.size
     ∙ sym (ap (λ (s : Shape). s.block_size) (c.in_ok-flush.ensures.ok.shape ∙ c.examine.ensures.stays.shape))
+
+-- the log has a block
+pub bring_home-requires-clause-there : goal.bring_home-requires-clause-there
+bring_home-requires-clause-there g c =
+    subst (λ (s : Shape). 0 < s.log_blocks) (sym (c.in_ok-flush.ensures.ok.shape ∙ c.examine.ensures.stays.shape)) c.in_ok-superblock.ensures.found.there
 
 -- replay or its end failed
 pub returns-in_err-superblock-2-clause-refused : goal.returns-in_err-superblock-2-clause-refused
@@ -137,3 +142,10 @@ returns-clause-honest g c = λ honest. c.examine.ensures.honest (c.flush.ensures
 
 pub returns-then-clean-clause-honest : goal.returns-then-clean-clause-honest
 returns-then-clean-clause-honest g c = λ honest. c.examine.ensures.honest (c.flush.ensures.honest honest)
+
+-- no call failed, and none changes the device's measures
+pub returns-clause-no_fault : goal.returns-clause-no_fault
+returns-clause-no_fault g c = c.in_ok-superblock-2.ensures.faults ∙ c.in_ok-flush.ensures.faults ∙ c.in_ok-superblock.ensures.faults
+
+pub returns-clause-shape : goal.returns-clause-shape
+returns-clause-shape g c = c.bring_home.ensures.shape ∙ c.in_ok-flush.ensures.ok.shape ∙ c.examine.ensures.stays.shape

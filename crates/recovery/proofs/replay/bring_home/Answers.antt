@@ -37,3 +37,6 @@ returns-clause-superblock g c =
     let old = c.deref_mut.ensures.len in
     whole-buffer c.args.superblock.len c.clean_log.new.superblock (drop (length c.clean_log.new.superblock) c.args.superblock.items) (omega arith)
     ∙ rw c.deref_mut.ensures.value at c.in_ok-clean_log.ensures.superblock
+
+pub returns-clause-honest : goal.returns-clause-honest
+returns-clause-honest g c = λ honest. c.replay.ensures.honest (c.clean_log.ensures.honest honest)

@@ -22,3 +22,6 @@ returns-clause-moments g c =
     (write-ending (with_tail c.args.superblock.now c.args.next 0) (g.D.Device.state c.args.device.now) (g.D.Device.state c.flush.new.self)
     (g.D.Device.state c.write-2.new.self) c.in_ok-flush.ensures.ok (rw c.write.ensures at c.write-2.ensures.writes))
     c.in_ok-flush-2.ensures.ok
+
+pub returns-clause-honest : goal.returns-clause-honest
+returns-clause-honest g c = λ honest. c.flush.ensures.honest (c.write-2.ensures.honest (c.flush-2.ensures.honest honest))

@@ -1,10 +1,13 @@
-use Rattle.std.proofs.Common.{ap, sym, ◌∙◌}
+use Rattle.std.proofs.Common.{ap, subst, sym, ◌∙◌}
 use Rattle.std.proofs.lemmas.List.Elements.{recursion_from_All}
+use Rattle.journal_model.specs.declared.number.Area.TheVariants.{Home}
 use Rattle.journal_model.specs.Escape.{unescaped}
 use Rattle.journal_model.specs.Superblock.{Shape}
+use Rattle.log_format.specs.Size.{IsBlockSize}
 use Rattle.recovery.specs.Gather.{IsGathered}
 use Rattle.recovery.proofs.Copying.{copying-writes}
 use Rattle.recovery.proofs.Gathered.{first-gathered, first-size, first-within, written-more, written-none}
+use Rattle.recovery.proofs.Runs.{writes-shape}
 use Rattle.recovery.proofs.replay.write_copies.Goals as goal
 
 -- nothing is written yet
@@ -55,3 +58,15 @@ pub write-requires-clause-block : goal.write-requires-clause-block
 write-requires-clause-block g c =
     c.unescape.auto.copy ∙ c.copy_from_slice.ensures.len ∙ c.loop-b.auto.block ∙ c.requires.block
     ∙ sym (ap (λ (s : Shape). s.block_size) c.loop-b.invariant.0.shape)
+
+pub returns-in_err-write-clause-shape : goal.returns-in_err-write-clause-shape
+returns-in_err-write-clause-shape g c =
+    writes-shape (g.D.Device.state c.loop-b.device) (g.D.Device.state c.write.new.self) Home c.in-Some.b.now c.unescape.new.copy c.write.ensures.writes
+    ∙ c.loop-b.invariant.0.shape
+
+pub returns-in_err-write-clause-honest : goal.returns-in_err-write-clause-honest
+returns-in_err-write-clause-honest g c = λ honest. c.loop-b.invariant.1 (c.write.ensures.honest honest)
+
+pub unescape-requires : goal.unescape-requires
+unescape-requires g c =
+    subst IsBlockSize (sym (c.copy_from_slice.ensures.len ∙ c.loop-b.auto.block ∙ c.requires.block)) c.requires.allowed
