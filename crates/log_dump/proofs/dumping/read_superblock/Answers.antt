@@ -1,4 +1,4 @@
-use Rattle.std.proofs.Common.{◌++◌, length, drop, ◌∙◌, arith}
+use Rattle.std.proofs.Common.{length, drop, ◌∙◌, arith}
 use Rattle.log_dump.proofs.Looking.{as-long, whole-buffer}
 use Rattle.log_dump.proofs.dumping.read_superblock.Goals as goal
 

@@ -127,6 +127,9 @@ pub write_copies-requires-clause-within : goal.write_copies-requires-clause-with
 write_copies-requires-clause-within g c =
     let fits = rw c.in-Descriptor.is at c.in_ok-numbers.ensures.fits in let low = fits.1 in let count = ap length c.tags.ensures in let all = length-take-le c.in-Descriptor.tags c.look.new.self.tags fits.0 in omega arith
 
+pub numbers-requires : goal.numbers-requires
+numbers-requires g c = let fits = rw c.in-RevokeBlock.is at c.in_ok-numbers.ensures.fits in fits.0
+
 pub tags-requires : goal.tags-requires
 tags-requires g c = let fits = rw c.in-Descriptor.is at c.in_ok-numbers.ensures.fits in fits.0
 
@@ -134,5 +137,63 @@ pub returns-in-CommitBlock-clause-within : goal.returns-in-CommitBlock-clause-wi
 returns-in-CommitBlock-clause-within g c =
     let fits = rw c.in-CommitBlock.is at c.in_ok-numbers.ensures.fits in let low = c.loop-numbers.invariant.low in (omega arith, fits)
 
+-- the device stays, however the printing ends
+pub returns-in_err-numbers-clause-stays : goal.returns-in_err-numbers-clause-stays
+returns-in_err-numbers-clause-stays g c = stays-joins _ _ _ c.loop-numbers.invariant.stays c.look.ensures.stays
+
+pub returns-in_err-write_revokes-in-RevokeBlock-clause-stays : goal.returns-in_err-write_revokes-in-RevokeBlock-clause-stays
+returns-in_err-write_revokes-in-RevokeBlock-clause-stays g c = stays-joins _ _ _ c.loop-numbers.invariant.stays c.look.ensures.stays
+
+pub returns-in_err-write_copies-in-Descriptor-clause-stays : goal.returns-in_err-write_copies-in-Descriptor-clause-stays
+returns-in_err-write_copies-in-Descriptor-clause-stays g c = stays-joins _ _ _ c.loop-numbers.invariant.stays c.look.ensures.stays
+
+pub returns-in_err-write_commit-in-CommitBlock-clause-stays : goal.returns-in_err-write_commit-in-CommitBlock-clause-stays
+returns-in_err-write_commit-in-CommitBlock-clause-stays g c = stays-joins _ _ _ c.loop-numbers.invariant.stays c.look.ensures.stays
+
+pub returns-in-CommitBlock-clause-stays : goal.returns-in-CommitBlock-clause-stays
+returns-in-CommitBlock-clause-stays g c = stays-joins _ _ _ c.loop-numbers.invariant.stays c.look.ensures.stays
+
+pub returns-in-Malformed-clause-stays : goal.returns-in-Malformed-clause-stays
+returns-in-Malformed-clause-stays g c = stays-joins _ _ _ c.loop-numbers.invariant.stays c.look.ensures.stays
+
+-- the finder keeps its size
+pub returns-in_err-numbers-clause-size : goal.returns-in_err-numbers-clause-size
+returns-in_err-numbers-clause-size g c = c.look.ensures.size ∙ c.loop-numbers.invariant.size
+
+pub returns-in_err-write_revokes-in-RevokeBlock-clause-size : goal.returns-in_err-write_revokes-in-RevokeBlock-clause-size
+returns-in_err-write_revokes-in-RevokeBlock-clause-size g c = c.look.ensures.size ∙ c.loop-numbers.invariant.size
+
+pub returns-in_err-write_copies-in-Descriptor-clause-size : goal.returns-in_err-write_copies-in-Descriptor-clause-size
+returns-in_err-write_copies-in-Descriptor-clause-size g c = c.look.ensures.size ∙ c.loop-numbers.invariant.size
+
+pub returns-in_err-write_commit-in-CommitBlock-clause-size : goal.returns-in_err-write_commit-in-CommitBlock-clause-size
+returns-in_err-write_commit-in-CommitBlock-clause-size g c = c.look.ensures.size ∙ c.loop-numbers.invariant.size
+
+pub returns-in-CommitBlock-clause-size : goal.returns-in-CommitBlock-clause-size
+returns-in-CommitBlock-clause-size g c = c.look.ensures.size ∙ c.loop-numbers.invariant.size
+
+pub returns-in-Malformed-clause-size : goal.returns-in-Malformed-clause-size
+returns-in-Malformed-clause-size g c = c.look.ensures.size ∙ c.loop-numbers.invariant.size
+
+-- and reads that told the truth did so before
+pub returns-in_err-numbers-clause-honest : goal.returns-in_err-numbers-clause-honest
+returns-in_err-numbers-clause-honest g c = λ h. c.loop-numbers.invariant.honest (c.look.ensures.honest h)
+
+pub returns-in_err-write_revokes-in-RevokeBlock-clause-honest : goal.returns-in_err-write_revokes-in-RevokeBlock-clause-honest
+returns-in_err-write_revokes-in-RevokeBlock-clause-honest g c = λ h. c.loop-numbers.invariant.honest (c.look.ensures.honest h)
+
+pub returns-in_err-write_copies-in-Descriptor-clause-honest : goal.returns-in_err-write_copies-in-Descriptor-clause-honest
+returns-in_err-write_copies-in-Descriptor-clause-honest g c = λ h. c.loop-numbers.invariant.honest (c.look.ensures.honest h)
+
+pub returns-in_err-write_commit-in-CommitBlock-clause-honest : goal.returns-in_err-write_commit-in-CommitBlock-clause-honest
+returns-in_err-write_commit-in-CommitBlock-clause-honest g c = λ h. c.loop-numbers.invariant.honest (c.look.ensures.honest h)
+
 pub returns-in-CommitBlock-clause-honest : goal.returns-in-CommitBlock-clause-honest
 returns-in-CommitBlock-clause-honest g c = λ h. c.loop-numbers.invariant.honest (c.look.ensures.honest h)
+
+pub returns-in-Malformed-clause-honest : goal.returns-in-Malformed-clause-honest
+returns-in-Malformed-clause-honest g c = λ h. c.loop-numbers.invariant.honest (c.look.ensures.honest h)
+
+-- it has not failed
+pub returns-in-CommitBlock-clause-faults : goal.returns-in-CommitBlock-clause-faults
+returns-in-CommitBlock-clause-faults g c = c.in_ok-numbers.ensures.faults ∙ c.loop-numbers.invariant.faults

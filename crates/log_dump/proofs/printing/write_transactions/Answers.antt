@@ -5,7 +5,7 @@ use Rattle.journal_model.specs.Opening.{layout_of}
 use Rattle.journal_model.specs.ReadingLog.{NoTextBegins}
 use Rattle.log_dump.specs.Dumping.{IsPrinted}
 use Rattle.log_dump.specs.Finding.{blocks_from, every_block}
-use Rattle.log_dump.proofs.CountingSteps.{stays-joins}
+use Rattle.log_dump.proofs.CountingSteps.{accepted-stays, stays-joins}
 use Rattle.log_dump.proofs.PrintingSteps.{refused-through, texts-all, texts-no-more, texts-printed, texts-unprinted}
 use Rattle.log_dump.proofs.printing.write_transactions.Goals as goal
 
@@ -57,3 +57,8 @@ returns-in_err-position-clause-refused g c =
     (ap (λ (n : ℕ). n + c.loop-k.k) c.first_number.ensures.value) (omega arith)
     (subst (λ (d : Disk). NoTextBegins (layout_of c.args.log.now) every_block (c.first_number.result + c.loop-k.k) (blocks_from c.args.log.now (reading d) c.loop-k.position)) before.stays.disk none) are)
     before.faults c.in_err-position.ensures.refused)
+
+-- the device stays, so that the log is accepted on it
+pub write_text-requires-clause-accepted : goal.write_text-requires-clause-accepted
+write_text-requires-clause-accepted g c =
+    accepted-stays c.args.log.now (g.D.Device.state c.args.device.now) (g.D.Device.state c.loop-k.device) c.loop-k.invariant.stays c.requires.accepted
