@@ -20,14 +20,7 @@ texts-started s count sequence blocks texts started same undamaged chain = recor
   undamaged = λ not_clean k damaged. undamaged k (subst (λ (n : ℕ). IsDamaged (layout_of s) count n blocks k) (sym same) damaged);
 }
 
--- a damaged block is a refusal
-damaged-refused : (s : Super) (count sequence : ℕ) (blocks : List (List ℕ)) (k place : ℕ) → (s.s_start ≡ 0 → ⊥) → sequence ≡ s.s_sequence →
-    IsDamaged (layout_of s) count sequence blocks k → place ≡ place_from (ring_of s) s.s_start k → IsRefusedLog s count blocks (Damage place)
-damaged-refused s count sequence blocks k place started same damaged at =
-    subst (λ (p : ℕ). IsRefusedLog s count blocks (Damage p)) (sym at)
-    (ForDamage k started (subst (λ (n : ℕ). IsDamaged (layout_of s) count n blocks k) same damaged))
-
--- it is one of these blocks
+-- a damaged block is one of the blocks
 pub damaged-within : (l : Layout) (count sequence : ℕ) (blocks : List (List ℕ)) (k : ℕ) → IsDamaged l count sequence blocks k → k < length blocks
 damaged-within l count sequence blocks k damaged =
     let long = ap length damaged.split in
@@ -37,6 +30,13 @@ damaged-within l count sequence blocks k damaged =
       length-append (texts_blocks damaged.texts ++ pieces_blocks damaged.pieces) (damaged.block ∷ damaged.rest),
       length-append (texts_blocks damaged.texts) (pieces_blocks damaged.pieces),
     )
+
+-- it is a refusal
+damaged-refused : (s : Super) (count sequence : ℕ) (blocks : List (List ℕ)) (k place : ℕ) → (s.s_start ≡ 0 → ⊥) → sequence ≡ s.s_sequence →
+    IsDamaged (layout_of s) count sequence blocks k → place ≡ place_from (ring_of s) s.s_start k → IsRefusedLog s count blocks (Damage place)
+damaged-refused s count sequence blocks k place started same damaged at =
+    subst (λ (p : ℕ). IsRefusedLog s count blocks (Damage p)) (sym at)
+    (ForDamage k started (subst (λ (n : ℕ). IsDamaged (layout_of s) count n blocks k) same damaged))
 
 -- it is one for other fields that are the same
 pub damaged-same : (s t : Super) (count sequence : ℕ) (blocks : List (List ℕ)) (k place : ℕ) → s ≡ t → (s.s_start ≡ 0 → ⊥) → sequence ≡ s.s_sequence →
