@@ -12,7 +12,8 @@ use Rattle.log_engine.specs.declared.engine.Progress.TheVariants.{Idle as NoProg
 use Rattle.log_engine.specs.Engine.{ReadRefused, RoundDid, RoundRefused}
 use Rattle.log_engine.specs.Engine.ReadRefused.{ReadAborted, ReadFailed, ReadOutside}
 use Rattle.log_engine.specs.Engine.RoundRefused.{RoundAborted, RoundFailed}
-use Rattle.group_commit.specs.Journal.{Agrees, CheckTurnRefused, MayTouch, ReadRefused as JournalReadRefused}
+use Rattle.group_commit.specs.declared.journal.CheckTurn.TheVariants.{Idle as IdleTurn, Step as StepTurn, Released}
+use Rattle.group_commit.specs.Journal.{Agrees, CheckTurnDid, CheckTurnRefused, MayTouch, ReadRefused as JournalReadRefused}
 use Rattle.group_commit.specs.Journal.CheckTurnRefused.{CheckAborted, CheckFailed}
 use Rattle.group_commit.specs.Journal.ReadRefused.{ReadFailed as FailedRead}
 use Rattle.group_commit.proofs.Sealing.{agrees-moved}
@@ -40,6 +41,26 @@ pub refused-check : {D : Type 0} (state : D → DeviceState) (f : Front) (d othe
 refused-check state f d other old new e (RoundAborted is same stays counted) =
     CheckAborted is (ap (λ (x : Engine). record { front = f; engine = x }) same) stays counted
 refused-check state f d other old new e (RoundFailed fault counted) = CheckFailed (record { front = refl; engine = fault }) counted
+
+-- a step of a round that did nothing is a turn that did nothing
+pub idle-check : {D : Type 0} (state : D → DeviceState) (f : Front) (d other : D) (old new : Engine) →
+    RoundDid NoProgress old (state d).disk new (state other).disk →
+    CheckTurnDid state IdleTurn (record { device = d; journal = record { front = f; engine = old } }) (record { device = other; journal = record { front = f; engine = new } })
+idle-check state f d other old new did =
+    (record { running = did.2; idle = did.0; released = did.1 }, ap (λ (x : Engine). record { front = f; engine = x }) did.3, did.4)
+
+-- one that is not the last is one step of the turn
+pub step-check : {D : Type 0} (state : D → DeviceState) (f : Front) (d other : D) (old new : Engine) →
+    RoundDid Step old (state d).disk new (state other).disk →
+    CheckTurnDid state StepTurn (record { device = d; journal = record { front = f; engine = old } }) (record { device = other; journal = record { front = f; engine = new } })
+step-check state f d other old new did = (record { front = refl; engine = did.0 }, did.1)
+
+-- and the last one releases what it tells
+pub done-check : {D : Type 0} (state : D → DeviceState) (f : Front) (d other : D) (old new : Engine) (tid : ℕ) →
+    RoundDid (Done tid) old (state d).disk new (state other).disk →
+    CheckTurnDid state (Released tid) (record { device = d; journal = record { front = f; engine = old } })
+    (record { device = other; journal = record { front = f; engine = new } })
+done-check state f d other old new tid did = (record { front = refl; engine = did.0 }, did.1, did.2)
 
 -- front and engine agree after a read that was refused
 pub agrees-read_refused : (f : Front) (old new : Engine) (before after : DeviceState) (b : ℕ) (e : JournalError) → Agrees (record { front = f; engine = old }) →

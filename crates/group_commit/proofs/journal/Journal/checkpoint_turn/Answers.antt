@@ -1,7 +1,11 @@
+use Rattle.std.proofs.Common.{subst}
 use Rattle.std.proofs.lemmas.Result.{err_from_is_err_and}
-use Rattle.group_commit.proofs.Rounding.{agrees-round, agrees-round_refused, refused-check}
+use Rattle.log_engine.specs.declared.engine.Progress.{Progress}
+use Rattle.log_engine.specs.Engine.{RoundDid}
+use Rattle.group_commit.proofs.Rounding.{agrees-round, agrees-round_refused, done-check, idle-check, refused-check, step-check}
 use Rattle.group_commit.proofs.Turning.{each-check}
 use Rattle.group_commit.proofs.journal.Journal.checkpoint_turn.Goals as goal
+use Rattle.group_commit.proofs.journal.Journal.checkpoint_turn.Goals.{in-Done, in-Idle, in-Step}
 
 -- where the device failed, front and engine agree as before
 pub invariant_of-self : goal.invariant_of-self
@@ -34,3 +38,17 @@ returns-clause-moments g c = rw (← c.self.view_is) (λ honest. each-check _ _ 
 -- and there is one at most
 pub returns-clause-one : goal.returns-clause-one
 returns-clause-one g c = rw (← c.self.view_is) c.checkpoint_step.ensures.one
+
+-- the turn did what the step did
+pub returns-clause-ok : goal.returns-clause-ok
+returns-clause-ok g c =
+    let f = c.self.inside.front in
+    let old = c.self.inside.engine in
+    let new = c.checkpoint_step.new.self in
+    let did = c.in_ok-checkpoint_step.ensures.ok in
+    let told = λ (p : Progress). RoundDid p old.engine (g.D.Device.state old.device).disk new.engine (g.D.Device.state new.device).disk in
+    elim c.match-branch-2.branch [
+      | in-Idle w ↦ rw (w.result-is, ← c.self.view_is) (idle-check g.D.Device.state f _ _ _ _ (subst told w.in-Idle.is did))
+      | in-Step w ↦ rw (w.result-is, ← c.self.view_is) (step-check g.D.Device.state f _ _ _ _ (subst told w.in-Step.is did))
+      | in-Done w ↦ rw (w.result-is, ← c.self.view_is) (done-check g.D.Device.state f _ _ _ _ _ (subst told w.in-Done.is did))
+    ]
