@@ -1,6 +1,6 @@
 -- A turn of the journal: what a step of the engine is beside the front, and what holds at each moment of it.
 use Rattle.std.proofs.Common.{arith, refl, sym, ap, ap₂, subst, ◌∙◌}
-use Rattle.std.specs.Prelude.{◌≡◌, ℕ, ◌<◌, ◌≤◌, List, [], ◌∷◌, length}
+use Rattle.std.specs.Prelude.{◌≡◌, ℕ, zero, suc, ◌<◌, ◌≤◌, List, [], ◌∷◌, length}
 use Rattle.std.specs.List.{AllByRecursion}
 use Rattle.journal_model.specs.declared.entry.Batch.{Batch}
 use Rattle.journal_model.specs.Disk.{Disk}
@@ -51,6 +51,11 @@ pub each-stay : (j : Journal) (state : DeviceState) → OpensNow j state.disk �
 each-stay j state opens =
     let here : IsDuringTurn j state.disk state.disk = record { home = record { same = λ b. refl }; opens = opens } in
     each-stays (IsDuringTurn j state.disk) state state (record { shape = refl; disk = refl; past = refl }) here
+
+-- where not one handle is open, none is
+pub none-open : (n : ℕ) → (0 < n → ⊥) → n ≡ 0
+none-open zero some = refl
+none-open (suc n) some = absurd (some (omega arith))
 
 -- what holds of each disk of a list, where something stronger does
 all-weaker : (P Q : Disk → Type 0) → ((disk : Disk) → P disk → Q disk) → (disks : List Disk) → AllByRecursion P disks → AllByRecursion Q disks

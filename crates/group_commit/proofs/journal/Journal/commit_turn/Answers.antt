@@ -1,10 +1,11 @@
 use Rattle.std.proofs.Common.{refl, sym, ap, subst, ◌∙◌}
+use Rattle.std.proofs.lemmas.Bool.{true≢false}
 use Rattle.block_device.specs.State.{EachMoment}
 use Rattle.log_engine.specs.Call.{IsOneMoment}
 use Rattle.group_commit.specs.Journal.{IsDuringTurn, TurnRefused}
 use Rattle.journal_world.specs.Journal.{Journal}
 use Rattle.group_commit.specs.Values.{JournalValue}
-use Rattle.group_commit.proofs.Turning.{each-stay, opens-now, same-moment}
+use Rattle.group_commit.proofs.Turning.{each-stay, none-open, opens-now, same-moment}
 use Rattle.group_commit.proofs.journal.Journal.commit_turn.Goals as goal
 
 -- an aborted journal refuses
@@ -50,3 +51,39 @@ returns-clause-one g c =
     let device = c.seal.ensures.device ∙ sym (ap (λ (v : JournalValue g.row.D.Denot). v.device) c.self.view_is) in
     let before = g.D.Device.state c.self.inside.engine.device in
     rw (← c.self.view_is) (subst (λ (d : g.row.D.Denot). IsOneMoment before (g.D.Device.state d)) (sym device) (same-moment before))
+
+-- nothing is due
+pub returns-then-not-is_locked-clause-ok : goal.returns-then-not-is_locked-clause-ok
+returns-then-not-is_locked-clause-ok g c =
+    rw (← c.self.view_is) (
+      record {
+        running = sym c.is_aborted.ensures.aborted ∙ c.if-is_aborted.false;
+        idle = c.is_idle.ensures.0 c.if-not-is_idle.false;
+        unlocked = sym c.is_locked.ensures ∙ c.if-not-is_locked.true;
+      },
+      refl,
+    )
+
+-- a stop is awaited
+pub returns-then-has_open_handles-clause-ok : goal.returns-then-has_open_handles-clause-ok
+returns-then-has_open_handles-clause-ok g c =
+    rw (← c.self.view_is) (
+      record {
+        running = sym c.is_aborted.ensures.aborted ∙ c.if-is_aborted.false;
+        idle = c.is_idle.ensures.0 c.if-not-is_idle.false;
+        locked = sym c.is_locked.ensures ∙ c.if-not-is_locked.false;
+        open_handle = c.has_open_handles.ensures.0 c.if-has_open_handles.true;
+      },
+      refl,
+    )
+
+-- a seal is due: the transaction is locked, and no handle of it is open
+pub seal-requires-clause-due : goal.seal-requires-clause-due
+seal-requires-clause-due g c =
+    rw (← c.self.view_is)
+    (record {
+      running = sym c.is_aborted.ensures.aborted ∙ c.if-is_aborted.false;
+      idle = c.is_idle.ensures.0 c.if-not-is_idle.false;
+      locked = sym c.is_locked.ensures ∙ c.if-not-is_locked.false;
+      stopped = none-open _ (λ some. true≢false (sym (c.has_open_handles.ensures.1 some) ∙ c.if-has_open_handles.false));
+    })
