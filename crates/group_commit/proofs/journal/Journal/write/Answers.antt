@@ -1,4 +1,4 @@
-use Rattle.std.proofs.Common.{refl, sym, ap, subst, ◌∙◌, ◌≡◌, ℕ, length}
+use Rattle.std.proofs.Common.{arith, refl, sym, ap, subst, ◌∙◌, ◌≡◌, ◌<◌, ℕ, length}
 use Rattle.std.proofs.lemmas.Bool.{true≢false}
 use Rattle.std.proofs.lemmas.Result.{err_from_is_err_and}
 use Rattle.journal_model.specs.declared.refusal.JournalError.TheVariants.{Memory}
@@ -10,6 +10,7 @@ use Rattle.group_commit.specs.Journal.{MayTouch, WriteRefused}
 use Rattle.group_commit.specs.Values.{JournalValue}
 use Rattle.group_commit.proofs.Sealing.{agrees-written}
 use Rattle.group_commit.proofs.journal.Journal.write.Goals as goal
+use Rattle.group_commit.proofs.journal.Journal.write.Goals.{else-first-2, else-first-via-else-first, else-first-via-then-first+else-left-eq0, then-first-2}
 
 -- an aborted journal refuses
 pub returns-then-is_aborted-clause-err : goal.returns-then-is_aborted-clause-err
@@ -79,3 +80,20 @@ returns-clause-ok g c =
       whole = whole;
       change = record { journal = ap (λ (f : Front). record { front = f; engine = e }) wrote; disk_is = refl };
     })
+
+-- a first touch takes a credit, which the handle has
+pub returns-clause-spends : goal.returns-clause-spends
+returns-clause-spends g c =
+    elim c.if-first-2.branch [
+      | then-first-2 w ↦
+          let first = c.is_first_touch-first.ensures.0 w.if-first-2.true in
+          let some : 0 < c.args.handle.now.left =
+          elim c.else-first.branch [
+            | else-first-via-then-first+else-left-eq0 v ↦ let left = v.left.ensures in let none = v.if-left-eq0.false in omega arith
+            | else-first-via-else-first v ↦ absurd (true≢false (sym w.if-first-2.true ∙ v.if-first.false))
+          ] in
+          rw (← c.self.view_is) (record { first = λ is. (some, cc); later = λ later. absurd (later first) })
+      | else-first-2 w ↦
+          rw (← c.self.view_is)
+          (record { first = λ first. absurd (true≢false (sym (c.is_first_touch-first.ensures.1 first) ∙ w.if-first-2.false)); later = λ later. cc })
+    ]
