@@ -1,7 +1,7 @@
-use Rattle.std.proofs.Common.{ℕ, List, refl, ap, ap₂, ◌∙◌, arith}
+use Rattle.std.proofs.Common.{ℕ, List, refl, ap, ap₂, ◌∙◌, ◌+◌, arith}
 use Rattle.std.proofs.lemmas.Result.{err_from_is_err_and}
 use Rattle.journal_model.specs.declared.transaction.Sealed.{Sealed}
-use Rattle.journal_world.specs.Front.{Front}
+use Rattle.journal_world.specs.Front.{Front, next_handle}
 use Rattle.group_commit.specs.Front.JoinRefused.{IsLocked, NoHandle, NoMemory, NoNumber}
 use Rattle.group_commit.specs.FrontView.{front_of}
 use Rattle.group_commit.proofs.front.Front.join.Goals as goal
@@ -38,3 +38,15 @@ returns-in_err-push-clause-err c =
     let p = err_from_is_err_and c.from_residual-in_err-push.result c.from_residual-in_err-push.ensures.1 in
     rw (p.1, p.2)
     (NoMemory, ap₂ (remade (front_of c.self.inside)) c.try_reserve.ensures.items c.in_err-push.ensures.err ∙ c.self.view_is)
+
+-- the handle joins
+pub returns-clause-ok : goal.returns-clause-ok
+returns-clause-ok c =
+    let f = front_of c.self.inside in
+    let joined = λ (s : List Sealed) (h : List ℕ). record (remade f s h) { open_handles = f.open_handles + 1; given = next_handle f } in
+    rw (← c.self.view_is) (
+      record { unlocked = c.if-self.false; number = omega arith; handle = omega arith },
+      refl,
+      refl,
+      ap₂ joined c.try_reserve.ensures.items c.in_ok-push.ensures.ok,
+    )
