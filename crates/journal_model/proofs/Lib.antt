@@ -1,4 +1,5 @@
 -- The lemmas of this crate.
+pub mod Buffers
 pub mod Effects
 pub mod HomeCounts
 pub mod ListElements

@@ -1,6 +1,5 @@
 -- What a block that was read says of itself says what stands at its position of the lap.
-use Rattle.std.proofs.Common.{◌≡◌, ℕ, suc, ◌-◌, ◌<◌, ◌≤◌, List, ◌∷◌, ◌++◌, length, take, sym, ◌∙◌, ap, subst, arith}
-use Rattle.std.proofs.Math.Seq.{take-append_seam}
+use Rattle.std.proofs.Common.{◌≡◌, ℕ, suc, ◌-◌, ◌<◌, ◌≤◌, List, ◌∷◌, length, sym, ◌∙◌, ap, subst, arith}
 use Rattle.journal_model.specs.declared.number.Area.TheVariants.{Log}
 use Rattle.journal_model.specs.Chain.{place_from}
 use Rattle.journal_model.specs.Disk.{Image}
@@ -13,14 +12,6 @@ use Rattle.log_dump.specs.declared.finding.Found.TheVariants.{RevokeBlock, Descr
 use Rattle.log_dump.specs.Finding.{FinderValue, Fits, IsFound, Says, blocks_from, every_block}
 use Rattle.log_dump.proofs.Found.{found-says}
 use Rattle.log_dump.proofs.Laps.{from-within, length-from}
-
--- a buffer that was read into over its whole length is what was read
-pub whole-buffer : {X : Type 0} (n : ℕ) (read behind : List X) → n ≡ length read → take n (read ++ behind) ≡ read
-whole-buffer n read behind size = ap (λ (k : ℕ). take k (read ++ behind)) size ∙ take-append_seam read behind
-
--- and it is as long as it was
-pub as-long : {X : Type 0} (n size : ℕ) (read behind : List X) → n ≡ length read → n ≡ size → length (take n (read ++ behind)) ≡ size
-as-long n size read behind all same = ap length (whole-buffer n read behind all) ∙ (sym all ∙ same)
 
 -- what a finder has room for, whose block, tags and numbers are so many
 abbrev pub HasRoom : ℕ → ℕ → ℕ → Type 0

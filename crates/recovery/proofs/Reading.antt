@@ -1,8 +1,7 @@
 -- Block 0 of a log, as it was read, and why it is refused.
-use Rattle.std.proofs.Common.{sym, ◌∙◌, ap, ap₂, subst, arith, inl, inr}
-use Rattle.std.specs.Prelude.{◌≡◌, ◌≢◌, ℕ, ◌<◌, ◌==◌, Bool, true, false, if◌then◌else◌, List, [], ◌∷◌, ◌++◌, length, take, Option, Some, None}
+use Rattle.std.proofs.Common.{◌∙◌, ap, ap₂, subst, arith, inl, inr}
+use Rattle.std.specs.Prelude.{◌≡◌, ◌≢◌, ℕ, ◌<◌, ◌==◌, Bool, true, false, if◌then◌else◌, List, [], ◌∷◌, length, Option, Some, None}
 use Rattle.std.specs.List.{AllByRecursion}
-use Rattle.std.proofs.Math.Seq.{take-append_seam}
 use Rattle.std.proofs.lemmas.Bool.{cases_lt}
 use Rattle.std.proofs.lemmas.Bool.Decides.{nat_tests}
 use Rattle.journal_model.specs.declared.number.Area.TheVariants.{Log}
@@ -14,14 +13,6 @@ use Rattle.journal_model.specs.Opening.{ring_of}
 use Rattle.journal_model.specs.Superblock.{Shape, Super, first_failed, super_in, super_refusal, super_tests}
 use Rattle.log_format.specs.Accepted.{IsAccepted}
 use Rattle.recovery.specs.Opening.{IsReadFrom, IsWellRead}
-
--- a buffer that was read into over its whole length is what was read
-pub whole-buffer : (n : ℕ) (read behind : List ℕ) → n ≡ length read → take n (read ++ behind) ≡ read
-whole-buffer n read behind size = ap (λ (k : ℕ). take k (read ++ behind)) size ∙ take-append_seam read behind
-
--- and it is as long as it was
-pub as-long : (n size : ℕ) (read behind : List ℕ) → n ≡ length read → n ≡ size → length (take n (read ++ behind)) ≡ size
-as-long n size read behind all same = ap length (whole-buffer n read behind all) ∙ (sym all ∙ same)
 
 -- the refusal of tests that are not the device's is not the device's
 not-device : (tests : List (Bool × JournalError)) (e : JournalError) → AllByRecursion (λ t. t.1 ≢ Device) tests → first_failed tests ≡ Some e → e ≢ Device

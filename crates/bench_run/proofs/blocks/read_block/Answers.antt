@@ -1,5 +1,5 @@
 use Rattle.std.proofs.Common.{length, drop, ap, ◌∙◌, arith}
-use Rattle.bench_run.proofs.Buffers.{as-long, whole-buffer}
+use Rattle.journal_model.proofs.Buffers.{as-long, whole-buffer}
 use Rattle.bench_run.proofs.blocks.read_block.Goals as goal
 
 -- the buffer is a block, and is what was read

@@ -1,5 +1,5 @@
 use Rattle.std.proofs.Common.{length, drop, arith}
-use Rattle.bench_run.proofs.Buffers.{as-long}
+use Rattle.journal_model.proofs.Buffers.{as-long}
 use Rattle.bench_run.proofs.interpreter.block_of.Goals as goal
 
 pub returns : goal.returns

@@ -1,5 +1,5 @@
 use Rattle.std.proofs.Common.{length, drop, ◌∙◌, arith}
-use Rattle.log_dump.proofs.Looking.{as-long, whole-buffer}
+use Rattle.journal_model.proofs.Buffers.{as-long, whole-buffer}
 use Rattle.log_dump.proofs.dumping.read_superblock.Goals as goal
 
 -- the buffer is a block, and is what was read

@@ -1,7 +1,7 @@
 use Rattle.std.proofs.Common.{◌∙◌, arith, length, drop}
 use Rattle.journal_model.specs.Superblock.{with_tail}
 use Rattle.recovery.proofs.Bringing.{copying-moments, durable-replayed, ending-moments}
-use Rattle.recovery.proofs.Reading.{whole-buffer}
+use Rattle.journal_model.proofs.Buffers.{whole-buffer}
 use Rattle.recovery.proofs.replay.bring_home.Goals as goal
 
 -- replay failed

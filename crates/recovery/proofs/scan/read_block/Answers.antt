@@ -1,5 +1,5 @@
 use Rattle.std.proofs.Common.{◌∙◌, ap, arith, length, drop}
-use Rattle.recovery.proofs.Reading.{as-long, whole-buffer}
+use Rattle.journal_model.proofs.Buffers.{as-long, whole-buffer}
 use Rattle.recovery.proofs.scan.read_block.Goals as goal
 
 -- the buffer is a block

@@ -7,7 +7,8 @@ use Rattle.journal_model.specs.Opening.{layout_of, ring_of}
 use Rattle.log_dump.specs.Finding.{FinderValue, Says, every_block}
 use Rattle.log_dump.proofs.Found.{found-none}
 use Rattle.log_dump.proofs.Laps.{from-end}
-use Rattle.log_dump.proofs.Looking.{HasRoom, as-long, fits-says, found-at, whole-buffer}
+use Rattle.journal_model.proofs.Buffers.{as-long, whole-buffer}
+use Rattle.log_dump.proofs.Looking.{HasRoom, fits-says, found-at}
 use Rattle.log_dump.proofs.finding.Finder.look.Goals as goal
 
 -- the ring ends

@@ -5,7 +5,8 @@ use Rattle.log_dump.specs.declared.finding.Found.{Found}
 use Rattle.log_dump.specs.declared.finding.Found.TheVariants.{Descriptor, Malformed, Nothing}
 use Rattle.log_dump.specs.Finding.{FinderValue, Says, every_block}
 use Rattle.log_dump.proofs.Found.{other-many}
-use Rattle.log_dump.proofs.Looking.{HasRoom, as-long, whole-buffer}
+use Rattle.journal_model.proofs.Buffers.{as-long, whole-buffer}
+use Rattle.log_dump.proofs.Looking.{HasRoom}
 use Rattle.std.proofs.lemmas.List.{length-take-le}
 use Rattle.log_dump.proofs.finding.Finder.parse_descriptor.Goals as goal
 use Rattle.log_dump.proofs.finding.Finder.parse_descriptor.Goals.{Joined-read, in-Ok, in-Ok-2, in-Err}

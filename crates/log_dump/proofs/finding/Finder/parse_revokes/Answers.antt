@@ -3,7 +3,8 @@ use Rattle.journal_model.specs.Layout.{HasHeader, narrow, revoke_type, sequence_
 use Rattle.log_dump.specs.declared.finding.Found.{Found}
 use Rattle.log_dump.specs.declared.finding.Found.TheVariants.{Malformed, RevokeBlock}
 use Rattle.log_dump.specs.Finding.{FinderValue, Says, every_block}
-use Rattle.log_dump.proofs.Looking.{HasRoom, as-long, whole-buffer}
+use Rattle.journal_model.proofs.Buffers.{as-long, whole-buffer}
+use Rattle.log_dump.proofs.Looking.{HasRoom}
 use Rattle.log_dump.proofs.finding.Finder.parse_revokes.Goals as goal
 use Rattle.log_dump.proofs.finding.Finder.parse_revokes.Goals.{Joined-read, in-Ok, in-Err}
 
