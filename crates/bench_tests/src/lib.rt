@@ -4,10 +4,10 @@
 
 mod keeping;
 #[cfg(test)]
-mod rows;
-#[cfg(test)]
 mod runs;
 #[cfg(test)]
 mod scripts;
+#[cfg(test)]
+mod tables;
 
 pub use keeping::kept;

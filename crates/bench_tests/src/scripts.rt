@@ -1,8 +1,8 @@
 //! Texts that are scripts, and texts that are none.
+use crate::tables::cut;
 use bench_script::{ScriptError, read};
 use std::alloc::Global;
 use std::test::Fail;
-use text_tables::cut;
 
 mod bad_scripts;
 mod keys;

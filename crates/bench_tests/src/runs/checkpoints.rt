@@ -2,11 +2,10 @@
 //! longer ones were made by another program, written from the format alone.
 use super::listed::run_of;
 use super::said_of;
-use crate::rows::rows_hold;
+use crate::tables::{rows_hold, written_out};
 use std::alloc::{AllocError, Global};
 use std::str::from_utf8;
 use std::test::Fail;
-use text_tables::written_out;
 
 /// Runs, in the form of `listed`.
 const RUNS: &str =
@@ -74,8 +73,7 @@ home 8 0800000000000000
 verdict ok
 ====
 -: a round releases what was committed when it began, whatever is committed between its steps
-{"ops": [
-    ["start",1,2],["write",1,5,"01"],["write",1,3,"02"],["stop",1],["request",1],["commit"],
+{"ops": [["start",1,2],["write",1,5,"01"],["write",1,3,"02"],["stop",1],["request",1],["commit"],
     ["start",2,1],["write",2,9,"03"],["stop",2],["request",2],["commit"],["ckturn"],["start",3,2],
     ["write",3,9,"04"],["write",3,7,"05"],["stop",3],["request",3],["commit"],["ckturn"],
     ["start",4,1],["write",4,5,"06"],["stop",4],["request",4],["commit"],["ckturn"],["ckturn"],
@@ -122,8 +120,7 @@ home 9 0400000000000000
 verdict ok
 ====
 -: a copy that is replaced before its turn is written home by the next round alone, as the newer one
-{"ops": [
-    ["start",1,2],["write",1,4,"01"],["write",1,6,"02"],["stop",1],["request",1],["commit"],
+{"ops": [["start",1,2],["write",1,4,"01"],["write",1,6,"02"],["stop",1],["request",1],["commit"],
     ["ckturn"],["start",2,1],["write",2,6,"03"],["stop",2],["request",2],["commit"],["ckturn"],
     ["ckturn"],["ckturn"],["ckturn"],["ckturn"],["ckturn"],["ckturn"],["ckturn"]]}
 ----
@@ -156,8 +153,7 @@ home 6 0300000000000000
 verdict ok
 ====
 -: a round releases nothing of the transaction that is being committed when it begins
-{"ops": [
-    ["start",1,1],["write",1,4,"01"],["stop",1],["request",1],["commit"],["start",2,1],
+{"ops": [["start",1,1],["write",1,4,"01"],["stop",1],["request",1],["commit"],["start",2,1],
     ["write",2,4,"02"],["stop",2],["request",2],["turn"],["turn"],["ckturn"],["turn"],["ckturn"],
     ["turn"],["ckturn"],["turn"],["ckturn"],["turn"],["ckturn"],["turn"],["ckturn"],["ckturn"],
     ["ckturn"],["ckturn"]]}
@@ -195,8 +191,7 @@ home 4 0200000000000000
 verdict ok
 ====
 -: a read sees the running transaction, then the one that is being committed, then pending copies, then home
-{"ops": [
-    ["start",1,2],["read",1,5],["write",1,5,"01"],["read",1,5],["write",1,6,"c03b3998"],["stop",1],
+{"ops": [["start",1,2],["read",1,5],["write",1,5,"01"],["read",1,5],["write",1,6,"c03b3998"],["stop",1],
     ["request",1],["turn"],["turn"],["start",2,1],["read",2,5],["read",2,6],["stop",2],["commit"],
     ["start",3,1],["read",3,5],["check"],["read",3,5],["read",3,6],["read",3,7],["read",3,64],
     ["stop",3]]}

@@ -1,6 +1,6 @@
 //! Transactions of one descriptor that is full and one that has a single tag: their lines, and their bytes.
 use super::listed::run_of;
-use crate::rows::rows_hold;
+use crate::tables::{cut, numbers_of, rows_hold, write_hex};
 use bench_run::run_operations;
 use bench_script::read;
 use block_device::{Device, MemDevice};
@@ -9,7 +9,6 @@ use std::alloc::Global;
 use std::fmt::Write;
 use std::io::sink;
 use std::test::Fail;
-use text_tables::{cut, numbers_of, write_hex};
 
 /// Runs, in the form of `listed`, with one copy more than a descriptor has tags.
 const RUNS: &str = r#"-: 123 copies, at length: 1025, home: 200
@@ -83,39 +82,24 @@ fn one_copy_more_than_a_descriptor_has_tags(rt: HostRuntime) -> Result<(), Fail>
 const BYTES: &str =
     r#"{"length": 1025, "home": 200, "ops": [["start",1,123]<0 122 0|,["write",1,#,"01"]>,["stop",1],["request",1],["commit"]]}
 1 0: c03b39980000000100000002
-1 12: 0000000000000000
-1 20: aaaaaaaaaaaaaaaaaaaaaaaaaaaaaaaa
-1 36: 0000000100000002
-1 996: 000000790000000a
-1 1004: 0000000000000000
+1 12: 0000000000000000aaaaaaaaaaaaaaaaaaaaaaaaaaaaaaaa0000000100000002
+1 996: 000000790000000a0000000000000000
 124 0: c03b39980000000100000002
-124 12: 0000007a00000008
-124 20: aaaaaaaaaaaaaaaaaaaaaaaaaaaaaaaa
-124 36: 0000000000000000
+124 12: 0000007a00000008aaaaaaaaaaaaaaaaaaaaaaaaaaaaaaaa0000000000000000
 ====
 {"block": 2048, "length": 1025, "home": 300, "ops": [["start",1,251]<0 250 0|,["write",1,#,"01"]>,["stop",1],["request",1],["commit"]]}
 1 0: c03b39980000000100000002
-1 12: 0000000000000000
-1 20: aaaaaaaaaaaaaaaaaaaaaaaaaaaaaaaa
-1 36: 0000000100000002
-1 2020: 000000f90000000a
-1 2028: 0000000000000000
+1 12: 0000000000000000aaaaaaaaaaaaaaaaaaaaaaaaaaaaaaaa0000000100000002
+1 2020: 000000f90000000a0000000000000000
 252 0: c03b39980000000100000002
-252 12: 000000fa00000008
-252 20: aaaaaaaaaaaaaaaaaaaaaaaaaaaaaaaa
-252 36: 0000000000000000
+252 12: 000000fa00000008aaaaaaaaaaaaaaaaaaaaaaaaaaaaaaaa0000000000000000
 ====
 {"block": 4096, "length": 2053, "home": 600, "ops": [["start",1,507]<0 506 0|,["write",1,#,"01"]>,["stop",1],["request",1],["commit"]]}
 1 0: c03b39980000000100000002
-1 12: 0000000000000000
-1 20: aaaaaaaaaaaaaaaaaaaaaaaaaaaaaaaa
-1 36: 0000000100000002
-1 4068: 000001f90000000a
-1 4076: 0000000000000000
+1 12: 0000000000000000aaaaaaaaaaaaaaaaaaaaaaaaaaaaaaaa0000000100000002
+1 4068: 000001f90000000a0000000000000000
 508 0: c03b39980000000100000002
-508 12: 000001fa00000008
-508 20: aaaaaaaaaaaaaaaaaaaaaaaaaaaaaaaa
-508 36: 0000000000000000
+508 12: 000001fa00000008aaaaaaaaaaaaaaaaaaaaaaaaaaaaaaaa0000000000000000
 "#;
 
 /// The device behind the run of this script.

@@ -2,10 +2,10 @@
 //! stops, or `-`, the numbers of the writes that it then keeps, and a name; then its script, a line of dashes, and what it
 //! prints.
 use super::said_of;
+use crate::tables::{cut, numbers_of};
 use std::alloc::Global;
 use std::str::from_utf8;
 use std::test::Fail;
-use text_tables::{cut, numbers_of};
 
 /// What a run of this script prints, and behind it whether the verdict is not ok. Of the numbers the first is the stop.
 fn printed(alloc: Global, script: &str, numbers: &[u64]) -> Result<String, Fail> {

@@ -1,6 +1,6 @@
 //! What handles and commits are refused.
 use super::listed::run_of;
-use crate::rows::rows_hold;
+use crate::tables::rows_hold;
 use std::test::Fail;
 
 /// Runs, in the form of `listed`.

@@ -1,7 +1,8 @@
 //! Runs at other measures than those of a script without keys.
 use super::descriptors::log_block;
 use super::listed::run_of;
-use crate::rows::rows_hold;
+use super::said_of;
+use crate::tables::{numbers_of, rows_hold, write_hex};
 use bench_run::empty_disk;
 use bench_script::Measures;
 use block_device::Device;
@@ -9,88 +10,11 @@ use journal_model::Area;
 use journal_plain::room::capacity;
 use log_ring::Layout;
 use std::alloc::{AllocError, Global};
+use std::str::from_utf8;
 use std::test::Fail;
-use text_tables::{numbers_of, write_hex};
 
 /// Runs, in the form of `listed`.
-const RUNS: &str = r#"-: the most credits of a transaction, at length: 17
-{"length": 17, "ops": [["start",1,3],["start",2,2]]}
-----
-start 1 3 = refused 6 TooMany
-start 2 2 = 2
-stopped at end
-super blocksize=1024 maxlen=17 first=1 sequence=1 start=0
-empty sequence=1
-open clean next=2 n=0
-verdict ok
-====
--: the most credits of a transaction, at length: 33
-{"length": 33, "ops": [["start",1,7],["start",2,6]]}
-----
-start 1 7 = refused 6 TooMany
-start 2 6 = 2
-stopped at end
-super blocksize=1024 maxlen=33 first=1 sequence=1 start=0
-empty sequence=1
-open clean next=2 n=0
-verdict ok
-====
--: the most credits of a transaction, at length: 1025
-{"length": 1025, "ops": [["start",1,253],["start",2,252]]}
-----
-start 1 253 = refused 6 TooMany
-start 2 252 = 2
-stopped at end
-super blocksize=1024 maxlen=1025 first=1 sequence=1 start=0
-empty sequence=1
-open clean next=2 n=0
-verdict ok
-====
--: the most credits of a transaction, at length: 1025, block: 2048
-{"length": 1025, "block": 2048, "ops": [["start",1,254],["start",2,253]]}
-----
-start 1 254 = refused 6 TooMany
-start 2 253 = 2
-stopped at end
-super blocksize=2048 maxlen=1025 first=1 sequence=1 start=0
-empty sequence=1
-open clean next=2 n=0
-verdict ok
-====
--: the most credits of a transaction, at length: 1025, block: 4096
-{"length": 1025, "block": 4096, "ops": [["start",1,255],["start",2,254]]}
-----
-start 1 255 = refused 6 TooMany
-start 2 254 = 2
-stopped at end
-super blocksize=4096 maxlen=1025 first=1 sequence=1 start=0
-empty sequence=1
-open clean next=2 n=0
-verdict ok
-====
--: the most credits of a transaction, at length: 17, block: 4096
-{"length": 17, "block": 4096, "ops": [["start",1,3],["start",2,2]]}
-----
-start 1 3 = refused 6 TooMany
-start 2 2 = 2
-stopped at end
-super blocksize=4096 maxlen=17 first=1 sequence=1 start=0
-empty sequence=1
-open clean next=2 n=0
-verdict ok
-====
--: the most credits of a transaction, at length: 4097
-{"length": 4097, "ops": [["start",1,1015],["start",2,1014]]}
-----
-start 1 1015 = refused 6 TooMany
-start 2 1014 = 2
-stopped at end
-super blocksize=1024 maxlen=4097 first=1 sequence=1 start=0
-empty sequence=1
-open clean next=2 n=0
-verdict ok
-====
--: the smallest log
+const RUNS: &str = r#"-: the smallest log
 {"length": 17, "ops": [["start",1,3],["start",2,2],["write",2,5,"11"],["write",2,6,"22"],
         ["stop",2],["request",2],["commit"],["wait",2]]}
 ----
@@ -201,6 +125,44 @@ fn runs_at_other_measures(rt: HostRuntime) -> Result<(), Fail> {
     rows_hold(&rt, rt.alloc(), RUNS, "====\n", run_of)
 }
 
+/// Bytes of a block, blocks of a log, and the most credits of a transaction there.
+const CREDITS: &str = "\
+1024 17 2, 1024 33 6, 1024 1025 252, 2048 1025 253, 4096 1025 254, 4096 17 2, 1024 4097 1014";
+
+/// What a run at these measures prints that asks for a credit too many, and then for the most.
+fn asked(alloc: Global, (size, length, most): (u64, u64, u64)) -> Result<String, AllocError> {
+    format!(in alloc;
+        "start 1 {} = refused 6 TooMany\nstart 2 {most} = 2\nstopped at end\n\
+        super blocksize={size} maxlen={length} first=1 sequence=1 start=0\n\
+        empty sequence=1\nopen clean next=2 n=0\nverdict ok\n",
+        most.saturating_add(1)
+    )
+}
+
+/// This row, or what its run prints where that is something else.
+fn credits_of(alloc: Global, row: &str) -> Result<String, Fail> {
+    let numbers = numbers_of(alloc, row)?;
+    let [size, length, most] = *numbers.as_slice() else {
+        return Err(Fail::new(row));
+    };
+    let script = format!(in alloc;
+        "{{\"block\": {size}, \"length\": {length}, \
+        \"ops\": [[\"start\",1,{}],[\"start\",2,{most}]]}}",
+        most.saturating_add(1)
+    )?;
+    let said = said_of(alloc, script.as_str(), None, &[])?;
+    let wanted = asked(alloc, (size, length, most))?;
+    if said.verdict && said.out.as_slice() == wanted.as_bytes() {
+        return Ok(String::from_str(alloc, row)?);
+    }
+    Ok(String::from_str(alloc, from_utf8(&said.out)?)?)
+}
+
+#[test]
+fn the_most_credits_of_a_transaction(rt: HostRuntime) -> Result<(), Fail> {
+    rows_hold(&rt, rt.alloc(), CREDITS, ", ", credits_of)
+}
+
 /// A log of 2,053 blocks of 4096 bytes.
 const LARGE: Measures = Measures {
     block_size: 4096,
@@ -237,15 +199,8 @@ fn a_disk_is_formatted_with_its_measures(rt: HostRuntime) -> Result<(), Fail> {
 }
 
 /// Bytes of a block, and blocks of a ring, in which the most credits are compared with the plain program's.
-const RINGS: &str = "\
-1024 16
-1024 509
-1024 516
-2048 1023
-2048 4020
-4096 2052
-4096 9999
-1024 1048575";
+const RINGS: &str =
+    "1024 16, 1024 509, 1024 516, 2048 1023, 2048 4020, 4096 2052, 4096 9999, 1024 1048575";
 
 /// The most credits at these measures are the plain program's.
 fn is_plain(size: usize, ring: u64) -> bool {
@@ -268,5 +223,5 @@ fn ring_of(alloc: Global, row: &str) -> Result<String, Fail> {
 
 #[test]
 fn the_capacity_is_that_of_the_plain_program(rt: HostRuntime) -> Result<(), Fail> {
-    rows_hold(&rt, rt.alloc(), RINGS, "\n", ring_of)
+    rows_hold(&rt, rt.alloc(), RINGS, ", ", ring_of)
 }

@@ -2,7 +2,7 @@
 use super::listed::run_of;
 use super::said_of;
 use crate::kept;
-use crate::rows::rows_hold;
+use crate::tables::rows_hold;
 use std::alloc::Global;
 use std::str::from_utf8;
 use std::test::Fail;
@@ -10,8 +10,7 @@ use std::test::Fail;
 /// A turn seals a transaction once its last handle has stopped, and each later one makes a device call. What a refused
 /// start had reserved is free again: the second one is refused for the same cause.
 const TURNS: &str = r#"-: a turn tells what it did
-{"ops": [
-    ["turn"],["start",1,1],["start",2,1],["stop",1],["request",1],["turn"],["start",3,4],["start",4,4],
+{"ops": [["turn"],["start",1,1],["start",2,1],["stop",1],["request",1],["turn"],["start",3,4],["start",4,4],
     ["stop",2],["turn"],["turn"],["turn"],["turn"],["turn"],["turn"],["turn"],["status",1]]}
 ----
 turn = idle
@@ -45,8 +44,8 @@ fn a_turn_tells_what_it_did(rt: HostRuntime) -> Result<(), Fail> {
 }
 
 /// Transactions 2 to 4, which make twelve writes.
-const THREE: &str = r#"{"ops": [
-    ["start",1,2],["write",1,9,"11"],["write",1,10,"22"],["stop",1],["request",1],["commit"],
+const THREE: &str =
+    r#"{"ops": [["start",1,2],["write",1,9,"11"],["write",1,10,"22"],["stop",1],["request",1],["commit"],
     ["start",2,1],["write",2,9,"33"],["stop",2],["request",2],["commit"],
     ["start",3,2],["write",3,20,"44"],["write",3,10,"55"],["stop",3],["request",3],["commit"]]}"#;
 

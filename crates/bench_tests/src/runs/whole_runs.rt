@@ -1,6 +1,6 @@
 //! Runs of a few operations, each from its script to its verdict.
 use super::listed::run_of;
-use crate::rows::rows_hold;
+use crate::tables::rows_hold;
 use std::test::Fail;
 
 /// Runs, in the form of `listed`.
@@ -76,8 +76,7 @@ home 9 1100000000000000
 verdict ok
 ====
 5: two blocks, and a stop at their commit block
-{"ops": [
-    ["start",1,2],["write",1,9,"11"],["write",1,10,"22"],["stop",1],["request",1],["commit"]]}
+{"ops": [["start",1,2],["write",1,9,"11"],["write",1,10,"22"],["stop",1],["request",1],["commit"]]}
 ----
 start 1 2 = 2
 write 1 9 = ok
@@ -94,8 +93,7 @@ home 10 0000000000000000
 verdict ok
 ====
 5 5: two blocks, and a stop that keeps their commit block
-{"ops": [
-    ["start",1,2],["write",1,9,"11"],["write",1,10,"22"],["stop",1],["request",1],["commit"]]}
+{"ops": [["start",1,2],["write",1,9,"11"],["write",1,10,"22"],["stop",1],["request",1],["commit"]]}
 ----
 start 1 2 = 2
 write 1 9 = ok
@@ -116,8 +114,7 @@ home 10 2200000000000000
 verdict ok
 ====
 5 1 99 2: two blocks, and numbers of flushed writes and of no write, which change nothing
-{"ops": [
-    ["start",1,2],["write",1,9,"11"],["write",1,10,"22"],["stop",1],["request",1],["commit"]]}
+{"ops": [["start",1,2],["write",1,9,"11"],["write",1,10,"22"],["stop",1],["request",1],["commit"]]}
 ----
 start 1 2 = 2
 write 1 9 = ok
@@ -134,8 +131,7 @@ home 10 0000000000000000
 verdict ok
 ====
 -: two blocks that were waited for
-{"ops": [
-    ["start",1,2],["write",1,9,"11"],["write",1,10,"22"],["stop",1],["request",1],["commit"],["wait",1]]}
+{"ops": [["start",1,2],["write",1,9,"11"],["write",1,10,"22"],["stop",1],["request",1],["commit"],["wait",1]]}
 ----
 start 1 2 = 2
 write 1 9 = ok

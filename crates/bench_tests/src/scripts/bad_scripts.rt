@@ -1,6 +1,6 @@
 //! Texts that are no script, and how long one may be.
 use super::{answer_of, error_of};
-use crate::rows::rows_hold;
+use crate::tables::rows_hold;
 use bench_script::ScriptError;
 use std::test::Fail;
 

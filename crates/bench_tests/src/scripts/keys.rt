@@ -1,6 +1,6 @@
 //! The keys of a script, and the measures that they give.
 use super::answer_of;
-use crate::rows::rows_hold;
+use crate::tables::rows_hold;
 use bench_script::{Measures, read};
 use std::test::Fail;
 

@@ -1,10 +1,9 @@
 //! The operations that a script is read as.
-use crate::rows::rows_hold;
+use crate::tables::{cut, rows_hold};
 use bench_script::read;
 use std::alloc::Global;
 use std::fmt::Write;
 use std::test::Fail;
-use text_tables::cut;
 
 /// Scripts, each with a line of dashes and its operations behind it. Of a key that stands twice the last counts.
 const SCRIPTS: &str = r#"{"ops": [
