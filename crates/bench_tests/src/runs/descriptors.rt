@@ -77,8 +77,9 @@ fn one_copy_more_than_a_descriptor_has_tags(rt: HostRuntime) -> Result<(), Fail>
     rows_hold(&rt, rt.alloc(), RUNS, "====\n", run_of)
 }
 
-/// Their scripts, each with lines of a log block, the place of bytes in it, and the bytes. A full descriptor's last tag is
-/// marked, and the second descriptor has the copy that is one too many.
+/// Their scripts, each with lines of a log block, the place of bytes in it, and the bytes. Behind its header a descriptor has a
+/// tag, the UUID, and the next tag or zeros; zeros stand behind a full one's last tag, which is marked. The second descriptor has
+/// the copy that is one too many.
 const BYTES: &str =
     r#"{"length": 1025, "home": 200, "ops": [["start",1,123]<0 122 0|,["write",1,#,"01"]>,["stop",1],["request",1],["commit"]]}
 1 0: c03b39980000000100000002
