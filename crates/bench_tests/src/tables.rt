@@ -41,6 +41,19 @@ pub fn numbers_of(alloc: Global, line: &str) -> Result<Vec<u64>, Fail> {
     Ok(all)
 }
 
+/// Just so many numbers, which are this line; blanks separate them.
+pub fn numbers_in<const N: usize>(line: &str) -> Result<[u64; N], Fail> {
+    let mut all = [0; N];
+    let mut words = line.split(' ');
+    for number in &mut all {
+        *number = words.next().ok_or(line)?.parse()?;
+    }
+    match words.next() {
+        Some(word) => Err(Fail::new(word)),
+        None => Ok(all),
+    }
+}
+
 /// What stands before the first such mark, and what stands behind it.
 pub fn cut<'a>(text: &'a str, mark: &str) -> Result<(&'a str, &'a str), Fail> {
     Ok(text.split_once(mark).ok_or(text)?)
@@ -68,12 +81,9 @@ fn write_numbered(all: &mut String, text: &str, number: u64, other: u64) -> Resu
 }
 
 /// Writes a repetition, which is `first last more|text`.
-fn write_repetition(all: &mut String, alloc: Global, repetition: &str) -> Result<(), Fail> {
+fn write_repetition(all: &mut String, repetition: &str) -> Result<(), Fail> {
     let (line, text) = cut(repetition, "|")?;
-    let numbers = numbers_of(alloc, line)?;
-    let [first, last, more] = *numbers.as_slice() else {
-        return Err(Fail::new(repetition));
-    };
+    let [first, last, more] = numbers_in::<3>(line)?;
     let is_same = !text.contains('#') && !text.contains('@') && !text.contains('$');
     for number in first..=last {
         if is_same {
@@ -92,7 +102,7 @@ pub fn written_out(alloc: Global, text: &str) -> Result<String, Fail> {
     for part in text.split('<') {
         match part.split_once('>') {
             Some((repetition, behind)) => {
-                write_repetition(&mut all, alloc, repetition)?;
+                write_repetition(&mut all, repetition)?;
                 all.push_str(behind)?;
             }
             None => all.push_str(part)?,

@@ -1,6 +1,6 @@
 //! Transactions of one descriptor that is full and one that has a single tag: their lines, and their bytes.
 use super::listed::run_of;
-use crate::tables::{cut, numbers_of, rows_hold, write_hex};
+use crate::tables::{cut, numbers_in, rows_hold, write_hex};
 use bench_run::run_operations;
 use bench_script::read;
 use block_device::{Device, MemDevice};
@@ -134,25 +134,32 @@ fn write_bytes(
     line: &str,
 ) -> Result<(), Fail> {
     let (places, digits) = cut(line, ": ")?;
-    let numbers = numbers_of(alloc, places)?;
-    let [block, from] = *numbers.as_slice() else {
-        return Err(Fail::new(line));
-    };
-    let bytes = log_block(alloc, device, block)?;
+    let [block, from] = numbers_in::<2>(places)?;
     write!(all, "{places}: ")?;
+    let bytes = log_block(alloc, device, block)?;
     write_hex(all, part(&bytes, from, digits)?)?;
     all.push('\n')?;
+    Ok(())
+}
+
+/// Writes these lines of bytes as the device has them.
+fn write_lines(
+    all: &mut String,
+    alloc: Global,
+    device: &mut MemDevice,
+    lines: &str,
+) -> Result<(), Fail> {
+    for line in lines.lines() {
+        write_bytes(all, alloc, device, line)?;
+    }
     Ok(())
 }
 
 /// This script with its bytes as its run writes them.
 fn bytes_of(alloc: Global, row: &str) -> Result<String, Fail> {
     let (text, lines) = cut(row, "\n")?;
-    let mut device = written(alloc, text)?;
     let mut all = format!(in alloc; "{text}\n")?;
-    for line in lines.lines() {
-        write_bytes(&mut all, alloc, &mut device, line)?;
-    }
+    write_lines(&mut all, alloc, &mut written(alloc, text)?, lines)?;
     Ok(all)
 }
 

@@ -8,7 +8,7 @@ use std::str::from_utf8;
 use std::test::Fail;
 
 /// What a run of this script prints, and behind it whether the verdict is not ok. Of the numbers the first is the stop.
-fn printed(alloc: Global, script: &str, numbers: &[u64]) -> Result<String, Fail> {
+pub fn printed(alloc: Global, script: &str, numbers: &[u64]) -> Result<String, Fail> {
     let (stop, keep) = match numbers.split_first() {
         Some((stop, keep)) => (Some(*stop), keep),
         None => (None, numbers),

@@ -1,8 +1,7 @@
 //! Runs at other measures than those of a script without keys.
 use super::descriptors::log_block;
-use super::listed::run_of;
-use super::said_of;
-use crate::tables::{numbers_of, rows_hold, write_hex};
+use super::listed::{printed, run_of};
+use crate::tables::{numbers_in, rows_hold, write_hex};
 use bench_run::empty_disk;
 use bench_script::Measures;
 use block_device::Device;
@@ -10,7 +9,6 @@ use journal_model::Area;
 use journal_plain::room::capacity;
 use log_ring::Layout;
 use std::alloc::{AllocError, Global};
-use std::str::from_utf8;
 use std::test::Fail;
 
 /// Runs, in the form of `listed`.
@@ -130,7 +128,17 @@ const CREDITS: &str = "\
 1024 17 2, 1024 33 6, 1024 1025 252, 2048 1025 253, 4096 1025 254, 4096 17 2, 1024 4097 1014";
 
 /// What a run at these measures prints that asks for a credit too many, and then for the most.
-fn asked(alloc: Global, (size, length, most): (u64, u64, u64)) -> Result<String, AllocError> {
+fn run_asking(alloc: Global, [size, length, most]: [u64; 3]) -> Result<String, Fail> {
+    let script = format!(in alloc;
+        "{{\"block\": {size}, \"length\": {length}, \
+        \"ops\": [[\"start\",1,{}],[\"start\",2,{most}]]}}",
+        most.saturating_add(1)
+    )?;
+    printed(alloc, script.as_str(), &[])
+}
+
+/// What it is to print.
+fn lines_of(alloc: Global, [size, length, most]: [u64; 3]) -> Result<String, AllocError> {
     format!(in alloc;
         "start 1 {} = refused 6 TooMany\nstart 2 {most} = 2\nstopped at end\n\
         super blocksize={size} maxlen={length} first=1 sequence=1 start=0\n\
@@ -141,21 +149,12 @@ fn asked(alloc: Global, (size, length, most): (u64, u64, u64)) -> Result<String,
 
 /// This row, or what its run prints where that is something else.
 fn credits_of(alloc: Global, row: &str) -> Result<String, Fail> {
-    let numbers = numbers_of(alloc, row)?;
-    let [size, length, most] = *numbers.as_slice() else {
-        return Err(Fail::new(row));
-    };
-    let script = format!(in alloc;
-        "{{\"block\": {size}, \"length\": {length}, \
-        \"ops\": [[\"start\",1,{}],[\"start\",2,{most}]]}}",
-        most.saturating_add(1)
-    )?;
-    let said = said_of(alloc, script.as_str(), None, &[])?;
-    let wanted = asked(alloc, (size, length, most))?;
-    if said.verdict && said.out.as_slice() == wanted.as_bytes() {
+    let measures = numbers_in(row)?;
+    let lines = run_asking(alloc, measures)?;
+    if lines.as_str() == lines_of(alloc, measures)?.as_str() {
         return Ok(String::from_str(alloc, row)?);
     }
-    Ok(String::from_str(alloc, from_utf8(&said.out)?)?)
+    Ok(lines)
 }
 
 #[test]
@@ -179,18 +178,17 @@ const FORMATTED: &str = "4096 2053 600: \
     5c5c5c5c5c5c5c5c5c5c5c5c5c5c5c5c\
     00000001<1 4028 0|00>";
 
-/// A device's bytes of a block, and its log and home blocks.
-fn measures_of<D: Device>(alloc: Global, disk: &D) -> Result<String, AllocError> {
+/// The same of a device.
+fn measures_of<D: Device>(alloc: Global, disk: &mut D) -> Result<String, Fail> {
     let (log, home) = (disk.blocks(Area::Log), disk.blocks(Area::Home));
-    format!(in alloc; "{} {log} {home}: ", disk.block_size())
+    let mut all = format!(in alloc; "{} {log} {home}: ", disk.block_size())?;
+    write_hex(&mut all, &log_block(alloc, disk, 0)?)?;
+    Ok(all)
 }
 
 /// The same of a disk that was just formatted.
 fn disk_of(alloc: Global, _: &str) -> Result<String, Fail> {
-    let mut disk = empty_disk(alloc, &LARGE, None)?;
-    let mut all = measures_of(alloc, &disk)?;
-    write_hex(&mut all, &log_block(alloc, &mut disk, 0)?)?;
-    Ok(all)
+    measures_of(alloc, &mut empty_disk(alloc, &LARGE, None)?)
 }
 
 #[test]
@@ -213,10 +211,7 @@ fn is_plain(size: usize, ring: u64) -> bool {
 
 /// These measures, or `wrong` where the most credits are not the plain program's.
 fn ring_of(alloc: Global, row: &str) -> Result<String, Fail> {
-    let numbers = numbers_of(alloc, row)?;
-    let [size, ring] = *numbers.as_slice() else {
-        return Err(Fail::new(row));
-    };
+    let [size, ring] = numbers_in::<2>(row)?;
     let is_right = is_plain(size as usize, ring);
     Ok(String::from_str(alloc, if is_right { row } else { "wrong" })?)
 }

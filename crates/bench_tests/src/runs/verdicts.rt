@@ -23,25 +23,27 @@ fn transaction(alloc: Global, tid: u32, byte: u8) -> Result<Sealed, AllocError> 
     })
 }
 
-/// The greatest transaction that was shown committed, the end that an opening found, what block 3 and block 4 then read, how
-/// many recorded transactions are below that end, and the verdict.
-const VERDICTS: [(Option<u32>, u64, u8, u8, usize, bool); 13] = [
-    (None, 2, 0, 0, 0, true),
-    (None, 3, 7, 0, 1, true),
-    (None, 4, 8, 0, 2, true),
-    (Some(2), 3, 7, 0, 1, true),
-    (Some(3), 4, 8, 0, 2, true),
-    (Some(3), 9, 8, 0, 2, true),
+/// The greatest transaction that was shown committed, the end that an opening found, and what block 3 and block 4 then read.
+type Left = (Option<u32>, u64, u8, u8);
+
+/// What is left, with how many recorded transactions are below that end, and the verdict.
+const VERDICTS: [(Left, (usize, bool)); 13] = [
+    ((None, 2, 0, 0), (0, true)),
+    ((None, 3, 7, 0), (1, true)),
+    ((None, 4, 8, 0), (2, true)),
+    ((Some(2), 3, 7, 0), (1, true)),
+    ((Some(3), 4, 8, 0), (2, true)),
+    ((Some(3), 9, 8, 0), (2, true)),
     // An acknowledged transaction is lost.
-    (Some(2), 2, 0, 0, 0, false),
-    (Some(3), 3, 7, 0, 1, false),
+    ((Some(2), 2, 0, 0), (0, false)),
+    ((Some(3), 3, 7, 0), (1, false)),
     // A block is not as they left it.
-    (None, 3, 8, 0, 1, false),
-    (None, 4, 7, 0, 2, false),
-    (None, 4, 0, 0, 2, false),
-    (None, 2, 7, 0, 0, false),
+    ((None, 3, 8, 0), (1, false)),
+    ((None, 4, 7, 0), (2, false)),
+    ((None, 4, 0, 0), (2, false)),
+    ((None, 2, 7, 0), (0, false)),
     // A block that none of them touched is not zeros.
-    (None, 4, 8, 1, 2, false),
+    ((None, 4, 8, 1), (2, false)),
 ];
 
 /// A record of transactions 2 and 3, in which block 3 becomes 7 and then 8.
@@ -71,26 +73,18 @@ fn both(alloc: Global) -> Result<BTreeSet<u64>, AllocError> {
     Ok(named)
 }
 
-/// How many of the transactions of this record are below the end, and the verdict on these blocks for `n` of them.
-fn judged(
-    alloc: Global,
-    record: &Record,
-    end: u64,
-    device: &mut MemDevice,
-    n: usize,
-) -> Result<(usize, bool), Fail> {
-    let verdict = record.judge(alloc, device, &both(alloc)?, n)?;
-    Ok((record.count_below(end), verdict))
+/// How many of both transactions are below the end, and the verdict on the blocks for these.
+fn judged(alloc: Global, (told, end, third, fourth): Left) -> Result<(usize, bool), Fail> {
+    let mut device = two_blocks(alloc, third, fourth)?;
+    let record = two_transactions(alloc, told)?;
+    let n = record.count_below(end);
+    Ok((n, record.judge(alloc, &mut device, &both(alloc)?, n)?))
 }
 
 #[test]
 fn a_verdict_can_be_false(rt: HostRuntime) -> Result<(), Fail> {
-    for (i, row) in VERDICTS.iter().enumerate() {
-        let (acknowledged, end, third, fourth, n, verdict) = *row;
-        let record = two_transactions(rt.alloc(), acknowledged)?;
-        let mut device = two_blocks(rt.alloc(), third, fourth)?;
-        let found = judged(rt.alloc(), &record, end, &mut device, n)?;
-        assert_eq!(rt; found, (n, verdict), "row {i}");
+    for (left, expected) in VERDICTS {
+        assert_eq!(rt; judged(rt.alloc(), left)?, expected, "{left:?}");
     }
     Ok(())
 }
