@@ -2,94 +2,94 @@
 ghost use Rattle.std.specs.Prelude.{◌≡◌, OnOk, OnErr};
 ghost use Rattle.block_device.specs.State.{one_more_fault, with_own_faults};
 
+use crate::expected::{cut, expect};
 use block_device::{Device, DeviceFault, MemDevice};
 use journal_model::{Area, JournalError};
 use log_dump::{Fault, dump};
 use std::alloc::Global;
-use std::fmt::Write;
+use std::io::Write;
 use std::process::Abort;
 use std::str::from_utf8;
 use std::test::Fail;
 
 mod foreign_logs;
 
-/// Adds some words: `magic`, the four words of the `uuid`, `0*9` for nine of zeros, or one that is spelled in hex digits.
-fn push_spelled(words: &mut Vec<u32>, spelled: &str) -> Result<(), Fail> {
-    if spelled == "magic" {
-        words.push(0xc03b_3998)?;
-    } else if spelled == "uuid" {
-        words.extend_from_slice(&[0xaaaa_aaaa; 4])?;
-    } else if let Some(count) = spelled.strip_prefix("0*") {
-        words.resize(words.len().saturating_add(count.parse()?), 0)?;
-    } else {
-        words.push(u32::from_str_radix(spelled, 16)?)?;
+/// How many words are spelled so, and which word each of them is: `magic`, the four words of the `uuid`, `0*9` for nine of zeros,
+/// or one that is spelled in hex digits.
+fn words_of(spelled: &str) -> Result<(usize, u32), Fail> {
+    if let Some(count) = spelled.strip_prefix("0*") {
+        return Ok((count.parse()?, 0));
     }
+    match spelled {
+        "magic" => Ok((1, 0xc03b_3998)),
+        "uuid" => Ok((4, 0xaaaa_aaaa)),
+        _ => Ok((1, u32::from_str_radix(spelled, 16)?)),
+    }
+}
+
+/// A block of so many bytes that begins with these words, four bytes each, spelled as `words_of` reads them. Behind them are
+/// zeros.
+fn block_of(alloc: Global, size: usize, text: &str) -> Result<Vec<u8>, Fail> {
+    let mut bytes = Vec::new(alloc);
+    for spelled in text.split_whitespace() {
+        let (count, word) = words_of(spelled)?;
+        for _ in 0..count {
+            bytes.extend_from_slice(&word.to_be_bytes())?;
+        }
+    }
+    bytes.resize(size, 0)?;
+    Ok(bytes)
+}
+
+/// Writes a block of the log.
+fn write_block<D: Device>(device: &mut D, place: u64, bytes: &[u8]) -> Result<(), JournalError> {
+    if bytes.len() != device.block_size() || place >= device.blocks(Area::Log) {
+        return Err(JournalError::BadBlock);
+    }
+    device.write(Area::Log, place, bytes)?;
     Ok(())
 }
 
-/// The words of a block of the log, spelled as `push_spelled` reads them.
-fn words_of(alloc: Global, text: &str) -> Result<Vec<u32>, Fail> {
-    let mut words = Vec::new(alloc);
-    for spelled in text.split_whitespace() {
-        push_spelled(&mut words, spelled)?;
-    }
-    Ok(words)
+/// Writes the block of this line: its place, and what `block_of` reads.
+fn write_line<D: Device>(alloc: Global, device: &mut D, line: &str) -> Result<(), Fail> {
+    let (place, text) = cut(line, " ")?;
+    let place = place.parse()?;
+    let bytes = block_of(alloc, device.block_size(), text)?;
+    write_block(device, place, &bytes)?;
+    Ok(())
 }
 
-/// A device whose log has these blocks, a line each: its place, and the words that it begins with, four bytes each, as
-/// `push_spelled` reads them. Behind them, and elsewhere, are zeros.
+/// A device whose log has these blocks, a line each, as `write_line` reads them. Elsewhere are zeros.
 fn device_of(alloc: Global, size: usize, log: u64, blocks: &str) -> Result<MemDevice, Fail> {
     let mut device = MemDevice::new(alloc, size, log, 1);
     for line in blocks.lines() {
-        let (place, spelled) = line.split_once(' ').ok_or(line)?;
-        let words = words_of(alloc, spelled)?;
-        write_words(alloc, &mut device, place.parse()?, &words)?;
+        write_line(alloc, &mut device, line)?;
     }
     Ok(device)
-}
-
-/// Puts these words at the beginning of a block, four bytes each.
-fn put_words(bytes: &mut [u8], words: &[u32]) {
-    for (four, word) in bytes.chunks_exact_mut(4).zip(words) {
-        four.copy_from_slice(&word.to_be_bytes());
-    }
-}
-
-/// Writes the block that begins with these words.
-fn write_words<D: Device>(
-    alloc: Global,
-    device: &mut D,
-    place: u64,
-    words: &[u32],
-) -> Result<(), JournalError> {
-    let mut bytes = vec![in alloc; 0; device.block_size()]?;
-    put_words(&mut bytes, words);
-    if place >= device.blocks(Area::Log) {
-        return Err(JournalError::BadBlock);
-    }
-    device.write(Area::Log, place, &bytes)?;
-    Ok(())
 }
 
 /// What a dump of a device writes, and behind it why it is refused, where it is.
 fn told<D: Device>(alloc: Global, device: &mut D) -> Result<String, Fail> {
     let mut out = Vec::new(alloc);
-    let dumped = dump(alloc, device, &mut out);
-    let mut told = String::from_str(alloc, from_utf8(&out)?)?;
-    if let Err(e) = dumped {
-        write!(told, "refused {e}\n")?;
+    if let Err(e) = dump(alloc, device, &mut out) {
+        write!(out, "refused {e}\n")?;
     }
-    Ok(told)
+    Ok(String::from_str(alloc, from_utf8(&out)?)?)
+}
+
+/// The device of a log of a table, which is said by its first line and its blocks.
+fn device_made(alloc: Global, made: &str) -> Result<MemDevice, Fail> {
+    let (heading, blocks) = cut(made, "\n")?;
+    let (sizes, _) = cut(heading, ": ")?;
+    let (log, size) = cut(sizes, " of ")?;
+    device_of(alloc, size.parse()?, log.parse()?, blocks)
 }
 
 /// This log of a table, with what its dump tells in the place of what it should.
 fn dumped_log(alloc: Global, log: &str) -> Result<String, Fail> {
-    let (made, _) = log.split_once("----\n").ok_or(log)?;
-    let (heading, blocks) = made.split_once('\n').ok_or(log)?;
-    let (sizes, _) = heading.split_once(": ").ok_or(log)?;
-    let (log, size) = sizes.split_once(" of ").ok_or(sizes)?;
-    let mut device = device_of(alloc, size.parse()?, log.parse()?, blocks)?;
-    Ok(format!(in alloc; "{made}----\n{}", told(alloc, &mut device)?)?)
+    let (made, _) = cut(log, "----\n")?;
+    let told = told(alloc, &mut device_made(alloc, made)?)?;
+    Ok(format!(in alloc; "{made}----\n{told}")?)
 }
 
 /// Each log of this table is dumped as it says there. A log is a line that tells how many blocks it has and of how many bytes, and
@@ -97,7 +97,7 @@ fn dumped_log(alloc: Global, log: &str) -> Result<String, Fail> {
 fn expect_dumps(rt: &impl Abort, alloc: Global, logs: &str) -> Result<(), Fail> {
     for log in logs.split("\n\n") {
         let dumped = dumped_log(alloc, log)?;
-        assert_eq!(rt; dumped.as_str().strip_suffix('\n'), Some(log));
+        expect(rt, &dumped.as_str().strip_suffix('\n'), &Some(log));
     }
     Ok(())
 }
@@ -427,29 +427,34 @@ const READS: [u8; 40] = [
     0, 0, 0, 0, 0, 0, 0, 0,
 ];
 
+/// Whether its dump ends so, and how often each block is read, where read `fails_at` and those behind it fail.
+fn dumped(alloc: Global, fails_at: u64) -> Result<(bool, [u8; 40]), Fail> {
+    let mut device = counted(alloc, fails_at)?;
+    let text = told(alloc, &mut device)?;
+    Ok((text.as_str().ends_with(ITS_END), device.counts))
+}
+
 #[test]
 fn no_block_is_read_more_than_twice_and_no_copy_at_all(rt: HostRuntime) -> Result<(), Fail> {
-    let mut device = counted(rt.alloc(), 0)?;
-    let text = told(rt.alloc(), &mut device)?;
-    let complete = text.as_str().ends_with(ITS_END);
-    assert_eq!(rt; (complete, device.counts), (true, READS));
+    expect(&rt, &dumped(rt.alloc(), 0)?, &(true, READS));
     Ok(())
 }
 
-/// A dump whose read `k` fails is refused. The first way of the log has seven reads, and no byte is written before.
-fn is_refused_at(alloc: Global, k: u64) -> Result<bool, Fail> {
+/// Whether a dump whose read `k` fails is refused, and whether no byte is written before.
+fn refused_at(alloc: Global, k: u64) -> Result<(bool, bool), Fail> {
     let told = told(alloc, &mut counted(alloc, k)?)?;
-    let refused = told.as_str().ends_with("refused Device\n");
-    Ok(refused && (told.as_str() == "refused Device\n") == (k <= 7))
+    let refused = "refused Device\n";
+    Ok((told.as_str().ends_with(refused), told.as_str() == refused))
 }
 
 #[test]
 fn each_read_fails_in_turn(rt: HostRuntime) -> Result<(), Fail> {
     for k in 1..=12 {
-        assert!(rt; is_refused_at(rt.alloc(), k)?, "read {k}");
+        let told = refused_at(rt.alloc(), k)?;
+        // The first way of the log has seven reads.
+        expect(&rt, &(k, told), &(k, (true, k <= 7)));
     }
-    let text = told(rt.alloc(), &mut counted(rt.alloc(), 13)?)?;
-    assert!(rt; text.as_str().ends_with(ITS_END));
+    expect(&rt, &dumped(rt.alloc(), 13)?, &(true, READS));
     Ok(())
 }
 
@@ -462,6 +467,6 @@ fn output_that_has_no_room(rt: HostRuntime) -> Result<(), Fail> {
         Err(Fault::Output(_)) => true,
         Err(Fault::Refused(_)) | Ok(()) => false,
     };
-    assert!(rt; failed);
+    expect(&rt, &failed, &true);
     Ok(())
 }

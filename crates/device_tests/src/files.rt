@@ -1,5 +1,6 @@
 //! Devices over real files.
 use crate::bytes::{HOME, LOG, SIZE, read_byte, read_bytes, write_byte};
+use crate::expected::expect;
 use block_device::{Device, DeviceFault};
 use file_device::{FileDevice, UnknownContents};
 use std::fs::{File, OpenOptions};
@@ -70,9 +71,9 @@ fn read_and_written<D: Device>(
 
 /// A log of three blocks and a home of two read what the files hold, and then what is written.
 fn expect_whole_blocks<D: Device>(rt: &impl Abort, device: &mut D) -> Result<(), DeviceFault> {
-    assert_eq!(rt; shape(device), (SIZE, 3, 2));
-    let expected = ([b'c', b'f'], [0xa, 0xb]);
-    assert_eq!(rt; read_and_written(rt, device)?, expected);
+    expect(rt, &shape(device), &(SIZE, 3, 2));
+    let told = read_and_written(rt, device)?;
+    expect(rt, &told, &([b'c', b'f'], [0xa, 0xb]));
     Ok(())
 }
 
@@ -93,27 +94,32 @@ fn a_device_over_two_files_has_their_whole_blocks(rt: HostRuntime) -> Result<(),
     let mut device = two_files(&rt, "two_files_test", b"aaaabbbbccccdd", b"eeeeffff")?;
     expect_whole_blocks(&rt, &mut device)?;
     // Another handle sees the bytes at the blocks' places, and all others as they were.
-    assert!(rt; holds(&rt, "two_files_test", "home", b"\x0b\x0b\x0b\x0bffff")?);
-    assert!(rt; log_held(&rt, "two_files_test", b"aaaa\x0a\x0a\x0a\x0accccdd")?);
+    let home = holds(&rt, "two_files_test", "home", b"\x0b\x0b\x0b\x0bffff")?;
+    let log = log_held(&rt, "two_files_test", b"aaaa\x0a\x0a\x0a\x0accccdd")?;
+    expect(&rt, &(home, log), &(true, true));
     Ok(())
 }
 
 /// A log of two blocks without a home: it has no home block, reads, and flushes home.
 fn expect_lone_log<D: Device>(rt: &impl Abort, device: &mut D) -> Result<(), DeviceFault> {
-    assert_eq!(rt; shape(device), (SIZE, 2, 0));
-    assert_eq!(rt; read_byte(rt, device, (LOG, 1))?, b'b');
-    assert!(rt; device.flush(HOME).is_ok());
-    Ok(())
+    expect(rt, &shape(device), &(SIZE, 2, 0));
+    expect(rt, &read_byte(rt, device, (LOG, 1))?, &b'b');
+    device.flush(HOME)
+}
+
+/// A device over a log alone, which is read through a handle that can't write.
+fn lone_log(rt: &HostRuntime, folder: &str) -> io::Result<FileDevice<UnknownContents>> {
+    log_in(rt, folder, b"aaaabbbb")?;
+    let log = fs::open(rt, path_of(rt, folder, "log")?.as_str())?;
+    FileDevice::new(UnknownContents, SIZE, log, None)
 }
 
 #[test]
 fn a_log_alone_has_no_home_block(rt: HostRuntime) -> Result<(), Fail> {
-    log_in(&rt, "lone_log_test", b"aaaabbbb")?;
-    // It is read through a handle that can't write.
-    let log = fs::open(&rt, "lone_log_test/log")?;
-    let mut device = FileDevice::new(UnknownContents, SIZE, log, None)?;
+    let mut device = lone_log(&rt, "lone_log_test")?;
     expect_lone_log(&rt, &mut device)?;
-    assert!(rt; log_held(&rt, "lone_log_test", b"aaaabbbb")?);
+    let held = log_held(&rt, "lone_log_test", b"aaaabbbb")?;
+    expect(&rt, &held, &true);
     Ok(())
 }
 
@@ -122,14 +128,15 @@ fn expect_failed<D: Device>(rt: &impl Abort, device: &mut D) -> Result<(), Devic
     let writes = write_byte(rt, device, (LOG, 0), 0xd).is_ok();
     let flushes = device.flush(LOG).is_ok();
     let read = read_byte(rt, device, (LOG, 0))?;
-    assert_eq!(rt; (writes, flushes, read), (false, false, b'a'));
+    expect(rt, &(writes, flushes, read), &(false, false, b'a'));
     Ok(())
 }
 
 /// Writes to the log, and then to a home that can't be written.
 fn fail_a_write<D: Device>(rt: &impl Abort, device: &mut D) -> Result<(), DeviceFault> {
     write_byte(rt, device, (LOG, 1), 0xb)?;
-    assert!(rt; write_byte(rt, device, (HOME, 0), 0xc).is_err());
+    let told = write_byte(rt, device, (HOME, 0), 0xc);
+    expect(rt, &told, &Err(DeviceFault));
     expect_failed(rt, device)
 }
 
@@ -144,14 +151,15 @@ fn read_only_home(rt: &HostRuntime, folder: &str) -> io::Result<FileDevice<Unkno
 fn after_a_failed_write_nothing_is_written(rt: HostRuntime) -> Result<(), Fail> {
     let mut device = read_only_home(&rt, "failed_write_test")?;
     fail_a_write(&rt, &mut device)?;
-    assert!(rt; log_held(&rt, "failed_write_test", b"aaaa\x0b\x0b\x0b\x0b")?);
+    let held = log_held(&rt, "failed_write_test", b"aaaa\x0b\x0b\x0b\x0b")?;
+    expect(&rt, &held, &true);
     Ok(())
 }
 
 /// Flushes the log, and then a home that can't be synced.
 fn fail_a_flush<D: Device>(rt: &impl Abort, device: &mut D) -> Result<(), DeviceFault> {
     device.flush(LOG)?;
-    assert!(rt; device.flush(HOME).is_err());
+    expect(rt, &device.flush(HOME), &Err(DeviceFault));
     expect_failed(rt, device)
 }
 
@@ -166,18 +174,19 @@ fn unsynced_home(rt: &HostRuntime, folder: &str) -> io::Result<FileDevice<Unknow
 fn after_a_failed_flush_nothing_is_written(rt: HostRuntime) -> Result<(), Fail> {
     let mut device = unsynced_home(&rt, "failed_flush_test")?;
     fail_a_flush(&rt, &mut device)?;
-    assert!(rt; log_held(&rt, "failed_flush_test", b"aaaabbbb")?);
+    let held = log_held(&rt, "failed_flush_test", b"aaaabbbb")?;
+    expect(&rt, &held, &true);
     Ok(())
 }
 
 /// A device whose log has block 0, and block 1 only until it is read, goes on: it reads block 0, and writes block 1.
 fn expect_goes_on<D: Device>(rt: &impl Abort, device: &mut D) -> Result<(), DeviceFault> {
-    assert!(rt; read_byte(rt, device, (LOG, 1)).is_err());
+    expect(rt, &read_byte(rt, device, (LOG, 1)), &Err(DeviceFault));
     let kept = read_byte(rt, device, (LOG, 0))?;
     write_byte(rt, device, (LOG, 1), 0xb)?;
     device.flush(LOG)?;
     let written = read_byte(rt, device, (LOG, 1))?;
-    assert_eq!(rt; (kept, written, device.blocks(LOG)), (b'a', 0xb, 2));
+    expect(rt, &(kept, written, device.blocks(LOG)), &(b'a', 0xb, 2));
     Ok(())
 }
 
@@ -194,6 +203,7 @@ fn cut_log(rt: &HostRuntime, folder: &str) -> io::Result<FileDevice<UnknownConte
 fn after_a_failed_read_the_device_goes_on(rt: HostRuntime) -> Result<(), Fail> {
     let mut device = cut_log(&rt, "failed_read_test")?;
     expect_goes_on(&rt, &mut device)?;
-    assert!(rt; log_held(&rt, "failed_read_test", b"aaaa\x0b\x0b\x0b\x0b")?);
+    let held = log_held(&rt, "failed_read_test", b"aaaa\x0b\x0b\x0b\x0b")?;
+    expect(&rt, &held, &true);
     Ok(())
 }

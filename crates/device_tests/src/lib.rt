@@ -7,6 +7,8 @@ mod bytes;
 #[cfg(test)]
 mod dumps;
 #[cfg(test)]
+mod expected;
+#[cfg(test)]
 mod files;
 mod images;
 #[cfg(test)]

@@ -1,5 +1,6 @@
 //! Devices in memory: what a crash keeps, and where a device stops.
 use crate::bytes::{HOME, LOG, Place, SIZE, read_byte, read_bytes, write_byte};
+use crate::expected::{expect, expect_text};
 use crate::known_images;
 use block_device::{Device, DeviceFault, MemDevice, StopAt};
 use journal_model::Area;
@@ -75,7 +76,7 @@ fn expect_kept(
 ) -> Result<(), DeviceFault> {
     let mut device = crashed(rt, alloc, steps, keep)?;
     let bytes = read_bytes(rt, &mut device, &[(LOG, 1), (HOME, 1)])?;
-    assert_eq!(rt; (bytes, device.writes()), (expected, 0), "keeping {keep:?}");
+    expect(rt, &(keep, bytes, device.writes()), &(keep, expected, 0));
     Ok(())
 }
 
@@ -96,7 +97,7 @@ fn expect_log(
     expected: ([u8; 2], u64),
 ) -> Result<(), DeviceFault> {
     let bytes = read_bytes(rt, device, &[(LOG, 1), (LOG, 2)])?;
-    assert_eq!(rt; (bytes, device.writes()), expected);
+    expect(rt, &(bytes, device.writes()), &expected);
     Ok(())
 }
 
@@ -170,12 +171,9 @@ const STOPS: [(u64, (Answers, HandedOver)); 5] = [
 
 #[test]
 fn a_device_stops_at_each_write(rt: HostRuntime) -> Result<(), Fail> {
-    for (stop, expected) in STOPS {
-        assert_eq!(rt;
-            stopped_at(&rt, rt.alloc(), stop)?,
-            expected,
-            "stop at {stop}"
-        );
+    for (stop, expected) in &STOPS {
+        let told = stopped_at(&rt, rt.alloc(), *stop)?;
+        expect(&rt, &(*stop, told), &(*stop, *expected));
     }
     Ok(())
 }
@@ -187,7 +185,7 @@ fn many_calls(rt: &impl Abort, alloc: Global) -> Result<MemDevice, DeviceFault> 
         write_byte(rt, &mut device, (HOME, i), 7)?;
         device.flush(LOG)?;
     }
-    assert!(rt; !device.is_stopped());
+    expect(rt, &device.is_stopped(), &false);
     Ok(device.into_inner())
 }
 
@@ -195,14 +193,14 @@ fn many_calls(rt: &impl Abort, alloc: Global) -> Result<MemDevice, DeviceFault> 
 fn a_device_goes_on_for_many_calls(rt: HostRuntime) -> Result<(), Fail> {
     let mut device = many_calls(&rt, rt.alloc())?;
     let last = read_byte(&rt, &mut device, (HOME, 299))?;
-    assert_eq!(rt; (device.writes(), last), (300, 7));
+    expect(&rt, &(device.writes(), last), &(300, 7));
     Ok(())
 }
 
 #[test]
 fn what_a_fault_says(rt: HostRuntime) -> Result<(), Fail> {
     let text = format!(in rt.alloc(); "{DeviceFault}")?;
-    assert_eq!(rt; text.as_str(), "the device failed");
+    expect_text(&rt, &text, "the device failed");
     Ok(())
 }
 
@@ -221,10 +219,8 @@ fn expect_known(
     expected: [u8; 2],
 ) -> Result<(), DeviceFault> {
     let mut device = known_crashed(alloc, keep)?;
-    assert_eq!(rt;
-        read_bytes(rt, &mut device, &[(LOG, 1), (HOME, 2)])?,
-        expected
-    );
+    let bytes = read_bytes(rt, &mut device, &[(LOG, 1), (HOME, 2)])?;
+    expect(rt, &bytes, &expected);
     Ok(())
 }
 

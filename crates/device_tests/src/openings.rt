@@ -1,8 +1,9 @@
 //! Openings of logs that were made by hand: of each block the newest copy that no revoke covers goes home.
+use crate::expected::{cut, expect, expect_rows, expect_text};
 use block_device::{Device, MemDevice};
 use journal_model::{Area, JournalError};
 use log_format::Super;
-use recovery::{format, open};
+use recovery::{Opened, format, open};
 use std::alloc::Global;
 use std::fmt::Write;
 use std::test::Fail;
@@ -65,6 +66,14 @@ fn copy_of(spelled: &str) -> Result<Copied, Fail> {
     ))
 }
 
+/// Writes the copy that is spelled so, and answers its tag.
+fn put_copy(device: &mut MemDevice, place: u64, spelled: &str) -> Result<[u8; 8], Fail> {
+    let (block, escaped, byte) = copy_of(spelled)?;
+    let bytes = [0, 0, 0, 0, byte];
+    put(device, place, if escaped { &bytes } else { &bytes[4..] })?;
+    Ok([0, 0, 0, block, 0, 0, 0, 2 + u8::from(escaped)])
+}
+
 /// Writes a descriptor of these copies and the copies behind it, and answers the place behind them. No UUID stands behind a
 /// tag.
 fn put_copies(
@@ -77,11 +86,9 @@ fn put_copies(
     let mut tags = Vec::new(alloc);
     let mut behind = place;
     for spelled in word.split(',') {
-        let (block, escaped, byte) = copy_of(spelled)?;
-        tags.extend_from_slice(&[0, 0, 0, block, 0, 0, 0, 2 + u8::from(escaped)])?;
         behind = behind.saturating_add(1);
-        let bytes = [0, 0, 0, 0, byte];
-        put(device, behind, if escaped { &bytes } else { &bytes[4..] })?;
+        let tag = put_copy(device, behind, spelled)?;
+        tags.extend_from_slice(&tag)?;
     }
     if let Some(flags) = tags.last_mut() {
         *flags |= LAST;
@@ -90,22 +97,34 @@ fn put_copies(
     Ok(behind.saturating_add(1))
 }
 
-/// Writes a log from block 1 on, whose first transaction has the number 2. Of its words `8=aa,9*bb` is a descriptor with its
-/// copies, `-8` a revoke block of one home block, and `.` a commit block.
+/// Writes what a word of a log says, of the transaction with this number, and answers the place behind it: `8=aa,9*bb` is a
+/// descriptor with its copies, `-8` a revoke block of one home block, and `.` a commit block.
+fn put_word(
+    alloc: Global,
+    device: &mut MemDevice,
+    place: u64,
+    sequence: u8,
+    word: &str,
+) -> Result<u64, Fail> {
+    if let Some(block) = word.strip_prefix("-") {
+        let number = [0, 0, 0, 20, 0, 0, 0, block.parse()?];
+        put_own(alloc, device, place, (REVOKE, sequence), &number)?;
+    } else if word == "." {
+        put_own(alloc, device, place, (COMMIT, sequence), &[])?;
+    } else {
+        return put_copies(alloc, device, place, sequence, word);
+    }
+    Ok(place.saturating_add(1))
+}
+
+/// Writes a log from block 1 on, whose first transaction has the number 2, and whose words are as `put_word` reads them.
 fn put_log(alloc: Global, device: &mut MemDevice, log: &str) -> Result<(), Fail> {
     let mut place = 1u64;
     let mut sequence = 2u8;
     for word in log.split_whitespace() {
-        if let Some(block) = word.strip_prefix("-") {
-            let number = [0, 0, 0, 20, 0, 0, 0, block.parse()?];
-            put_own(alloc, device, place, (REVOKE, sequence), &number)?;
-            place = place.saturating_add(1);
-        } else if word == "." {
-            put_own(alloc, device, place, (COMMIT, sequence), &[])?;
-            place = place.saturating_add(1);
+        place = put_word(alloc, device, place, sequence, word)?;
+        if word == "." {
             sequence = sequence.saturating_add(1);
-        } else {
-            place = put_copies(alloc, device, place, sequence, word)?;
         }
     }
     Ok(())
@@ -131,6 +150,14 @@ fn device_of(alloc: Global, log: &str) -> Result<MemDevice, Fail> {
     put_log(alloc, &mut device, log)?;
     device.flush(Area::Log)?;
     Ok(device.crash(&[]))
+}
+
+/// The opening of this log, on a device that lost power with it.
+fn opened_of(alloc: Global, log: &str) -> Result<Opened<MemDevice>, Fail> {
+    match open(alloc, device_of(alloc, log)?) {
+        Ok(opened) => Ok(opened),
+        Err((_, e)) => Err(e.into()),
+    }
 }
 
 /// The first byte and the fifth of a home block.
@@ -174,19 +201,15 @@ a copy that is not escaped over one that is: 8*07 . 8=aa . -> 8=aa00";
 
 /// This row, with what stands at home once its log is opened in the place of what should.
 fn opened_row(alloc: Global, row: &str) -> Result<String, Fail> {
-    let (name, behind) = row.split_once(':').ok_or(row)?;
-    let (log, _) = behind.split_once("->").ok_or(row)?;
-    let opened = open(alloc, device_of(alloc, log)?).map_err(|e| e.1)?;
-    let home = home_of(alloc, &mut opened.into_device())?;
-    Ok(format!(in alloc; "{name}:{log}->{home}")?)
+    let (made, _) = cut(row, "->")?;
+    let (_, log) = cut(made, ":")?;
+    let home = home_of(alloc, &mut opened_of(alloc, log)?.into_device())?;
+    Ok(format!(in alloc; "{made}->{home}")?)
 }
 
 #[test]
 fn the_newest_copies_go_home(rt: HostRuntime) -> Result<(), Fail> {
-    for row in LOGS.lines() {
-        assert_eq!(rt; opened_row(rt.alloc(), row)?.as_str(), row);
-    }
-    Ok(())
+    expect_rows(&rt, rt.alloc(), LOGS, "\n", opened_row)
 }
 
 /// Three transactions: 2 copies blocks 8, 9 and 10; 3 copies block 10 and revokes 8 and 10; 4 copies block 8, escaped.
@@ -194,14 +217,13 @@ const THREE_TRANSACTIONS: &str = "8=11,9=22 10=33 . -8 -10 10=44 . 8*55 .";
 
 #[test]
 fn a_report_tells_what_an_opening_found(rt: HostRuntime) -> Result<(), Fail> {
-    let device = device_of(rt.alloc(), THREE_TRANSACTIONS)?;
-    let opened = open(rt.alloc(), device).map_err(|e| e.1)?;
+    let opened = opened_of(rt.alloc(), THREE_TRANSACTIONS)?;
     let report = opened.report();
     let mut device = opened.into_device();
     // Two blocks of home are written, and the superblock.
     let told = (report.ends_at, report.transactions, device.writes());
-    assert_eq!(rt; told, (5, 3, 3));
+    expect(&rt, &told, &(5, 3, 3));
     let home = home_of(rt.alloc(), &mut device)?;
-    assert_eq!(rt; home.as_str(), " 8=c055 9=2200");
+    expect_text(&rt, &home, " 8=c055 9=2200");
     Ok(())
 }
