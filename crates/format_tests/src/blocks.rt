@@ -3,7 +3,7 @@ ghost use Rattle.std.specs.Prelude.{◌≤◌, ◌<◌, length};
 ghost use Rattle.journal_model.specs.Layout.{narrow, numbers_of};
 ghost use Rattle.log_format.specs.Size.{IsBlockSize, most_tags};
 
-use crate::rows::{columns, each, number_of, numbers};
+use crate::rows::{columns, each, number_of, numbers, rows_hold};
 use crate::{spelling, write_numbers, write_tags};
 use byteorder::{BigEndian, ByteOrder};
 use journal_model::{BlockNo, JournalError, Tag};
@@ -11,7 +11,6 @@ use log_format::{
     CommitBlock, Descriptor, Header, Malformed, RevokeBlock, Super, escape, unescape,
 };
 use std::alloc::Global;
-use std::process::Abort;
 use std::test::Fail;
 
 const UUID: [u8; 16] = [0xaa; 16];
@@ -54,6 +53,15 @@ fn read_numbers(
     Some(RevokeBlock::read(block, home_blocks, numbers))
 }
 
+/// The block of 1024 bytes that begins with these bytes and has the same byte behind them.
+fn block_with(begin: &[u8], rest: u8) -> [u8; 1024] {
+    let mut block = [rest; 1024];
+    for (slot, byte) in block.iter_mut().zip(begin) {
+        *slot = *byte;
+    }
+    block
+}
+
 /// The block of 1024 bytes that begins as a word spells it. Behind that are zeros, or bytes ff where the word ends with `F`.
 fn block_of(alloc: Global, word: &str) -> Option<[u8; 1024]> {
     let (spelled, rest) = match word.strip_suffix(",F") {
@@ -61,11 +69,7 @@ fn block_of(alloc: Global, word: &str) -> Option<[u8; 1024]> {
         None => (word, 0),
     };
     let begin = spelling::block_of(alloc, spelled)?;
-    let mut block = [rest; 1024];
-    for (slot, byte) in block.iter_mut().zip(begin.bytes()) {
-        *slot = *byte;
-    }
-    Some(block)
+    Some(block_with(begin.bytes(), rest))
 }
 
 /// A block, and the type and the sequence in its header, or `-` where it has none.
@@ -74,22 +78,27 @@ const HEADERS: &str = "\
 D,2 | 1 2
 xc03b3999,1,2 | -";
 
+/// A header has the type and the sequence that are spelled, or there is none and `-` is spelled.
+fn is_header(header: Option<Header>, spelled: &str) -> Option<bool> {
+    match header {
+        Some(header) => {
+            let found = [header.block_type, header.sequence].map(u64::from);
+            Some(found == numbers(spelled)?)
+        }
+        None => Some(spelled == "-"),
+    }
+}
+
 /// The block of a row has the header that it says.
 fn has_header(alloc: Global, row: &str) -> Option<bool> {
     let (word, want) = row.split_once(" | ")?;
     let block = block_of(alloc, word)?;
-    let Some(header) = Header::read(&block) else {
-        return Some(want == "-");
-    };
-    let [block_type, sequence] = numbers::<2>(want)?;
-    Some(u64::from(header.block_type) == block_type && u64::from(header.sequence) == sequence)
+    is_header(Header::read(&block), want)
 }
 
 #[test]
 fn headers(rt: HostRuntime) {
-    for row in HEADERS.lines() {
-        assert!(rt; has_header(rt.alloc(), row) == Some(true), "{row}");
-    }
+    rows_hold(&rt, rt.alloc(), HEADERS, has_header);
 }
 
 /// The tag of a word: its block and its flags, of which 1 is escaped, 2 the same UUID, and 8 the last.
@@ -132,9 +141,7 @@ fn is_written(alloc: Global, row: &str) -> Option<bool> {
 
 #[test]
 fn blocks_as_written(rt: HostRuntime) {
-    for row in WRITTEN.lines() {
-        assert!(rt; is_written(rt.alloc(), row) == Some(true), "{row}");
-    }
+    rows_hold(&rt, rt.alloc(), WRITTEN, is_written);
 }
 
 /// How many home blocks there are, a block, and what is read from it: how many tags or numbers, and those that are first, or
@@ -207,9 +214,7 @@ fn is_read(alloc: Global, row: &str) -> Option<bool> {
 
 #[test]
 fn blocks_as_read(rt: HostRuntime) {
-    for row in READ.lines() {
-        assert!(rt; is_read(rt.alloc(), row) == Some(true), "{row}");
-    }
+    rows_hold(&rt, rt.alloc(), READ, is_read);
 }
 
 /// Block numbers from 1 on, as the writer tags them.
@@ -245,19 +250,24 @@ fn ends_at(block: &[u8], end: u16) -> bool {
     zeros && block[end - 1] == 10 && block.len() - end < 24
 }
 
+/// A descriptor is full of these tags, the last of which ends at this place.
+fn is_full_to(block: &mut [u8], written: &mut [Tag], read: &mut [Tag], end: u16) -> bool
+    requires size { IsBlockSize (length block.old) }
+    requires room { most_tags (narrow (length block.old)) ≤ length read.old }
+{
+    is_full(block, written, read) && ends_at(block, end)
+}
+
 #[test]
 fn full_descriptors(rt: HostRuntime) {
     let none = tag(0, false, false, false);
-    let mut kib = [0xff; 1024];
-    assert!(rt; is_full(&mut kib, &mut [none; 122], &mut [none; 126]));
-    assert!(rt; ends_at(&kib, 1004));
-    assert!(rt; !is_full(&mut kib, &mut [none; 123], &mut [none; 126]));
-    let mut kib2 = [0xff; 2048];
-    assert!(rt; is_full(&mut kib2, &mut [none; 250], &mut [none; 254]));
-    assert!(rt; ends_at(&kib2, 2028));
-    let mut kib4 = [0xff; 4096];
-    assert!(rt; is_full(&mut kib4, &mut [none; 506], &mut [none; 510]));
-    assert!(rt; ends_at(&kib4, 4076));
+    let found = [
+        is_full_to(&mut [0xff; 1024], &mut [none; 122], &mut [none; 126], 1004),
+        is_full(&mut [0xff; 1024], &mut [none; 123], &mut [none; 126]),
+        is_full_to(&mut [0xff; 2048], &mut [none; 250], &mut [none; 254], 2028),
+        is_full_to(&mut [0xff; 4096], &mut [none; 506], &mut [none; 510], 4076),
+    ];
+    assert_eq!(rt; found, [true, false, true, true]);
 }
 
 /// Block numbers from 1 on fill a revoke block, and are read back.
@@ -281,10 +291,13 @@ fn is_full_of_numbers(block: &mut [u8], written: &mut [BlockNo], read: &mut [Blo
 #[test]
 fn full_revoke_blocks(rt: HostRuntime) {
     let none = BlockNo(0);
-    assert!(rt; is_full_of_numbers(&mut [0xff; 1024], &mut [none; 252], &mut [none; 252]));
-    assert!(rt; !is_full_of_numbers(&mut [0xff; 1024], &mut [none; 253], &mut [none; 252]));
-    assert!(rt; is_full_of_numbers(&mut [0xff; 2048], &mut [none; 508], &mut [none; 508]));
-    assert!(rt; is_full_of_numbers(&mut [0xff; 4096], &mut [none; 1020], &mut [none; 1020]));
+    let found = [
+        is_full_of_numbers(&mut [0xff; 1024], &mut [none; 252], &mut [none; 252]),
+        is_full_of_numbers(&mut [0xff; 1024], &mut [none; 253], &mut [none; 252]),
+        is_full_of_numbers(&mut [0xff; 2048], &mut [none; 508], &mut [none; 508]),
+        is_full_of_numbers(&mut [0xff; 4096], &mut [none; 1020], &mut [none; 1020]),
+    ];
+    assert_eq!(rt; found, [true, false, true, true]);
 }
 
 #[test]
@@ -323,7 +336,7 @@ fn does(copy: &mut [u8; 1024], name: &str) -> bool {
 }
 
 /// What is done with the copy of a row makes of it what it says.
-fn is_escaped(row: &str) -> Option<bool> {
+fn is_escaped(_alloc: Global, row: &str) -> Option<bool> {
     let (name, firsts) = row.split_once(' ')?;
     let (before, behind) = firsts.split_once(' ')?;
     let mut copy = copy_of(before)?;
@@ -333,9 +346,7 @@ fn is_escaped(row: &str) -> Option<bool> {
 
 #[test]
 fn copies_that_begin_with_the_magic(rt: HostRuntime) {
-    for row in ESCAPES.lines() {
-        assert!(rt; is_escaped(row) == Some(true), "{row}");
-    }
+    rows_hold(&rt, rt.alloc(), ESCAPES, is_escaped);
 }
 
 /// A superblock that is formatted for 33 blocks.
@@ -487,20 +498,22 @@ const SUPERBLOCKS: &str = "\
 1024 33 | 1c=33 20=1 | BadStart
 1024 33 | 20=1 | ErrnoSet";
 
+/// Why a superblock with these changes is refused, in blocks of so many bytes and in an area of so many blocks; none if it is read.
+fn refusal(changes: &str, bytes: u64, area: u64) -> Option<Option<JournalError>> {
+    let block = changed(changes)?;
+    Some(Super::read(block.get(..bytes as usize)?, area).err())
+}
+
 /// The superblock of a row is refused as it says.
-fn is_refused(row: &str) -> Option<bool> {
+fn is_refused(_alloc: Global, row: &str) -> Option<bool> {
     let (measures, changes, want) = columns(row)?;
     let [bytes, area] = numbers::<2>(measures)?;
-    let block = changed(changes)?;
-    let read = Super::read(block.get(..bytes as usize)?, area);
-    Some(read.err() == refusal_of(want)?)
+    Some(refusal(changes, bytes, area)? == refusal_of(want)?)
 }
 
 #[test]
 fn refused_superblocks(rt: HostRuntime) {
-    for row in SUPERBLOCKS.lines() {
-        assert!(rt; is_refused(row) == Some(true), "{row}");
-    }
+    rows_hold(&rt, rt.alloc(), SUPERBLOCKS, is_refused);
 }
 
 /// The size of a block that a changed superblock says.

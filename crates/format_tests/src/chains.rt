@@ -1,9 +1,8 @@
 //! Chains of logs that were made by hand.
-use crate::rows::{columns, each, is_copy, numbers};
+use crate::rows::{columns, each, has_newest, number_of, numbers, rows_hold};
 use crate::spelling::block_of;
 use journal_model::{Block, BlockNo, Items, Piece, Tag, Text};
 use journal_plain::chain::{chain, damage};
-use journal_plain::replay::newest;
 use std::alloc::Global;
 
 /// A name, the blocks of a log, and numbers: how many bytes a block has, how many home blocks there are, the number that the
@@ -82,10 +81,10 @@ fn is_place(found: Option<usize>, spelled: &str) -> bool {
 fn has_texts(alloc: Global, blocks: &[Block], row: &str) -> Option<bool> {
     let (spelled, place) = row.rsplit_once(' ')?;
     let [size, home, sequence, count, texts, pieces] = numbers::<6>(spelled)?;
+    let wanted = [count as usize, texts as usize, pieces as usize];
     let damaged = damage(alloc, size as usize, 4, home, sequence, blocks).ok()?;
     let chain = chain(alloc, size as usize, 4, home, sequence, blocks).ok()?;
     let found = [blocks.len(), chain.len(), pieces_in(chain.as_slice())];
-    let wanted = [count as usize, texts as usize, pieces as usize];
     Some(found == wanted && is_place(damaged, place))
 }
 
@@ -98,9 +97,7 @@ fn is_lap(alloc: Global, row: &str) -> Option<bool> {
 
 #[test]
 fn chains_and_damage(rt: HostRuntime) {
-    for row in LAPS.lines() {
-        assert!(rt; is_lap(rt.alloc(), row) == Some(true), "{row}");
-    }
+    rows_hold(&rt, rt.alloc(), LAPS, is_lap);
 }
 
 /// Blocks of a log, a home block, and how its newest copy begins, if there is one: a text that copies block 9, and behind it
@@ -119,17 +116,15 @@ fn chain_of(alloc: Global, blocks: &[Block]) -> Option<Items<Text>> {
 /// The newest copy of a row's block is the one that it says.
 fn is_newest(alloc: Global, row: &str) -> Option<bool> {
     let (words, block, want) = columns(row)?;
+    let block = number_of(alloc, block)?;
     let blocks = each(alloc, words, ' ', block_of)?;
     let texts = chain_of(alloc, blocks.as_slice())?;
-    let copy = newest(alloc, texts.as_slice(), BlockNo(block.parse().ok()?)).ok()?;
-    Some(is_copy(alloc, copy.as_ref(), want))
+    has_newest(alloc, texts.as_slice(), block, want)
 }
 
 #[test]
 fn the_last_text_counts_only_with_its_commit_block(rt: HostRuntime) {
-    for row in NEWEST.lines() {
-        assert!(rt; is_newest(rt.alloc(), row) == Some(true), "{row}");
-    }
+    rows_hold(&rt, rt.alloc(), NEWEST, is_newest);
 }
 
 /// The tags of two copies, of blocks 9 and 10.
@@ -148,28 +143,36 @@ const TAGS: [Tag; 2] = [
     },
 ];
 
+/// Blocks have the bytes of other ones, in their order.
+fn are_same(found: &[Block], wanted: &[Block]) -> bool {
+    for (block, want) in found.iter().zip(wanted) {
+        if block.bytes() != want.bytes() {
+            return false;
+        }
+    }
+    found.len() == wanted.len()
+}
+
 /// A text is one descriptor with these tags, and its log blocks are these, in their order.
 fn is_of_copies(text: &Text, tags: &[Tag], blocks: &[Block]) -> bool {
-    let [own, first, second, commit] = blocks else {
+    let [own, behind @ .., commit] = blocks else {
         return false;
     };
     let [Piece::Copies(descriptor, read, copies)] = text.pieces.as_slice() else {
         return false;
     };
-    let [copy, other] = copies.as_slice() else {
-        return false;
-    };
     let ends = descriptor.bytes() == own.bytes() && text.commit.bytes() == commit.bytes();
-    let copied = copy.bytes() == first.bytes() && other.bytes() == second.bytes();
-    ends && copied && read.as_slice() == tags
+    ends && read.as_slice() == tags && are_same(copies.as_slice(), behind)
 }
 
 /// The first text of these blocks is of two copies, with these log blocks.
 fn begins_with_two_copies(alloc: Global, words: &str) -> Option<bool> {
     let blocks = each(alloc, words, ' ', block_of)?;
     let texts = chain_of(alloc, blocks.as_slice())?;
-    let text = texts.as_slice().first()?;
-    Some(is_of_copies(text, &TAGS, blocks.as_slice()))
+    match texts.as_slice() {
+        [text, ..] => Some(is_of_copies(text, &TAGS, blocks.as_slice())),
+        [] => None,
+    }
 }
 
 #[test]

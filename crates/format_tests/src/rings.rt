@@ -1,8 +1,9 @@
 //! Tables of places, room and layouts, with values worked out by hand.
-use crate::rows::numbers;
+use crate::rows::{numbers, rows_hold};
 use journal_model::JournalError;
 use journal_plain::room;
 use log_ring::{Layout, Part, Ring};
+use std::alloc::Global;
 
 /// Calls of a ring of the blocks 1 to 32, one after the other: a name, its numbers, and behind `=` the answer, where `-` is
 /// a refusal for want of room. A release answers how many blocks are free behind it.
@@ -78,15 +79,19 @@ fn operand(word: Option<&str>) -> Option<u64> {
     word.unwrap_or("0").parse().ok()
 }
 
-/// A ring answers to the call of a row as it says.
-fn answers(ring: &mut Ring, row: &str) -> Option<bool> {
-    let (call, want) = row.split_once(" = ")?;
+/// What a ring answers to the call that some words spell.
+fn answer_to(ring: &mut Ring, call: &str) -> Option<Result<u64, JournalError>> {
     let mut words = call.split(' ');
     let name = words.next()?;
     let first = operand(words.next())?;
     let second = operand(words.next())?;
-    let found = answer(ring, name, first, second);
-    Some(found == want.parse().or(Err(JournalError::NeedSpace)))
+    Some(answer(ring, name, first, second))
+}
+
+/// A ring answers to the call of a row as it says.
+fn answers(ring: &mut Ring, row: &str) -> Option<bool> {
+    let (call, want) = row.split_once(" = ")?;
+    Some(answer_to(ring, call)? == want.parse().or(Err(JournalError::NeedSpace)))
 }
 
 /// The first row whose call a ring does not answer as it says.
@@ -101,8 +106,11 @@ fn wrong_answer(mut ring: Ring, rows: &'static str) -> Option<&'static str> {
 
 #[test]
 fn calls_of_rings(rt: HostRuntime) {
-    assert_eq!(rt; wrong_answer(Ring::new(1, 33), CALLS), None);
-    assert_eq!(rt; wrong_answer(Ring::new(5, 21), CALLS_BEHIND_FIVE), None);
+    let found = [
+        wrong_answer(Ring::new(1, 33), CALLS),
+        wrong_answer(Ring::new(5, 21), CALLS_BEHIND_FIVE),
+    ];
+    assert_eq!(rt; found, [None, None]);
 }
 
 /// Bytes of a block, copies, revokes, and the log blocks that they need.
@@ -122,22 +130,25 @@ const NEEDS: &str = "\
 4096 506 1020 509
 4096 507 1021 512";
 
-/// The ring and the plain program need as many blocks as a row says.
-fn needs(row: &str) -> Option<bool> {
-    let [size, copies, revokes, blocks] = numbers::<4>(row)?;
+/// How many blocks the ring and the plain program need.
+fn need(size: u64, copies: u64, revokes: u64) -> Option<[u64; 2]> {
     let known = size == 1024 || size == 2048 || size == 4096;
     if !known || copies > 1000 || revokes > 2000 {
         return None;
     }
     let plain = room::need(size as usize, 4, copies as usize, revokes as usize);
-    Some(Ring::need(size as usize, copies, revokes) == blocks && plain as u64 == blocks)
+    Some([Ring::need(size as usize, copies, revokes), plain as u64])
+}
+
+/// The ring and the plain program need as many blocks as a row says.
+fn needs(_alloc: Global, row: &str) -> Option<bool> {
+    let [size, copies, revokes, blocks] = numbers::<4>(row)?;
+    Some(need(size, copies, revokes)? == [blocks, blocks])
 }
 
 #[test]
 fn the_room_of_transactions(rt: HostRuntime) {
-    for row in NEEDS.lines() {
-        assert!(rt; needs(row) == Some(true), "{row}");
-    }
+    rows_hold(&rt, rt.alloc(), NEEDS, needs);
 }
 
 /// Bytes of a block, blocks of the ring, and the most copies of a transaction.
@@ -152,7 +163,7 @@ const CAPACITIES: &str = "\
 1024 1048575 260010";
 
 /// The most copies are those of a row, in the ring and in the plain program.
-fn is_capacity(row: &str) -> Option<bool> {
+fn is_capacity(_alloc: Global, row: &str) -> Option<bool> {
     let [size, ring, copies] = numbers::<3>(row)?;
     let known = size == 1024 || size == 2048 || size == 4096;
     if !known || ring < 16 {
@@ -164,9 +175,7 @@ fn is_capacity(row: &str) -> Option<bool> {
 
 #[test]
 fn the_most_copies_of_a_transaction(rt: HostRuntime) {
-    for row in CAPACITIES.lines() {
-        assert!(rt; is_capacity(row) == Some(true), "{row}");
-    }
+    rows_hold(&rt, rt.alloc(), CAPACITIES, is_capacity);
 }
 
 /// Copies and revokes of a transaction in blocks of 1024 bytes, a place in it, counted from 0, the first number of what stands
@@ -215,7 +224,7 @@ fn part_named(name: &str, first: u64, count: u64) -> Option<Option<Part>> {
 }
 
 /// A place of a transaction has the part of a row.
-fn has_part(row: &str) -> Option<bool> {
+fn has_part(_alloc: Global, row: &str) -> Option<bool> {
     let (spelled, name) = row.split_once(": ")?;
     let [copies, revokes, k, first, count] = numbers::<5>(spelled)?;
     Some(part_of(copies, revokes, k) == part_named(name, first, count)?)
@@ -223,9 +232,7 @@ fn has_part(row: &str) -> Option<bool> {
 
 #[test]
 fn parts_of_transactions(rt: HostRuntime) {
-    for row in PARTS.lines() {
-        assert!(rt; has_part(row) == Some(true), "{row}");
-    }
+    rows_hold(&rt, rt.alloc(), PARTS, has_part);
     let mut copies = 0..122u64;
     assert!(rt; copies.all(|k| part_of(123, 0, k + 1) == Some(Part::Copy(k))));
 }

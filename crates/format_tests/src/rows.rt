@@ -1,6 +1,25 @@
 //! Tables that are texts: a row a line, with columns of words.
-use journal_model::{Block, BlockNo, Items};
+use journal_model::{Block, BlockNo, Items, Text};
+use journal_plain::replay::newest;
 use std::alloc::Global;
+use std::process::Abort;
+
+/// Whether a row holds; none where it cannot be read.
+pub type Holds = fn(Global, &str) -> Option<bool>;
+
+/// What is found of a row is that it holds.
+fn expect_row(rt: &impl Abort, found: Option<bool>, row: &str) {
+    assert!(rt; found == Some(true), "{row}");
+}
+
+/// Each row of this table holds.
+pub fn rows_hold(rt: &impl Abort, alloc: Global, table: &str, holds: Holds)
+    requires { Holds.IsAlwaysCallable holds }
+{
+    for row in table.lines() {
+        expect_row(rt, holds(alloc, row), row);
+    }
+}
 
 /// The first three columns of a row, with `|` between them; none where it has fewer.
 pub fn columns(row: &str) -> Option<(&str, &str, &str)> {
@@ -49,6 +68,12 @@ pub fn block_of(alloc: Global, spelled: &str) -> Option<Block> {
     let zeros = 8usize.checked_sub(spelled.len() / 2)?;
     let bytes = number.to_be_bytes();
     Block::copy_of(alloc, bytes.get(zeros..)?).ok()
+}
+
+/// The newest copy of a block in these texts has the spelled bytes, or there is none and `-` is spelled.
+pub fn has_newest(alloc: Global, texts: &[Text], block: BlockNo, spelled: &str) -> Option<bool> {
+    let copy = newest(alloc, texts, block).ok()?;
+    Some(is_copy(alloc, copy.as_ref(), spelled))
 }
 
 /// The copy has these bytes, in hex digits; for `-` there is none.

@@ -1,9 +1,9 @@
 //! The definitions at examples that were worked out by hand.
-use crate::rows::{block_of, columns, each, is_copy, number_of, numbers};
+use crate::rows::{block_of, columns, each, has_newest, is_copy, number_of, numbers, rows_hold};
 use journal_model::{
     Block, BlockNo, Content, Entry, HandleNo, Items, Op, Piece, Sealed, Step, Tag, Text, Tid,
 };
-use journal_plain::replay::{covered, newest};
+use journal_plain::replay::covered;
 use journal_plain::transactions::{after, entries};
 use std::alloc::Global;
 
@@ -31,7 +31,7 @@ fn op_of(alloc: Global, does: &str) -> Option<Op> {
 /// The step of a word, made by one handle.
 fn step_of(alloc: Global, word: &str) -> Option<Step> {
     let (block, does) = word.split_once('=')?;
-    let block = BlockNo(block.parse().ok()?);
+    let block = number_of(alloc, block)?;
     Some(Step {
         handle: HandleNo(1),
         block,
@@ -46,7 +46,7 @@ fn is_entry(alloc: Global, entry: &(BlockNo, Entry), word: &str) -> Option<bool>
         Entry::Copy(bytes) => Some(bytes),
         Entry::Revoke => None,
     };
-    Some(entry.0 == BlockNo(block.parse().ok()?) && is_copy(alloc, copy, want))
+    Some(entry.0 == number_of(alloc, block)? && is_copy(alloc, copy, want))
 }
 
 /// The entries are those of the words.
@@ -70,9 +70,7 @@ fn leaves(alloc: Global, row: &str) -> Option<bool> {
 
 #[test]
 fn entries_in_the_order_of_first_touches(rt: HostRuntime) {
-    for row in ENTRIES.lines() {
-        assert!(rt; leaves(rt.alloc(), row) == Some(true), "{row}");
-    }
+    rows_hold(&rt, rt.alloc(), ENTRIES, leaves);
 }
 
 /// Transactions: the number of each and its step.
@@ -85,10 +83,11 @@ const HISTORY: &str = "\
 fn sealed_of(alloc: Global, row: &str) -> Option<Sealed> {
     let (tid, step) = row.split_once(' ')?;
     let tid = Tid(tid.parse().ok()?);
+    let steps = each(alloc, step, ' ', step_of)?;
     Some(Sealed {
         tid,
         handles: Items::new(alloc),
-        steps: each(alloc, step, ' ', step_of)?,
+        steps,
     })
 }
 
@@ -101,29 +100,26 @@ const AFTER: &str = "\
 4 8 | cc
 3 9 | -";
 
-/// The copy of a block after the first transactions of that history, if they leave one.
-fn copy_after(alloc: Global, n: usize, block: u64) -> Option<Option<Block>> {
+/// A block has the spelled copy after the first transactions of that history, or they leave none and `-` is spelled.
+fn has_copy_after(alloc: Global, n: usize, block: BlockNo, spelled: &str) -> Option<bool> {
     let history = each(alloc, HISTORY, '\n', sealed_of)?;
-    let content = after(alloc, history.as_slice(), n, BlockNo(block)).ok()?;
-    Some(match content {
-        Content::Copy(bytes) => Some(bytes),
-        Content::Direct => None,
-    })
+    match after(alloc, history.as_slice(), n, block) {
+        Ok(Content::Copy(copy)) => Some(is_copy(alloc, Some(&copy), spelled)),
+        Ok(Content::Direct) => Some(is_copy(alloc, None, spelled)),
+        Err(_) => None,
+    }
 }
 
 /// After the transactions of a row its block has the byte that it says.
 fn is_after(alloc: Global, row: &str) -> Option<bool> {
     let (place, want) = row.split_once(" | ")?;
     let [n, block] = numbers::<2>(place)?;
-    let copy = copy_after(alloc, n as usize, block)?;
-    Some(is_copy(alloc, copy.as_ref(), want))
+    has_copy_after(alloc, n as usize, BlockNo(block), want)
 }
 
 #[test]
 fn a_block_after_the_first_transactions(rt: HostRuntime) {
-    for row in AFTER.lines() {
-        assert!(rt; is_after(rt.alloc(), row) == Some(true), "{row}");
-    }
+    rows_hold(&rt, rt.alloc(), AFTER, is_after);
 }
 
 /// A name, the blocks of a log, and the bytes of its newest live copy of block 8, if there is one. `8=aa` is a descriptor with
@@ -148,10 +144,10 @@ an escaped copy with other bytes in the magic's place | 8=0101010107=escaped . |
 
 /// The tag of a copy, which is a block, `=`, its bytes, and where it has one, `=` and a mark: escaped, or the first or the
 /// last of two copies.
-fn tag_of(_alloc: Global, copy: &str) -> Option<Tag> {
+fn tag_of(alloc: Global, copy: &str) -> Option<Tag> {
     let (block, bytes) = copy.split_once('=')?;
     Some(Tag {
-        block: BlockNo(block.parse().ok()?),
+        block: number_of(alloc, block)?,
         escaped: bytes.ends_with("=escaped"),
         same_uuid: bytes.ends_with("=same"),
         last: !bytes.ends_with("=more"),
@@ -163,23 +159,27 @@ fn copy_of(alloc: Global, copy: &str) -> Option<Block> {
     block_of(alloc, copy.split('=').nth(1)?)
 }
 
+/// A block without bytes.
+fn no_bytes(alloc: Global) -> Block {
+    Block::new(Vec::new(alloc))
+}
+
 /// The piece of a word. Its own log block has no bytes.
 fn piece_of(alloc: Global, word: &str) -> Option<Piece> {
-    let own = Block::new(Vec::new(alloc));
     if let Some(block) = word.strip_prefix('-') {
         let numbers = each(alloc, block, ',', number_of)?;
-        return Some(Piece::Revokes(own, numbers));
+        return Some(Piece::Revokes(no_bytes(alloc), numbers));
     }
     let tags = each(alloc, word, ',', tag_of)?;
     let copies = each(alloc, word, ',', copy_of)?;
-    Some(Piece::Copies(own, tags, copies))
+    Some(Piece::Copies(no_bytes(alloc), tags, copies))
 }
 
 /// The text of the words before a commit block. Its own log block has no bytes.
 fn text_of(alloc: Global, words: &str) -> Option<Text> {
     Some(Text {
         pieces: each(alloc, words, ' ', piece_of)?,
-        commit: Block::new(Vec::new(alloc)),
+        commit: no_bytes(alloc),
     })
 }
 
@@ -187,15 +187,12 @@ fn text_of(alloc: Global, words: &str) -> Option<Text> {
 fn is_newest(alloc: Global, row: &str) -> Option<bool> {
     let (_, log, want) = columns(row)?;
     let texts = each(alloc, log, '.', text_of)?;
-    let copy = newest(alloc, texts.as_slice(), BlockNo(8)).ok()?;
-    Some(is_copy(alloc, copy.as_ref(), want))
+    has_newest(alloc, texts.as_slice(), BlockNo(8), want)
 }
 
 #[test]
 fn the_newest_live_copy(rt: HostRuntime) {
-    for row in LOGS.lines() {
-        assert!(rt; is_newest(rt.alloc(), row) == Some(true), "{row}");
-    }
+    rows_hold(&rt, rt.alloc(), LOGS, is_newest);
 }
 
 /// A copy, a revoke and a copy of block 8, each in a text of its own.
