@@ -1,6 +1,6 @@
-//! Blocks that hold one byte over and over, on any device.
+//! Blocks of any device, and those that hold one byte over and over.
 use block_device::{Device, DeviceFault};
-use journal_model::Area;
+use journal_model::{Area, JournalError};
 use std::process::Abort;
 
 /// Blocks of this many bytes.
@@ -13,6 +13,19 @@ pub const HOME: Area = Area::Home;
 
 /// A block by its area and number.
 pub type Place = (Area, u64);
+
+/// Writes a block of the log.
+pub fn write_block<D: Device>(
+    device: &mut D,
+    place: u64,
+    bytes: &[u8],
+) -> Result<(), JournalError> {
+    if bytes.len() != device.block_size() || place >= device.blocks(LOG) {
+        return Err(JournalError::BadBlock);
+    }
+    device.write(LOG, place, bytes)?;
+    Ok(())
+}
 
 /// Fills a block with a byte.
 pub fn write_byte<D: Device>(

@@ -2,9 +2,10 @@
 ghost use Rattle.std.specs.Prelude.{◌≡◌, OnOk, OnErr};
 ghost use Rattle.block_device.specs.State.{one_more_fault, with_own_faults};
 
-use crate::expected::{cut, expect};
+use crate::bytes::write_block;
+use crate::expected::{cut, expect, expect_rows};
 use block_device::{Device, DeviceFault, MemDevice};
-use journal_model::{Area, JournalError};
+use journal_model::Area;
 use log_dump::{Fault, dump};
 use std::alloc::Global;
 use std::io::Write;
@@ -39,15 +40,6 @@ fn block_of(alloc: Global, size: usize, text: &str) -> Result<Vec<u8>, Fail> {
     }
     bytes.resize(size, 0)?;
     Ok(bytes)
-}
-
-/// Writes a block of the log.
-fn write_block<D: Device>(device: &mut D, place: u64, bytes: &[u8]) -> Result<(), JournalError> {
-    if bytes.len() != device.block_size() || place >= device.blocks(Area::Log) {
-        return Err(JournalError::BadBlock);
-    }
-    device.write(Area::Log, place, bytes)?;
-    Ok(())
 }
 
 /// Writes the block of this line: its place, and what `block_of` reads.
@@ -89,17 +81,14 @@ fn device_made(alloc: Global, made: &str) -> Result<MemDevice, Fail> {
 fn dumped_log(alloc: Global, log: &str) -> Result<String, Fail> {
     let (made, _) = cut(log, "----\n")?;
     let told = told(alloc, &mut device_made(alloc, made)?)?;
-    Ok(format!(in alloc; "{made}----\n{told}")?)
+    let lines = told.as_str().strip_suffix('\n').ok_or(log)?;
+    Ok(format!(in alloc; "{made}----\n{lines}")?)
 }
 
 /// Each log of this table is dumped as it says there. A log is a line that tells how many blocks it has and of how many bytes, and
 /// its name; its blocks, as `device_of` reads them; a line of dashes, and what its dump tells. Between two logs is an empty line.
 fn expect_dumps(rt: &impl Abort, alloc: Global, logs: &str) -> Result<(), Fail> {
-    for log in logs.split("\n\n") {
-        let dumped = dumped_log(alloc, log)?;
-        expect(rt, &dumped.as_str().strip_suffix('\n'), &Some(log));
-    }
-    Ok(())
+    expect_rows(rt, alloc, logs, "\n\n", dumped_log)
 }
 
 /// Logs that are dumped.
@@ -442,9 +431,9 @@ fn no_block_is_read_more_than_twice_and_no_copy_at_all(rt: HostRuntime) -> Resul
 
 /// Whether a dump whose read `k` fails is refused, and whether no byte is written before.
 fn refused_at(alloc: Global, k: u64) -> Result<(bool, bool), Fail> {
-    let told = told(alloc, &mut counted(alloc, k)?)?;
-    let refused = "refused Device\n";
-    Ok((told.as_str().ends_with(refused), told.as_str() == refused))
+    let text = told(alloc, &mut counted(alloc, k)?)?;
+    let before = text.as_str().strip_suffix("refused Device\n");
+    Ok((before.is_some(), before == Some("")))
 }
 
 #[test]

@@ -17,20 +17,26 @@ fn open(rt: &HostRuntime, path: &str) -> io::Result<File> {
     OpenOptions::new().read(true).write(true).open(rt, path)
 }
 
-/// A log with these bytes, alone in a folder of this name, open for reading and writing.
-fn log_in(rt: &HostRuntime, folder: &str, bytes: &[u8]) -> io::Result<File> {
-    let _ = fs::remove_dir_all(rt, folder);
-    fs::create_dir(rt, folder)?;
-    let path = path_of(rt, folder, "log")?;
-    fs::write(rt, path.as_str(), bytes)?;
-    open(rt, path.as_str())
+/// Opens a file of a folder for reading and writing.
+fn open_in(rt: &HostRuntime, folder: &str, name: &str) -> io::Result<File> {
+    open(rt, path_of(rt, folder, name)?.as_str())
 }
 
-/// A home with these bytes in this folder, and its path.
-fn home_in(rt: &HostRuntime, folder: &str, bytes: &[u8]) -> io::Result<String> {
-    let path = path_of(rt, folder, "home")?;
-    fs::write(rt, path.as_str(), bytes)?;
-    Ok(path)
+/// Opens a file of a folder for reading alone.
+fn open_to_read(rt: &HostRuntime, folder: &str, name: &str) -> io::Result<File> {
+    fs::open(rt, path_of(rt, folder, name)?.as_str())
+}
+
+/// Writes a file with these bytes in a folder.
+fn write_in(rt: &HostRuntime, folder: &str, name: &str, bytes: &[u8]) -> io::Result<()> {
+    fs::write(rt, path_of(rt, folder, name)?.as_str(), bytes)
+}
+
+/// Makes a log with these bytes, alone in a folder of this name.
+fn make_log(rt: &HostRuntime, folder: &str, bytes: &[u8]) -> io::Result<()> {
+    let _ = fs::remove_dir_all(rt, folder);
+    fs::create_dir(rt, folder)?;
+    write_in(rt, folder, "log", bytes)
 }
 
 /// The file in this folder holds these bytes, no more and no less.
@@ -84,8 +90,10 @@ fn two_files(
     log: &[u8],
     home: &[u8],
 ) -> io::Result<FileDevice<UnknownContents>> {
-    let log = log_in(rt, folder, log)?;
-    let home = open(rt, home_in(rt, folder, home)?.as_str())?;
+    make_log(rt, folder, log)?;
+    write_in(rt, folder, "home", home)?;
+    let log = open_in(rt, folder, "log")?;
+    let home = open_in(rt, folder, "home")?;
     FileDevice::new(UnknownContents, SIZE, log, Some(home))
 }
 
@@ -109,15 +117,18 @@ fn expect_lone_log<D: Device>(rt: &impl Abort, device: &mut D) -> Result<(), Dev
 
 /// A device over a log alone, which is read through a handle that can't write.
 fn lone_log(rt: &HostRuntime, folder: &str) -> io::Result<FileDevice<UnknownContents>> {
-    log_in(rt, folder, b"aaaabbbb")?;
-    let log = fs::open(rt, path_of(rt, folder, "log")?.as_str())?;
-    FileDevice::new(UnknownContents, SIZE, log, None)
+    make_log(rt, folder, b"aaaabbbb")?;
+    FileDevice::new(
+        UnknownContents,
+        SIZE,
+        open_to_read(rt, folder, "log")?,
+        None,
+    )
 }
 
 #[test]
 fn a_log_alone_has_no_home_block(rt: HostRuntime) -> Result<(), Fail> {
-    let mut device = lone_log(&rt, "lone_log_test")?;
-    expect_lone_log(&rt, &mut device)?;
+    expect_lone_log(&rt, &mut lone_log(&rt, "lone_log_test")?)?;
     let held = log_held(&rt, "lone_log_test", b"aaaabbbb")?;
     expect(&rt, &held, &true);
     Ok(())
@@ -142,15 +153,16 @@ fn fail_a_write<D: Device>(rt: &impl Abort, device: &mut D) -> Result<(), Device
 
 /// A device over a log that can be written and a home that can't.
 fn read_only_home(rt: &HostRuntime, folder: &str) -> io::Result<FileDevice<UnknownContents>> {
-    let log = log_in(rt, folder, b"aaaabbbb")?;
-    let home = fs::open(rt, home_in(rt, folder, b"cccc")?.as_str())?;
+    make_log(rt, folder, b"aaaabbbb")?;
+    write_in(rt, folder, "home", b"cccc")?;
+    let log = open_in(rt, folder, "log")?;
+    let home = open_to_read(rt, folder, "home")?;
     FileDevice::new(UnknownContents, SIZE, log, Some(home))
 }
 
 #[test]
 fn after_a_failed_write_nothing_is_written(rt: HostRuntime) -> Result<(), Fail> {
-    let mut device = read_only_home(&rt, "failed_write_test")?;
-    fail_a_write(&rt, &mut device)?;
+    fail_a_write(&rt, &mut read_only_home(&rt, "failed_write_test")?)?;
     let held = log_held(&rt, "failed_write_test", b"aaaa\x0b\x0b\x0b\x0b")?;
     expect(&rt, &held, &true);
     Ok(())
@@ -165,15 +177,15 @@ fn fail_a_flush<D: Device>(rt: &impl Abort, device: &mut D) -> Result<(), Device
 
 /// A device over a log, and a home that fails to be synced.
 fn unsynced_home(rt: &HostRuntime, folder: &str) -> io::Result<FileDevice<UnknownContents>> {
-    let log = log_in(rt, folder, b"aaaabbbb")?;
+    make_log(rt, folder, b"aaaabbbb")?;
+    let log = open_in(rt, folder, "log")?;
     let home = open(rt, "/dev/null")?;
     FileDevice::new(UnknownContents, SIZE, log, Some(home))
 }
 
 #[test]
 fn after_a_failed_flush_nothing_is_written(rt: HostRuntime) -> Result<(), Fail> {
-    let mut device = unsynced_home(&rt, "failed_flush_test")?;
-    fail_a_flush(&rt, &mut device)?;
+    fail_a_flush(&rt, &mut unsynced_home(&rt, "failed_flush_test")?)?;
     let held = log_held(&rt, "failed_flush_test", b"aaaabbbb")?;
     expect(&rt, &held, &true);
     Ok(())
@@ -190,12 +202,17 @@ fn expect_goes_on<D: Device>(rt: &impl Abort, device: &mut D) -> Result<(), Devi
     Ok(())
 }
 
+/// Cuts the log in this folder to six bytes.
+fn cut_to_six(rt: &HostRuntime, folder: &str) -> io::Result<()> {
+    open_in(rt, folder, "log")?.set_len(6)
+}
+
 /// A device over a log of two blocks, of which another handle then took half of the second one away, so that a read of it
 /// meets the end of the file.
 fn cut_log(rt: &HostRuntime, folder: &str) -> io::Result<FileDevice<UnknownContents>> {
-    let log = log_in(rt, folder, b"aaaabbbb")?;
-    let device = FileDevice::new(UnknownContents, SIZE, log, None)?;
-    open(rt, path_of(rt, folder, "log")?.as_str())?.set_len(6)?;
+    make_log(rt, folder, b"aaaabbbb")?;
+    let device = FileDevice::new(UnknownContents, SIZE, open_in(rt, folder, "log")?, None)?;
+    cut_to_six(rt, folder)?;
     Ok(device)
 }
 

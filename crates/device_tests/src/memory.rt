@@ -72,18 +72,18 @@ const CRASHES: [Crash; 12] = [
 fn expect_kept(
     rt: &impl Abort,
     alloc: Global,
-    (steps, keep, expected): Crash,
+    (steps, keep, expected): &Crash,
 ) -> Result<(), DeviceFault> {
     let mut device = crashed(rt, alloc, steps, keep)?;
     let bytes = read_bytes(rt, &mut device, &[(LOG, 1), (HOME, 1)])?;
-    expect(rt, &(keep, bytes, device.writes()), &(keep, expected, 0));
+    expect(rt, &(keep, bytes, device.writes()), &(keep, *expected, 0));
     Ok(())
 }
 
 #[test]
 fn a_crash_keeps_what_was_flushed_and_what_is_kept(rt: HostRuntime) -> Result<(), Fail> {
     for crash in &CRASHES {
-        expect_kept(&rt, rt.alloc(), *crash)?;
+        expect_kept(&rt, rt.alloc(), crash)?;
     }
     Ok(())
 }
@@ -101,13 +101,17 @@ fn expect_log(
     Ok(())
 }
 
+/// Writes blocks 1 and 2 of the log, of a device that counts no write yet. Before a flush the newest write is read.
+fn write_two(rt: &impl Abort, device: &mut MemDevice) -> Result<(), DeviceFault> {
+    write_byte(rt, device, (LOG, 1), 0xc)?;
+    write_byte(rt, device, (LOG, 2), 0xd)?;
+    expect_log(rt, device, ([0xc, 0xd], 2))
+}
+
 #[test]
 fn writes_are_numbered_anew_after_a_crash(rt: HostRuntime) -> Result<(), Fail> {
     let mut device = crashed(&rt, rt.alloc(), &REWRITTEN, &[1])?;
-    write_byte(&rt, &mut device, (LOG, 1), 0xc)?;
-    write_byte(&rt, &mut device, (LOG, 2), 0xd)?;
-    // Before a flush the newest write is read.
-    expect_log(&rt, &mut device, ([0xc, 0xd], 2))?;
+    write_two(&rt, &mut device)?;
     // What the first crash left is durable.
     expect_log(&rt, &mut device.crash(&[2]), ([0xa, 0xd], 0))?;
     Ok(())
@@ -178,13 +182,19 @@ fn a_device_stops_at_each_write(rt: HostRuntime) -> Result<(), Fail> {
     Ok(())
 }
 
-/// Writes home blocks 0 to 299 of a device that never stops, a flush of the log behind each, and gives what is behind it.
-fn many_calls(rt: &impl Abort, alloc: Global) -> Result<MemDevice, DeviceFault> {
-    let mut device = StopAt::new(MemDevice::new(alloc, SIZE, 4, 300), 0);
+/// Writes home blocks 0 to 299, a flush of the log behind each.
+fn write_many<D: Device>(rt: &impl Abort, device: &mut D) -> Result<(), DeviceFault> {
     for i in 0..300u64 {
-        write_byte(rt, &mut device, (HOME, i), 7)?;
+        write_byte(rt, device, (HOME, i), 7)?;
         device.flush(LOG)?;
     }
+    Ok(())
+}
+
+/// Makes those calls on a device that never stops, and gives what is behind it.
+fn many_calls(rt: &impl Abort, alloc: Global) -> Result<MemDevice, DeviceFault> {
+    let mut device = StopAt::new(MemDevice::new(alloc, SIZE, 4, 300), 0);
+    write_many(rt, &mut device)?;
     expect(rt, &device.is_stopped(), &false);
     Ok(device.into_inner())
 }

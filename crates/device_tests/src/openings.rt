@@ -1,4 +1,5 @@
 //! Openings of logs that were made by hand: of each block the newest copy that no revoke covers goes home.
+use crate::bytes::write_block;
 use crate::expected::{cut, expect, expect_rows, expect_text};
 use block_device::{Device, MemDevice};
 use journal_model::{Area, JournalError};
@@ -26,16 +27,15 @@ const REVOKE: u8 = 5;
 const LAST: u8 = 8;
 
 /// Writes a log block that begins with these bytes, and has zeros behind them.
-fn put(device: &mut MemDevice, place: u64, bytes: &[u8]) -> Result<(), JournalError> {
-    let mut block = [0; SIZE];
-    for (to, from) in block.iter_mut().zip(bytes) {
-        *to = *from;
-    }
-    if device.block_size() != SIZE || place >= device.blocks(Area::Log) {
-        return Err(JournalError::BadLength);
-    }
-    device.write(Area::Log, place, &block)?;
-    Ok(())
+fn put(
+    alloc: Global,
+    device: &mut MemDevice,
+    place: u64,
+    bytes: &[u8],
+) -> Result<(), JournalError> {
+    let mut block = bytes.to_vec(alloc)?;
+    block.resize(SIZE, 0)?;
+    write_block(device, place, &block)
 }
 
 /// Writes a log block with a header of this type and number, and these bytes behind it.
@@ -49,7 +49,7 @@ fn put_own(
     let mut bytes = MAGIC.to_vec(alloc)?;
     bytes.extend_from_slice(&[0, 0, 0, kind, 0, 0, 0, sequence])?;
     bytes.extend_from_slice(rest)?;
-    put(device, place, &bytes)
+    put(alloc, device, place, &bytes)
 }
 
 /// A copy in a log: its home block, whether it is escaped, and its byte. An escaped copy is four zeros and that byte.
@@ -57,20 +57,22 @@ type Copied = (u8, bool, u8);
 
 /// The copy that is spelled so: `8=aa` of block 8, or `8*aa`, which is escaped.
 fn copy_of(spelled: &str) -> Result<Copied, Fail> {
-    let escaped = spelled.split_once('*');
-    let (block, byte) = escaped.or(spelled.split_once('=')).ok_or(spelled)?;
-    Ok((
-        block.parse()?,
-        escaped.is_some(),
-        u8::from_str_radix(byte, 16)?,
-    ))
+    let escaped = spelled.contains('*');
+    let (block, byte) = cut(spelled, if escaped { "*" } else { "=" })?;
+    Ok((block.parse()?, escaped, u8::from_str_radix(byte, 16)?))
 }
 
 /// Writes the copy that is spelled so, and answers its tag.
-fn put_copy(device: &mut MemDevice, place: u64, spelled: &str) -> Result<[u8; 8], Fail> {
+fn put_copy(
+    alloc: Global,
+    device: &mut MemDevice,
+    place: u64,
+    spelled: &str,
+) -> Result<[u8; 8], Fail> {
     let (block, escaped, byte) = copy_of(spelled)?;
     let bytes = [0, 0, 0, 0, byte];
-    put(device, place, if escaped { &bytes } else { &bytes[4..] })?;
+    let copy = if escaped { &bytes } else { &bytes[4..] };
+    put(alloc, device, place, copy)?;
     Ok([0, 0, 0, block, 0, 0, 0, 2 + u8::from(escaped)])
 }
 
@@ -87,7 +89,7 @@ fn put_copies(
     let mut behind = place;
     for spelled in word.split(',') {
         behind = behind.saturating_add(1);
-        let tag = put_copy(device, behind, spelled)?;
+        let tag = put_copy(alloc, device, behind, spelled)?;
         tags.extend_from_slice(&tag)?;
     }
     if let Some(flags) = tags.last_mut() {
@@ -142,13 +144,19 @@ fn start(device: &mut MemDevice) -> Result<(), JournalError> {
     Ok(())
 }
 
+/// Makes this log on a device, and flushes it.
+fn make_log(alloc: Global, device: &mut MemDevice, log: &str) -> Result<(), Fail> {
+    format(device, 33, &UUID)?;
+    start(device)?;
+    put_log(alloc, device, log)?;
+    device.flush(Area::Log)?;
+    Ok(())
+}
+
 /// A device that lost power with this log on it.
 fn device_of(alloc: Global, log: &str) -> Result<MemDevice, Fail> {
     let mut device = MemDevice::new(alloc, SIZE, 33, 64);
-    format(&mut device, 33, &UUID)?;
-    start(&mut device)?;
-    put_log(alloc, &mut device, log)?;
-    device.flush(Area::Log)?;
+    make_log(alloc, &mut device, log)?;
     Ok(device.crash(&[]))
 }
 
@@ -170,15 +178,21 @@ fn home_bytes(device: &mut MemDevice, block: u64) -> Result<(u8, u8), JournalErr
     Ok((bytes[0], bytes[4]))
 }
 
-/// Those home blocks whose first byte is not zero, each with a blank before it: ` 8=aa00` has the first byte `aa` and the fifth
+/// Adds this home block, where its first byte is not zero, with a blank before it: ` 8=aa00` has the first byte `aa` and the fifth
 /// `00`.
+fn add_home(found: &mut String, device: &mut MemDevice, block: u64) -> Result<(), Fail> {
+    let (first, fifth) = home_bytes(device, block)?;
+    if first != 0 {
+        write!(found, " {block}={first:02x}{fifth:02x}")?;
+    }
+    Ok(())
+}
+
+/// Those home blocks whose first byte is not zero, as `add_home` adds them.
 fn home_of(alloc: Global, device: &mut MemDevice) -> Result<String, Fail> {
     let mut found = String::new(alloc);
     for block in 0..64 {
-        let (first, fifth) = home_bytes(device, block)?;
-        if first != 0 {
-            write!(found, " {block}={first:02x}{fifth:02x}")?;
-        }
+        add_home(&mut found, device, block)?;
     }
     Ok(found)
 }
