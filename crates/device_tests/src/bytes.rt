@@ -34,8 +34,10 @@ pub fn write_byte<D: Device>(
     (area, block): Place,
     byte: u8,
 ) -> Result<(), DeviceFault> {
-    assert_eq!(rt; device.block_size(), SIZE);
-    assert!(rt; block < device.blocks(area));
+    assert_eq!(rt;
+        (device.block_size(), block < device.blocks(area)),
+        (SIZE, true)
+    );
     device.write(area, block, &[byte; SIZE])
 }
 
@@ -45,9 +47,11 @@ pub fn read_byte<D: Device>(
     device: &mut D,
     (area, block): Place,
 ) -> Result<u8, DeviceFault> {
+    assert_eq!(rt;
+        (device.block_size(), block < device.blocks(area)),
+        (SIZE, true)
+    );
     let mut bytes = [0xee; SIZE];
-    assert_eq!(rt; device.block_size(), SIZE);
-    assert!(rt; block < device.blocks(area));
     device.read(area, block, &mut bytes)?;
     Ok(bytes[0])
 }
@@ -59,8 +63,8 @@ pub fn read_bytes<D: Device, const N: usize>(
     places: &[Place; N],
 ) -> Result<[u8; N], DeviceFault> {
     let mut bytes = [0; N];
-    for (byte, place) in bytes.iter_mut().zip(places.iter()) {
-        *byte = read_byte(rt, device, *place)?;
+    for i in 0..N {
+        bytes[i] = read_byte(rt, device, places[i])?;
     }
     Ok(bytes)
 }

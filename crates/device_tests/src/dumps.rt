@@ -77,10 +77,15 @@ fn device_made(alloc: Global, made: &str) -> Result<MemDevice, Fail> {
     device_of(alloc, size.parse()?, log.parse()?, blocks)
 }
 
+/// What a dump of that device tells.
+fn told_of(alloc: Global, made: &str) -> Result<String, Fail> {
+    told(alloc, &mut device_made(alloc, made)?)
+}
+
 /// This log of a table, with what its dump tells in the place of what it should.
 fn dumped_log(alloc: Global, log: &str) -> Result<String, Fail> {
     let (made, _) = cut(log, "----\n")?;
-    let told = told(alloc, &mut device_made(alloc, made)?)?;
+    let told = told_of(alloc, made)?;
     let lines = told.as_str().strip_suffix('\n').ok_or(log)?;
     Ok(format!(in alloc; "{made}----\n{lines}")?)
 }

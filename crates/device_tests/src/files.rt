@@ -39,10 +39,14 @@ fn make_log(rt: &HostRuntime, folder: &str, bytes: &[u8]) -> io::Result<()> {
     write_in(rt, folder, "log", bytes)
 }
 
+/// What a file of a folder holds.
+fn read_in(rt: &HostRuntime, folder: &str, name: &str) -> io::Result<Vec<u8>> {
+    fs::read(rt, path_of(rt, folder, name)?.as_str())
+}
+
 /// The file in this folder holds these bytes, no more and no less.
 fn holds(rt: &HostRuntime, folder: &str, name: &str, bytes: &[u8]) -> io::Result<bool> {
-    let held = fs::read(rt, path_of(rt, folder, name)?.as_str())?;
-    Ok(held.as_slice() == bytes)
+    Ok(read_in(rt, folder, name)?.as_slice() == bytes)
 }
 
 /// Removes this folder. Its log held these bytes.

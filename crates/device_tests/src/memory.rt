@@ -15,6 +15,14 @@ enum Step {
     Flush(Area),
 }
 
+/// Makes this call.
+fn make<D: Device>(rt: &impl Abort, device: &mut D, step: &Step) -> Result<(), DeviceFault> {
+    match step {
+        Step::Write(place, byte) => write_byte(rt, device, *place, *byte),
+        Step::Flush(area) => device.flush(*area),
+    }
+}
+
 /// The device after these calls and a crash that keeps these writes.
 fn crashed(
     rt: &impl Abort,
@@ -24,10 +32,7 @@ fn crashed(
 ) -> Result<MemDevice, DeviceFault> {
     let mut device = MemDevice::new(alloc, SIZE, 4, 4);
     for step in steps {
-        match step {
-            Step::Write(place, byte) => write_byte(rt, &mut device, *place, *byte)?,
-            Step::Flush(area) => device.flush(*area)?,
-        }
+        make(rt, &mut device, step)?;
     }
     Ok(device.crash(keep))
 }
