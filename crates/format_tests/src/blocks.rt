@@ -3,7 +3,7 @@ ghost use Rattle.std.specs.Prelude.{◌≤◌, ◌<◌, length};
 ghost use Rattle.journal_model.specs.Layout.{narrow, numbers_of};
 ghost use Rattle.log_format.specs.Size.{IsBlockSize, most_tags};
 
-use crate::rows::{columns, each, number_of, numbers, rows_hold};
+use crate::rows::{columns, each, expect, number_of, numbers, rows_hold};
 use crate::{spelling, write_numbers, write_tags};
 use byteorder::{BigEndian, ByteOrder};
 use journal_model::{BlockNo, JournalError, Tag};
@@ -82,7 +82,7 @@ xc03b3999,1,2 | -";
 fn is_header(header: Option<Header>, spelled: &str) -> Option<bool> {
     match header {
         Some(header) => {
-            let found = [header.block_type, header.sequence].map(u64::from);
+            let found = [u64::from(header.block_type), u64::from(header.sequence)];
             Some(found == numbers(spelled)?)
         }
         None => Some(spelled == "-"),
@@ -133,10 +133,9 @@ fn write_words(alloc: Global, block: &mut [u8; 1024], words: &str) -> Option<boo
 /// The tags or the numbers of a row are written as it says.
 fn is_written(alloc: Global, row: &str) -> Option<bool> {
     let (words, word) = row.split_once(" | ")?;
-    let want = block_of(alloc, word)?;
     let mut block = [0xff; 1024];
     let fits = write_words(alloc, &mut block, words)?;
-    Some(fits && block == want)
+    Some(fits && Some(block) == block_of(alloc, word))
 }
 
 #[test]
@@ -183,22 +182,33 @@ fn is_answer(answer: Option<Result<usize, Malformed>>, spelled: &str) -> bool {
     }
 }
 
+/// What is read from a block is what is spelled: the answer, and behind a colon the tags or numbers that are first.
+fn begins_with<T: Drop + PartialEq, F: Fn(Global, &str) -> Option<T>>(
+    alloc: Global,
+    answer: Option<Result<usize, Malformed>>,
+    read: &[T],
+    spelled: &str,
+    of: F,
+) -> Option<bool>
+    requires { F.IsAlwaysCallable of }
+{
+    let (spelled, words) = spelled.split_once(':').unwrap_or((spelled, ""));
+    let wanted = each(alloc, words, ' ', of)?;
+    Some(is_answer(answer, spelled) && read.starts_with(wanted.as_slice()))
+}
+
 /// The tags that are read from a block are those that are spelled.
 fn has_tags(alloc: Global, block: &[u8; 1024], home_blocks: u64, want: &str) -> Option<bool> {
     let mut tags = [tag(0, false, false, false); 126];
     let answer = read_tags(block, home_blocks, &mut tags);
-    let (spelled, words) = want.split_once(':').unwrap_or((want, ""));
-    let wanted = each(alloc, words, ' ', tag_of)?;
-    Some(is_answer(answer, spelled) && tags.starts_with(wanted.as_slice()))
+    begins_with(alloc, answer, &tags, want, tag_of)
 }
 
 /// The numbers that are read from a block are those that are spelled.
 fn has_numbers(alloc: Global, block: &[u8; 1024], home_blocks: u64, want: &str) -> Option<bool> {
     let mut numbers = [BlockNo(0); 252];
     let answer = read_numbers(block, home_blocks, &mut numbers);
-    let (spelled, words) = want.split_once(':').unwrap_or((want, ""));
-    let wanted = each(alloc, words, ' ', number_of)?;
-    Some(is_answer(answer, spelled) && numbers.starts_with(wanted.as_slice()))
+    begins_with(alloc, answer, &numbers, want, number_of)
 }
 
 /// What is read from the block of a row is what it says.
@@ -225,21 +235,6 @@ fn number_tags(tags: &mut [Tag]) {
     }
 }
 
-/// A descriptor with as many tags as the writer puts into one leaves fewer than 24 bytes, and has these tags.
-fn is_full(block: &mut [u8], written: &mut [Tag], read: &mut [Tag]) -> bool
-    requires size { IsBlockSize (length block.old) }
-    requires room { most_tags (narrow (length block.old)) ≤ length read.old }
-{
-    number_tags(written);
-    let count = written.len();
-    if !write_tags(block, 2, written) {
-        return false;
-    }
-    let home_blocks = count as u64 + 1;
-    let full = read_tags(block, home_blocks, read) == Some(Ok(count)) && read.starts_with(written);
-    full && read_tags(block, home_blocks - 1, read) == Some(Err(Malformed))
-}
-
 /// A last tag ends at this place, where fewer than 24 bytes are left, and zeros stand behind it.
 fn ends_at(block: &[u8], end: u16) -> bool {
     let end = usize::from(end);
@@ -250,24 +245,31 @@ fn ends_at(block: &[u8], end: u16) -> bool {
     zeros && block[end - 1] == 10 && block.len() - end < 24
 }
 
-/// A descriptor is full of these tags, the last of which ends at this place.
-fn is_full_to(block: &mut [u8], written: &mut [Tag], read: &mut [Tag], end: u16) -> bool
+/// A descriptor with as many tags as the writer puts into one leaves fewer than 24 bytes behind this place, and has these tags.
+fn is_full(block: &mut [u8], written: &mut [Tag], read: &mut [Tag], end: u16) -> bool
     requires size { IsBlockSize (length block.old) }
     requires room { most_tags (narrow (length block.old)) ≤ length read.old }
 {
-    is_full(block, written, read) && ends_at(block, end)
+    number_tags(written);
+    let count = written.len();
+    if !write_tags(block, 2, written) || !ends_at(block, end) {
+        return false;
+    }
+    let home_blocks = count as u64 + 1;
+    let full = read_tags(block, home_blocks, read) == Some(Ok(count)) && read.starts_with(written);
+    full && read_tags(block, home_blocks - 1, read) == Some(Err(Malformed))
 }
 
 #[test]
 fn full_descriptors(rt: HostRuntime) {
     let none = tag(0, false, false, false);
     let found = [
-        is_full_to(&mut [0xff; 1024], &mut [none; 122], &mut [none; 126], 1004),
-        is_full(&mut [0xff; 1024], &mut [none; 123], &mut [none; 126]),
-        is_full_to(&mut [0xff; 2048], &mut [none; 250], &mut [none; 254], 2028),
-        is_full_to(&mut [0xff; 4096], &mut [none; 506], &mut [none; 510], 4076),
+        is_full(&mut [0xff; 1024], &mut [none; 122], &mut [none; 126], 1004),
+        is_full(&mut [0xff; 1024], &mut [none; 123], &mut [none; 126], 1012),
+        is_full(&mut [0xff; 2048], &mut [none; 250], &mut [none; 254], 2028),
+        is_full(&mut [0xff; 4096], &mut [none; 506], &mut [none; 510], 4076),
     ];
-    assert_eq!(rt; found, [true, false, true, true]);
+    expect(&rt, &found, &[true, false, true, true]);
 }
 
 /// Block numbers from 1 on fill a revoke block, and are read back.
@@ -297,7 +299,7 @@ fn full_revoke_blocks(rt: HostRuntime) {
         is_full_of_numbers(&mut [0xff; 2048], &mut [none; 508], &mut [none; 508]),
         is_full_of_numbers(&mut [0xff; 4096], &mut [none; 1020], &mut [none; 1020]),
     ];
-    assert_eq!(rt; found, [true, false, true, true]);
+    expect(&rt, &found, &[true, false, true, true]);
 }
 
 #[test]
@@ -498,17 +500,13 @@ const SUPERBLOCKS: &str = "\
 1024 33 | 1c=33 20=1 | BadStart
 1024 33 | 20=1 | ErrnoSet";
 
-/// Why a superblock with these changes is refused, in blocks of so many bytes and in an area of so many blocks; none if it is read.
-fn refusal(changes: &str, bytes: u64, area: u64) -> Option<Option<JournalError>> {
-    let block = changed(changes)?;
-    Some(Super::read(block.get(..bytes as usize)?, area).err())
-}
-
 /// The superblock of a row is refused as it says.
 fn is_refused(_alloc: Global, row: &str) -> Option<bool> {
     let (measures, changes, want) = columns(row)?;
     let [bytes, area] = numbers::<2>(measures)?;
-    Some(refusal(changes, bytes, area)? == refusal_of(want)?)
+    let block = changed(changes)?;
+    let read = Super::read(block.get(..bytes as usize)?, area);
+    Some(read.err() == refusal_of(want)?)
 }
 
 #[test]
@@ -529,6 +527,6 @@ fn a_superblock_of_another_size(rt: HostRuntime) {
 #[test]
 fn text_of_malformed(rt: HostRuntime) -> Result<(), Fail> {
     let text = format!(in rt.alloc(); "{Malformed}")?;
-    assert!(rt; text.as_str() == "malformed block");
+    expect(&rt, &text.as_str(), &"malformed block");
     Ok(())
 }

@@ -143,26 +143,25 @@ const TAGS: [Tag; 2] = [
     },
 ];
 
-/// Blocks have the bytes of other ones, in their order.
-fn are_same(found: &[Block], wanted: &[Block]) -> bool {
-    for (block, want) in found.iter().zip(wanted) {
-        if block.bytes() != want.bytes() {
-            return false;
-        }
-    }
-    found.len() == wanted.len()
+/// Two blocks have the same bytes.
+fn are_same(one: &Block, other: &Block) -> bool {
+    one.bytes() == other.bytes()
 }
 
 /// A text is one descriptor with these tags, and its log blocks are these, in their order.
 fn is_of_copies(text: &Text, tags: &[Tag], blocks: &[Block]) -> bool {
-    let [own, behind @ .., commit] = blocks else {
+    let [own, first, second, commit] = blocks else {
         return false;
     };
     let [Piece::Copies(descriptor, read, copies)] = text.pieces.as_slice() else {
         return false;
     };
-    let ends = descriptor.bytes() == own.bytes() && text.commit.bytes() == commit.bytes();
-    ends && read.as_slice() == tags && are_same(copies.as_slice(), behind)
+    let [copy, other] = copies.as_slice() else {
+        return false;
+    };
+    let ends = are_same(descriptor, own) && are_same(&text.commit, commit);
+    let copied = are_same(copy, first) && are_same(other, second);
+    ends && copied && read.as_slice() == tags
 }
 
 /// The first text of these blocks is of two copies, with these log blocks.

@@ -2,14 +2,16 @@
 use journal_model::{Block, BlockNo, Items, Text};
 use journal_plain::replay::newest;
 use std::alloc::Global;
+use std::fmt::Debug;
 use std::process::Abort;
+use std::str::SplitWhitespace;
 
 /// Whether a row holds; none where it cannot be read.
 pub type Holds = fn(Global, &str) -> Option<bool>;
 
-/// What is found of a row is that it holds.
-fn expect_row(rt: &impl Abort, found: Option<bool>, row: &str) {
-    assert!(rt; found == Some(true), "{row}");
+/// What is told is what is expected.
+pub fn expect<T: PartialEq + Debug>(rt: &impl Abort, told: &T, expected: &T) {
+    assert_eq!(rt; told, expected);
 }
 
 /// Each row of this table holds.
@@ -17,7 +19,7 @@ pub fn rows_hold(rt: &impl Abort, alloc: Global, table: &str, holds: Holds)
     requires { Holds.IsAlwaysCallable holds }
 {
     for row in table.lines() {
-        expect_row(rt, holds(alloc, row), row);
+        expect(rt, &(holds(alloc, row), row), &(Some(true), row));
     }
 }
 
@@ -28,12 +30,17 @@ pub fn columns(row: &str) -> Option<(&str, &str, &str)> {
     Some((first.trim(), second.trim(), third.trim()))
 }
 
+/// The number that is the next word.
+fn next_number(words: &mut SplitWhitespace) -> Option<u64> {
+    words.next()?.parse().ok()
+}
+
 /// The first numbers of a row; none where it has fewer words, or one of them is no number.
 pub fn numbers<const N: usize>(row: &str) -> Option<[u64; N]> {
     let mut found = [0; N];
     let mut words = row.split_whitespace();
     for number in &mut found {
-        *number = words.next()?.parse().ok()?;
+        *number = next_number(&mut words)?;
     }
     Some(found)
 }

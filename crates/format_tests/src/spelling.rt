@@ -10,21 +10,16 @@ fn push_number(bytes: &mut Vec<u8>, number: u32) -> Option<()> {
     bytes.extend_from_slice(&number.to_be_bytes()).ok()
 }
 
-/// Adds so many tags.
-fn push_tags(bytes: &mut Vec<u8>, count: u8) -> Option<()> {
-    for _ in 0..count {
+/// Adds the number that is spelled, or as many tags.
+fn push_numbers(bytes: &mut Vec<u8>, spelled: &str) -> Option<()> {
+    let Some(count) = spelled.strip_prefix('*') else {
+        return push_number(bytes, number_of(spelled)?);
+    };
+    for _ in 0..count.parse::<u8>().ok()? {
         push_number(bytes, 9)?;
         push_number(bytes, 2)?;
     }
     Some(())
-}
-
-/// Adds the number that is spelled, or as many tags.
-fn push_numbers(bytes: &mut Vec<u8>, spelled: &str) -> Option<()> {
-    match spelled.strip_prefix('*') {
-        Some(count) => push_tags(bytes, count.parse().ok()?),
-        None => push_number(bytes, number_of(spelled)?),
-    }
 }
 
 /// Adds what is spelled between two commas: `D`, `R` and `C` are the magic and the type of a descriptor, a revoke block and a

@@ -1,5 +1,7 @@
 //! The definitions at examples that were worked out by hand.
-use crate::rows::{block_of, columns, each, has_newest, is_copy, number_of, numbers, rows_hold};
+use crate::rows::{
+    block_of, columns, each, expect, has_newest, is_copy, number_of, numbers, rows_hold,
+};
 use journal_model::{
     Block, BlockNo, Content, Entry, HandleNo, Items, Op, Piece, Sealed, Step, Tag, Text, Tid,
 };
@@ -214,5 +216,5 @@ fn covered_from(alloc: Global) -> Option<[bool; 5]> {
 #[test]
 fn copies_that_are_covered(rt: HostRuntime) {
     let found = covered_from(rt.alloc());
-    assert_eq!(rt; found, Some([true, true, false, false, false]));
+    expect(&rt, &found, &Some([true, true, false, false, false]));
 }
