@@ -28,15 +28,20 @@ fn words_of(spelled: &str) -> Result<(usize, u32), Fail> {
     }
 }
 
-/// A block of so many bytes that begins with these words, four bytes each, spelled as `words_of` reads them. Behind them are
-/// zeros.
+/// Adds those words, four bytes each.
+fn push_words(bytes: &mut Vec<u8>, spelled: &str) -> Result<(), Fail> {
+    let (count, word) = words_of(spelled)?;
+    for _ in 0..count {
+        bytes.extend_from_slice(&word.to_be_bytes())?;
+    }
+    Ok(())
+}
+
+/// A block of so many bytes that begins with these words, spelled as `words_of` reads them. Behind them are zeros.
 fn block_of(alloc: Global, size: usize, text: &str) -> Result<Vec<u8>, Fail> {
     let mut bytes = Vec::new(alloc);
     for spelled in text.split_whitespace() {
-        let (count, word) = words_of(spelled)?;
-        for _ in 0..count {
-            bytes.extend_from_slice(&word.to_be_bytes())?;
-        }
+        push_words(&mut bytes, spelled)?;
     }
     bytes.resize(size, 0)?;
     Ok(bytes)
@@ -69,12 +74,18 @@ fn told<D: Device>(alloc: Global, device: &mut D) -> Result<String, Fail> {
     Ok(String::from_str(alloc, from_utf8(&out)?)?)
 }
 
+/// How many bytes a block has, and how many blocks a log has, that begins with this line.
+fn sizes_of(heading: &str) -> Result<(usize, u64), Fail> {
+    let (sizes, _) = cut(heading, ": ")?;
+    let (log, size) = cut(sizes, " of ")?;
+    Ok((size.parse()?, log.parse()?))
+}
+
 /// The device of a log of a table, which is said by its first line and its blocks.
 fn device_made(alloc: Global, made: &str) -> Result<MemDevice, Fail> {
     let (heading, blocks) = cut(made, "\n")?;
-    let (sizes, _) = cut(heading, ": ")?;
-    let (log, size) = cut(sizes, " of ")?;
-    device_of(alloc, size.parse()?, log.parse()?, blocks)
+    let (size, log) = sizes_of(heading)?;
+    device_of(alloc, size, log, blocks)
 }
 
 /// What a dump of that device tells.
@@ -457,10 +468,8 @@ fn output_that_has_no_room(rt: HostRuntime) -> Result<(), Fail> {
     let mut device = counted(rt.alloc(), 0)?;
     let mut room = [0; 20];
     let mut out = room.as_mut_slice();
-    let failed = match dump(rt.alloc(), &mut device, &mut out) {
-        Err(Fault::Output(_)) => true,
-        Err(Fault::Refused(_)) | Ok(()) => false,
-    };
+    let dumped = dump(rt.alloc(), &mut device, &mut out);
+    let failed = matches!(dumped, Err(Fault::Output(_)));
     expect(&rt, &failed, &true);
     Ok(())
 }

@@ -17,6 +17,14 @@ pub fn expect_text(rt: &impl Abort, told: &str, expected: &str) {
 /// What a test makes of a row of a table: the row, with what is found in the place of what is expected.
 pub type Found = fn(Global, &str) -> Result<String, Fail>;
 
+/// In this row stands what is found.
+fn expect_row(rt: &impl Abort, alloc: Global, row: &str, found: Found) -> Result<(), Fail>
+    requires { Found.IsAlwaysCallable found }
+{
+    expect_text(rt, &found(alloc, row)?, row);
+    Ok(())
+}
+
 /// In each row of this table stands what is found. The text between two rows is `between`.
 pub fn expect_rows(
     rt: &impl Abort,
@@ -28,7 +36,7 @@ pub fn expect_rows(
     requires { Found.IsAlwaysCallable found }
 {
     for row in table.split(between) {
-        expect_text(rt, &found(alloc, row)?, row);
+        expect_row(rt, alloc, row, found)?;
     }
     Ok(())
 }
