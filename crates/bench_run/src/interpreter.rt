@@ -7,7 +7,7 @@ use bench_script::{HandleName, Operation};
 use block_device::{MemDevice, StopAt};
 use group_commit::{CheckTurn, Handle, Journal, Parts, Seat, Status, Ticket, Turn};
 use journal_model::{BlockNo, JournalError, Tid};
-use recovery::open;
+use recovery::{Opened, open};
 use std::alloc::{AllocError, Global};
 
 /// More turns than a commit can take: each is the seal or one device call, and there are few more of these than ring blocks,
@@ -34,6 +34,13 @@ fn copy_front(to: &mut [u8], from: &[u8])
     }
 }
 
+/// How these bytes begin.
+fn front_of(bytes: &[u8]) -> [u8; PRINTED_BYTES] {
+    let mut begins = [0; PRINTED_BYTES];
+    copy_front(&mut begins, bytes);
+    begins
+}
+
 /// A block of `size` bytes: these, at most one block of them, and zeros behind them.
 fn block_of(alloc: Global, size: usize, bytes: &[u8]) -> Result<Vec<u8>, AllocError>
     ensures { IfOk result (λ block. length block.items ≡ size) }
@@ -41,6 +48,28 @@ fn block_of(alloc: Global, size: usize, bytes: &[u8]) -> Result<Vec<u8>, AllocEr
     let mut block = vec![in alloc; 0; size]?;
     copy_front(&mut block, bytes);
     Ok(block)
+}
+
+/// Opens the log of a device.
+fn opened_on(
+    alloc: Global,
+    device: StopAt<MemDevice>,
+) -> Result<Opened<StopAt<MemDevice>>, JournalError> {
+    match open(alloc, device) {
+        Ok(opened) => Ok(opened),
+        Err((_, e)) => Err(e),
+    }
+}
+
+/// A journal on a device, whose log it opens, and the first seat.
+fn journal_on(
+    alloc: Global,
+    device: StopAt<MemDevice>,
+) -> Result<(Journal<StopAt<MemDevice>>, Seat), JournalError> {
+    match Journal::new(alloc, opened_on(alloc, device)?) {
+        Ok((journal, seat)) => Ok((journal, seat)),
+        Err((_, e)) => Err(e),
+    }
 }
 
 impl Interpreter {
@@ -51,11 +80,7 @@ impl Interpreter {
     /// The log is refused, or memory runs out.
     pub fn new(alloc: Global, device: StopAt<MemDevice>) -> Result<Self, JournalError> {
         let slots = Slots::new(alloc)?;
-        let opened = match open(alloc, device) {
-            Ok(opened) => opened,
-            Err((_, e)) => return Err(e),
-        };
-        match Journal::new(alloc, opened) {
+        match journal_on(alloc, device) {
             Ok((journal, seat)) => Ok(Interpreter {
                 alloc,
                 journal,
@@ -63,7 +88,7 @@ impl Interpreter {
                 slots,
                 acknowledged: None,
             }),
-            Err((_, e)) => Err(e),
+            Err(e) => Err(e),
         }
     }
 
@@ -184,9 +209,7 @@ impl Interpreter {
     ) -> Result<[u8; PRINTED_BYTES], JournalError> {
         let mut bytes = vec![in self.alloc; 0; self.journal.block_size()]?;
         self.journal.read(handle, block, &mut bytes)?;
-        let mut begins = [0; PRINTED_BYTES];
-        copy_front(&mut begins, &bytes);
-        Ok(begins)
+        Ok(front_of(&bytes))
     }
 
     /// Stops a handle.
@@ -259,20 +282,16 @@ impl Interpreter {
 
     /// Says whether a transaction is committed.
     fn status(&mut self, name: HandleName) -> Outcome {
-        let (status, tid) = match self.slots.get(name) {
-            Some(Slot::Stopped(ticket)) => {
-                (self.journal.status(ticket, &mut self.seat), ticket.tid())
-            }
-            Some(Slot::Waited(receipt)) => (Status::Committed, receipt.tid()),
+        let tid = match self.slots.get(name) {
+            Some(Slot::Stopped(ticket)) => match self.journal.status(ticket, &mut self.seat) {
+                Status::Committed => ticket.tid(),
+                Status::Open => return Outcome::Open,
+            },
+            Some(Slot::Waited(receipt)) => receipt.tid(),
             _ => return Outcome::Skipped,
         };
-        match status {
-            Status::Committed => {
-                self.acknowledge(tid);
-                Outcome::Committed
-            }
-            Status::Open => Outcome::Open,
-        }
+        self.acknowledge(tid);
+        Outcome::Committed
     }
 
     /// Takes the receipt of a committed transaction. Of any other nothing is awaited.

@@ -32,7 +32,7 @@ pub enum Outcome {
 impl fmt::Display for Outcome {
     fn fmt<W: fmt::Write>(&self, f: &mut fmt::Formatter<W>) -> fmt::Result {
         match self {
-            Outcome::Transaction(tid) => write!(f, "{}", tid.0),
+            Outcome::Transaction(tid) => tid.0.fmt(f),
             Outcome::Done => f.write_str("ok"),
             Outcome::Begins(bytes) => Hex(bytes).fmt(f),
             Outcome::Turn(turn) => write_turn(f, *turn),

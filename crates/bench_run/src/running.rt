@@ -15,9 +15,9 @@ use crate::outcome::{Hex, Outcome, PRINTED_BYTES};
 use crate::verdict::Record;
 use bench_script::{Measures, Operation, Script};
 use block_device::{Device, MemDevice};
-use journal_model::{Area, JournalError};
+use journal_model::{Area, JournalError, Tid};
 use log_dump::{Fault, dump};
-use recovery::{Opened, open};
+use recovery::{Opened, Report, open};
 use std::alloc::Global;
 use std::collections::BTreeSet;
 use std::io;
@@ -158,7 +158,7 @@ fn judge_image(
 {
     let opened = open_image(alloc, image)?;
     let n = recorded.count_below(opened.report().ends_at);
-    write_opening(out, &opened, n)?;
+    write_opening(out, opened.report(), opened.next(), n)?;
     let mut device = opened.into_device();
     judge_home(alloc, &mut device, recorded, named, n, out)
 }
@@ -208,13 +208,12 @@ fn open_image(alloc: Global, image: MemDevice) -> Result<Opened<MemDevice>, Jour
 }
 
 /// Prints what an opening found.
-fn write_opening<D: Device>(out: &mut impl Write, opened: &Opened<D>, n: usize) -> io::Result<()> {
-    let report = opened.report();
-    let next = opened.next().0;
+fn write_opening(out: &mut impl Write, report: Report, next: Tid, n: usize) -> io::Result<()> {
+    let (end, next) = (report.ends_at, next.0);
     if report.clean {
         writeln!(out, "open clean next={next} n={n}")
     } else {
-        writeln!(out, "open end={} next={next} n={n}", report.ends_at)
+        writeln!(out, "open end={end} next={next} n={n}")
     }
 }
 
@@ -228,13 +227,25 @@ fn write_home<D: Device>(
     ensures { Stays (D.state device.old) (D.state device.new) }
 {
     for block in named {
-        let home = read_block(alloc, device, Area::Home, *block)?;
-        write_home_line(out, *block, home.bytes())?;
+        write_block(alloc, device, *block, out)?;
     }
     Ok(())
 }
 
 /// Prints how one block begins.
+fn write_block<D: Device>(
+    alloc: Global,
+    device: &mut D,
+    block: u64,
+    out: &mut impl Write,
+) -> Result<(), Fault>
+    ensures { Stays (D.state device.old) (D.state device.new) }
+{
+    let home = read_block(alloc, device, Area::Home, block)?;
+    write_home_line(out, block, home.bytes()).map_err(Fault::Output)
+}
+
+/// Prints the line of a block with these bytes.
 fn write_home_line(out: &mut impl Write, block: u64, bytes: &[u8]) -> io::Result<()> {
     let begins = &bytes[..bytes.len().min(PRINTED_BYTES)];
     writeln!(out, "home {block} {}", Hex(begins))
