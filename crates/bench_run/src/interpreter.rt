@@ -5,7 +5,7 @@ use crate::outcome::{Outcome, PRINTED_BYTES};
 use crate::slots::{Slot, Slots};
 use bench_script::{HandleName, Operation};
 use block_device::{MemDevice, StopAt};
-use group_commit::{CheckTurn, Handle, Journal, Parts, Seat, Status, Ticket, Turn};
+use group_commit::{CheckTurn, Credits, Handle, Journal, Parts, Seat, Status, Ticket, Turn};
 use journal_model::{BlockNo, JournalError, Tid};
 use recovery::{Opened, open};
 use std::alloc::{AllocError, Global};
@@ -29,9 +29,8 @@ pub struct Interpreter {
 fn copy_front(to: &mut [u8], from: &[u8])
     ensures { length to.new ≡ length to.old }
 {
-    for (place, byte) in to.iter_mut().zip(from) {
-        *place = *byte;
-    }
+    let n = to.len().min(from.len());
+    to[..n].copy_from_slice(&from[..n]);
 }
 
 /// How these bytes begin.
@@ -142,9 +141,16 @@ impl Interpreter {
         }
     }
 
-    /// Reserves credits and makes a handle of them; where that is refused they are given back.
+    /// Reserves credits and makes a handle of them.
     fn join(&mut self, credits: u64) -> Result<Handle, JournalError> {
-        let credits = self.journal.reserve(&mut self.seat, credits)?;
+        match self.journal.reserve(&mut self.seat, credits) {
+            Ok(credits) => self.join_with(credits),
+            Err(e) => Err(e),
+        }
+    }
+
+    /// Makes a handle of these credits; where that is refused they are given back.
+    fn join_with(&mut self, credits: Credits) -> Result<Handle, JournalError> {
         match self.journal.try_join(credits) {
             Ok(handle) => Ok(handle),
             Err((credits, e)) => {

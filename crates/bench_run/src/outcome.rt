@@ -69,8 +69,8 @@ fn write_turn<W: fmt::Write>(f: &mut fmt::Formatter<W>, turn: Turn) -> fmt::Resu
         Turn::Idle => f.write_str("idle"),
         Turn::Waiting => f.write_str("waiting"),
         Turn::Step => f.write_str("step"),
-        Turn::Sealed(tid) => write!(f, "sealed {}", tid.0),
-        Turn::Committed(tid) => write!(f, "committed {}", tid.0),
+        Turn::Sealed(tid) => write_done(f, "sealed", tid),
+        Turn::Committed(tid) => write_done(f, "committed", tid),
     }
 }
 
@@ -79,6 +79,11 @@ fn write_check_turn<W: fmt::Write>(f: &mut fmt::Formatter<W>, turn: CheckTurn) -
     match turn {
         CheckTurn::Idle => f.write_str("idle"),
         CheckTurn::Step => f.write_str("step"),
-        CheckTurn::Released(tid) => write!(f, "released {}", tid.0),
+        CheckTurn::Released(tid) => write_done(f, "released", tid),
     }
+}
+
+/// Writes what was done to a transaction.
+fn write_done<W: fmt::Write>(f: &mut fmt::Formatter<W>, done: &str, tid: Tid) -> fmt::Result {
+    write!(f, "{done} {}", tid.0)
 }

@@ -135,15 +135,10 @@ pub fn judge(
 ) -> Result<bool, Fault>
     ensures { IfOk result (IsVerdict stopped.device keep.now stopped.recorded.sealed.items stopped.recorded.acknowledged (keys named.now)) }
 {
-    let Stopped {
-        device,
-        recorded,
-        at_write,
-    } = stopped;
-    write_stop(out, at_write)?;
-    let mut image = device.crash(keep);
+    write_stop(out, stopped.at_write)?;
+    let mut image = stopped.device.crash(keep);
     dump(alloc, &mut image, out)?;
-    judge_image(alloc, image, &recorded, named, out)
+    judge_image(alloc, image, &stopped.recorded, named, out)
 }
 
 /// Opens an image, and prints what the opening found, how the named blocks of home then begin, and the verdict.
