@@ -88,12 +88,24 @@ impl From<log_dump::Fault> for Fault {
 /// # Errors
 ///
 /// The line can't be written.
-pub(crate) fn report(err: &mut impl Write, path: &str, fault: &Fault) -> io::Result<()> {
+fn report(err: &mut impl Write, path: &str, fault: &Fault) -> io::Result<()> {
     match fault {
         Fault::File => writeln!(err, "jbench: file {path}"),
         Fault::BadScript => writeln!(err, "jbench: bad script"),
         Fault::Refused(e) => writeln!(err, "jbench: refusal {} {e}", e.number()),
         Fault::Output(_) => Ok(()),
+    }
+}
+
+/// Writes the line that `report` writes. The command is then refused.
+///
+/// # Errors
+///
+/// The line can't be written.
+pub(crate) fn refuse(err: &mut impl Write, path: &str, fault: &Fault) -> io::Result<Status> {
+    match report(err, path, fault) {
+        Ok(()) => Ok(Status::Refused),
+        Err(e) => Err(e),
     }
 }
 
@@ -103,8 +115,7 @@ pub(crate) fn report(err: &mut impl Write, path: &str, fault: &Fault) -> io::Res
 ///
 /// The line can't be written.
 pub fn refuse_file(err: &mut impl Write, path: &str, e: io::Error) -> io::Result<Status> {
-    report(err, path, &Fault::of_file(e))?;
-    Ok(Status::Refused)
+    refuse(err, path, &Fault::of_file(e))
 }
 
 /// Says why the program can't go on that failed so, where it is for want of memory. Where its own output can't be written,

@@ -21,8 +21,15 @@ const BLOCK_SIZE_PLACE: u64 = 0x0c;
 ///
 /// There is no regular file of this path, or it can't be read.
 pub fn open_log<R: Files<File = File>>(rt: &R, path: &str) -> io::Result<LogFiles> {
-    let log = regular(fs::open(rt, path)?)?;
-    FileDevice::new(UnknownContents, block_size_of(&log)?, log, None)
+    match fs::open(rt, path) {
+        Ok(file) => log_in(regular(file)?),
+        Err(e) => Err(e),
+    }
+}
+
+/// The log that a file holds.
+fn log_in(file: File) -> io::Result<LogFiles> {
+    FileDevice::new(UnknownContents, block_size_of(&file)?, file, None)
 }
 
 /// Opens a file to be written, and makes it where there is none. What it holds stays.
@@ -31,12 +38,15 @@ pub fn open_log<R: Files<File = File>>(rt: &R, path: &str) -> io::Result<LogFile
 ///
 /// What has this path is no regular file, or can't be written, or nothing can be made there.
 pub fn open_or_make<R: Files<File = File>>(rt: &R, path: &str) -> io::Result<File> {
-    let file = OpenOptions::new()
+    let opened = OpenOptions::new()
         .read(true)
         .write(true)
         .create(true)
-        .open(rt, path)?;
-    regular(file)
+        .open(rt, path);
+    match opened {
+        Ok(file) => regular(file),
+        Err(e) => Err(e),
+    }
 }
 
 /// Opens the file of a home area to be written, which is not that of its log, and makes it where there is none. What it holds
@@ -46,11 +56,19 @@ pub fn open_or_make<R: Files<File = File>>(rt: &R, path: &str) -> io::Result<Fil
 ///
 /// Those of `open_or_make`; the file is that of the log.
 pub fn open_home<R: Files<File = File>>(rt: &R, path: &str, log: &File) -> io::Result<File> {
-    let home = open_or_make(rt, path)?;
-    if are_one(log, &home)? {
-        return Err(io::Error::from(ErrorKind::InvalidInput));
+    match open_or_make(rt, path) {
+        Ok(home) => other_than(log, home),
+        Err(e) => Err(e),
     }
-    Ok(home)
+}
+
+/// This file of a home area, where it is not that of its log.
+fn other_than(log: &File, home: File) -> io::Result<File> {
+    if are_one(log, &home)? {
+        Err(io::Error::from(ErrorKind::InvalidInput))
+    } else {
+        Ok(home)
+    }
 }
 
 /// Whether two files are one.

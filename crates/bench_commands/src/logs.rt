@@ -41,8 +41,8 @@ fn say_made<W: Write + Drop>(measures: &Measures, mut out: W) -> Result<(), Faul
         out,
         "formatted {} blocks of {}",
         measures.log_blocks, measures.block_size
-    )?;
-    Ok(())
+    )
+    .map_err(Fault::from)
 }
 
 /// Prints the log of a device. `path` names its file. Where the log is refused nothing is printed, and one line on `err` says
@@ -78,9 +78,6 @@ fn end<E: Write + Drop>(path: &str, done: Result<(), Fault>, mut err: E) -> io::
     match done {
         Ok(()) => Ok(Status::Fine),
         Err(Fault::Output(e)) => Err(e),
-        Err(fault) => {
-            fault::report(&mut err, path, &fault)?;
-            Ok(Status::Refused)
-        }
+        Err(fault) => fault::refuse(&mut err, path, &fault),
     }
 }

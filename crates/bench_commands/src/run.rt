@@ -19,18 +19,24 @@ pub fn run<R: Read + Drop, W: Write + Drop, E: Write + Drop>(
     out: W,
     mut err: E,
 ) -> io::Result<Status> {
-    let verdict = match read_script(alloc, script) {
-        Ok(script) => run_script(alloc, words, &script, out),
-        Err(fault) => Err(fault),
-    };
-    match verdict {
+    match verdict_of(alloc, words, script, out) {
         Ok(true) => Ok(Status::Fine),
         Ok(false) => Ok(Status::VerdictFalse),
         Err(Fault::Output(e)) => Err(e),
-        Err(fault) => {
-            fault::report(&mut err, words.script, &fault)?;
-            Ok(Status::Refused)
-        }
+        Err(fault) => fault::refuse(&mut err, words.script, &fault),
+    }
+}
+
+/// Reads a script, and runs it. The answer is the verdict.
+fn verdict_of<R: Read + Drop, W: Write + Drop>(
+    alloc: Global,
+    words: &RunWords<'_>,
+    script: R,
+    out: W,
+) -> Result<bool, Fault> {
+    match read_script(alloc, script) {
+        Ok(script) => run_script(alloc, words, &script, out),
+        Err(fault) => Err(fault),
     }
 }
 

@@ -208,15 +208,19 @@ pub struct RunWords<'a> {
     pub keep: Vec<u64>,
 }
 
+/// A value that may stand behind a command.
+fn bare_arg<'a>(alloc: Global, word: &Word) -> Arg<'a> {
+    Arg::new(alloc, word.name)
+        .value_name(word.value)
+        .help(word.help)
+}
+
 /// A word as `clap` has it.
 fn arg_of<'a>(alloc: Global, word: &Word) -> Arg<'a> {
-    let arg = Arg::new(alloc, word.name)
-        .value_name(word.value)
-        .help(word.help);
     if word.is_option {
-        arg.long(word.name)
+        bare_arg(alloc, word).long(word.name)
     } else {
-        arg.required(true)
+        bare_arg(alloc, word).required(true)
     }
 }
 
@@ -244,41 +248,35 @@ fn command_of<'a>(alloc: Global, usage: &Usage) -> Result<Command<'a>, AllocErro
     with_words(alloc, bare_command(alloc, usage), usage.words)
 }
 
-/// The program without its commands.
-fn bare_program<'a>(alloc: Global) -> Result<Command<'a>, AllocError> {
+/// The commands of the program.
+fn commands<'a>(alloc: Global) -> Result<Vec<Command<'a>>, AllocError> {
+    let mut commands = Vec::new(alloc);
+    for usage in [&RUN, &FORMAT, &DUMP] {
+        commands.push(command_of(alloc, usage)?)?;
+    }
+    Ok(commands)
+}
+
+/// The program with these commands.
+fn program_with<'a>(alloc: Global, commands: Vec<Command<'a>>) -> Result<Command<'a>, AllocError> {
     bare_command(alloc, &PROGRAM)
         .disable_help_subcommand(true)
         .subcommand_required(true)
-        .bin_name("jbench")
-}
-
-/// The program with one more command.
-fn with_command<'a>(
-    alloc: Global,
-    program: Command<'a>,
-    usage: &Usage,
-) -> Result<Command<'a>, AllocError> {
-    match command_of(alloc, usage) {
-        Ok(command) => program.subcommand(command),
-        Err(e) => Err(e),
-    }
+        .bin_name("jbench")?
+        .subcommands(commands)
 }
 
 /// The program.
 fn program<'a>(alloc: Global) -> Result<Command<'a>, AllocError> {
-    let mut program = bare_program(alloc)?;
-    for usage in [&RUN, &FORMAT, &DUMP] {
-        program = with_command(alloc, program, usage)?;
-    }
-    Ok(program)
+    program_with(alloc, commands(alloc)?)
 }
 
 /// The numbers of a list with commas, or `None` where it is no such list. An empty text is an empty list.
 fn list_of(alloc: Global, text: &str) -> Result<Option<Vec<u64>>, AllocError> {
-    let mut numbers = Vec::new(alloc);
     if text.is_empty() {
-        return Ok(Some(numbers));
+        return Ok(Some(Vec::new(alloc)));
     }
+    let mut numbers = Vec::new(alloc);
     for word in text.split(',') {
         match word.parse::<u64>() {
             Ok(number) => numbers.push(number)?,
@@ -483,14 +481,16 @@ pub fn parse<'a, S: AsStr>(alloc: Global, words: &'a [S]) -> Result<Words<'a>, E
 /// The answer can't be written.
 pub fn answer(e: &Error, out: &mut impl Write, err: &mut impl Write) -> io::Result<Status> {
     if e.kind() == ErrorKind::OutOfMemory {
-        fault::report(err, "", &Fault::Refused(JournalError::Memory))?;
-        return Ok(Status::Refused);
-    }
-    if e.use_stderr() {
-        write!(err, "{e}")?;
-        Ok(Status::Refused)
+        fault::refuse(err, "", &Fault::Refused(JournalError::Memory))
+    } else if e.use_stderr() {
+        say(err, e, Status::Refused)
     } else {
-        write!(out, "{e}")?;
-        Ok(Status::Fine)
+        say(out, e, Status::Fine)
     }
+}
+
+/// Writes an answer, and tells how the command then ended.
+fn say(to: &mut impl Write, e: &Error, status: Status) -> io::Result<Status> {
+    write!(to, "{e}")?;
+    Ok(status)
 }
