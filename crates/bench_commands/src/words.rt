@@ -32,14 +32,10 @@ struct Word {
     help: &'static str,
 }
 
-/// What the program does, in a line.
-const ABOUT: &str =
-    "Runs scripts of journal operations over a disk in memory that loses power and judges what is left; makes logs; prints logs";
-
 /// The program itself.
 const PROGRAM: Usage = Usage {
     name: "jbench",
-    about: ABOUT,
+    about: "Runs scripts of journal operations over a disk in memory that loses power and judges what is left; makes logs; prints logs",
     after_help: "\
 run SCRIPT [--stop K] [--keep LIST]: SCRIPT is a file, K a write number from 1 on (default: the device stops at the end), LIST
 write numbers with commas (default: none). jbench run --help says what a script is.
