@@ -1,9 +1,11 @@
 -- A device as contracts see it, and what a call does to it. Source: a disk with a volatile write cache, as flush
 -- requests suppose (the kernel's writeback_cache_control.rst); that a block is written whole or not at all is a premise.
-use Rattle.std.specs.Prelude.{◌≡◌, ℕ, ◌+◌, ◌-◌, ◌^◌, ◌<◌, min, List, ◌∷◌, ◌++◌, length, Result, MatchResult}
+use Rattle.std.specs.Prelude.{◌≡◌, ◌⊎◌, ℕ, ◌+◌, ◌-◌, ◌^◌, ◌<◌, min, List, ◌∷◌, ◌++◌, length, Result, MatchResult}
 use Rattle.std.specs.List.{AllByRecursion}
 use Rattle.journal_model.specs.declared.number.Area.{Area}
 use Rattle.journal_model.specs.declared.number.Area.TheVariants.{Log, Home}
+use Rattle.journal_model.specs.declared.refusal.JournalError.{JournalError}
+use Rattle.journal_model.specs.declared.refusal.JournalError.TheVariants.{Device, Memory}
 use Rattle.journal_model.specs.Disk.{Disk, Image, IsOneOf, Leaves, held, written, handed_over}
 use Rattle.journal_model.specs.Superblock.{Shape}
 
@@ -30,6 +32,14 @@ one_more_fault faults = min (faults + 1) most_faults
 -- a call that answers Ok has not failed, and one that answers a fault has failed once
 abbrev pub CountsFaults : {T E : Type 0} → Result T E → DeviceState → DeviceState → Type 0
 CountsFaults result old new = MatchResult result (λ _. new.faults ≡ old.faults) (λ _. new.faults ≡ one_more_fault old.faults)
+
+-- the device failed, and counted that
+abbrev pub IsDeviceFailure : DeviceState → DeviceState → JournalError → Type 0
+IsDeviceFailure old new e = (e ≡ Device) × (new.faults ≡ one_more_fault old.faults)
+
+-- the device failed, or memory ran out and the device did not fail
+abbrev pub IsFailure : DeviceState → DeviceState → JournalError → Type 0
+IsFailure old new e = IsDeviceFailure old new e ⊎ ((e ≡ Memory) × (new.faults ≡ old.faults))
 
 -- the state of a device that has failures of its own beside those of the one behind it
 abbrev pub with_own_faults : DeviceState → ℕ → DeviceState

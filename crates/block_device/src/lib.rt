@@ -9,9 +9,11 @@ mod device;
 mod laws;
 mod memory;
 mod memory_index;
+mod reading;
 mod stop;
 
 pub use device::{Device, DeviceFault};
 pub use laws::a_crash_meets_one_of_the_moments;
 pub use memory::{Call, MemDevice, Write};
+pub use reading::read_block;
 pub use stop::StopAt;

@@ -45,4 +45,11 @@ impl Block {
     {
         &self.bytes
     }
+
+    /// The bytes in a vector, to be changed.
+    pub fn into_bytes(self) -> Vec<u8>
+        ensures { result.items ≡ self }
+    {
+        self.bytes
+    }
 }

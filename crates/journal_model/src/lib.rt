@@ -5,6 +5,7 @@
 mod block;
 pub mod disk_laws;
 mod entry;
+pub mod layout;
 mod list;
 mod log;
 pub mod log_laws;

@@ -14,6 +14,16 @@ pub struct Tag {
     pub last: bool,
 }
 
+impl Tag {
+    /// A tag that is not in use: it fills a list of tags that are to be read or made.
+    pub const UNUSED: Tag = Tag {
+        block: BlockNo(0),
+        escaped: false,
+        same_uuid: false,
+        last: false,
+    };
+}
+
 /// One revoke block, or one descriptor block with the copies behind it.
 #[derive(Debug, Drop)]
 pub enum Piece {

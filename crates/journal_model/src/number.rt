@@ -1,3 +1,8 @@
+//! The numbers of blocks, transactions and handles.
+ghost use Rattle.std.specs.Prelude.{◌↔◌, ℕ, IsTrue};
+ghost use Rattle.journal_model.specs.Block.{IsAllowedBlock};
+ghost use Rattle.journal_model.specs.Layout.{narrow};
+
 use std::marker::Model;
 
 /// One of the two parts of the disk that a journal works on.
@@ -21,6 +26,16 @@ impl Model for BlockNo {
     ghost view = { λ b. b.0 };
 
     ghost inverse = { λ n. record { 0 = n } };
+}
+
+impl BlockNo {
+    /// Whether a transaction may touch the block: a home area of so many blocks has it, and a tag can spell it.
+    /// Source: journal.rst, "Descriptor Block" (a block number of 32 bits).
+    pub fn is_allowed(self, home_blocks: u64) -> bool
+        ensures { (size : ℕ) → IsTrue result ↔ IsAllowedBlock (narrow size) home_blocks self }
+    {
+        self.0 < home_blocks && self.0 <= u64::from(u32::MAX)
+    }
 }
 
 /// The number of a transaction, as it stands in the headers of its log blocks.

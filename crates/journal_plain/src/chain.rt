@@ -8,25 +8,11 @@ ghost use Rattle.journal_model.specs.RevokeBlock.{IsRevokeBlock, numbers_in};
 ghost use Rattle.journal_model.specs.Chain.{IsChain, IsMalformed, IsDamaged};
 ghost use Rattle.journal_model.specs.ReadingLog.{Finds, layout_with, HasTags, NoPieceBegins, PieceBegins, PiecesBegin, NoTextBegins, TextBegins, TextsBegin};
 
+use journal_model::layout::{
+    COMMIT_TYPE, DESCRIPTOR_TYPE, HEADER_BYTES, MAGIC, REVOKE_HEADER_BYTES, REVOKE_TYPE, UUID_BYTES,
+};
 use journal_model::{Block, BlockNo, Items, Piece, Tag, Text};
 use std::alloc::{AllocError, Global};
-
-/// The first four bytes of each block that the log itself writes.
-const MAGIC: [u8; 4] = [0xc0, 0x3b, 0x39, 0x98];
-
-/// The types of a descriptor, a commit block and a revoke block.
-const DESCRIPTOR_TYPE: u64 = 1;
-
-const COMMIT_TYPE: u64 = 2;
-
-const REVOKE_TYPE: u64 = 5;
-
-/// Bytes of a header, of the fields before a revoke block's numbers, and of a UUID.
-const HEADER_BYTES: usize = 12;
-
-const REVOKE_HEADER_BYTES: usize = 16;
-
-const UUID_BYTES: usize = 16;
 
 /// What a reader knows of a log before it reads: the bytes in a block and in a block number, and how many blocks
 /// the home area has.
@@ -55,12 +41,12 @@ fn read_number(at: usize, count: usize, bytes: &[u8]) -> u64
 }
 
 /// Whether the block begins with a header of this type and this number of a transaction.
-fn has_header(kind: u64, sequence: u64, block: &[u8]) -> bool
+fn has_header(kind: u32, sequence: u64, block: &[u8]) -> bool
     ensures value { IsTrue result ↔ HasHeader kind sequence block.now }
     ensures below { IsTrue result → sequence < 2 ^ 32 }
 {
     block.starts_with(&MAGIC)
-        && read_number(4, 4, block) == kind
+        && read_number(4, 4, block) == u64::from(kind)
         && read_number(8, 4, block) == sequence
 }
 

@@ -6,11 +6,9 @@ ghost use Rattle.journal_model.specs.Escape.{unescaped};
 ghost use Rattle.journal_model.specs.Replay.{HasNoLive, IsCovered, IsLive, IsNewest};
 ghost use Rattle.journal_model.specs.Text.{piece_copies, piece_revokes, text_copies, text_revokes};
 
+use journal_model::layout::MAGIC;
 use journal_model::{Block, BlockNo, Items, Piece, Tag, Text};
 use std::alloc::{AllocError, Global};
-
-/// The bytes that an escaped copy begins with.
-const MAGIC: [u8; 4] = [0xc0, 0x3b, 0x39, 0x98];
 
 /// Whether a piece revokes a block.
 fn piece_revokes(piece: &Piece, block: BlockNo) -> bool

@@ -6,14 +6,7 @@ ghost use Rattle.journal_model.specs.Layout.{numbers_of, tags_of};
 ghost use Rattle.journal_model.specs.OwnText.{ceil_div};
 ghost use Rattle.journal_model.specs.Room.{IsCapacity, need};
 
-/// Bytes of the header of a log block.
-const HEADER_BYTES: usize = 12;
-
-/// Bytes before the numbers of a revoke block.
-const REVOKE_HEADER_BYTES: usize = 16;
-
-/// Bytes of a UUID.
-const UUID_BYTES: usize = 16;
+use journal_model::layout::{HEADER_BYTES, REVOKE_HEADER_BYTES, UUID_BYTES};
 
 /// Bytes of a tag beside the block number in it.
 const TAG_FIELD_BYTES: usize = 4;

@@ -11,15 +11,11 @@ use Rattle.journal_model.specs.Dump.{IsDump, IsDumpRefused, dump_shape, text_cap
 use Rattle.journal_model.specs.Opening.{layout_of, ring_of, super_of}
 use Rattle.journal_model.specs.ReadingLog.{TextBegins}
 use Rattle.journal_model.specs.Superblock.{Shape, Super, super_refusal}
-use Rattle.block_device.specs.State.{DeviceState, one_more_fault}
+use Rattle.block_device.specs.State.{DeviceState, IsDeviceFailure, IsFailure, one_more_fault}
 use Rattle.log_dump.specs.Finding.{blocks_from, every_block}
 use Rattle.log_dump.specs.Lines.{placed_lines}
 use Rattle.log_dump.specs.declared.fault.Fault.{Fault}
 use Rattle.log_dump.specs.declared.fault.Fault.TheVariants.{Refused, Output}
-
--- the device failed, and counted that
-abbrev pub IsDeviceFailure : DeviceState → DeviceState → JournalError → Type 0
-IsDeviceFailure old new e = (e ≡ Device) × (new.faults ≡ one_more_fault old.faults)
 
 -- these are the texts of a log that is not clean, and no block behind them is malformed
 pub record AreTextsOf (s : Super) (image : Image) (texts : List Text) : Type 0 where
@@ -86,10 +82,6 @@ pub record DumpRefused (honest unwritten : Type 0) (old new : DeviceState) (e : 
 abbrev pub IsDumpFault : (honest unwritten : Type 0) → DeviceState → DeviceState → Fault → Type 0
 IsDumpFault honest unwritten old new (Refused e) = DumpRefused honest unwritten old new e
 IsDumpFault honest unwritten old new (Output e) = (new.faults ≡ old.faults) × (honest → HasDump (shape_of old) (reading old.disk))
-
--- the device failed, or memory ran out and the device did not fail
-abbrev pub IsFailure : DeviceState → DeviceState → JournalError → Type 0
-IsFailure old new e = IsDeviceFailure old new e ⊎ ((e ≡ Memory) × (new.faults ≡ old.faults))
 
 -- the superblock can't be read, or is refused
 abbrev pub IsLogRefused : (honest : Type 0) → DeviceState → DeviceState → JournalError → Type 0

@@ -2,7 +2,6 @@
 ghost use Rattle.std.specs.Prelude.{◌≡◌, ◌≢◌, ◌⊎◌, ℕ, ◌<◌, ◌≤◌, List, [], length, IfOk, IfErr, OnOk, OnErr, MatchResult};
 ghost use Rattle.std.specs.Io.KnownBytes.{Appends};
 ghost use Rattle.journal_model.specs.declared.log.Text.{Text};
-ghost use Rattle.journal_model.specs.declared.number.Area.TheVariants.{Log as LogArea};
 ghost use Rattle.journal_model.specs.declared.refusal.JournalError.TheVariants.{Memory};
 ghost use Rattle.journal_model.specs.Disk.{reading};
 ghost use Rattle.journal_model.specs.Dump.{dump_text};
@@ -10,7 +9,7 @@ ghost use Rattle.journal_model.specs.Opening.{ring_of};
 ghost use Rattle.block_device.specs.State.{Stays};
 ghost use Rattle.log_format.specs.Accepted.{IsAccepted};
 ghost use Rattle.log_format.specs.Size.{IsBlockSize};
-ghost use Rattle.log_dump.specs.Dumping.{AreTextsOf, HasDump, IsDumpFault, IsFailure, IsLogRefused, IsPrintRefused, IsReadLog, PrintsDump, shape_of};
+ghost use Rattle.log_dump.specs.Dumping.{AreTextsOf, HasDump, IsDumpFault, IsLogRefused, IsPrintRefused, IsReadLog, PrintsDump, shape_of};
 
 use crate::counting::count_transactions;
 use crate::fault::Fault;
@@ -18,7 +17,7 @@ use crate::finding::Finder;
 use crate::lines::{write_empty, write_end, write_super};
 use crate::log::Log;
 use crate::printing::write_transactions;
-use block_device::Device;
+use block_device::{Device, read_block};
 use journal_model::{Area, JournalError};
 use log_format::Super;
 use std::alloc::Global;
@@ -81,23 +80,9 @@ fn read_log<D: Device>(alloc: Global, device: &mut D) -> Result<Log, JournalErro
     if log_blocks == 0 {
         return Err(JournalError::BadLength);
     }
-    let superblock = read_superblock(alloc, device)?;
-    let fields = Super::read(&superblock, log_blocks)?;
+    let superblock = read_block(alloc, device, Area::Log, 0)?;
+    let fields = Super::read(superblock.bytes(), log_blocks)?;
     Ok(Log::new(fields))
-}
-
-/// Reads block 0 of the log.
-fn read_superblock<D: Device>(alloc: Global, device: &mut D) -> Result<Vec<u8>, JournalError>
-    requires { 0 < (D.state device.old).shape.log_blocks }
-    ensures size { IfOk result (λ block. length block.items ≡ (D.state device.old).shape.block_size) }
-    ensures read { IfOk result (λ block. D.honest device.new → block.items ≡ reading (D.state device.old).disk LogArea 0) }
-    ensures faults { MatchResult result (λ _. (D.state device.new).faults ≡ (D.state device.old).faults) (IsFailure (D.state device.old) (D.state device.new)) }
-    ensures stays { Stays (D.state device.old) (D.state device.new) }
-    ensures honest { D.honest device.new → D.honest device.old }
-{
-    let mut superblock = vec![in alloc; 0; device.block_size()]?;
-    device.read(Area::Log, 0, &mut superblock)?;
-    Ok(superblock)
 }
 
 /// Prints the dump of a clean log.

@@ -3,14 +3,17 @@ ghost use Rattle.std.specs.Prelude.{◌≡◌, ℕ, ◌+◌, ◌-◌, ◌<◌, �
 ghost use Rattle.journal_model.specs.Disk.{reading};
 ghost use Rattle.journal_model.specs.Layout.{narrow, HasHeader, descriptor_type, revoke_type, sequence_in};
 ghost use Rattle.journal_model.specs.Opening.{layout_of, ring_of};
-ghost use Rattle.block_device.specs.State.{Stays};
+ghost use Rattle.block_device.specs.State.{IsDeviceFailure, Stays};
 ghost use Rattle.log_format.specs.Accepted.{IsAccepted};
 ghost use Rattle.log_format.specs.Size.{IsBlockSize};
 ghost use Rattle.log_dump.specs.Finding.{Fits, IsFound, Says, blocks_from, every_block};
-ghost use Rattle.log_dump.specs.Dumping.{IsDeviceFailure};
 
 use crate::log::Log;
 use block_device::Device;
+use journal_model::layout::{
+    COMMIT_TYPE, DESCRIPTOR_TYPE, HEADER_BYTES, NUMBER_BYTES, REVOKE_HEADER_BYTES, REVOKE_TYPE,
+    TAG_BYTES,
+};
 use journal_model::{Area, BlockNo, JournalError, Tag};
 use log_format::{Descriptor, Header, RevokeBlock};
 use std::alloc::{AllocError, Global};
@@ -18,31 +21,6 @@ use std::marker::Model;
 
 /// The home area is not known: each number of four bytes may be that of a home block.
 const EVERY_BLOCK: u64 = 0x1_0000_0000;
-
-/// The types of a descriptor, a commit block and a revoke block.
-const DESCRIPTOR_TYPE: u32 = 1;
-
-const COMMIT_TYPE: u32 = 2;
-
-const REVOKE_TYPE: u32 = 5;
-
-/// Bytes before the first tag of a descriptor, and the fewest bytes of a tag.
-const HEADER_BYTES: usize = 12;
-
-const TAG_BYTES: usize = 8;
-
-/// Bytes before the first number of a revoke block, and of a number.
-const REVOKE_HEADER_BYTES: usize = 16;
-
-const NUMBER_BYTES: usize = 4;
-
-/// A tag of no block, which is written over.
-const NO_TAG: Tag = Tag {
-    block: BlockNo(0),
-    escaped: false,
-    same_uuid: false,
-    last: false,
-};
 
 /// What stands at a place of the log, where a block of one transaction is due.
 #[derive(Clone, Copy)]
@@ -90,7 +68,7 @@ impl Finder {
     {
         Ok(Finder {
             block: vec![in alloc; 0; block_size]?,
-            tags: vec![in alloc; NO_TAG; (block_size - HEADER_BYTES) / TAG_BYTES]?,
+            tags: vec![in alloc; Tag::UNUSED; (block_size - HEADER_BYTES) / TAG_BYTES]?,
             numbers: vec![in alloc; BlockNo(0); (block_size - REVOKE_HEADER_BYTES) / NUMBER_BYTES]?,
         })
     }

@@ -4,7 +4,7 @@ ghost use Rattle.journal_model.specs.OwnText.{commit_block};
 ghost use Rattle.log_format.specs.Size.{IsBlockSize};
 
 use crate::Header;
-use crate::header::{COMMIT_TYPE, HEADER_BYTES};
+use journal_model::layout::{COMMIT_TYPE, HEADER_BYTES};
 
 /// A commit block: it ends a transaction. Nothing behind its header is read.
 /// Source: journal.rst, "Commit Block".

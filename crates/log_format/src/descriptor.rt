@@ -4,16 +4,10 @@ ghost use Rattle.journal_model.specs.Layout.{narrow, descriptor_type, every_numb
 ghost use Rattle.journal_model.specs.Descriptor.{BeginsWithTag, IsDescriptor, descriptor_block, flag_word, tag_spelling, uuid_behind};
 ghost use Rattle.log_format.specs.Size.{FitDescriptor, IsBlockSize, most_tags};
 
-use crate::header::{DESCRIPTOR_TYPE, HEADER_BYTES};
 use crate::{Header, Malformed};
 use byteorder::{BigEndian, ByteOrder};
+use journal_model::layout::{DESCRIPTOR_TYPE, HEADER_BYTES, TAG_BYTES, UUID_BYTES};
 use journal_model::{BlockNo, Tag};
-
-/// Bytes of a tag, without the UUID that may follow it.
-const TAG_BYTES: usize = 8;
-
-/// Bytes of a UUID.
-const UUID_BYTES: usize = 16;
 
 /// Flag: the copy is escaped.
 const ESCAPED: u16 = 1;

@@ -3,7 +3,7 @@ ghost use Rattle.journal_model.specs.Escape.{escaped, unescaped};
 ghost use Rattle.journal_model.specs.Layout.{begins_with_magic};
 ghost use Rattle.log_format.specs.Size.{IsBlockSize};
 
-use crate::header::MAGIC;
+use journal_model::layout::MAGIC;
 
 /// Makes the bytes of a home block, `copy`, what stands for them in the log: where they begin with the magic, these
 /// four bytes become zeros. The answer says whether they did, which the copy's tag has to tell as its flag 1. The

@@ -2,24 +2,7 @@ ghost use Rattle.std.specs.Prelude.{◌≡◌, ◌≤◌, ◌++◌, true, false,
 ghost use Rattle.journal_model.specs.Layout.{begins_with_magic, header, header_bytes, sequence_in, type_in};
 
 use byteorder::{BigEndian, ByteOrder};
-
-/// The first four bytes of a superblock and of each descriptor, commit and revoke block.
-pub(crate) const MAGIC: [u8; 4] = [0xc0, 0x3b, 0x39, 0x98];
-
-/// Bytes of a header.
-pub(crate) const HEADER_BYTES: usize = 12;
-
-/// The type of a descriptor.
-pub(crate) const DESCRIPTOR_TYPE: u32 = 1;
-
-/// The type of a commit block.
-pub(crate) const COMMIT_TYPE: u32 = 2;
-
-/// The type of a superblock, in version 2, the one that is taken.
-pub(crate) const SUPER_TYPE: u32 = 4;
-
-/// The type of a revoke block.
-pub(crate) const REVOKE_TYPE: u32 = 5;
+use journal_model::layout::MAGIC;
 
 /// The header that the superblock and each descriptor, commit and revoke block begins with.
 /// Source: journal.rst, "Block Header".

@@ -3,16 +3,10 @@ ghost use Rattle.journal_model.specs.Layout.{narrow, numbers_of, revoke_type, se
 ghost use Rattle.journal_model.specs.RevokeBlock.{IsRevokeBlock, revoke_block};
 ghost use Rattle.log_format.specs.Size.{FitRevokeBlock, IsBlockSize};
 
-use crate::header::{HEADER_BYTES, REVOKE_TYPE};
 use crate::{Header, Malformed};
 use byteorder::{BigEndian, ByteOrder};
 use journal_model::BlockNo;
-
-/// Bytes of a revoke block before its numbers: the header, and the count of bytes in use.
-const REVOKE_HEADER_BYTES: usize = 16;
-
-/// Bytes of a number.
-const NUMBER_BYTES: usize = 4;
+use journal_model::layout::{HEADER_BYTES, NUMBER_BYTES, REVOKE_HEADER_BYTES, REVOKE_TYPE};
 
 /// A revoke block: it names home blocks of which no copy is to be replayed that stands in its own transaction or in an
 /// earlier one. Copies in later transactions are not touched by it.

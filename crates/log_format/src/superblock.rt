@@ -5,19 +5,13 @@ ghost use Rattle.log_format.specs.Accepted.{IsAccepted};
 ghost use Rattle.log_format.specs.Size.{IsBlockSize};
 
 use crate::Header;
-use crate::header::{MAGIC, SUPER_TYPE};
 use byteorder::{BigEndian, ByteOrder};
 use journal_model::JournalError;
+use journal_model::layout::{GREATEST_LENGTH, LEAST_LENGTH, MAGIC, SUPER_TYPE};
 use std::marker::Model;
 
 /// The one incompatible feature that is taken: revoke blocks.
 const REVOKE_FEATURE: u32 = 1;
-
-/// The fewest blocks of a log, with the superblock.
-const LEAST_LENGTH: u32 = 17;
-
-/// The most blocks of a log.
-const GREATEST_LENGTH: u32 = 1_048_576;
 
 /// The fewest blocks of a ring.
 const LEAST_RING: u32 = 16;

@@ -10,19 +10,13 @@ ghost use Rattle.journal_model.specs.Text.{text_blocks};
 ghost use Rattle.log_ring.specs.Parts.{FitsPart, copy_parts, part_block, parts, revoke_parts};
 
 use crate::ring::Ring;
+use journal_model::layout::{
+    HEADER_BYTES, NUMBER_BYTES, REVOKE_HEADER_BYTES, TAG_BYTES, UUID_BYTES,
+};
 use std::marker::Model;
 
 /// Bytes of a descriptor that no tag takes: its header, the first tag's UUID, and room for a UUID behind the last tag.
-const DESCRIPTOR_BYTES: usize = 44;
-
-/// Bytes of a tag.
-const TAG_BYTES: usize = 8;
-
-/// Bytes of a revoke block before its numbers.
-const REVOKE_HEADER_BYTES: usize = 16;
-
-/// Bytes of a number in a revoke block.
-const NUMBER_BYTES: usize = 4;
+const DESCRIPTOR_BYTES: usize = HEADER_BYTES + 2 * UUID_BYTES;
 
 /// What a log block of a transaction is. Its copies and its revokes are counted from 0, each in the order of its entries.
 #[derive(Clone, Copy, Debug, PartialEq, Eq)]

@@ -6,16 +6,12 @@ ghost use Rattle.log_format.specs.Size.{IsBlockSize};
 ghost use Rattle.recovery.specs.Opening.{FormatRefused, HasZeros, IsDeviceFailure, IsFormatted};
 
 use block_device::Device;
+use journal_model::layout::{GREATEST_LENGTH, LEAST_LENGTH};
 use journal_model::{Area, JournalError};
 use log_format::Super;
 
 /// Bytes of the largest block.
 const MOST_BYTES: usize = 4096;
-
-/// The fewest and the most blocks of a log.
-const LEAST_LENGTH: u32 = 17;
-
-const GREATEST_LENGTH: u32 = 1_048_576;
 
 /// Makes an empty log of `maxlen` blocks, 17 to 1,048,576, the superblock among them, with this UUID. All of its blocks behind
 /// the superblock become zeros; what lies behind the log in its area is made durable as it reads, and home isn't touched.

@@ -10,18 +10,13 @@ ghost use Rattle.block_device.specs.State.{Stays};
 ghost use Rattle.log_format.specs.Accepted.{IsAccepted};
 ghost use Rattle.recovery.specs.Opening.{AreTextsOf, IsAheadBlock, IsFailure, IsFound, IsLowestAhead, IsReadFrom, IsReadingRefused, IsRefusedLog, IsWellRead, IsWholeLap, NoneAhead};
 
-use block_device::Device;
+use block_device::{Device, read_block};
+use journal_model::layout::{GREATEST_NUMBER, NUMBER_BYTES};
 use journal_model::{Area, Block, Items, JournalError, Text};
 use journal_plain::chain::{chain, damage};
 use log_format::{Header, Super};
 use log_ring::Ring;
 use std::alloc::Global;
-
-/// The greatest number of a transaction.
-const GREATEST_NUMBER: u64 = 0xffff_fff0;
-
-/// Bytes of a block number in a log without 64-bit numbers.
-const NUMBER_BYTES: usize = 4;
 
 /// A log as it was read: the superblock, and the blocks of the ring, in the order of the ring from where the log begins.
 #[derive(Drop)]
@@ -62,11 +57,10 @@ fn read_superblock<D: Device>(alloc: Global, device: &mut D) -> Result<Vec<u8>, 
     ensures stays { Stays (D.state device.old) (D.state device.new) }
     ensures honest { D.honest device.new → D.honest device.old }
 {
-    let mut superblock = vec![in alloc; 0; device.block_size()]?;
-    if device.blocks(Area::Log) > 0 {
-        device.read(Area::Log, 0, &mut superblock)?;
+    if device.blocks(Area::Log) == 0 {
+        return Ok(vec![in alloc; 0; device.block_size()]?);
     }
-    Ok(superblock)
+    Ok(read_block(alloc, device, Area::Log, 0)?.into_bytes())
 }
 
 /// Where in the log the k-th ring block stands, counted from where the log begins, or in a clean log from the ring's first.
@@ -95,24 +89,10 @@ fn read_lap<D: Device>(
 {
     let mut lap = Items::new(alloc);
     for k in 0..ring.blocks() {
-        let block = read_block(alloc, device, lap_place(ring, fields, k))?;
+        let block = read_block(alloc, device, Area::Log, lap_place(ring, fields, k))?;
         lap.push(block)?;
     }
     Ok(lap)
-}
-
-/// Reads a block of the log.
-fn read_block<D: Device>(alloc: Global, device: &mut D, place: u64) -> Result<Block, JournalError>
-    requires { place < (D.state device.old).shape.log_blocks }
-    ensures size { IfOk result (λ block. length block ≡ (D.state device.old).shape.block_size) }
-    ensures read { IfOk result (λ block. D.honest device.new → block ≡ reading (D.state device.old).disk Log place) }
-    ensures faults { MatchResult result (λ _. (D.state device.new).faults ≡ (D.state device.old).faults) (λ e. IsFailure (D.state device.old) (D.state device.new) e) }
-    ensures stays { Stays (D.state device.old) (D.state device.new) }
-    ensures honest { D.honest device.new → D.honest device.old }
-{
-    let mut bytes = vec![in alloc; 0; device.block_size()]?;
-    device.read(Area::Log, place, &mut bytes)?;
-    Ok(Block::new(bytes))
 }
 
 /// Whether a log with these fields is clean.
@@ -139,7 +119,7 @@ pub(crate) fn scan(
     if let Some(place) = lowest_ahead(log, limit) {
         return Err(JournalError::Ahead(place));
     }
-    if limit >= GREATEST_NUMBER {
+    if limit >= u64::from(GREATEST_NUMBER) {
         return Err(JournalError::SequenceEnd);
     }
     Ok((texts, limit))

@@ -12,24 +12,24 @@ returns-in_err-fields-clause-faults g c =
     let p = err_from_is_err_and c.from_residual-in_err-fields.result c.from_residual-in_err-fields.ensures.1 in
     rw (p.1, p.2)
     (inr (
-      refused-other (record { block_size = length c.deref.result.now; log_blocks = c.blocks-log_blocks.result; home_blocks = every_block }) c.deref.result.now c.in_err-fields.field-0.0 (c.in_err-fields.ensures.tests every_block),
+      refused-other (record { block_size = length c.bytes.result.now; log_blocks = c.blocks-log_blocks.result; home_blocks = every_block }) c.bytes.result.now c.in_err-fields.field-0.0 (c.in_err-fields.ensures.tests every_block),
       c.in_ok-superblock.ensures.faults,
-      λ h. tested-for (g.D.Device.state c.args.device.now).shape.block_size (g.D.Device.state c.args.device.now).shape.log_blocks (length c.deref.result.now) c.blocks-log_blocks.result
-          c.deref.result.now _ (Some c.in_err-fields.field-0.0) (ap length c.deref.ensures.value ∙ c.in_ok-superblock.ensures.size) c.blocks-log_blocks.ensures
-          (c.deref.ensures.value ∙ c.in_ok-superblock.ensures.read h) (c.in_err-fields.ensures.tests every_block),
+      λ h. tested-for (g.D.Device.state c.args.device.now).shape.block_size (g.D.Device.state c.args.device.now).shape.log_blocks (length c.bytes.result.now) c.blocks-log_blocks.result
+          c.bytes.result.now _ (Some c.in_err-fields.field-0.0) (ap length c.bytes.ensures ∙ c.in_ok-superblock.ensures.size) c.blocks-log_blocks.ensures
+          (c.bytes.ensures ∙ c.in_ok-superblock.ensures.bytes h) (c.in_err-fields.ensures.tests every_block),
     ))
 
 -- it is accepted
 pub returns-clause-read : goal.returns-clause-read
 returns-clause-read g c = λ h. record {
   accepted =
-      tested-for (g.D.Device.state c.args.device.now).shape.block_size (g.D.Device.state c.args.device.now).shape.log_blocks (length c.deref.result.now) c.blocks-log_blocks.result
-      c.deref.result.now _ None (ap length c.deref.ensures.value ∙ c.in_ok-superblock.ensures.size) c.blocks-log_blocks.ensures
-      (c.deref.ensures.value ∙ c.in_ok-superblock.ensures.read h) (c.in_ok-fields.ensures.tests every_block);
-  same = c.new.ensures ∙ c.in_ok-fields.ensures.fields ∙ ap super_in (c.deref.ensures.value ∙ c.in_ok-superblock.ensures.read h);
+      tested-for (g.D.Device.state c.args.device.now).shape.block_size (g.D.Device.state c.args.device.now).shape.log_blocks (length c.bytes.result.now) c.blocks-log_blocks.result
+      c.bytes.result.now _ None (ap length c.bytes.ensures ∙ c.in_ok-superblock.ensures.size) c.blocks-log_blocks.ensures
+      (c.bytes.ensures ∙ c.in_ok-superblock.ensures.bytes h) (c.in_ok-fields.ensures.tests every_block);
+  same = c.new.ensures ∙ c.in_ok-fields.ensures.fields ∙ ap super_in (c.bytes.ensures ∙ c.in_ok-superblock.ensures.bytes h);
 }
 
 pub returns-clause-accepted : goal.returns-clause-accepted
 returns-clause-accepted g c =
-    accepted-for (length c.deref.result.now) (g.D.Device.state c.args.device.now).shape.block_size c.blocks-log_blocks.result (g.D.Device.state c.args.device.now).shape.log_blocks
-    c.in_ok-fields.fields c.new.result (ap length c.deref.ensures.value ∙ c.in_ok-superblock.ensures.size) c.blocks-log_blocks.ensures c.new.ensures c.in_ok-fields.ensures.accepted
+    accepted-for (length c.bytes.result.now) (g.D.Device.state c.args.device.now).shape.block_size c.blocks-log_blocks.result (g.D.Device.state c.args.device.now).shape.log_blocks
+    c.in_ok-fields.fields c.new.result (ap length c.bytes.ensures ∙ c.in_ok-superblock.ensures.size) c.blocks-log_blocks.ensures c.new.ensures c.in_ok-fields.ensures.accepted

@@ -16,7 +16,7 @@ loop-k-preserved g c =
       (λ honest.
           lap_to-more (ring_of c.args.fields.now) (reading (g.D.Device.state c.args.device.now).disk) c.args.fields.now.s_start c.loop-k.k c.loop-k.lap c.in_ok-block.block
           (c.loop-k.invariant.1 (c.read_block.ensures.honest honest))
-          (c.in_ok-block.ensures.read honest
+          (c.in_ok-block.ensures.bytes honest
           ∙ ap (λ (d : Disk). (d Log c.lap_place.result).reads) c.loop-k.invariant.0.stays.disk
           ∙ ap (λ (place : ℕ). ((g.D.Device.state c.args.device.now).disk Log place).reads) c.lap_place.ensures)),
       λ honest. c.loop-k.invariant.2 (c.read_block.ensures.honest honest),

@@ -1,6 +1,6 @@
 use Rattle.std.proofs.Common.{◌∙◌, ap, arith, length, drop}
 use Rattle.journal_model.proofs.Buffers.{as-long, whole-buffer}
-use Rattle.recovery.proofs.scan.read_block.Goals as goal
+use Rattle.block_device.proofs.reading.read_block.Goals as goal
 
 -- the buffer is a block
 pub returns-clause-size : goal.returns-clause-size
@@ -14,8 +14,8 @@ returns-clause-size g c =
     (drop (length c.read.new.into) c.in_ok-bytes.bytes.items) (omega arith) (omega arith)
 
 -- it is what was read
-pub returns-clause-read : goal.returns-clause-read
-returns-clause-read g c = λ honest.
+pub returns-clause-bytes : goal.returns-clause-bytes
+returns-clause-bytes g c = λ honest.
     let new = c.read.auto.into in
     let old = c.deref_mut.ensures.len in
     c.new.ensures
