@@ -26,7 +26,5 @@ pub fn read_block<D: Device>(
     if n >= device.blocks(area) {
         return Err(JournalError::BadBlock);
     }
-    let mut bytes = vec![in alloc; 0; device.block_size()]?;
-    device.read(area, n, &mut bytes)?;
-    Ok(Block::new(bytes))
+    block_device::read_block(alloc, device, area, n)
 }

@@ -3,6 +3,7 @@ ghost use Rattle.std.specs.Prelude.{◌↔◌, ◌≤◌, IfSome, IsTrue};
 ghost use Rattle.log_format.specs.Size.{IsBlockSize};
 
 use hex::FromHexError;
+use journal_model::layout::{GREATEST_LENGTH, LEAST_LENGTH};
 use std::alloc::{AllocError, Global};
 
 /// The measures of a device, and the UUID of its journal.
@@ -19,7 +20,7 @@ pub struct Measures {
 }
 
 /// The fewest and the most blocks of a log.
-pub const LENGTHS: (u32, u32) = (17, 1_048_576);
+pub const LENGTHS: (u32, u32) = (LEAST_LENGTH, GREATEST_LENGTH);
 
 /// The fewest and the most blocks of a home area.
 pub const HOMES: (u32, u32) = (1, 1_048_576);

@@ -8,14 +8,12 @@ ghost use Rattle.journal_world.specs.Journal.{batch_of};
 ghost use Rattle.group_commit.specs.Front.{JoinRefused, ReserveRefused, unfinished};
 
 use indexmap::IndexMap;
+use journal_model::layout::GREATEST_NUMBER;
 use journal_model::{
     Batch, Block, BlockNo, Entry, HandleNo, Items, JournalError, Op, Sealed, Step, Tid,
 };
 use std::alloc::{AllocError, Global};
 use std::marker::Model;
-
-/// The greatest number of a transaction.
-const GREATEST_NUMBER: u32 = 0xffff_fff0;
 
 /// The front of a journal.
 #[derive(Drop)]

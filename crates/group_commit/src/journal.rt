@@ -1,8 +1,6 @@
 //! The journal that callers hold: a front and an engine.
-ghost use Rattle.std.specs.Prelude.{◌≡◌, ◌<◌, ◌≤◌, ◌≢◌, ◌↔◌, ℕ, IsTrue, true, false, length, [], IfOk, IfErr, OnOk, Contains};
+ghost use Rattle.std.specs.Prelude.{◌≡◌, ◌<◌, ◌≤◌, ◌≢◌, true, false, length, [], IfOk, IfErr, OnOk, Contains};
 ghost use Rattle.journal_model.specs.declared.refusal.JournalError.TheVariants.{Aborted, Device as DeviceFailed, Memory};
-ghost use Rattle.journal_model.specs.Block.{IsAllowedBlock};
-ghost use Rattle.journal_model.specs.Layout.{narrow};
 ghost use Rattle.block_device.specs.State.{EachMoment, Stays};
 ghost use Rattle.journal_world.specs.declared.stage.Stage.TheVariants.{Idle};
 ghost use Rattle.journal_world.specs.Front.{next_handle, writing};
@@ -67,13 +65,6 @@ pub struct Parts<D> {
     pub sealed: Vec<Sealed>,
     /// How many of them are committed.
     pub committed: u64,
-}
-
-/// Whether a home block may be touched: home has it, and a tag can name it.
-fn is_allowed(block: BlockNo, home_blocks: u64) -> bool
-    ensures { (size : ℕ) → IsTrue result ↔ IsAllowedBlock (narrow size) home_blocks block }
-{
-    block.0 < home_blocks && block.0 <= u64::from(u32::MAX)
 }
 
 impl<D: Device> Model for Journal<D> {
@@ -191,7 +182,7 @@ impl<D: Device> Journal<D> {
         if self.engine.is_aborted() {
             return Err(JournalError::Aborted);
         }
-        if !is_allowed(block, self.engine.home_blocks()) {
+        if !block.is_allowed(self.engine.home_blocks()) {
             return Err(JournalError::BadBlock);
         }
         let first = self.front.is_first_touch(block);
@@ -238,7 +229,7 @@ impl<D: Device> Journal<D> {
             return Err(JournalError::Aborted);
         }
         let home_blocks = self.engine.home_blocks();
-        if !is_allowed(block, home_blocks) {
+        if !block.is_allowed(home_blocks) {
             return Err(JournalError::BadBlock);
         }
         if let Some(copy) = self.front.copy_of(block) {

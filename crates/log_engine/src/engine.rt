@@ -1,7 +1,6 @@
 //! The engine that a journal stands on: one contract for each step, of the machine's own steps.
 ghost use Rattle.std.specs.Prelude.{◌≡◌, ◌≢◌, ◌+◌, ◌≤◌, ◌↔◌, ℕ, List, IsTrue, length, IfOk, IfErr, OnOk};
 ghost use Rattle.journal_model.specs.declared.refusal.JournalError.TheVariants.{Device as DeviceFailed, Memory};
-ghost use Rattle.journal_model.specs.Block.{IsAllowedBlock};
 ghost use Rattle.journal_model.specs.Layout.{narrow};
 ghost use Rattle.journal_model.specs.Opening.{ring_of};
 ghost use Rattle.journal_model.specs.Room.{need};
@@ -246,7 +245,7 @@ impl<D: Device> Engine<D> {
         if self.ledger.aborted {
             return Err(JournalError::Aborted);
         }
-        if !is_allowed(block, self.device.blocks(Area::Home)) {
+        if !block.is_allowed(self.device.blocks(Area::Home)) {
             return Err(JournalError::BadBlock);
         }
         if let Some(version) = self.ledger.pending.lookup(block) {
@@ -284,11 +283,4 @@ fn ring_blocks(superblock: &[u8]) -> usize
 {
     let fields = Super::fields(superblock);
     (fields.s_maxlen - fields.s_first) as usize
-}
-
-/// Whether a home block may be touched: home has it, and a tag can name it.
-fn is_allowed(block: BlockNo, home_blocks: u64) -> bool
-    ensures { (size : ℕ) → IsTrue result ↔ IsAllowedBlock (narrow size) home_blocks block }
-{
-    block.0 < home_blocks && block.0 <= u64::from(u32::MAX)
 }

@@ -17,14 +17,6 @@ use log_ring::{Layout, Part};
 use std::alloc::{AllocError, Global};
 use std::marker::Model;
 
-/// A tag of no block, which is written over.
-const NO_TAG: Tag = Tag {
-    block: BlockNo(0),
-    escaped: false,
-    same_uuid: false,
-    last: false,
-};
-
 /// Builds the log blocks of transactions in a buffer of one block.
 #[derive(Drop)]
 pub(crate) struct TextWriter {
@@ -52,7 +44,7 @@ impl TextWriter {
     {
         Ok(TextWriter {
             block: vec![in alloc; 0; block_size]?,
-            tags: vec![in alloc; NO_TAG; Layout::tags_of(block_size) as usize]?,
+            tags: vec![in alloc; Tag::UNUSED; Layout::tags_of(block_size) as usize]?,
         })
     }
 
