@@ -1,3 +1,4 @@
+pub mod Stored
 pub mod State
 pub mod MemIndex
 pub mod Memory

@@ -1,3 +1,4 @@
+//! What a crash since a moment may have left.
 ghost use Rattle.std.specs.Prelude.{◌≡◌, List, ◌∷◌, ◌++◌};
 ghost use Rattle.journal_model.specs.Disk.{Disk, Image, IsOneOf, Leaves};
 ghost use Rattle.block_device.specs.State.{DeviceState, MayHaveLeft};

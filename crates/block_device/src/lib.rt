@@ -11,9 +11,11 @@ mod memory;
 mod memory_index;
 mod reading;
 mod stop;
+mod stored;
 
 pub use device::{Device, DeviceFault};
 pub use laws::a_crash_meets_one_of_the_moments;
 pub use memory::{Call, MemDevice, Write};
 pub use reading::read_block;
 pub use stop::StopAt;
+pub use stored::StoredBlock;

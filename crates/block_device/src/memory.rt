@@ -1,9 +1,11 @@
+//! A device in memory: the list of its calls.
 ghost use Rattle.std.specs.Prelude.{◌≡◌, map};
 ghost use Rattle.block_device.specs.MemInvariant.{survives_crash, settled, survivors, Forgets, Remembers};
 
 use crate::memory_index::MemIndex;
+use crate::stored::StoredBlock;
 use crate::{Device, DeviceFault};
-use journal_model::{Area, Block};
+use journal_model::Area;
 use std::alloc::{AllocError, Global};
 use std::marker::Model;
 
@@ -17,7 +19,7 @@ pub struct Write {
     /// Counted from 1; 0 for a write that a crash left.
     pub number: u64,
     /// The new content, one block long.
-    pub bytes: Block,
+    pub bytes: StoredBlock,
 }
 
 /// One call that a device in memory took.
@@ -29,7 +31,8 @@ pub enum Call {
     Flushed(Area),
 }
 
-/// A device in memory, with a volatile cache. Blocks that were never written read as zeros and take no memory.
+/// A device in memory, with a volatile cache. Blocks that were never written read as zeros and take no memory, and a write
+/// of zeros takes none for its bytes.
 #[derive(Drop)]
 pub struct MemDevice {
     alloc: Global,
@@ -146,7 +149,7 @@ impl MemDevice {
         }) }
         ensures err { OnErr result (self.new ≡ self.old) }
     {
-        let bytes = Block::copy_of(self.alloc, bytes)?;
+        let bytes = StoredBlock::copy_of(self.alloc, bytes)?;
         self.calls.try_reserve(1)?;
         self.index.note(area, block, self.calls.len())?;
         self.writes += 1;
@@ -197,7 +200,7 @@ impl Device for MemDevice {
     {
         match self.index.newest(area, n) {
             Some(i) => match &self.calls[i] {
-                Call::Wrote(write) => into.copy_from_slice(write.bytes.bytes()),
+                Call::Wrote(write) => write.bytes.copy_to(into),
                 Call::Flushed(_) => unreachable!(),
             },
             None => into.fill(0),

@@ -1,3 +1,4 @@
+//! A device that loses power at one of its writes.
 ghost use Rattle.std.specs.Prelude.{◌≡◌, ◌≢◌, ◌<◌, ◌-◌, ◌↔◌, false, true, length, IsOk, IsErr, OnOk, OnErr};
 ghost use Rattle.block_device.specs.State.{one_more_fault};
 

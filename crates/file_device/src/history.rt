@@ -1,3 +1,4 @@
+//! The calls that a device made on its files, as proofs know them.
 ghost use Rattle.std.specs.Prelude.{◌≡◌, List, [], ◌∷◌};
 ghost use Rattle.std.specs.Borrow.{ftrue};
 ghost use Rattle.file_device.specs.Calls.{FileCall};

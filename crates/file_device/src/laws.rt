@@ -1,3 +1,4 @@
+//! The premise of a device over files can be met and kept.
 ghost use Rattle.std.specs.Prelude.{ℕ, ◌<◌, ◌*◌, List, Option};
 ghost use Rattle.std.specs.declared.fs.File.{File};
 ghost use Rattle.journal_model.specs.declared.number.Area.{Area};

@@ -12,12 +12,12 @@ index-requires c =
     let low = found.low in
     omega arith
 
-pub copy_from_slice-requires : goal.copy_from_slice-requires
-copy_from_slice-requires c =
+pub copy_to-requires : goal.copy_to-requires
+copy_to-requires c =
     let found = indexed_write c.self.inside c.self.invariant c.args.area c.args.n c.in-Some.i (sym c.newest.ensures ∙ c.in-Some.is) in
     let same = same_write c.args.area c.args.n c.in-Some.i c.self.inside.calls.items found c.index.result.now c.in-Wrote.write c.index.ensures c.in-Wrote.is in
     let fills = fills_at c.self.inside.size c.self.inside.calls.items c.in-Some.i found.write c.self.invariant.sizes found.low found.stands in
-    c.requires.block ∙ sym (ap (λ s. s.shape.block_size) c.self.view_is) ∙ sym fills ∙ ap (λ w. length w.bytes) same ∙ ap length (sym c.bytes.ensures)
+    c.requires.block ∙ sym (ap (λ s. s.shape.block_size) c.self.view_is) ∙ sym fills ∙ ap (λ w. length w.bytes) same
 
 pub unreachable-requires : goal.unreachable-requires
 unreachable-requires c =
@@ -32,7 +32,7 @@ returns-clause-bytes c h =
       | in-Some+in-Wrote w ↦
           let found = indexed_write c.self.inside c.self.invariant c.args.area c.args.n w.in-Some.i (sym c.newest.ensures ∙ w.in-Some.is) in
           let same = same_write c.args.area c.args.n w.in-Some.i c.self.inside.calls.items found w.index.result.now w.in-Wrote.write w.index.ensures w.in-Wrote.is in
-          w.into-is ∙ w.copy_from_slice.ensures.after ∙ w.bytes.ensures ∙ sym (ap (λ x. x.bytes) same) ∙ sym (reads_written c.self.inside.size c.self.inside.calls.items c.args.area c.args.n found.write.bytes found.bytes)
+          w.into-is ∙ w.copy_to.ensures ∙ sym (ap (λ x. x.bytes) same) ∙ sym (reads_written c.self.inside.size c.self.inside.calls.items c.args.area c.args.n found.write.bytes found.bytes)
       | in-None w ↦
           let none = never_written c.args.area c.args.n c.self.inside.calls.items (sym (c.self.invariant.indexed c.args.area c.args.n) ∙ sym c.newest.ensures ∙ w.in-None.is) in
           let full = c.requires.block ∙ sym (ap (λ s. s.shape.block_size) c.self.view_is) in
