@@ -1,0 +1,2 @@
+pub mod Revokes
+pub mod Copies

@@ -1,0 +1,14 @@
+//! What an opening notes of a chain before it writes home: the greatest transaction that revokes each block, and where the
+//! newest copy of each block stands.
+//!
+//! A copy goes home where it is its block's newest and the table of revokes does not cover it. Both tables take memory in
+//! proportion to the blocks that were noted, each counted once, and each call takes time in proportion to the logarithm of
+//! that.
+#![tactic(auto)]
+
+mod copies;
+pub mod laws;
+mod revokes;
+
+pub use copies::CopyTable;
+pub use revokes::RevokeTable;
