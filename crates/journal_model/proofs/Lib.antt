@@ -15,6 +15,7 @@ pub mod OwnTextPieces
 pub mod OwnTextRevokes
 pub mod OwnTextTags
 pub mod OwnTextWhole
+pub mod ReadingFronts
 pub mod ReadingNumbers
 pub mod ReadingPieces
 pub mod ReadingTags

@@ -4,5 +4,4 @@ pub mod Covered
 pub mod EffectLoops
 pub mod ReadingBytes
 pub mod ReadingFound
-pub mod ReadingFronts
 pub mod Rounding

@@ -19,8 +19,9 @@ use Rattle.block_device.specs.State.{DeviceState, one_more_fault}
 use Rattle.log_format.specs.Accepted.{IsAccepted}
 use Rattle.log_dump.specs.declared.fault.Fault.{Fault}
 use Rattle.log_dump.specs.declared.fault.Fault.TheVariants.{Refused, Output}
-use Rattle.log_dump.specs.Dumping.{AreTextsOf, DumpRefused, HasDump, IsCounted, IsCountRefused, IsDamageOf, IsDumpFault, IsLogRefused, IsPrintRefused, IsReadLog, shape_of}
-use Rattle.log_dump.specs.Finding.{every_block}
+use Rattle.log_scan.specs.Scanning.{AreTextsOf, IsScanned, IsScanRefused, IsDamageOf}
+use Rattle.log_dump.specs.Dumping.{DumpRefused, HasDump, IsDumpFault, IsLogRefused, IsPrintRefused, IsReadLog, shape_of}
+use Rattle.log_scan.specs.Finding.{every_block}
 use Rattle.log_dump.specs.Lines.{ended, placed_lines}
 use Rattle.log_dump.proofs.Written.{appends-joins, appends-same}
 
@@ -124,27 +125,27 @@ module _ (size blocks : ℕ) (image : Image) (s : Super) (read : IsReadLog (dump
     image-started = record { accepted = read.accepted; started = λ clean. started (ap (λ (t : Super). t.s_start) read.same ∙ clean) }
 
     -- its texts are its chain
-    chain-of : (texts : List Text) → AreTextsOf (super_of image) image texts → HasChain (dump_shape size blocks) image texts
+    chain-of : (texts : List Text) → AreTextsOf (super_of image) every_block image texts → HasChain (dump_shape size blocks) image texts
     chain-of texts are = record { started = image-started; chain = are.chain; undamaged = λ k damaged. are.undamaged k damaged.damaged }
 
     -- so it has a dump
-    pub chain-dump : (texts : List Text) → AreTextsOf s image texts → IsDump (dump_shape size blocks) image (dump_text s texts)
+    pub chain-dump : (texts : List Text) → AreTextsOf s every_block image texts → IsDump (dump_shape size blocks) image (dump_text s texts)
     chain-dump texts are =
         subst (λ (t : Super). IsDump (dump_shape size blocks) image (dump_text t texts)) (sym read.same)
-        (OfChain texts (chain-of texts (subst (λ (t : Super). AreTextsOf t image texts) read.same are)))
+        (OfChain texts (chain-of texts (subst (λ (t : Super). AreTextsOf t every_block image texts) read.same are)))
 
     -- a damaged block is why it has none
-    pub damage-refused : (e : JournalError) → IsDamageOf s image e → IsDumpRefused (dump_shape size blocks) image e
-    damage-refused e damage = by (subst (λ (t : Super). IsDamageOf t image e) read.same damage)
+    pub damage-refused : (e : JournalError) → IsDamageOf s every_block image e → IsDumpRefused (dump_shape size blocks) image e
+    damage-refused e damage = by (subst (λ (t : Super). IsDamageOf t every_block image e) read.same damage)
       where
-        by : IsDamageOf (super_of image) image e → IsDumpRefused (dump_shape size blocks) image e
+        by : IsDamageOf (super_of image) every_block image e → IsDumpRefused (dump_shape size blocks) image e
         by d =
             subst (IsDumpRefused (dump_shape size blocks) image) (sym d.refusal)
             (ByDamage d.k (record { started = image-started; damaged = d.damaged }))
 
 -- why the transactions are not counted is why the log is refused
 pub count-refused : (honest unwritten : Type 0) (s : Super) (old mid new : DeviceState) (e : JournalError) → unwritten → s.s_start ≢ 0 → mid.faults ≡ old.faults → mid.disk ≡ old.disk →
-    (honest → IsReadLog (shape_of old) (reading old.disk) s) → IsCountRefused honest s mid new e → DumpRefused honest unwritten old new e
+    (honest → IsReadLog (shape_of old) (reading old.disk) s) → IsScanRefused honest s every_block mid new e → DumpRefused honest unwritten old new e
 count-refused honest unwritten s old mid new e nothing started faults disk read (inl failed) = record {
   device = λ is. failed.1 ∙ ap one_more_fault faults;
   no_fault = λ other. absurd (other failed.0);
@@ -158,7 +159,7 @@ count-refused honest unwritten s old mid new e nothing started faults disk read 
   content =
       λ other more h. (
         damage-refused old.shape.block_size old.shape.log_blocks (reading old.disk) s (read h) started e
-            (subst (λ (d : Disk). IsDamageOf s (reading d) e) disk (refused.3 h)),
+            (subst (λ (d : Disk). IsDamageOf s every_block (reading d) e) disk (refused.3 h)),
         nothing,
       );
 }
@@ -193,5 +194,5 @@ pub test-started : (start : ℕ) → false ≡ (start == 0) → start ≢ 0
 test-started start test = λ clean. grind (arith, nat_tests)
 
 -- a log whose texts were counted has a dump
-pub counted-dump : (size blocks : ℕ) (image : Image) (s : Super) (count : ℕ) → IsReadLog (dump_shape size blocks) image s → s.s_start ≢ 0 → IsCounted s image count → HasDump (dump_shape size blocks) image
+pub counted-dump : (size blocks : ℕ) (image : Image) (s : Super) (count : ℕ) → IsReadLog (dump_shape size blocks) image s → s.s_start ≢ 0 → IsScanned s every_block image count → HasDump (dump_shape size blocks) image
 counted-dump size blocks image s count read started counted = (dump_text s counted.texts, chain-dump size blocks image s read started counted.texts counted.are)

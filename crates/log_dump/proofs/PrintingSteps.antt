@@ -18,16 +18,17 @@ use Rattle.journal_model.specs.ReadingLog.{NoTextBegins, PieceBegins, PiecesBegi
 use Rattle.journal_model.specs.Superblock.{Super}
 use Rattle.journal_model.specs.Text.{IsCommitBlock, IsPiece, IsText, piece_blocks, pieces_blocks, text_blocks}
 use Rattle.journal_model.proofs.ReadingTexts.{most_texts, one_list_of_texts}
-use Rattle.journal_plain.proofs.ReadingFronts.{texts_more}
+use Rattle.journal_model.proofs.ReadingFronts.{texts_more}
 use Rattle.block_device.specs.State.{DeviceState, one_more_fault}
 use Rattle.log_dump.specs.declared.fault.Fault.{Fault}
 use Rattle.log_dump.specs.declared.fault.Fault.TheVariants.{Refused, Output}
-use Rattle.log_dump.specs.Dumping.{AreTextsOf, IsPrinted, IsPrintRefused}
-use Rattle.log_dump.specs.Finding.{BlockBegins, NothingBegins, blocks_from, every_block}
+use Rattle.log_scan.specs.Scanning.{AreTextsOf}
+use Rattle.log_dump.specs.Dumping.{IsPrinted, IsPrintRefused}
+use Rattle.log_scan.specs.Finding.{BlockBegins, NothingBegins, blocks_from, every_block}
 use Rattle.log_dump.specs.Lines.{ended, placed_line, placed_lines}
-use Rattle.log_dump.proofs.Laps.{from-behind}
+use Rattle.log_scan.proofs.Laps.{from-behind}
 use Rattle.log_dump.proofs.Placed.{placed-append, placed-one}
-use Rattle.log_dump.proofs.SoFar.{no-text-malformed, no-text-nothing, pieces-more, pieces-none, text-ends}
+use Rattle.log_scan.proofs.SoFar.{no-text-malformed, no-text-nothing, pieces-more, pieces-none, text-ends}
 use Rattle.log_dump.proofs.Written.{appends-joins, appends-nothing, appends-same}
 
 module _ (l : Layout) (count : ℕ) where
@@ -186,7 +187,7 @@ module _ (s : Super) (image : Image) (old mid : Option (List ℕ)) (count positi
 
   -- where no further text begins, there are no more
   pub texts-no-more : (number : ℕ) (texts : List Text) → number ≡ s.s_sequence + count → count < length texts →
-      NoTextBegins (layout_of s) every_block number (blocks_from s image position) → AreTextsOf s image texts → ⊥
+      NoTextBegins (layout_of s) every_block number (blocks_from s image position) → AreTextsOf s every_block image texts → ⊥
   texts-no-more number texts is more none are =
       let begins = are.chain.begins in
       let due = so.whole.due in
@@ -195,7 +196,7 @@ module _ (s : Super) (image : Image) (old mid : Option (List ℕ)) (count positi
       omega arith
 
   -- as many as the log has are those that it has
-  pub texts-all : (texts : List Text) → count ≡ length texts → AreTextsOf s image texts → Appends old mid (placed_lines s 0 (texts_captions s.s_sequence texts))
+  pub texts-all : (texts : List Text) → count ≡ length texts → AreTextsOf s every_block image texts → Appends old mid (placed_lines s 0 (texts_captions s.s_sequence texts))
   texts-all texts all are =
       let begins = are.chain.begins in
       let due = so.whole.due in

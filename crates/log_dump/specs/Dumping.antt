@@ -1,44 +1,20 @@
 -- What a dump makes of a device, and why there is none.
-use Rattle.std.specs.Prelude.{◌≡◌, ◌≢◌, ◌⊎◌, ℕ, ◌+◌, List, length, Option, Some, None}
+use Rattle.std.specs.Prelude.{◌≡◌, ◌≢◌, ◌⊎◌, ℕ, ◌+◌, List, Option, Some, None}
 use Rattle.std.specs.Io.KnownBytes.{Appends}
 use Rattle.journal_model.specs.declared.log.Text.{Text}
 use Rattle.journal_model.specs.declared.number.Area.TheVariants.{Log}
 use Rattle.journal_model.specs.declared.refusal.JournalError.{JournalError}
-use Rattle.journal_model.specs.declared.refusal.JournalError.TheVariants.{Damage, Device, Memory}
-use Rattle.journal_model.specs.Chain.{IsChain, IsDamaged, lap, place_from}
+use Rattle.journal_model.specs.declared.refusal.JournalError.TheVariants.{Device, Memory}
 use Rattle.journal_model.specs.Disk.{Image, reading}
 use Rattle.journal_model.specs.Dump.{IsDump, IsDumpRefused, dump_shape, text_captions}
-use Rattle.journal_model.specs.Opening.{layout_of, ring_of, super_of}
+use Rattle.journal_model.specs.Opening.{layout_of, super_of}
 use Rattle.journal_model.specs.ReadingLog.{TextBegins}
 use Rattle.journal_model.specs.Superblock.{Shape, Super, super_refusal}
 use Rattle.block_device.specs.State.{DeviceState, IsDeviceFailure, IsFailure, one_more_fault}
-use Rattle.log_dump.specs.Finding.{blocks_from, every_block}
+use Rattle.log_scan.specs.Finding.{blocks_from, every_block}
 use Rattle.log_dump.specs.Lines.{placed_lines}
 use Rattle.log_dump.specs.declared.fault.Fault.{Fault}
 use Rattle.log_dump.specs.declared.fault.Fault.TheVariants.{Refused, Output}
-
--- these are the texts of a log that is not clean, and no block behind them is malformed
-pub record AreTextsOf (s : Super) (image : Image) (texts : List Text) : Type 0 where
-  pub chain : IsChain (layout_of s) every_block s.s_sequence (lap (ring_of s) image s.s_start) texts
-  pub undamaged : (k : ℕ) → IsDamaged (layout_of s) every_block s.s_sequence (lap (ring_of s) image s.s_start) k → ⊥
-
--- so many texts has the log
-pub record IsCounted (s : Super) (image : Image) (count : ℕ) : Type 0 where
-  pub texts : List Text
-  pub are : AreTextsOf s image texts
-  pub number : count ≡ length texts
-
--- a block of the log is damaged, and this is the refusal
-pub record IsDamageOf (s : Super) (image : Image) (e : JournalError) : Type 0 where
-  pub k : ℕ
-  pub damaged : IsDamaged (layout_of s) every_block s.s_sequence (lap (ring_of s) image s.s_start) k
-  pub refusal : e ≡ Damage (place_from (ring_of s) s.s_start k)
-
--- why the texts are not counted: the device failed, or a block is damaged
-abbrev pub IsCountRefused : (honest : Type 0) → Super → DeviceState → DeviceState → JournalError → Type 0
-IsCountRefused honest s old new e =
-    IsDeviceFailure old new e
-    ⊎ ((e ≢ Device) × (e ≢ Memory) × (new.faults ≡ old.faults) × (honest → IsDamageOf s (reading old.disk) e))
 
 -- the lines of the text that begins at a position of the lap were printed, up to the position behind it
 pub record IsPrinted (s : Super) (image : Image) (sequence : ℕ) (old new : Option (List ℕ)) (start end : ℕ) : Type 0 where

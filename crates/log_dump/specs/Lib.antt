@@ -1,3 +1,2 @@
 pub mod Dumping
-pub mod Finding
 pub mod Lines

@@ -9,17 +9,17 @@ ghost use Rattle.journal_model.specs.Opening.{ring_of};
 ghost use Rattle.block_device.specs.State.{Stays};
 ghost use Rattle.log_format.specs.Accepted.{IsAccepted};
 ghost use Rattle.log_format.specs.Size.{IsBlockSize};
-ghost use Rattle.log_dump.specs.Dumping.{AreTextsOf, HasDump, IsDumpFault, IsLogRefused, IsPrintRefused, IsReadLog, PrintsDump, shape_of};
+ghost use Rattle.log_scan.specs.Finding.{every_block};
+ghost use Rattle.log_scan.specs.Scanning.{AreTextsOf};
+ghost use Rattle.log_dump.specs.Dumping.{HasDump, IsDumpFault, IsLogRefused, IsPrintRefused, IsReadLog, PrintsDump, shape_of};
 
-use crate::counting::count_transactions;
 use crate::fault::Fault;
-use crate::finding::Finder;
 use crate::lines::{write_empty, write_end, write_super};
-use crate::log::Log;
 use crate::printing::write_transactions;
 use block_device::{Device, read_block};
 use journal_model::{Area, JournalError};
 use log_format::Super;
+use log_scan::{Finder, Log, scan};
 use std::alloc::Global;
 use std::io;
 use std::io::Write;
@@ -55,7 +55,7 @@ pub fn dump<D: Device, W: Write>(alloc: Global, device: &mut D, out: &mut W) -> 
         return Ok(());
     }
     let mut finder = make_finder(alloc, device)?;
-    let transactions = count_transactions(device, &log, &mut finder)?;
+    let transactions = scan(device, &log, None, &mut finder)?;
     write_log(device, &log, &mut finder, transactions, out)
 }
 
@@ -104,8 +104,8 @@ fn write_log<D: Device, W: Write>(
     requires size { length finder.old.block ≡ (D.state device.old).shape.block_size }
     requires accepted { IsAccepted (D.state device.old).shape.block_size (D.state device.old).shape.log_blocks log.now }
     requires few { transactions ≤ (ring_of log.now).blocks }
-    ensures printed { OnOk result (D.honest device.new → (texts : List Text) → log.now.s_start ≢ 0 → AreTextsOf log.now (reading (D.state device.old).disk) texts → transactions ≡ length texts → Appends (W.contents out.old) (W.contents out.new) (dump_text log.now texts)) }
-    ensures refused { IfErr result (IsPrintRefused (D.honest device.new) ((texts : List Text) → AreTextsOf log.now (reading (D.state device.old).disk) texts → transactions ≡ length texts → ⊥) (D.state device.old) (D.state device.new)) }
+    ensures printed { OnOk result (D.honest device.new → (texts : List Text) → log.now.s_start ≢ 0 → AreTextsOf log.now every_block (reading (D.state device.old).disk) texts → transactions ≡ length texts → Appends (W.contents out.old) (W.contents out.new) (dump_text log.now texts)) }
+    ensures refused { IfErr result (IsPrintRefused (D.honest device.new) ((texts : List Text) → AreTextsOf log.now every_block (reading (D.state device.old).disk) texts → transactions ≡ length texts → ⊥) (D.state device.old) (D.state device.new)) }
     ensures faults { OnOk result ((D.state device.new).faults ≡ (D.state device.old).faults) }
     ensures stays { Stays (D.state device.old) (D.state device.new) }
     ensures honest { D.honest device.new → D.honest device.old }

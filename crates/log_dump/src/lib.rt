@@ -5,17 +5,14 @@
 //! before all tests have passed. No block is read more than twice, and copies are not read at all: the tags of their
 //! descriptor say what is printed of them.
 //!
-//! `finding` says what stands at one place; `counting` goes over the log for the first time and `printing` for the second,
-//! `lines` has the form of each line, and `dumping` puts them together. What a dump is, and why there is none, is said by
+//! The first way is the scan of `log_scan`, and `printing` is the second; `lines` has the form of each line, and `dumping` puts
+//! them together. What a dump is, and why there is none, is said by
 //! the definitions of `journal_model`, `specs/Dump.antt`.
 #![tactic(auto)]
 
-mod counting;
 mod dumping;
 mod fault;
-mod finding;
 mod lines;
-mod log;
 mod printing;
 
 pub use dumping::dump;

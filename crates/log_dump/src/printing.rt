@@ -9,16 +9,16 @@ ghost use Rattle.journal_model.specs.ReadingLog.{NoTextBegins};
 ghost use Rattle.journal_model.specs.Superblock.{greatest_length};
 ghost use Rattle.block_device.specs.State.{Stays};
 ghost use Rattle.log_format.specs.Accepted.{IsAccepted};
-ghost use Rattle.log_dump.specs.Dumping.{AreTextsOf, IsPrinted, IsPrintRefused};
-ghost use Rattle.log_dump.specs.Finding.{blocks_from, every_block};
+ghost use Rattle.log_scan.specs.Finding.{blocks_from, every_block};
+ghost use Rattle.log_scan.specs.Scanning.{AreTextsOf};
+ghost use Rattle.log_dump.specs.Dumping.{IsPrinted, IsPrintRefused};
 ghost use Rattle.log_dump.specs.Lines.{placed_lines, tags_captions};
 
 use crate::fault::Fault;
-use crate::finding::{Finder, Found};
 use crate::lines::{write_commit, write_copy, write_descriptor, write_revokes};
-use crate::log::Log;
 use block_device::Device;
 use journal_model::{JournalError, Tag};
+use log_scan::{Finder, Found, Log};
 use std::io;
 use std::io::Write;
 
@@ -33,8 +33,8 @@ pub(crate) fn write_transactions<D: Device, W: Write>(
     requires size { length finder.old.block ≡ (D.state device.old).shape.block_size }
     requires accepted { IsAccepted (D.state device.old).shape.block_size (D.state device.old).shape.log_blocks log.now }
     requires few { transactions ≤ (ring_of log.now).blocks }
-    ensures printed { OnOk result (D.honest device.new → (texts : List Text) → AreTextsOf log.now (reading (D.state device.old).disk) texts → transactions ≡ length texts → Appends (W.contents out.old) (W.contents out.new) (placed_lines log.now 0 (texts_captions log.now.s_sequence texts))) }
-    ensures refused { IfErr result (IsPrintRefused (D.honest device.new) ((texts : List Text) → AreTextsOf log.now (reading (D.state device.old).disk) texts → transactions ≡ length texts → ⊥) (D.state device.old) (D.state device.new)) }
+    ensures printed { OnOk result (D.honest device.new → (texts : List Text) → AreTextsOf log.now every_block (reading (D.state device.old).disk) texts → transactions ≡ length texts → Appends (W.contents out.old) (W.contents out.new) (placed_lines log.now 0 (texts_captions log.now.s_sequence texts))) }
+    ensures refused { IfErr result (IsPrintRefused (D.honest device.new) ((texts : List Text) → AreTextsOf log.now every_block (reading (D.state device.old).disk) texts → transactions ≡ length texts → ⊥) (D.state device.old) (D.state device.new)) }
     ensures faults { OnOk result ((D.state device.new).faults ≡ (D.state device.old).faults) }
     ensures stays { Stays (D.state device.old) (D.state device.new) }
     ensures honest { D.honest device.new → D.honest device.old }
@@ -69,7 +69,7 @@ fn write_text<D: Device, W: Write>(
     let mut position = start;
     loop {
         let place = log.place(position);
-        match finder.look(device, log, position, sequence)? {
+        match finder.look(device, log, None, position, sequence)? {
             Found::RevokeBlock(numbers) => {
                 write_revokes(out, place, sequence, finder.numbers(numbers))?;
                 position += 1;

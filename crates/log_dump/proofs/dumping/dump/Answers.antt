@@ -4,8 +4,10 @@ use Rattle.std.proofs.lemmas.Result.{IfErr-weaker, err_from_is_err_and, on_ok_we
 use Rattle.journal_model.specs.Disk.{Disk, reading}
 use Rattle.journal_model.specs.Dump.{dump_text}
 use Rattle.journal_model.specs.Superblock.{Shape, Super}
-use Rattle.log_dump.specs.Dumping.{AreTextsOf, HasDump, IsCounted, IsReadLog, shape_of}
-use Rattle.log_dump.proofs.CountingSteps.{accepted-stays, stays-joins}
+use Rattle.log_scan.specs.Finding.{every_block}
+use Rattle.log_scan.specs.Scanning.{AreTextsOf, IsScanned}
+use Rattle.log_dump.specs.Dumping.{HasDump, IsReadLog, shape_of}
+use Rattle.log_scan.proofs.ScanSteps.{accepted-stays, stays-joins}
 use Rattle.log_dump.proofs.Dumps.{chain-dump, clean-dump, count-refused, counted-dump, log-refused, on-err, print-refused, test-clean, test-started}
 use Rattle.log_dump.proofs.dumping.dump.Given.{Over}
 use Rattle.log_dump.proofs.dumping.dump.Goals as goal
@@ -55,22 +57,22 @@ pub returns-in_err-transactions-clause-refused : goal.returns-in_err-transaction
 returns-in_err-transactions-clause-refused g c =
     let p = err_from_is_err_and c.from_residual-in_err-transactions.result c.from_residual-in_err-transactions.ensures.1 in
     rw (p.1, p.2)
-    (count-refused (g.D.Device.honest c.count_transactions.new.device) (c.args.out.now ≡ c.args.out.now) c.in_ok-log.log
-    (g.D.Device.state c.args.device.now) (g.D.Device.state c.read_log.new.device) (g.D.Device.state c.count_transactions.new.device)
+    (count-refused (g.D.Device.honest c.scan.new.device) (c.args.out.now ≡ c.args.out.now) c.in_ok-log.log
+    (g.D.Device.state c.args.device.now) (g.D.Device.state c.read_log.new.device) (g.D.Device.state c.scan.new.device)
     c.in_err-transactions.field-0.0 refl (test-started c.in_ok-log.log.s_start c.if-is_clean.ensures) c.in_ok-log.ensures.faults c.read_log.ensures.stays.disk
-    (λ h. c.in_ok-log.ensures.read (c.count_transactions.ensures.honest h)) c.in_err-transactions.ensures.refused)
+    (λ h. c.in_ok-log.ensures.read (c.scan.ensures.honest h)) c.in_err-transactions.ensures.refused)
 
 -- the texts that were counted
 counted : (g : Over) (c : After-drop-finder-inside-4 g) → g.D.Device.honest c.write_log.new.device →
-    IsCounted c.in_ok-log.log (reading (g.D.Device.state c.args.device.now).disk) c.in_ok-transactions.transactions
+    IsScanned c.in_ok-log.log every_block (reading (g.D.Device.state c.args.device.now).disk) c.in_ok-transactions.transactions
 counted g c h =
-    subst (λ (d : Disk). IsCounted c.in_ok-log.log (reading d) c.in_ok-transactions.transactions) c.read_log.ensures.stays.disk
-    (c.in_ok-transactions.ensures.counted (c.write_log.ensures.honest h))
+    subst (λ (d : Disk). IsScanned c.in_ok-log.log every_block (reading d) c.in_ok-transactions.transactions) c.read_log.ensures.stays.disk
+    (c.in_ok-transactions.ensures.scanned (c.write_log.ensures.honest h))
 
 -- the superblock that was read
 read : (g : Over) (c : After-drop-finder-inside-4 g) → g.D.Device.honest c.write_log.new.device →
     IsReadLog (shape_of (g.D.Device.state c.args.device.now)) (reading (g.D.Device.state c.args.device.now).disk) c.in_ok-log.log
-read g c h = c.in_ok-log.ensures.read (c.count_transactions.ensures.honest (c.write_log.ensures.honest h))
+read g c h = c.in_ok-log.ensures.read (c.scan.ensures.honest (c.write_log.ensures.honest h))
 
 -- the log has a dump
 has-chain : (g : Over) (c : After-drop-finder-inside-4 g) → g.D.Device.honest c.write_log.new.device →
@@ -80,8 +82,8 @@ has-chain g c h =
     c.in_ok-log.log c.in_ok-transactions.transactions (read g c h) (test-started c.in_ok-log.log.s_start c.if-is_clean.ensures) (counted g c h)
 
 -- the disk is as it was when the printing begins
-same : (g : Over) (c : After-drop-finder-inside-4 g) → (g.D.Device.state c.args.device.now).disk ≡ (g.D.Device.state c.count_transactions.new.device).disk
-same g c = sym (c.count_transactions.ensures.stays.disk ∙ c.read_log.ensures.stays.disk)
+same : (g : Over) (c : After-drop-finder-inside-4 g) → (g.D.Device.state c.args.device.now).disk ≡ (g.D.Device.state c.scan.new.device).disk
+same g c = sym (c.scan.ensures.stays.disk ∙ c.read_log.ensures.stays.disk)
 
 -- all is printed
 pub returns-clause-printed : goal.returns-clause-printed
@@ -94,7 +96,7 @@ returns-clause-printed g c =
       is_dump =
           chain-dump (g.D.Device.state c.args.device.now).shape.block_size (g.D.Device.state c.args.device.now).shape.log_blocks (reading (g.D.Device.state c.args.device.now).disk)
           c.in_ok-log.log (read g c h) started these.texts these.are;
-      written = printed h these.texts started (subst (λ (d : Disk). AreTextsOf c.in_ok-log.log (reading d) these.texts) (same g c) these.are) these.number;
+      written = printed h these.texts started (subst (λ (d : Disk). AreTextsOf c.in_ok-log.log every_block (reading d) these.texts) (same g c) these.are) these.number;
     })
     c.write_log.ensures.printed
 
@@ -104,9 +106,9 @@ returns-clause-refused g c =
     IfErr-weaker c.write_log.result _ _
     (λ e refused.
     print-refused (g.D.Device.honest c.write_log.new.device) (c.write_log.new.out ≡ c.args.out.now) _
-    (g.D.Device.state c.args.device.now) (g.D.Device.state c.count_transactions.new.device) (g.D.Device.state c.write_log.new.device) e
+    (g.D.Device.state c.args.device.now) (g.D.Device.state c.scan.new.device) (g.D.Device.state c.write_log.new.device) e
     (c.in_ok-transactions.ensures.faults ∙ c.in_ok-log.ensures.faults) (λ h. has-chain g c h)
-    (λ h never. let these = counted g c h in never these.texts (subst (λ (d : Disk). AreTextsOf c.in_ok-log.log (reading d) these.texts) (same g c) these.are) these.number)
+    (λ h never. let these = counted g c h in never these.texts (subst (λ (d : Disk). AreTextsOf c.in_ok-log.log every_block (reading d) these.texts) (same g c) these.are) these.number)
     refused)
     c.write_log.ensures.refused
 
@@ -114,14 +116,14 @@ pub returns-clause-tested : goal.returns-clause-tested
 returns-clause-tested g c = on-err c.write_log.result (inr (λ h. has-chain g c h))
 
 -- the device stays, so that the log is accepted on it
-pub count_transactions-requires-clause-accepted : goal.count_transactions-requires-clause-accepted
-count_transactions-requires-clause-accepted g c =
+pub scan-requires-clause-accepted : goal.scan-requires-clause-accepted
+scan-requires-clause-accepted g c =
     accepted-stays c.in_ok-log.log (g.D.Device.state c.args.device.now) (g.D.Device.state c.read_log.new.device) c.read_log.ensures.stays c.in_ok-log.ensures.accepted
 
 pub write_log-requires-clause-accepted : goal.write_log-requires-clause-accepted
 write_log-requires-clause-accepted g c =
-    accepted-stays c.in_ok-log.log (g.D.Device.state c.args.device.now) (g.D.Device.state c.count_transactions.new.device)
-    (stays-joins _ _ _ c.read_log.ensures.stays c.count_transactions.ensures.stays) c.in_ok-log.ensures.accepted
+    accepted-stays c.in_ok-log.log (g.D.Device.state c.args.device.now) (g.D.Device.state c.scan.new.device)
+    (stays-joins _ _ _ c.read_log.ensures.stays c.scan.ensures.stays) c.in_ok-log.ensures.accepted
 
 pub make_finder-requires : goal.make_finder-requires
 make_finder-requires g c =
@@ -130,17 +132,17 @@ make_finder-requires g c =
 
 pub write_log-requires-clause-size : goal.write_log-requires-clause-size
 write_log-requires-clause-size g c =
-    c.in_ok-transactions.ensures.size ∙ c.in_ok-finder.ensures.size ∙ ap (λ (s : Shape). s.block_size) (sym c.count_transactions.ensures.stays.shape)
+    c.in_ok-transactions.ensures.size ∙ c.in_ok-finder.ensures.size ∙ ap (λ (s : Shape). s.block_size) (sym c.scan.ensures.stays.shape)
 
 pub write_log-requires-clause-few : goal.write_log-requires-clause-few
 write_log-requires-clause-few g c = c.in_ok-transactions.ensures.few
 
 -- and nothing that a crash or a read could tell has changed at the end
 pub returns-clause-stays : goal.returns-clause-stays
-returns-clause-stays g c = stays-joins _ _ _ c.read_log.ensures.stays (stays-joins _ _ _ c.count_transactions.ensures.stays c.write_log.ensures.stays)
+returns-clause-stays g c = stays-joins _ _ _ c.read_log.ensures.stays (stays-joins _ _ _ c.scan.ensures.stays c.write_log.ensures.stays)
 
 pub returns-clause-honest : goal.returns-clause-honest
-returns-clause-honest g c = λ h. c.read_log.ensures.honest (c.count_transactions.ensures.honest (c.write_log.ensures.honest h))
+returns-clause-honest g c = λ h. c.read_log.ensures.honest (c.scan.ensures.honest (c.write_log.ensures.honest h))
 
 pub returns-clause-no_fault : goal.returns-clause-no_fault
 returns-clause-no_fault g c =

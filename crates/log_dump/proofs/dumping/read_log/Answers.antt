@@ -2,7 +2,7 @@ use Rattle.std.proofs.Common.{length, ap, ◌∙◌, inr}
 use Rattle.std.specs.Prelude.{None, Some}
 use Rattle.std.proofs.lemmas.Result.{err_from_is_err_and}
 use Rattle.journal_model.specs.Superblock.{super_in}
-use Rattle.log_dump.specs.Finding.{every_block}
+use Rattle.log_scan.specs.Finding.{every_block}
 use Rattle.log_dump.proofs.Dumps.{accepted-for, refused-other, tested-for}
 use Rattle.log_dump.proofs.dumping.read_log.Goals as goal
 

@@ -8,9 +8,10 @@ use Rattle.journal_model.specs.declared.log.Tag.{Tag}
 use Rattle.journal_model.specs.declared.log.Piece.TheVariants.{Revokes}
 use Rattle.journal_model.specs.Disk.{reading}
 use Rattle.journal_model.specs.Dump.{comma, piece_captions}
-use Rattle.log_dump.specs.declared.finding.Found.TheVariants.{CommitBlock, Descriptor, Malformed, Nothing, RevokeBlock}
+use Rattle.log_scan.specs.declared.finding.Found.TheVariants.{CommitBlock, Descriptor, Malformed, Nothing, RevokeBlock}
 use Rattle.log_dump.specs.Lines.{placed_lines, tags_captions}
-use Rattle.log_dump.proofs.CountingSteps.{accepted-stays, found-there, no-failure, no-memory, stays-joins}
+use Rattle.log_scan.specs.Finding.{every_block}
+use Rattle.log_scan.proofs.ScanSteps.{accepted-stays, found-there, no-failure, no-memory, stays-joins}
 use Rattle.log_dump.proofs.PrintingSteps.{line-placed, printed-none, printed-piece, printed-text, unprinted-malformed, unprinted-nothing}
 use Rattle.log_dump.proofs.printing.write_text.Goals as goal
 
@@ -44,7 +45,7 @@ loop-numbers-preserved-in-RevokeBlock g c =
       faults = c.in_ok-numbers.ensures.faults ∙ before.faults;
       honest = λ h. before.honest (c.look.ensures.honest h);
       printed =
-          λ h. let is = found-there c.args.log.now (g.D.Device.state c.args.device.now) (g.D.Device.state c.loop-numbers.device) c.args.sequence c.args.sequence c.loop-numbers.position c.look.new.self
+          λ h. let is = found-there c.args.log.now every_block (g.D.Device.state c.args.device.now) (g.D.Device.state c.loop-numbers.device) c.args.sequence c.args.sequence c.loop-numbers.position c.look.new.self
           (RevokeBlock c.in-RevokeBlock.numbers) refl before.stays (rw c.in-RevokeBlock.is at (c.in_ok-numbers.ensures.found h)) in
           printed-piece c.args.log.now (reading (g.D.Device.state c.args.device.now).disk) c.args.sequence (g.W.Write.contents c.args.out.now) (g.W.Write.contents c.loop-numbers.out)
           c.args.start c.loop-numbers.position (before.printed (c.look.ensures.honest h)) (g.W.Write.contents c.write_revokes.new.out) _ 1 (c.loop-numbers.position + 1) refl is.begins line;
@@ -65,7 +66,7 @@ loop-numbers-preserved g c =
       faults = c.in_ok-numbers.ensures.faults ∙ before.faults;
       honest = λ h. before.honest (c.look.ensures.honest h);
       printed =
-          λ h. let is = found-there c.args.log.now (g.D.Device.state c.args.device.now) (g.D.Device.state c.loop-numbers.device) c.args.sequence c.args.sequence c.loop-numbers.position c.look.new.self
+          λ h. let is = found-there c.args.log.now every_block (g.D.Device.state c.args.device.now) (g.D.Device.state c.loop-numbers.device) c.args.sequence c.args.sequence c.loop-numbers.position c.look.new.self
           (Descriptor c.in-Descriptor.tags) refl before.stays (rw c.in-Descriptor.is at (c.in_ok-numbers.ensures.found h)) in
           printed-piece c.args.log.now (reading (g.D.Device.state c.args.device.now).disk) c.args.sequence (g.W.Write.contents c.args.out.now) (g.W.Write.contents c.loop-numbers.out)
           c.args.start c.loop-numbers.position (before.printed (c.look.ensures.honest h)) (g.W.Write.contents c.write_copies.new.out) _ (1 + c.in-Descriptor.tags)
@@ -78,7 +79,7 @@ returns-in-CommitBlock-clause-printed g c = λ h.
     let before = c.loop-numbers.invariant in
     printed-text c.args.log.now (reading (g.D.Device.state c.args.device.now).disk) c.args.sequence (g.W.Write.contents c.args.out.now) (g.W.Write.contents c.loop-numbers.out)
     c.args.start c.loop-numbers.position (before.printed (c.look.ensures.honest h)) (g.W.Write.contents c.write_commit.new.out)
-    (found-there c.args.log.now (g.D.Device.state c.args.device.now) (g.D.Device.state c.loop-numbers.device) c.args.sequence c.args.sequence c.loop-numbers.position c.look.new.self
+    (found-there c.args.log.now every_block (g.D.Device.state c.args.device.now) (g.D.Device.state c.loop-numbers.device) c.args.sequence c.args.sequence c.loop-numbers.position c.look.new.self
     CommitBlock refl before.stays (rw c.in-CommitBlock.is at (c.in_ok-numbers.ensures.found h)))
     (line-placed c.args.log.now c.loop-numbers.position c.place-place.result (codes "commit " ++ decimal c.args.sequence)
     (g.W.Write.contents c.loop-numbers.out) (g.W.Write.contents c.write_commit.new.out) c.place-place.ensures.place c.in_ok-write_commit-in-CommitBlock.ensures)
@@ -95,12 +96,12 @@ returns-in-Malformed-clause-refused g c =
         | inl bad ↦
             unprinted-malformed c.args.log.now (reading (g.D.Device.state c.args.device.now).disk) c.args.sequence (g.W.Write.contents c.args.out.now) (g.W.Write.contents c.loop-numbers.out)
             c.args.start c.loop-numbers.position (before.printed (c.look.ensures.honest h))
-            (found-there c.args.log.now (g.D.Device.state c.args.device.now) (g.D.Device.state c.loop-numbers.device) c.args.sequence c.args.sequence c.loop-numbers.position c.look.new.self
+            (found-there c.args.log.now every_block (g.D.Device.state c.args.device.now) (g.D.Device.state c.loop-numbers.device) c.args.sequence c.args.sequence c.loop-numbers.position c.look.new.self
             Malformed refl before.stays (rw bad at (c.in_ok-numbers.ensures.found h)))
         | inr nothing ↦
             unprinted-nothing c.args.log.now (reading (g.D.Device.state c.args.device.now).disk) c.args.sequence (g.W.Write.contents c.args.out.now) (g.W.Write.contents c.loop-numbers.out)
             c.args.start c.loop-numbers.position (before.printed (c.look.ensures.honest h))
-            (found-there c.args.log.now (g.D.Device.state c.args.device.now) (g.D.Device.state c.loop-numbers.device) c.args.sequence c.args.sequence c.loop-numbers.position c.look.new.self
+            (found-there c.args.log.now every_block (g.D.Device.state c.args.device.now) (g.D.Device.state c.loop-numbers.device) c.args.sequence c.args.sequence c.loop-numbers.position c.look.new.self
             Nothing refl before.stays (rw nothing at (c.in_ok-numbers.ensures.found h)))
       ],
     )

@@ -4,8 +4,8 @@ use Rattle.journal_model.specs.Disk.{Disk, reading}
 use Rattle.journal_model.specs.Opening.{layout_of}
 use Rattle.journal_model.specs.ReadingLog.{NoTextBegins}
 use Rattle.log_dump.specs.Dumping.{IsPrinted}
-use Rattle.log_dump.specs.Finding.{blocks_from, every_block}
-use Rattle.log_dump.proofs.CountingSteps.{accepted-stays, stays-joins}
+use Rattle.log_scan.specs.Finding.{blocks_from, every_block}
+use Rattle.log_scan.proofs.ScanSteps.{accepted-stays, stays-joins}
 use Rattle.log_dump.proofs.PrintingSteps.{refused-through, texts-all, texts-no-more, texts-printed, texts-unprinted}
 use Rattle.log_dump.proofs.printing.write_transactions.Goals as goal
 

@@ -1,0 +1,6 @@
+-- The lemmas of this crate.
+pub mod Fronts
+pub mod Laps
+pub mod Looking
+pub mod ScanSteps
+pub mod SoFar

@@ -1,0 +1,38 @@
+-- What a block that was read says of itself says what stands at its position of the lap.
+use Rattle.std.proofs.Common.{◌≡◌, ℕ, suc, ◌-◌, ◌<◌, ◌≤◌, List, ◌∷◌, length, sym, ◌∙◌, ap, subst, arith}
+use Rattle.journal_model.specs.declared.number.Area.TheVariants.{Log}
+use Rattle.journal_model.specs.Chain.{place_from}
+use Rattle.journal_model.specs.Disk.{Image}
+use Rattle.journal_model.specs.Layout.{Layout, narrow, numbers_of}
+use Rattle.journal_model.specs.Opening.{layout_of, ring_of}
+use Rattle.journal_model.specs.Superblock.{Super}
+use Rattle.log_format.specs.Size.{IsBlockSize, most_tags}
+use Rattle.log_scan.specs.declared.finding.Found.{Found}
+use Rattle.log_scan.specs.declared.finding.Found.TheVariants.{RevokeBlock, Descriptor, CommitBlock, Malformed, Nothing}
+use Rattle.log_scan.specs.Finding.{FinderValue, Fits, IsFound, Says, blocks_from}
+use Rattle.log_scan.proofs.Fronts.{found-says}
+use Rattle.log_scan.proofs.Laps.{from-within, length-from}
+
+-- what a finder has room for, whose block, tags and numbers are so many
+abbrev pub HasRoom : ℕ → ℕ → ℕ → Type 0
+HasRoom block tags numbers = IsBlockSize block × (most_tags (narrow block) ≤ tags) × (numbers_of (narrow block) ≤ numbers)
+
+-- what a block says of itself stands within the ring
+pub fits-says : (l : Layout) (count sequence behind blocks position : ℕ) (block : List ℕ) (f : FinderValue) (found : Found) → position < blocks →
+    behind ≡ blocks - position - 1 → Says l count sequence behind block f found → Fits count blocks position f found
+fits-says l count sequence behind blocks position block f (RevokeBlock n) below rest says = (says.0, omega arith)
+fits-says l count sequence behind blocks position block f (Descriptor n) below rest says = (says.0, (let few = says.1 in omega arith), says.2.below)
+fits-says l count sequence behind blocks position block f CommitBlock below rest says = omega arith
+fits-says l count sequence behind blocks position block f Malformed below rest says = tt
+fits-says l count sequence behind blocks position block f Nothing below rest says = tt
+
+-- what the block at a position says of itself
+pub found-at : (s : Super) (limit : ℕ) (image : Image) (sequence position behind : ℕ) (block : List ℕ) (f : FinderValue) (found : Found) → position < (ring_of s).blocks →
+    behind ≡ (ring_of s).blocks - position - 1 → length block ≡ s.s_blocksize → block ≡ image Log (place_from (ring_of s) s.s_start position) →
+    Says (narrow (length block)) limit sequence behind block f found → IsFound (layout_of s) limit sequence (blocks_from s image position) f found
+found-at s limit image sequence position behind block f found below rest size is says =
+    let left : behind ≡ length (blocks_from s image (suc position)) = let all = length-from s image (suc position) in omega arith in
+    found-says (layout_of s) limit sequence (blocks_from s image position) block (blocks_from s image (suc position))
+    (from-within s image position below ∙ ap (λ (b : List ℕ). b ∷ blocks_from s image (suc position)) (sym is)) f found
+    (subst (λ (n : ℕ). Says (layout_of s) limit sequence n block f found) left
+    (subst (λ (n : ℕ). Says (narrow n) limit sequence behind block f found) size says))

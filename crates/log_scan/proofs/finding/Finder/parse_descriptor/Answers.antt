@@ -1,0 +1,59 @@
+use Rattle.std.proofs.Common.{◌≡◌, List, ℕ, ap, sym, ◌∙◌, subst, arith, inl, length, drop}
+use Rattle.journal_model.specs.declared.log.Tag.{Tag}
+use Rattle.journal_model.specs.Layout.{HasHeader, descriptor_type, narrow, sequence_in}
+use Rattle.log_scan.specs.declared.finding.Found.{Found}
+use Rattle.log_scan.specs.declared.finding.Found.TheVariants.{Descriptor, Malformed, Nothing}
+use Rattle.log_scan.specs.Finding.{FinderValue, Says}
+use Rattle.log_scan.proofs.Fronts.{other-many}
+use Rattle.journal_model.proofs.Buffers.{as-long, whole-buffer}
+use Rattle.log_scan.proofs.Looking.{HasRoom}
+use Rattle.std.proofs.lemmas.List.{length-take-le}
+use Rattle.log_scan.proofs.finding.Finder.parse_descriptor.Goals as goal
+use Rattle.log_scan.proofs.finding.Finder.parse_descriptor.Goals.{Joined-read, in-Ok, in-Ok-2, in-Err}
+
+-- the block that was read
+same : (c : Joined-read) → c.deref.result.now ≡ c.args.self.now.block
+same c = c.deref.ensures.value ∙ ap (λ (f : FinderValue). f.block) c.self.view_is
+
+-- what a block that was read says, the block says
+says : (c : Joined-read) → Found → List Tag → List ℕ → Type 0
+says c found tags x =
+    let f : FinderValue = record { block = c.self.inside.block.items; tags = tags; numbers = c.self.inside.numbers.items } in
+    Says (narrow (length x)) c.args.limit (sequence_in x) c.args.behind x f found
+
+-- its tags, or that it has none
+tags-said : (c : Joined-read) → says c c.match-read.result c.read.new.tags c.args.self.now.block
+unfolding says
+tags-said c =
+    let b : List ℕ = c.deref.result.now in
+    let ts : List Tag = c.read.new.tags in
+    let header : HasHeader descriptor_type (sequence_in b) b = subst (λ (x : List ℕ). HasHeader descriptor_type (sequence_in x) x) (sym (same c)) c.requires in
+    elim c.match-read.branch [
+      | in-Ok w ↦
+          let tags : says c (Descriptor w.in-Ok.tags) ts b = (w.in-Ok.ensures.0, omega arith, w.in-Ok.ensures.1) in
+          rw w.result-is (subst (says c (Descriptor w.in-Ok.tags) ts) (same c) tags)
+      | in-Ok-2 w ↦
+          let many : says c Nothing ts b =
+          other-many _ _ _ _ _ _ w.in-Ok.ensures.1 (let size = length-take-le w.in-Ok.tags ts w.in-Ok.ensures.0 in omega arith) in
+          rw w.result-is (subst (says c Nothing ts) (same c) many)
+      | in-Err w ↦
+          let bad : says c Malformed ts b = inl (header, w.in-Err.ensures) in
+          rw w.result-is (subst (says c Malformed ts) (same c) bad)
+    ]
+
+pub returns-clause-says : goal.returns-clause-says
+unfolding says
+returns-clause-says c =
+    let whole = whole-buffer c.self.inside.tags.len c.read.new.tags (drop (length c.read.new.tags) c.self.inside.tags.items)
+    (let new = c.read.auto.tags in let old = c.deref_mut.ensures.len in omega arith) in
+    subst (λ (ts : List Tag). says c c.match-read.result ts c.args.self.now.block) (sym whole) (tags-said c)
+
+-- there is room for as many tags as before
+pub invariant_of-self : goal.invariant_of-self
+invariant_of-self c =
+    let new = c.read.auto.tags in
+    let old = c.deref_mut.ensures.len in
+    let own = ap length c.deref_mut.ensures.value in
+    subst (λ (n : ℕ). HasRoom (length c.self.inside.block.items) n (length c.self.inside.numbers.items))
+    (sym (as-long c.self.inside.tags.len (length c.self.inside.tags.items) c.read.new.tags (drop (length c.read.new.tags) c.self.inside.tags.items) (omega arith) (omega arith)))
+    c.self.invariant

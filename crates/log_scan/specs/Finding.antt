@@ -1,0 +1,89 @@
+-- What stands at one place of a log.
+use Rattle.std.specs.Prelude.{◌≡◌, ℕ, ◌+◌, ◌<◌, ◌≤◌, List, ◌∷◌, length, take, drop, Option, unwrap_or, All, ⊤}
+use Rattle.journal_model.specs.declared.log.Tag.{Tag}
+use Rattle.journal_model.specs.declared.log.Piece.TheVariants.{Revokes, Copies}
+use Rattle.journal_model.specs.Chain.{IsMalformed, lap}
+use Rattle.journal_model.specs.Descriptor.{IsDescriptor}
+use Rattle.journal_model.specs.Disk.{Image}
+use Rattle.journal_model.specs.Layout.{Layout, every_number, narrow}
+use Rattle.journal_model.specs.Opening.{ring_of}
+use Rattle.journal_model.specs.ReadingLog.{NoPieceBegins, PieceBegins}
+use Rattle.journal_model.specs.RevokeBlock.{IsRevokeBlock}
+use Rattle.journal_model.specs.Superblock.{Super}
+use Rattle.journal_model.specs.Text.{IsCommitBlock}
+use Rattle.log_scan.specs.declared.finding.Found.{Found}
+use Rattle.log_scan.specs.declared.finding.Found.TheVariants.{RevokeBlock, Descriptor, CommitBlock, Malformed, Nothing}
+
+-- a block that was read, and the tags and numbers that were read of the last descriptor and revoke block
+pub record FinderValue : Type 0 where
+  pub block : List ℕ
+  pub tags : List Tag
+  pub numbers : List ℕ
+
+-- where home is not known, each number that a tag can spell is taken
+abbrev pub every_block : ℕ
+every_block = every_number (narrow 0)
+
+-- the numbers of home blocks are below this one, by the count of home's blocks, where that is known
+abbrev pub limit_of : Option ℕ → ℕ
+limit_of home_blocks = unwrap_or home_blocks every_block
+
+-- the blocks of the lap from position k on
+abbrev pub blocks_from : Super → Image → ℕ → List (List ℕ)
+blocks_from s image k = drop k (lap (ring_of s) image s.s_start)
+
+-- the block is none of the transaction's, or a descriptor with more tags than blocks stand behind it
+pub record IsOther (l : Layout) (count sequence behind : ℕ) (block : List ℕ) : Type 0 where
+  pub revokes : (numbers : List ℕ) → IsRevokeBlock l count sequence block numbers → ⊥
+  pub copies : (tags : List Tag) → IsDescriptor l count sequence block tags → behind < length tags
+  pub commit : IsCommitBlock sequence block → ⊥
+  pub malformed : IsMalformed l count sequence block → ⊥
+
+-- what a block is to the transaction of this number, where so many blocks stand behind it
+abbrev pub Says : Layout → ℕ → ℕ → ℕ → List ℕ → FinderValue → Found → Type 0
+Says l count sequence behind block f (RevokeBlock n) = (n ≤ length f.numbers) × IsRevokeBlock l count sequence block (take n f.numbers)
+Says l count sequence behind block f (Descriptor n) = (n ≤ length f.tags) × (n ≤ behind) × IsDescriptor l count sequence block (take n f.tags)
+Says l count sequence behind block f CommitBlock = IsCommitBlock sequence block
+Says l count sequence behind block f Malformed = IsMalformed l count sequence block
+Says l count sequence behind block f Nothing = IsOther l count sequence behind block
+
+-- what was found stands within the ring, and was read; and the tags are of home blocks
+abbrev pub Fits : ℕ → ℕ → ℕ → FinderValue → Found → Type 0
+Fits limit blocks position f (RevokeBlock n) = (n ≤ length f.numbers) × (position + 1 ≤ blocks)
+Fits limit blocks position f (Descriptor n) = (n ≤ length f.tags) × (position + 1 + n ≤ blocks) × All (λ t. t.block < limit) (take n f.tags)
+Fits limit blocks position f CommitBlock = position + 1 ≤ blocks
+Fits limit blocks position f Malformed = ⊤
+Fits limit blocks position f Nothing = ⊤
+
+-- a revoke block with these numbers stands at the front of the blocks
+pub record RevokeBlockBegins (l : Layout) (count sequence : ℕ) (blocks : List (List ℕ)) (numbers : List ℕ) : Type 0 where
+  pub block : List ℕ
+  pub begins : PieceBegins l count sequence blocks (Revokes block numbers) 1
+
+-- a descriptor with these tags, and a copy for each, stand at the front of the blocks
+pub record DescriptorBegins (l : Layout) (count sequence : ℕ) (blocks : List (List ℕ)) (tags : List Tag) (n : ℕ) : Type 0 where
+  pub block : List ℕ
+  pub copies : List (List ℕ)
+  pub begins : PieceBegins l count sequence blocks (Copies block tags copies) (1 + n)
+  pub size : n ≡ length tags
+
+-- a block with P stands at the front of the blocks
+pub record BlockBegins (P : List ℕ → Type 0) (blocks : List (List ℕ)) : Type 0 where
+  pub block : List ℕ
+  pub behind : List (List ℕ)
+  pub split : blocks ≡ block ∷ behind
+  pub is : P block
+
+-- nothing of the transaction stands at the front of the blocks, well formed or not
+pub record NothingBegins (l : Layout) (count sequence : ℕ) (blocks : List (List ℕ)) : Type 0 where
+  pub piece : NoPieceBegins l count sequence blocks
+  pub commit : BlockBegins (IsCommitBlock sequence) blocks → ⊥
+  pub malformed : BlockBegins (IsMalformed l count sequence) blocks → ⊥
+
+-- what stands at the front of the blocks
+abbrev pub IsFound : Layout → ℕ → ℕ → List (List ℕ) → FinderValue → Found → Type 0
+IsFound l count sequence blocks f (RevokeBlock n) = RevokeBlockBegins l count sequence blocks (take n f.numbers)
+IsFound l count sequence blocks f (Descriptor n) = DescriptorBegins l count sequence blocks (take n f.tags) n
+IsFound l count sequence blocks f CommitBlock = BlockBegins (IsCommitBlock sequence) blocks
+IsFound l count sequence blocks f Malformed = BlockBegins (IsMalformed l count sequence) blocks
+IsFound l count sequence blocks f Nothing = NothingBegins l count sequence blocks

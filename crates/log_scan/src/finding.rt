@@ -1,0 +1,168 @@
+//! What stands at one place of a log.
+ghost use Rattle.std.specs.Prelude.{◌≡◌, ℕ, ◌-◌, ◌<◌, ◌≤◌, length, take, IfOk, MatchResult};
+ghost use Rattle.journal_model.specs.Disk.{reading};
+ghost use Rattle.journal_model.specs.Layout.{narrow, HasHeader, descriptor_type, revoke_type, sequence_in};
+ghost use Rattle.journal_model.specs.Opening.{layout_of, ring_of};
+ghost use Rattle.block_device.specs.State.{IsDeviceFailure, Stays};
+ghost use Rattle.log_format.specs.Accepted.{IsAccepted};
+ghost use Rattle.log_format.specs.Size.{IsBlockSize};
+ghost use Rattle.log_scan.specs.Finding.{Fits, IsFound, Says, blocks_from, limit_of};
+
+use crate::log::Log;
+use block_device::Device;
+use journal_model::layout::{
+    COMMIT_TYPE, DESCRIPTOR_TYPE, HEADER_BYTES, NUMBER_BYTES, REVOKE_HEADER_BYTES, REVOKE_TYPE,
+    TAG_BYTES,
+};
+use journal_model::{Area, BlockNo, JournalError, Tag};
+use log_format::{Descriptor, Header, RevokeBlock};
+use std::alloc::{AllocError, Global};
+use std::marker::Model;
+
+/// Where home is not known, each number of four bytes may be that of a home block.
+const EVERY_BLOCK: u64 = 0x1_0000_0000;
+
+/// What stands at a place of the log, where a block of one transaction is due.
+#[derive(Clone, Copy)]
+pub enum Found {
+    /// A revoke block with so many numbers.
+    RevokeBlock(usize),
+    /// A descriptor with so many tags, and in the ring as many copies behind it.
+    Descriptor(usize),
+    /// The commit block of the transaction.
+    CommitBlock,
+    /// A descriptor or revoke block of the transaction that is not well formed.
+    Malformed,
+    /// No block of the transaction, or a descriptor whose copies don't fit into the ring, or the ring ends.
+    Nothing,
+}
+
+/// Reads blocks of a log one by one into a buffer of one block, and says what stands there. It keeps the tags of the last
+/// descriptor and the numbers of the last revoke block, too.
+#[derive(Drop)]
+pub struct Finder {
+    block: Vec<u8>,
+    tags: Vec<Tag>,
+    numbers: Vec<BlockNo>,
+}
+
+impl Model for Finder {
+    ghost use Rattle.std.specs.Prelude.{◌≤◌, length};
+    ghost use Rattle.journal_model.specs.Layout.{narrow, numbers_of};
+    ghost use Rattle.log_format.specs.Size.{IsBlockSize, most_tags};
+    ghost use Rattle.log_scan.specs.Finding.{FinderValue};
+
+    ghost Value = { FinderValue };
+
+    ghost view = { λ f. record { block = f.block.items; tags = f.tags.items; numbers = f.numbers.items } };
+
+    ghost invariant = { λ f. IsBlockSize (length f.block.items)
+        × (most_tags (narrow (length f.block.items)) ≤ length f.tags.items)
+        × (numbers_of (narrow (length f.block.items)) ≤ length f.numbers.items) };
+}
+
+impl Finder {
+    /// A finder in blocks of 1024, 2048 or 4096 bytes. It fails where memory runs out, and takes none later.
+    pub fn new(alloc: Global, block_size: usize) -> Result<Self, AllocError>
+        requires { IsBlockSize block_size }
+        ensures { IfOk result (λ f. length f.block ≡ block_size) }
+    {
+        Ok(Finder {
+            block: vec![in alloc; 0; block_size]?,
+            tags: vec![in alloc; Tag::UNUSED; (block_size - HEADER_BYTES) / TAG_BYTES]?,
+            numbers: vec![in alloc; BlockNo(0); (block_size - REVOKE_HEADER_BYTES) / NUMBER_BYTES]?,
+        })
+    }
+
+    /// The tags of the descriptor that was found last.
+    pub fn tags(&self, count: usize) -> &[Tag]
+        requires { count ≤ length self.now.tags }
+        ensures { result.now ≡ take count self.now.tags }
+    {
+        &self.tags[..count]
+    }
+
+    /// The numbers of the revoke block that was found last.
+    pub fn numbers(&self, count: usize) -> &[BlockNo]
+        requires { count ≤ length self.now.numbers }
+        ensures { result.now ≡ take count self.now.numbers }
+    {
+        &self.numbers[..count]
+    }
+
+    /// Reads the block at this position of the lap, and says what it is to the transaction `sequence`. A descriptor or revoke
+    /// block that names a block at or above `home_blocks` is malformed; where home is not known, none is for its numbers.
+    ///
+    /// # Errors
+    ///
+    /// `Device`: the read failed. What the buffers hold is then not said.
+    pub fn look<D: Device>(
+        &mut self,
+        device: &mut D,
+        log: &Log,
+        home_blocks: Option<u64>,
+        position: u64,
+        sequence: u64,
+    ) -> Result<Found, JournalError>
+        requires size { length self.old.block ≡ (D.state device.old).shape.block_size }
+        requires accepted { IsAccepted (D.state device.old).shape.block_size (D.state device.old).shape.log_blocks log.now }
+        ensures size { length self.new.block ≡ length self.old.block }
+        ensures fits { IfOk result (Fits (limit_of home_blocks) (ring_of log.now).blocks position self.new) }
+        ensures found { IfOk result (λ found. D.honest device.new → IsFound (layout_of log.now) (limit_of home_blocks) sequence (blocks_from log.now (reading (D.state device.old).disk) position) self.new found) }
+        ensures faults { MatchResult result (λ _. (D.state device.new).faults ≡ (D.state device.old).faults) (IsDeviceFailure (D.state device.old) (D.state device.new)) }
+        ensures stays { Stays (D.state device.old) (D.state device.new) }
+        ensures honest { D.honest device.new → D.honest device.old }
+    {
+        if position >= log.blocks() {
+            return Ok(Found::Nothing);
+        }
+        device.read(Area::Log, log.place(position), &mut self.block)?;
+        let limit = home_blocks.unwrap_or(EVERY_BLOCK);
+        Ok(self.parse(limit, sequence, log.blocks() - position - 1))
+    }
+
+    /// What the block is to the transaction `sequence`, where so many blocks stand behind it in the ring, and the numbers of
+    /// home blocks are below this limit.
+    fn parse(&mut self, limit: u64, sequence: u64, behind: u64) -> Found
+        ensures says { Says (narrow (length self.old.block)) limit sequence behind self.old.block self.new result }
+        ensures block { self.new.block ≡ self.old.block }
+    {
+        let Some(header) = Header::read(&self.block) else {
+            return Found::Nothing;
+        };
+        if u64::from(header.sequence) != sequence {
+            return Found::Nothing;
+        }
+        match header.block_type {
+            DESCRIPTOR_TYPE => self.parse_descriptor(limit, behind),
+            COMMIT_TYPE => Found::CommitBlock,
+            REVOKE_TYPE => self.parse_revokes(limit),
+            _ => Found::Nothing,
+        }
+    }
+
+    /// What the block is, which has the header of a descriptor.
+    fn parse_descriptor(&mut self, limit: u64, behind: u64) -> Found
+        requires { HasHeader descriptor_type (sequence_in self.old.block) self.old.block }
+        ensures says { Says (narrow (length self.old.block)) limit (sequence_in self.old.block) behind self.old.block self.new result }
+        ensures block { self.new.block ≡ self.old.block }
+    {
+        match Descriptor::read(&self.block, limit, &mut self.tags) {
+            Ok(tags) if tags as u64 <= behind => Found::Descriptor(tags),
+            Ok(_) => Found::Nothing,
+            Err(_) => Found::Malformed,
+        }
+    }
+
+    /// What the block is, which has the header of a revoke block.
+    fn parse_revokes(&mut self, limit: u64) -> Found
+        requires { HasHeader revoke_type (sequence_in self.old.block) self.old.block }
+        ensures says { (behind : ℕ) → Says (narrow (length self.old.block)) limit (sequence_in self.old.block) behind self.old.block self.new result }
+        ensures block { self.new.block ≡ self.old.block }
+    {
+        match RevokeBlock::read(&self.block, limit, &mut self.numbers) {
+            Ok(numbers) => Found::RevokeBlock(numbers),
+            Err(_) => Found::Malformed,
+        }
+    }
+}

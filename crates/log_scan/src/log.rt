@@ -1,0 +1,80 @@
+//! A log whose superblock was accepted.
+ghost use Rattle.std.specs.Prelude.{◌≡◌, ◌<◌, ◌+◌, ◌^◌, ◌≤◌, ◌==◌};
+ghost use Rattle.journal_model.specs.Chain.{place_from};
+ghost use Rattle.journal_model.specs.Opening.{ring_of};
+ghost use Rattle.journal_model.specs.Superblock.{least_ring};
+
+use log_format::Super;
+use log_ring::Ring;
+use std::marker::Model;
+
+/// A log whose superblock was accepted: its fields, and the places of its ring. Contracts see the fields.
+#[derive(Drop)]
+pub struct Log {
+    fields: Super,
+    ring: Ring,
+}
+
+impl Model for Log {
+    ghost use Rattle.std.specs.Prelude.{◌≡◌};
+    ghost use Rattle.journal_model.specs.Opening.{ring_of};
+    ghost use Rattle.journal_model.specs.Superblock.{Super as Fields};
+
+    ghost Value = { Fields };
+
+    ghost view = { λ l. l.fields };
+
+    ghost invariant = { λ l. l.ring.ring ≡ ring_of l.fields };
+}
+
+impl Log {
+    /// The log of these fields, whose ring has at least 16 blocks.
+    pub fn new(fields: Super) -> Self
+        requires behind { 0 < fields.s_first }
+        requires least { fields.s_first + least_ring ≤ fields.s_maxlen }
+        ensures { result ≡ fields }
+    {
+        Log {
+            ring: Ring::new(fields.s_first, fields.s_maxlen),
+            fields,
+        }
+    }
+
+    /// The fields of the superblock.
+    pub fn fields(&self) -> &Super
+        ensures { result.now ≡ self.now }
+    {
+        &self.fields
+    }
+
+    /// Whether the log is clean: it holds no transaction.
+    pub fn is_clean(&self) -> bool
+        ensures { result ≡ (self.now.s_start == 0) }
+    {
+        self.fields.s_start == 0
+    }
+
+    /// The number of the first transaction in the log, in a clean log the one before the next.
+    pub fn first_number(&self) -> u64
+        ensures value { result ≡ self.now.s_sequence }
+        ensures small { result < 2 ^ 32 }
+    {
+        u64::from(self.fields.s_sequence)
+    }
+
+    /// How many blocks the ring has.
+    pub fn blocks(&self) -> u64
+        ensures { result ≡ (ring_of self.now).blocks }
+    {
+        self.ring.blocks()
+    }
+
+    /// The place in the log area of the k-th block of the ring, counted from where the log begins, or in a clean log from the
+    /// ring's first block.
+    pub fn place(&self, k: u64) -> u64
+        ensures place { result ≡ place_from (ring_of self.now) self.now.s_start k }
+        ensures there { result < self.now.s_maxlen }
+    {
+        self.ring.advance(u64::from(self.fields.s_start), k)
+    }
+}

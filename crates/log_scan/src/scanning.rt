@@ -1,0 +1,57 @@
+//! The way over a log from where it begins to the end of its chain.
+ghost use Rattle.std.specs.Prelude.{◌≡◌, ◌≤◌, length, IfOk, IfErr, OnOk};
+ghost use Rattle.journal_model.specs.Disk.{reading};
+ghost use Rattle.journal_model.specs.Opening.{ring_of};
+ghost use Rattle.block_device.specs.State.{Stays};
+ghost use Rattle.log_format.specs.Accepted.{IsAccepted};
+ghost use Rattle.log_scan.specs.Finding.{limit_of};
+ghost use Rattle.log_scan.specs.Scanning.{IsScanned, IsScanRefused};
+
+use crate::finding::{Finder, Found};
+use crate::log::Log;
+use block_device::Device;
+use journal_model::JournalError;
+
+/// How many complete transactions a log has that is not clean: the texts of its chain. The number behind the last of them is
+/// that of the first one and this count. One block is read at a time, and no copy is.
+///
+/// The numbers of home blocks are tested where `home_blocks` is known. The bound of one lap is kept, and a descriptor whose
+/// copies don't fit into it ends the chain.
+/// Source: fs/jbd2/recovery.c by behaviour; the bound and `Damage` are this project's own.
+///
+/// # Errors
+///
+/// `Damage`: a descriptor or revoke block behind the complete transactions, of the number that is due there, is malformed, and
+/// stands at this place of the log area. `Device`: a read failed.
+pub fn scan<D: Device>(
+    device: &mut D,
+    log: &Log,
+    home_blocks: Option<u64>,
+    finder: &mut Finder,
+) -> Result<u64, JournalError>
+    requires size { length finder.old.block ≡ (D.state device.old).shape.block_size }
+    requires accepted { IsAccepted (D.state device.old).shape.block_size (D.state device.old).shape.log_blocks log.now }
+    ensures size { length finder.new.block ≡ length finder.old.block }
+    ensures few { IfOk result (λ count. count ≤ (ring_of log.now).blocks) }
+    ensures scanned { IfOk result (λ count. D.honest device.new → IsScanned log.now (limit_of home_blocks) (reading (D.state device.old).disk) count) }
+    ensures refused { IfErr result (IsScanRefused (D.honest device.new) log.now (limit_of home_blocks) (D.state device.old) (D.state device.new)) }
+    ensures faults { OnOk result ((D.state device.new).faults ≡ (D.state device.old).faults) }
+    ensures stays { Stays (D.state device.old) (D.state device.new) }
+    ensures honest { D.honest device.new → D.honest device.old }
+{
+    let mut position = 0;
+    let mut count = 0;
+    loop {
+        let sequence = log.first_number() + count;
+        match finder.look(device, log, home_blocks, position, sequence)? {
+            Found::RevokeBlock(_) => position += 1,
+            Found::Descriptor(tags) => position += 1 + tags as u64,
+            Found::CommitBlock => {
+                position += 1;
+                count += 1;
+            }
+            Found::Malformed => return Err(JournalError::Damage(log.place(position))),
+            Found::Nothing => return Ok(count),
+        }
+    }
+}
