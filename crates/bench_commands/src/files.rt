@@ -3,7 +3,7 @@ ghost use Rattle.std.specs.Prelude.{IfOk};
 ghost use Rattle.log_format.specs.Size.{IsBlockSize};
 
 use bench_script::{Measures, is_block_size};
-use file_device::{FileDevice, UnknownContents};
+use file_device::{Contents, FileDevice, UnknownContents};
 use std::fs::{File, Files, OpenOptions};
 use std::io::ErrorKind;
 use std::os::unix::fs::{FileExt, MetadataExt};
@@ -32,6 +32,18 @@ fn log_in(file: File) -> io::Result<LogFiles> {
     FileDevice::new(UnknownContents, block_size_of(&file)?, file, None)
 }
 
+/// Opens a file of a log or of a home area to be read and written. What it holds stays.
+///
+/// # Errors
+///
+/// There is no regular file of this path, or it can't be read and written.
+pub fn open_there<R: Files<File = File>>(rt: &R, path: &str) -> io::Result<File> {
+    match OpenOptions::new().read(true).write(true).open(rt, path) {
+        Ok(file) => regular(file),
+        Err(e) => Err(e),
+    }
+}
+
 /// Opens a file to be written, and makes it where there is none. What it holds stays.
 ///
 /// # Errors
@@ -49,21 +61,12 @@ pub fn open_or_make<R: Files<File = File>>(rt: &R, path: &str) -> io::Result<Fil
     }
 }
 
-/// Opens the file of a home area to be written, which is not that of its log, and makes it where there is none. What it holds
-/// stays.
+/// This file of a home area, where it is not that of its log.
 ///
 /// # Errors
 ///
-/// Those of `open_or_make`; the file is that of the log.
-pub fn open_home<R: Files<File = File>>(rt: &R, path: &str, log: &File) -> io::Result<File> {
-    match open_or_make(rt, path) {
-        Ok(home) => other_than(log, home),
-        Err(e) => Err(e),
-    }
-}
-
-/// This file of a home area, where it is not that of its log.
-fn other_than(log: &File, home: File) -> io::Result<File> {
+/// Both are one file, or nothing can be told of them.
+pub fn other_than(log: &File, home: File) -> io::Result<File> {
     if are_one(log, &home)? {
         Err(io::Error::from(ErrorKind::InvalidInput))
     } else {
@@ -76,6 +79,19 @@ fn are_one(log: &File, home: &File) -> io::Result<bool> {
     let log = log.metadata()?;
     let home = home.metadata()?;
     Ok(log.dev() == home.dev() && log.ino() == home.ino())
+}
+
+/// A device over the files of a log and of its home area, of which `contents` says what is supposed. A block has as many bytes
+/// as the log's superblock says, where a block may have so many, else 1024.
+///
+/// # Errors
+///
+/// The log can't be read, or nothing can be told of a file.
+pub fn device_of<C: Contents>(contents: C, log: File, home: File) -> io::Result<FileDevice<C>> {
+    match block_size_of(&log) {
+        Ok(size) => FileDevice::new(contents, size, log, Some(home)),
+        Err(e) => Err(e),
+    }
 }
 
 /// Makes the files as long as these measures say, all zeros, and a device of them.

@@ -1,8 +1,9 @@
-//! The commands `format` and `dump`, over devices.
+//! The commands `format`, `dump` and `recover`, over devices.
 use crate::fault::{self, Fault, Status};
 use bench_script::Measures;
 use block_device::Device;
-use journal_model::Area;
+use journal_model::{Area, Tid};
+use recovery::Report;
 use std::alloc::Global;
 use std::io;
 use std::io::{BufWriter, Write};
@@ -71,6 +72,39 @@ fn dump_device<D: Device + Drop, W: Write + Drop>(
     log_dump::dump(alloc, &mut device, &mut out)?;
     out.flush()?;
     Ok(())
+}
+
+/// Opens the log of a device, which brings home what its complete transactions copied and leaves the log clean, and prints what
+/// was found. `path` names the log's file. Where the log is refused one line on `err` says why.
+///
+/// # Errors
+///
+/// The output can't be written.
+pub fn recover<D: Device + Drop, W: Write + Drop, E: Write + Drop>(
+    alloc: Global,
+    path: &str,
+    device: D,
+    out: W,
+    err: E,
+) -> io::Result<Status> {
+    match recovery::open(alloc, device) {
+        Ok(opened) => end(path, say_opened(opened.report(), opened.next(), out), err),
+        Err((_, e)) => end(path, Err(Fault::Refused(e)), err),
+    }
+}
+
+/// Says what an opening found.
+fn say_opened<W: Write + Drop>(report: Report, next: Tid, mut out: W) -> Result<(), Fault> {
+    if report.clean {
+        writeln!(out, "clean next={}", next.0).map_err(Fault::from)
+    } else {
+        writeln!(
+            out,
+            "recovered end={} next={} transactions={}",
+            report.ends_at, next.0, report.transactions
+        )
+        .map_err(Fault::from)
+    }
 }
 
 /// How a command ends, and the line that says why it couldn't go on.

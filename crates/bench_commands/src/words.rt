@@ -35,13 +35,14 @@ struct Word {
 /// The program itself.
 const PROGRAM: Usage = Usage {
     name: "jbench",
-    about: "Runs scripts of journal operations over a disk in memory that loses power and judges what is left; makes logs; prints logs",
+    about: "Runs scripts of journal operations over a disk in memory that loses power and judges what is left; makes, prints and recovers logs",
     after_help: "\
 run SCRIPT [--stop K] [--keep LIST]: SCRIPT is a file, K a write number from 1 on (default: the device stops at the end), LIST
 write numbers with commas (default: none). jbench run --help says what a script is.
 format LOG HOME [--block B] [--length M] [--home N] [--uuid DIGITS]: two files become an empty log of M blocks (default: 33) and
 a home area of N zero blocks (default: 64), of B bytes each (default: 1024).
 dump LOG: prints the log in a file.
+recover LOG HOME: opens the log in a file, and brings home what its complete transactions copied.
 
 Exit status: 0 done, 1 refused (words, file, script, refusal), 2 a verdict is false.
 
@@ -171,6 +172,36 @@ Example: jbench dump log",
     }],
 };
 
+/// The command `recover`.
+const RECOVER: Usage = Usage {
+    name: "recover",
+    about: "Opens the log in a file: brings home what its complete transactions copied, and leaves it clean",
+    after_help: "\
+The bytes of a block are what stands at 0x0c of LOG where that is 1024, 2048 or 4096, else 1024. Of each block of HOME the newest
+copy is written that no revoke covers; a clean log is opened without a write. Where the log is refused nothing is written,
+but for want of memory or a failing file: then call it again. It prints 'clean next=N', or
+'recovered end=E next=N transactions=C': N is the number of the next transaction, E the number behind the last complete
+one, C how many complete ones there were.
+
+Exit status: 0 done; 1 refused: the words, a file, or the log.
+
+Example: jbench recover log home",
+    words: &[
+        Word {
+            name: "log",
+            value: "LOG",
+            is_option: false,
+            help: "The file of the log",
+        },
+        Word {
+            name: "home_file",
+            value: "HOME",
+            is_option: false,
+            help: "The file of the home area",
+        },
+    ],
+};
+
 /// What the program is told to do.
 #[derive(Debug, Drop)]
 pub enum Words<'a> {
@@ -180,6 +211,17 @@ pub enum Words<'a> {
     Format(FormatWords<'a>),
     /// To print the log in this file.
     Dump(&'a str),
+    /// To open a log.
+    Recover(RecoverWords<'a>),
+}
+
+/// The words of `recover`.
+#[derive(Debug, Drop)]
+pub struct RecoverWords<'a> {
+    /// The file of the log.
+    pub log: &'a str,
+    /// The file of the home area.
+    pub home: &'a str,
 }
 
 /// The words of `format`.
@@ -247,7 +289,7 @@ fn command_of<'a>(alloc: Global, usage: &Usage) -> Result<Command<'a>, AllocErro
 /// The commands of the program.
 fn commands<'a>(alloc: Global) -> Result<Vec<Command<'a>>, AllocError> {
     let mut commands = Vec::new(alloc);
-    for usage in [&RUN, &FORMAT, &DUMP] {
+    for usage in [&RUN, &FORMAT, &DUMP, &RECOVER] {
         commands.push(command_of(alloc, usage)?)?;
     }
     Ok(commands)
@@ -419,6 +461,14 @@ fn format_words<'a>(alloc: Global, matches: &ArgMatches<'a>) -> Result<FormatWor
     })
 }
 
+/// What `recover` is told.
+fn recover_words<'a>(matches: &ArgMatches<'a>) -> RecoverWords<'a> {
+    RecoverWords {
+        log: matches.get_str("log").unwrap_or(""),
+        home: matches.get_str("home_file").unwrap_or(""),
+    }
+}
+
 /// What a command is told.
 fn words_of<'a>(alloc: Global, matches: &ArgMatches<'a>) -> Result<Words<'a>, Wanted> {
     if let Some(run) = matches.subcommand_matches("run") {
@@ -426,6 +476,9 @@ fn words_of<'a>(alloc: Global, matches: &ArgMatches<'a>) -> Result<Words<'a>, Wa
     }
     if let Some(format) = matches.subcommand_matches("format") {
         return format_words(alloc, format).map(Words::Format);
+    }
+    if let Some(recover) = matches.subcommand_matches("recover") {
+        return Ok(Words::Recover(recover_words(recover)));
     }
     match matches.subcommand_matches("dump") {
         Some(dump) => Ok(Words::Dump(dump.get_str("log").unwrap_or(""))),

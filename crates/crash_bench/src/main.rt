@@ -1,5 +1,5 @@
 //! `jbench`: runs a script of journal operations over a device in memory that stops at one of its writes, opens what the
-//! stop left, and judges it; makes logs in files, and prints them. The commands are those of `bench_commands`: here they are
+//! stop left, and judges it; makes logs in files, prints and recovers them. The commands are those of `bench_commands`: here they are
 //! given the program's words, the files that these name, and standard output and error.
 #![tactic(auto)]
 
@@ -7,8 +7,10 @@
 mod commands;
 
 use bench_commands::fault::{Status, refuse_file, refuse_rest};
-use bench_commands::words::{FormatWords, RunWords, Words};
+use bench_commands::words::{FormatWords, RecoverWords, RunWords, Words};
 use bench_commands::{files, logs, run, words};
+use file_device::UnknownContents;
+use std::fs::File;
 use std::process::ExitCode;
 use std::{env, fs, io};
 
@@ -27,6 +29,7 @@ fn jbench(rt: &HostRuntime) -> io::Result<Status> {
         Ok(Words::Run(words)) => run_file(rt, &words),
         Ok(Words::Format(words)) => format_files(rt, &words),
         Ok(Words::Dump(path)) => dump_file(rt, path),
+        Ok(Words::Recover(words)) => recover_files(rt, &words),
         Err(e) => words::answer(&e, &mut io::writer(rt), &mut rt.stderr()),
     }
 }
@@ -45,7 +48,7 @@ fn format_files(rt: &HostRuntime, words: &FormatWords<'_>) -> io::Result<Status>
         Ok(file) => file,
         Err(e) => return refuse_file(&mut rt.stderr(), words.log, e),
     };
-    let home = match files::open_home(rt, words.home, &log) {
+    let home = match home_beside(&log, files::open_or_make(rt, words.home)) {
         Ok(file) => file,
         Err(e) => return refuse_file(&mut rt.stderr(), words.home, e),
     };
@@ -53,6 +56,36 @@ fn format_files(rt: &HostRuntime, words: &FormatWords<'_>) -> io::Result<Status>
         Ok(device) => logs::format(
             words.log,
             &words.measures,
+            device,
+            io::writer(rt),
+            rt.stderr(),
+        ),
+        Err(e) => refuse_file(&mut rt.stderr(), words.log, e),
+    }
+}
+
+/// The file of a home area that was opened, where it is not that of its log.
+fn home_beside(log: &File, opened: io::Result<File>) -> io::Result<File> {
+    match opened {
+        Ok(home) => files::other_than(log, home),
+        Err(e) => Err(e),
+    }
+}
+
+/// Opens a log in two files, both of which are opened before either is read.
+fn recover_files(rt: &HostRuntime, words: &RecoverWords<'_>) -> io::Result<Status> {
+    let log = match files::open_there(rt, words.log) {
+        Ok(file) => file,
+        Err(e) => return refuse_file(&mut rt.stderr(), words.log, e),
+    };
+    let home = match home_beside(&log, files::open_there(rt, words.home)) {
+        Ok(file) => file,
+        Err(e) => return refuse_file(&mut rt.stderr(), words.home, e),
+    };
+    match files::device_of(UnknownContents, log, home) {
+        Ok(device) => logs::recover(
+            rt.alloc(),
+            words.log,
             device,
             io::writer(rt),
             rt.stderr(),
