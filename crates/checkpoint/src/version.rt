@@ -1,3 +1,4 @@
+//! Where a copy stands in the log, and a copy that is to go home.
 use journal_model::{BlockNo, Tid};
 
 /// Where a copy stands in the log: its transaction, and its place among that transaction's entries.

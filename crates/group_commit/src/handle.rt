@@ -1,3 +1,4 @@
+//! What callers hold of a journal: credits, seats, handles, tickets and receipts.
 use journal_model::{HandleNo, Tid};
 use std::marker::Model;
 

@@ -1,3 +1,4 @@
+//! The bytes of one block.
 ghost use Rattle.std.specs.Prelude.{◌≡◌, List, ℕ, IfOk};
 
 use std::alloc::{AllocError, Global};

@@ -1,3 +1,4 @@
+//! What a transaction leaves of the blocks that it touched, and what is written to the log for it.
 ghost use Rattle.std.specs.Prelude.{◌≡◌, IfOk};
 
 use crate::{Block, BlockNo, Items, Tid};

@@ -1,5 +1,5 @@
 //! The words of the journal: its numbers, blocks, entries and refusals, and in `specs/` the definitions
-//! that every contract of the crates above is stated by.
+//! that the promises of the crates above are stated by.
 #![tactic(auto)]
 
 mod block;

@@ -1,3 +1,4 @@
+//! A list of which contracts see the values alone.
 ghost use Rattle.std.specs.Prelude.{◌≡◌, ◌++◌, ◌∷◌, [], List, length, OnOk, OnErr};
 
 use std::alloc::{AllocError, Global};

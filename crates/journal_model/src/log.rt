@@ -1,3 +1,4 @@
+//! What a reader finds in a log: tags, pieces, and the text of a transaction.
 use crate::{Block, BlockNo, Items};
 
 /// One tag of a descriptor block: it names the home block that one of the copies behind the descriptor

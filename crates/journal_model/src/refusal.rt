@@ -1,3 +1,4 @@
+//! Why calls are refused, and the number of each refusal.
 use std::alloc::AllocError;
 use thiserror::Error;
 

@@ -1,3 +1,4 @@
+//! Steps of handles, and the transactions that they make up.
 use crate::{Block, BlockNo, HandleNo, Items, Tid};
 
 /// What one step of a handle does to a block.

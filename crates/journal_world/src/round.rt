@@ -1,3 +1,5 @@
+//! The steps of a checkpoint round, each of one device call.
+
 /// How far a checkpoint round has come: which call of the device is due. Each is one device call.
 /// Source: fs/jbd2/checkpoint.c by behaviour; the order is this project's own.
 #[derive(Clone, Copy, Debug, PartialEq, Eq)]

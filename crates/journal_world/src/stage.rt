@@ -1,3 +1,5 @@
+//! The steps of a commit, each of one device call.
+
 /// How far the commit of a transaction has come: which call of the device is due. Each is one device call.
 /// Source: journalling.rst and fs/jbd2/commit.c by behaviour; the order is this project's own.
 #[derive(Clone, Copy, Debug, PartialEq, Eq)]

@@ -1,3 +1,4 @@
+//! Why there is no dump.
 use journal_model::JournalError;
 use std::error::Error;
 use std::{fmt, io};

@@ -1,3 +1,4 @@
+//! The commit block.
 ghost use Rattle.std.specs.Prelude.{◌≡◌, length};
 ghost use Rattle.journal_model.specs.Layout.{narrow};
 ghost use Rattle.journal_model.specs.OwnText.{commit_block};

@@ -1,3 +1,4 @@
+//! The descriptor block: its tags, written and read.
 ghost use Rattle.std.specs.Prelude.{ℕ, ◌≡◌, ◌<◌, ◌≤◌, ◌+◌, ◌++◌, length, take, drop, List, MatchResult};
 ghost use Rattle.journal_model.specs.declared.log.Tag.{Tag};
 ghost use Rattle.journal_model.specs.Layout.{narrow, descriptor_type, every_number, sequence_in, tag_bytes, HasHeader};

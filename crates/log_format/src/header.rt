@@ -1,3 +1,4 @@
+//! The header that each of the log's own blocks begins with.
 ghost use Rattle.std.specs.Prelude.{◌≡◌, ◌≤◌, ◌++◌, true, false, length, drop, MatchOption};
 ghost use Rattle.journal_model.specs.Layout.{begins_with_magic, header, header_bytes, sequence_in, type_in};
 

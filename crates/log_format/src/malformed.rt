@@ -1,3 +1,4 @@
+//! That a block is not well formed.
 use std::error::Error;
 use std::fmt::{self, Display, Formatter, Write};
 

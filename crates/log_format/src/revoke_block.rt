@@ -1,3 +1,4 @@
+//! The revoke block: its numbers, written and read.
 ghost use Rattle.std.specs.Prelude.{ℕ, ◌≡◌, ◌<◌, ◌≤◌, ◌+◌, length, take, List, MatchResult};
 ghost use Rattle.journal_model.specs.Layout.{narrow, numbers_of, revoke_type, sequence_in, HasHeader};
 ghost use Rattle.journal_model.specs.RevokeBlock.{IsRevokeBlock, revoke_block};

@@ -1,3 +1,4 @@
+//! The superblock: its fields, the tests of an opening, and what is written of it.
 ghost use Rattle.std.specs.Prelude.{ℕ, ◌≡◌, ◌≤◌, ◌-◌, ◌==◌, ◌&&◌, ◌||◌, nat_le, nat_lt, length, IfOk, MatchResult, Some, None};
 ghost use Rattle.journal_model.specs.Layout.{super_type, type_in};
 ghost use Rattle.journal_model.specs.Superblock.{Shape, formatted_super, greatest_length, is_block_size, least_length, least_ring, revoke_feature, super_in, super_refusal, with_tail};
