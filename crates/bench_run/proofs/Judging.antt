@@ -1,6 +1,7 @@
 -- What a verdict counts and compares.
 use Rattle.std.proofs.Common.{◌≡◌, ◌↔◌, ◌∙◌, ℕ, List, [], IsTrue, Option, Some, Bool, true, false, nat_le, ◌||◌, refl, ap, subst}
 use Rattle.std.specs.List.{count_by}
+use Rattle.journal_model.specs.declared.entry.Entry.{Entry}
 use Rattle.journal_model.specs.declared.number.Area.TheVariants.{Home}
 use Rattle.journal_model.specs.declared.number.Area.{Area}
 use Rattle.journal_model.specs.Disk.{Disk, Image, reading}
@@ -12,7 +13,7 @@ use Rattle.block_device.specs.Memory.{MemState, crashed, state_of}
 use Rattle.block_device.specs.State.{DeviceState, Stays}
 use Rattle.recovery.specs.Opening.{Tells}
 use Rattle.recovery.specs.Opening.Tells.{OfClean, OfChain}
-use Rattle.bench_run.specs.Verdict.{IsAsLeft, IsImageVerdict, IsRight, IsVerdict, owed}
+use Rattle.bench_run.specs.Verdict.{IsImageVerdict, IsLeft, IsRight, IsVerdict, owed}
 
 or_false : (b : Bool) → b ≡ (b || false)
 or_false true = refl
@@ -23,12 +24,12 @@ pub count_up_to-owed : (n : ℕ) (ts : History) → count_by (λ t. nat_le t.tid
 count_up_to-owed n ts = λ i. count_by (λ t. or_false (nat_le t.tid n) i) ts
 
 -- on a device that stays, the same blocks are as they were left
-pub IsAsLeft-stays : (sealed : History) (n b : ℕ) (old new : DeviceState) → Stays old new
-    → IsAsLeft sealed n new.shape.block_size (reading new.disk Home) b
-    → IsAsLeft sealed n old.shape.block_size (reading old.disk Home) b
-IsAsLeft-stays sealed n b old new s h =
-    let on_shape : Shape → Type 0 = λ shape. IsAsLeft sealed n shape.block_size (reading new.disk Home) b in
-    let on_disk : Disk → Type 0 = λ disk. IsAsLeft sealed n old.shape.block_size (reading disk Home) b in
+pub IsLeft-stays : (last : ℕ → Option Entry) (b : ℕ) (old new : DeviceState) → Stays old new
+    → IsLeft last new.shape.block_size (reading new.disk Home) b
+    → IsLeft last old.shape.block_size (reading old.disk Home) b
+IsLeft-stays last b old new s h =
+    let on_shape : Shape → Type 0 = λ shape. IsLeft last shape.block_size (reading new.disk Home) b in
+    let on_disk : Disk → Type 0 = λ disk. IsLeft last old.shape.block_size (reading disk Home) b in
     subst on_disk s.disk (subst on_shape s.shape h)
 
 -- and it is as right

@@ -1,1 +1,2 @@
+pub mod LastEntries
 pub mod Verdict

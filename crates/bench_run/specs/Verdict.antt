@@ -1,10 +1,12 @@
 -- What an opening owes after a run, and when it gave that back.
-use Rattle.std.specs.Prelude.{◌≡◌, ◌↔◌, ℕ, ◌≤◌, Bool, IsTrue, List, [], ◌∷◌, length, replicate, Option, Some, None, All}
+use Rattle.std.specs.Prelude.{◌≡◌, ◌↔◌, ℕ, ◌≤◌, Bool, IsTrue, List, [], ◌∷◌, length, replicate, take, Option, Some, None, All, ⊤}
+use Rattle.journal_model.specs.declared.entry.Entry.{Entry}
+use Rattle.journal_model.specs.declared.entry.Entry.TheVariants.{Copy, Revoke}
 use Rattle.journal_model.specs.Disk.{Image}
 use Rattle.journal_model.specs.Opening.{HasLimit, OpensAs, numbered_below}
 use Rattle.journal_model.specs.Record.{acknowledged}
 use Rattle.journal_model.specs.Superblock.{Shape}
-use Rattle.journal_model.specs.Transaction.{History, Volume, after, bytes_of}
+use Rattle.journal_model.specs.Transaction.{History, Volume, last_effect}
 use Rattle.block_device.specs.Memory.{MemState, crashed}
 
 -- how many transactions there are up to the greatest one that was shown committed, if one was
@@ -12,9 +14,20 @@ abbrev pub owed : Option ℕ → History → ℕ
 owed None ts = 0
 owed (Some tid) ts = acknowledged (tid ∷ []) ts
 
--- the block is as the first n transactions left it; one that they left to others is zeros
+-- bytes of a block of which this is the last entry: a copy is there; where there is no entry, zeros are; a block that was
+-- revoked keeps what home held, which may be an older copy
+abbrev pub IsLeftBy : Option Entry → ℕ → List ℕ → Type 0
+IsLeftBy None size bytes = bytes ≡ replicate size 0
+IsLeftBy (Some (Copy v)) size bytes = bytes ≡ v
+IsLeftBy (Some Revoke) size bytes = ⊤
+
+-- the block is as its last entry left it
+abbrev pub IsLeft : (ℕ → Option Entry) → ℕ → Volume → ℕ → Type 0
+IsLeft last size home block = IsLeftBy (last block) size (home block)
+
+-- the block is as the first n transactions left it
 abbrev pub IsAsLeft : History → ℕ → ℕ → Volume → ℕ → Type 0
-IsAsLeft sealed n size home block = home block ≡ bytes_of (after sealed n block) (replicate size 0)
+IsAsLeft sealed n size home block = IsLeft (λ b. last_effect b (take n sealed)) size home block
 
 -- an opening that found the first n transactions gave back what it owes: none that was shown committed is lost, none is
 -- there that was not sealed, and each named block is as they left it

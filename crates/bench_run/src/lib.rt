@@ -8,6 +8,7 @@
 mod blocks;
 mod disk;
 mod interpreter;
+mod last_entries;
 mod outcome;
 mod running;
 mod slots;

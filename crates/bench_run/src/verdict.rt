@@ -4,16 +4,17 @@ ghost use Rattle.std.specs.BTreeSet.{keys};
 ghost use Rattle.journal_model.specs.declared.number.Area.TheVariants.{Home};
 ghost use Rattle.journal_model.specs.Disk.{reading};
 ghost use Rattle.journal_model.specs.Opening.{numbered_below};
-ghost use Rattle.journal_model.specs.Transaction.{bytes_of};
+ghost use Rattle.journal_model.specs.Transaction.{entry_of};
 ghost use Rattle.block_device.specs.State.{Stays};
-ghost use Rattle.bench_run.specs.Verdict.{IsAsLeft, IsRight, owed};
+ghost use Rattle.bench_run.specs.LastEntries.{entry_in};
+ghost use Rattle.bench_run.specs.Verdict.{IsAsLeft, IsLeft, IsLeftBy, IsRight, owed};
 
 use crate::blocks::read_block;
+use crate::last_entries::last_entries;
 use block_device::Device;
-use journal_model::{Area, BlockNo, Content, JournalError, Sealed, Tid};
-use journal_plain::transactions::after;
+use journal_model::{Area, JournalError, Op, Sealed, Tid};
 use std::alloc::Global;
-use std::collections::BTreeSet;
+use std::collections::{BTreeMap, BTreeSet};
 
 /// What a run recorded.
 #[derive(Debug, Drop)]
@@ -56,8 +57,8 @@ impl Record {
     }
 
     /// Whether an opening that found the first `n` recorded transactions gave back what it owes: none acknowledged is lost,
-    /// none is there that was not sealed, and each named block is as those `n` left it. A block that they left to others is
-    /// zeros.
+    /// none is there that was not sealed, and each named block is as those `n` left it. A block of which they have no entry is
+    /// zeros; of one that they revoked last nothing is asked.
     ///
     /// # Errors
     ///
@@ -89,39 +90,69 @@ impl Record {
         ensures { IfOk result (λ right. D.honest device.new → IsTrue right ↔
             All (IsAsLeft self.now.sealed.items n (D.state device.old).shape.block_size (reading (D.state device.old).disk Home)) (keys named.now)) }
     {
-        for block in named {
-            if !self.is_as_left(alloc, device, *block, n)? {
-                return Ok(false);
-            }
-        }
-        Ok(true)
-    }
-
-    /// Whether a block of home is as the first `n` recorded transactions left it.
-    fn is_as_left<D: Device>(
-        &self,
-        alloc: Global,
-        device: &mut D,
-        block: u64,
-        n: usize,
-    ) -> Result<bool, JournalError>
-        ensures right { IfOk result (λ right. D.honest device.new → IsTrue right ↔
-            IsAsLeft self.now.sealed.items n (D.state device.old).shape.block_size (reading (D.state device.old).disk Home) block) }
-        ensures stays { Stays (D.state device.old) (D.state device.new) }
-        ensures honest { D.honest device.new → D.honest device.old }
-    {
-        let home = read_block(alloc, device, Area::Home, block)?;
-        let content = after(alloc, &self.sealed, n, BlockNo(block))?;
-        Ok(is_content(&content, home.bytes()))
+        let last = last_entries(alloc, &self.sealed, n)?;
+        are_left(alloc, device, named, &last)
     }
 }
 
-/// Whether a block's bytes are what the recorded transactions left of it.
-fn is_content(content: &Content, bytes: &[u8]) -> bool
-    ensures { IsTrue result ↔ (bytes.now ≡ bytes_of content.now (replicate (length bytes.now) 0)) }
+/// Whether each of these blocks of home is as these last operations left it.
+fn are_left<D: Device>(
+    alloc: Global,
+    device: &mut D,
+    named: &BTreeSet<u64>,
+    last: &BTreeMap<u64, &Op>,
+) -> Result<bool, JournalError>
+    ensures { IfOk result (λ right. D.honest device.new → IsTrue right ↔
+        All (IsLeft (entry_in last.now) (D.state device.old).shape.block_size (reading (D.state device.old).disk Home)) (keys named.now)) }
 {
-    match content {
-        Content::Copy(block) => block.bytes() == bytes,
-        Content::Direct => bytes.iter().all(|byte| *byte == 0),
+    for block in named {
+        if !is_left(alloc, device, *block, last)? {
+            return Ok(false);
+        }
     }
+    Ok(true)
+}
+
+/// Whether a block of home is as these last operations left it.
+fn is_left<D: Device>(
+    alloc: Global,
+    device: &mut D,
+    block: u64,
+    last: &BTreeMap<u64, &Op>,
+) -> Result<bool, JournalError>
+    ensures right { IfOk result (λ right. D.honest device.new → IsTrue right ↔
+        IsLeft (entry_in last.now) (D.state device.old).shape.block_size (reading (D.state device.old).disk Home) block) }
+    ensures stays { Stays (D.state device.old) (D.state device.new) }
+    ensures honest { D.honest device.new → D.honest device.old }
+{
+    let home = read_block(alloc, device, Area::Home, block)?;
+    Ok(are_bytes_left(last, block, home.bytes()))
+}
+
+/// Whether these are bytes of a block as these last operations left it.
+fn are_bytes_left(last: &BTreeMap<u64, &Op>, block: u64, bytes: &[u8]) -> bool
+    ensures { IsTrue result ↔ IsLeftBy (entry_in last.now block) (length bytes.now) bytes.now }
+{
+    match last.get(&block) {
+        Some(op) => are_left_by(op, bytes),
+        None => are_zeros(bytes),
+    }
+}
+
+/// Whether these are bytes of a block on which this was the last operation that could leave an entry.
+fn are_left_by(op: &Op, bytes: &[u8]) -> bool
+    ensures { IsTrue result ↔ IsLeftBy (entry_of op.now) (length bytes.now) bytes.now }
+{
+    match op {
+        Op::Write(block) => block.bytes() == bytes,
+        Op::Revoke => true,
+        Op::Read(_) => are_zeros(bytes),
+    }
+}
+
+/// Whether all of these bytes are 0.
+fn are_zeros(bytes: &[u8]) -> bool
+    ensures { IsTrue result ↔ (bytes.now ≡ replicate (length bytes.now) 0) }
+{
+    bytes.iter().all(|byte| *byte == 0)
 }

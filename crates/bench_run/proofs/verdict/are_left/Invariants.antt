@@ -3,14 +3,15 @@ use Rattle.std.specs.BTreeSet.{keys}
 use Rattle.journal_model.specs.declared.number.Area.TheVariants.{Home}
 use Rattle.journal_model.specs.Disk.{reading}
 use Rattle.block_device.specs.State.{Stays}
-use Rattle.bench_run.specs.Verdict.{IsAsLeft}
-use Rattle.bench_run.proofs.verdict.Record.are_as_left.Given as goal
+use Rattle.bench_run.specs.LastEntries.{entry_in}
+use Rattle.bench_run.specs.Verdict.{IsLeft}
+use Rattle.bench_run.proofs.verdict.are_left.Given as goal
 
 -- the blocks so far are as they were left, so that all are where those that are left are
 abbrev pub invariant-loop-block : goal.invariant-loop-block
 invariant-loop-block g l =
     let old = g.D.Device.state l.fn.device in
-    let P = IsAsLeft l.self.sealed.items l.n old.shape.block_size (reading old.disk Home) in
+    let P = IsLeft (entry_in l.last) old.shape.block_size (reading old.disk Home) in
     (goal.iterator-loop-block g).can_next l.block-iterator
     × (goal.iterator-loop-block g).is_finite l.block-iterator
     × Stays old (g.D.Device.state l.device)
