@@ -1,5 +1,5 @@
 //! What stands at one place of a log.
-ghost use Rattle.std.specs.Prelude.{◌≡◌, ℕ, ◌-◌, ◌<◌, ◌≤◌, length, take, IfOk, MatchResult};
+ghost use Rattle.std.specs.Prelude.{◌≡◌, ℕ, ◌≤◌, length, take, IfOk, MatchResult};
 ghost use Rattle.journal_model.specs.Disk.{reading};
 ghost use Rattle.journal_model.specs.Layout.{narrow, HasHeader, descriptor_type, revoke_type, sequence_in};
 ghost use Rattle.journal_model.specs.Opening.{layout_of, ring_of};
