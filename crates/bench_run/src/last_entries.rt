@@ -20,10 +20,7 @@ pub(crate) fn last_entries<'a>(
 }
 
 /// The last operation on each block that leaves an entry of it in these transactions.
-fn entries_of<'a>(
-    alloc: Global,
-    history: &'a [Sealed],
-) -> Result<BTreeMap<u64, &'a Op>, AllocError>
+fn entries_of<'a>(alloc: Global, history: &'a [Sealed]) -> Result<BTreeMap<u64, &'a Op>, AllocError>
     ensures { IfOk result (λ last. (b : ℕ) → entry_in last b ≡ last_effect b history.now) }
 {
     let mut last = BTreeMap::new(alloc);
@@ -54,11 +51,7 @@ fn note_step<'a>(last: &mut BTreeMap<u64, &'a Op>, step: &'a Step) -> Result<(),
 }
 
 /// Notes an operation as the last one on a block.
-fn note<'a>(
-    last: &mut BTreeMap<u64, &'a Op>,
-    block: u64,
-    op: &'a Op,
-) -> Result<(), AllocError>
+fn note<'a>(last: &mut BTreeMap<u64, &'a Op>, block: u64, op: &'a Op) -> Result<(), AllocError>
     ensures { OnOk result ((b : ℕ) → entry_in last.new b ≡ (if block == b then entry_of op.now else entry_in last.old b)) }
 {
     last.insert(block, op)?;
