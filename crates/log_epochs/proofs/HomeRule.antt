@@ -1,0 +1,110 @@
+-- What each move adds to home: an engine newest committed copies, an opening newest live ones, and no other move anything.
+use Rattle.std.proofs.Common.{refl, sym, ap, subst, inl, inr, ⊎_elim}
+use Rattle.std.specs.Prelude.{◌≡◌, ℕ, List, Option, Some}
+use Rattle.journal_model.specs.declared.number.Area.TheVariants.{Log, Home}
+use Rattle.journal_model.specs.Disk.{Cell, Disk, Image, IsOneOf, Leaves, disk_of, held}
+use Rattle.journal_model.specs.HomeChange.{Addition, HomeAddsOnly}
+use Rattle.journal_model.specs.Replay.{IsNewest}
+use Rattle.journal_model.specs.Superblock.{Shape}
+use Rattle.journal_world.specs.Call.{Call, IsAfterFault, after_success}
+use Rattle.journal_world.specs.Checkpoint.{IsNewestCopy}
+use Rattle.journal_world.specs.Engine.{Engine}
+use Rattle.journal_world.proofs.HomeCopies.{adds-none, round-adds, round-fault-adds}
+use Rattle.journal_world.proofs.Homes.{fault-home, step-home}
+use Rattle.journal_world.proofs.Places.{is_write-fault}
+use Rattle.log_epochs.specs.EnginePromise.{MayAdd, MayAddIn}
+use Rattle.log_epochs.specs.EngineSteps.{Event, Happens, closed_superblock}
+use Rattle.log_epochs.specs.EngineSteps.Event.{Accept, Read, CommitStep, CommitFault, CheckpointStep, CheckpointFault, ReadFault}
+use Rattle.log_epochs.specs.EngineWorld.{CloseCall, Move, Moves, Phase, World}
+use Rattle.log_epochs.specs.EngineWorld.CloseCall.{WriteClosed, FlushClosed}
+use Rattle.log_epochs.specs.EngineWorld.Move.{Step, CloseStep, CloseFault, GiveUp, Stop, Begin, OpeningStep, OpeningFault, AnswerOk}
+use Rattle.log_epochs.specs.EngineWorld.Phase.{Opening, Running}
+use Rattle.log_epochs.specs.Epoch.{Epoch}
+use Rattle.log_epochs.specs.OpeningSteps.{Found, OpeningCall, OpeningStage, clean_superblock}
+use Rattle.log_epochs.specs.OpeningSteps.OpeningCall.{FlushClean, FlushLog, CopyHome, FlushHome, WriteSuperblock, FlushSuperblock}
+use Rattle.log_epochs.proofs.Homes.{copying-fault, copying-flushed, copying-same, copying-written, flush-undone}
+
+-- a disk that is the old one adds nothing
+same-adds : (may : Addition) (old new : Disk) → new ≡ old → HomeAddsOnly may old new
+same-adds may old new same = adds-none may old new (λ b. ap (λ (d : Disk). d Home b) same)
+
+-- a copy that is the newest of its block in the committed transactions
+abbrev IsNewestOf : Engine → Addition
+IsNewestOf e b v = (i : ℕ) × IsNewestCopy e i b v
+
+-- a step of the engine adds such copies alone
+event-adds : (old new : Engine) (disk after : Disk) (event : Event) → Happens old disk event new after → HomeAddsOnly (IsNewestOf old) disk after
+event-adds old new disk after (Accept b) happens = same-adds (IsNewestOf old) disk after happens.disk_is
+event-adds old new disk after (Read b v) happens = same-adds (IsNewestOf old) disk after happens.disk_is
+event-adds old new disk after CommitStep happens = adds-none (IsNewestOf old) disk after (step-home old new disk after happens).same
+event-adds old new disk after CommitFault happens = adds-none (IsNewestOf old) disk after (fault-home old new disk after happens).same
+event-adds old new disk after CheckpointStep happens = round-adds (IsNewestOf old) old new disk after (λ i b v newest. (i, newest)) happens
+event-adds old new disk after CheckpointFault happens = round-fault-adds (IsNewestOf old) old new disk after (λ i b v newest. (i, newest)) happens
+event-adds old new disk after ReadFault happens = same-adds (IsNewestOf old) disk after happens.disk_is
+
+-- a call of a close adds nothing
+close-adds : (may : Addition) (e : Engine) (disk : Disk) (phase next : Phase) (call : Call) → CloseCall e phase call next →
+    HomeAddsOnly may disk (after_success call disk)
+close-adds may e disk phase next call (WriteClosed allowed) = adds-none may disk _ (λ b. refl)
+close-adds may e disk phase next call FlushClosed = adds-none may disk _ (λ b. refl)
+
+close-fault-adds : (may : Addition) (e : Engine) (disk after : Disk) (phase next : Phase) (call : Call) → CloseCall e phase call next →
+    IsAfterFault call disk after → HomeAddsOnly may disk after
+close-fault-adds may e disk after phase next call (WriteClosed allowed) fault =
+    adds-none may disk after (is_write-fault disk after 0 (closed_superblock e) fault).home.same
+close-fault-adds may e disk after phase next call FlushClosed fault = same-adds may disk after (flush-undone disk after fault)
+
+-- a call of an opening adds newest live copies alone
+opening-adds : (shape : Shape) (found : Found) (disk : Disk) (stage next : OpeningStage) (call : Call) → OpeningCall shape found disk stage call next →
+    HomeAddsOnly (IsNewest found.texts) disk (after_success call disk)
+opening-adds shape found disk stage next call (FlushClean clean) = adds-none (IsNewest found.texts) disk _ (λ b. refl)
+opening-adds shape found disk stage next call (FlushLog has) = adds-none (IsNewest found.texts) disk _ (λ b. refl)
+opening-adds shape found disk stage next call (CopyHome b v newest) =
+    (copying-written (IsNewest found.texts) disk disk b v newest (copying-same (IsNewest found.texts) disk)).home
+opening-adds shape found disk stage next call (FlushHome replayed) =
+    (copying-flushed (IsNewest found.texts) disk disk (copying-same (IsNewest found.texts) disk)).home
+opening-adds shape found disk stage next call WriteSuperblock = adds-none (IsNewest found.texts) disk _ (λ b. refl)
+opening-adds shape found disk stage next call FlushSuperblock = adds-none (IsNewest found.texts) disk _ (λ b. refl)
+
+opening-fault-adds : (shape : Shape) (found : Found) (disk after : Disk) (stage next : OpeningStage) (call : Call) →
+    OpeningCall shape found disk stage call next → IsAfterFault call disk after → HomeAddsOnly (IsNewest found.texts) disk after
+opening-fault-adds shape found disk after stage next call (FlushClean clean) fault = same-adds (IsNewest found.texts) disk after (flush-undone disk after fault)
+opening-fault-adds shape found disk after stage next call (FlushLog has) fault = same-adds (IsNewest found.texts) disk after (flush-undone disk after fault)
+opening-fault-adds shape found disk after stage next call (CopyHome b v newest) fault =
+    (copying-fault (IsNewest found.texts) disk disk after b v newest (copying-same (IsNewest found.texts) disk) fault).home
+opening-fault-adds shape found disk after stage next call (FlushHome replayed) fault = same-adds (IsNewest found.texts) disk after (flush-undone disk after fault)
+opening-fault-adds shape found disk after stage next call WriteSuperblock fault =
+    adds-none (IsNewest found.texts) disk after (is_write-fault disk after 0 (clean_superblock found) fault).home.same
+opening-fault-adds shape found disk after stage next call FlushSuperblock fault = same-adds (IsNewest found.texts) disk after (flush-undone disk after fault)
+
+-- a stop leaves of each block what was held there
+stop-adds : (disk : Disk) (left : Image) → Leaves disk left → HomeAddsOnly (λ b v. IsOneOf (held (disk Home b)) v) disk (disk_of left)
+stop-adds disk left leaves = record {
+  reads = λ b. inr (leaves.each Home b);
+  left = λ b v one. inl (⊎_elim (λ is. subst (λ (w : List ℕ). IsOneOf (held (disk Home b)) w) (sym is) (leaves.each Home b)) (λ none. absurd none) one);
+}
+
+-- what is known of the disk of a world is known of the world that it makes
+of-world : (may : Addition) (old : Disk) (new made : World) → new ≡ made → HomeAddsOnly may old made.disk → HomeAddsOnly may old new.disk
+of-world may old new made is adds = subst (λ (w : World). HomeAddsOnly may old w.disk) (sym is) adds
+
+-- each move adds to home nothing but what it may
+pub move-home : (w : World) (move : Move) (new : World) → Moves w move new → HomeAddsOnly (MayAdd w move) w.disk new.disk
+move-home w (Step event) new moves =
+    subst (λ (p : Phase). HomeAddsOnly (MayAddIn p w.epoch) w.disk new.disk) (sym moves.running)
+    (subst (λ (o : Option Epoch). HomeAddsOnly (MayAddIn Running o) w.disk new.disk) (sym moves.now)
+    (event-adds moves.epoch.engine moves.engine w.disk new.disk event moves.happens))
+move-home w CloseStep new moves =
+    of-world (MayAdd w CloseStep) w.disk new _ moves.after (close-adds (MayAdd w CloseStep) moves.epoch.engine w.disk w.phase moves.phase moves.call moves.due)
+move-home w CloseFault new moves =
+    close-fault-adds (MayAdd w CloseFault) moves.epoch.engine w.disk new.disk w.phase moves.phase moves.call moves.due moves.disk_is
+move-home w GiveUp new moves = same-adds (MayAdd w GiveUp) w.disk new.disk (ap (λ (x : World). x.disk) moves.after)
+move-home w (Stop left) new moves = of-world (MayAdd w (Stop left)) w.disk new _ moves.after (stop-adds w.disk left moves.leaves)
+move-home w (Begin found) new moves = same-adds (MayAdd w (Begin found)) w.disk new.disk (ap (λ (x : World). x.disk) moves.after)
+move-home w OpeningStep new moves =
+    subst (λ (p : Phase). HomeAddsOnly (MayAddIn p w.epoch) w.disk new.disk) (sym moves.opening)
+    (of-world (IsNewest moves.found.texts) w.disk new _ moves.after (opening-adds w.shape moves.found w.disk moves.stage moves.next moves.call moves.due))
+move-home w OpeningFault new moves =
+    subst (λ (p : Phase). HomeAddsOnly (MayAddIn p w.epoch) w.disk new.disk) (sym moves.opening)
+    (opening-fault-adds w.shape moves.found w.disk new.disk moves.stage moves.next moves.call moves.due moves.disk_is)
+move-home w AnswerOk new moves = same-adds (MayAdd w AnswerOk) w.disk new.disk (ap (λ (x : World). x.disk) moves.after)

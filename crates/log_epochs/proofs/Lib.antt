@@ -1,0 +1,13 @@
+-- The lemmas of this crate.
+pub mod CleanLogs
+pub mod Closing
+pub mod HomeRule
+pub mod Homes
+pub mod Keeping
+pub mod Lives
+pub mod Moments
+pub mod ReplayMoments
+pub mod Replaying
+pub mod Running
+pub mod Stages
+pub mod Whole

@@ -1,0 +1,129 @@
+-- What a running engine keeps over each of its steps, and what each image that a stop may leave keeps then.
+use Rattle.std.proofs.Common.{refl, sym, ◌∙◌, ap, subst}
+use Rattle.std.specs.Prelude.{◌≡◌, ℕ, suc, List, [], ◌∷◌, Some, None}
+use Rattle.journal_model.specs.declared.entry.Batch.{Batch}
+use Rattle.journal_model.specs.Disk.{Disk, Image, Leaves}
+use Rattle.journal_model.specs.Superblock.{Shape}
+use Rattle.journal_model.specs.Transaction.{AreNumbered, History}
+use Rattle.journal_world.specs.declared.round.Round.{Round}
+use Rattle.journal_world.specs.declared.round.Round.TheVariants.{Idle as NoRound, Copies, TailWrite, TailFlush}
+use Rattle.journal_world.specs.declared.stage.Stage.{Stage}
+use Rattle.journal_world.specs.declared.stage.Stage.TheVariants.{Idle, SuperblockWrite, SuperblockFlush, Blocks, CommitWrite, CommitFlush}
+use Rattle.journal_world.specs.Call.{Call}
+use Rattle.journal_world.specs.Checkpoint.{RoundCall, begun, begun_from}
+use Rattle.journal_world.specs.Checkpoint.RoundCall.{CopyHome, FlushHome, WriteTail, FlushTail}
+use Rattle.journal_world.specs.Engine.{AreBatchesOf, Engine, stepped_from}
+use Rattle.journal_world.specs.Sound.{AreNumberedFrom, Sound}
+use Rattle.journal_world.proofs.Accepted.{accepts-sound}
+use Rattle.journal_world.proofs.Faults.{abort-sound, fault-sound}
+use Rattle.journal_world.proofs.HomeRights.{HomeRight, abort-right, fault-right, rightly-left, round-fault-right, round-right, step-right, taken-right}
+use Rattle.journal_world.proofs.Images.{images-open}
+use Rattle.journal_world.proofs.RoundFaults.{round-fault-sound}
+use Rattle.journal_world.proofs.RoundSteps.{round-sound}
+use Rattle.journal_world.proofs.Steps.{step-sound}
+use Rattle.log_epochs.specs.EnginePromise.{KeepsImage, KeepsNow}
+use Rattle.log_epochs.specs.EngineSteps.{Event, Happens}
+use Rattle.log_epochs.specs.EngineSteps.Event.{Accept, Read, CommitStep, CommitFault, CheckpointStep, CheckpointFault, ReadFault}
+
+-- what an engine that runs in an epoch keeps
+pub record IsRunning (shape : Shape) (opening : Disk) (engine : Engine) (disk : Disk) : Type 0 where
+  pub shape_is : engine.shape ≡ shape
+  pub sound : Sound engine disk
+  pub home : HomeRight opening engine disk
+
+-- the device of an engine is the same after each call of a commit
+stepped-shape : (e : Engine) (stage : Stage) → (stepped_from e stage).shape ≡ e.shape
+stepped-shape e Idle = refl
+stepped-shape e SuperblockWrite = refl
+stepped-shape e SuperblockFlush = refl
+stepped-shape e (Blocks k) = refl
+stepped-shape e CommitWrite = refl
+stepped-shape e CommitFlush = refl
+
+-- where a round begins
+begun-shape : (e : Engine) (round : Round) → (begun_from e round).shape ≡ e.shape
+begun-shape e NoRound = refl
+begun-shape e (Copies transaction block) = refl
+begun-shape e TailWrite = refl
+begun-shape e TailFlush = refl
+
+-- and after each call of a round
+call-shape : (e : Engine) (round : Round) (call : Call) (new : Engine) → RoundCall e round call new → new.shape ≡ e.shape
+call-shape e round call new (CopyHome transaction block i b v next) = refl
+call-shape e round call new (FlushHome transaction block none) = refl
+call-shape e round call new WriteTail = refl
+call-shape e round call new FlushTail = refl
+
+-- so it is after each step
+event-shape : (old new : Engine) (disk after : Disk) (event : Event) → Happens old disk event new after → new.shape ≡ old.shape
+event-shape old new disk after (Accept b) happens = ap (λ (e : Engine). e.shape) happens.engine.after
+event-shape old new disk after (Read b v) happens = ap (λ (e : Engine). e.shape) happens.engine
+event-shape old new disk after CommitStep happens = ap (λ (e : Engine). e.shape) happens.engine ∙ stepped-shape old old.stage
+event-shape old new disk after CommitFault happens = ap (λ (e : Engine). e.shape) happens.engine
+event-shape old new disk after CheckpointStep happens =
+    call-shape (begun old) (begun old).round happens.call new happens.due ∙ begun-shape old old.round
+event-shape old new disk after CheckpointFault happens = ap (λ (e : Engine). e.shape) happens.engine ∙ begun-shape old old.round
+event-shape old new disk after ReadFault happens = ap (λ (e : Engine). e.shape) happens.engine
+
+-- it stays sound
+event-sound : (old new : Engine) (disk after : Disk) (event : Event) → Sound old disk → Happens old disk event new after → Sound new after
+event-sound old new disk after (Accept b) sound happens = subst (Sound new) (sym happens.disk_is) (accepts-sound old b new disk sound happens.engine)
+event-sound old new disk after (Read b v) sound happens =
+    subst (Sound new) (sym happens.disk_is) (subst (λ (e : Engine). Sound e disk) (sym happens.engine) sound)
+event-sound old new disk after CommitStep sound happens = step-sound old new disk after sound happens
+event-sound old new disk after CommitFault sound happens = fault-sound old new disk after sound happens
+event-sound old new disk after CheckpointStep sound happens = round-sound old new disk after sound happens
+event-sound old new disk after CheckpointFault sound happens = round-fault-sound old new disk after sound happens
+event-sound old new disk after ReadFault sound happens =
+    subst (Sound new) (sym happens.disk_is) (subst (λ (e : Engine). Sound e disk) (sym happens.engine) (abort-sound old disk sound))
+
+-- and home holds what is rightly there
+event-right : (opening : Disk) (old new : Engine) (disk after : Disk) (event : Event) → HomeRight opening old disk → Happens old disk event new after →
+    HomeRight opening new after
+event-right opening old new disk after (Accept b) right happens =
+    subst (HomeRight opening new) (sym happens.disk_is) (taken-right opening old new b disk happens.engine right)
+event-right opening old new disk after (Read b v) right happens =
+    subst (HomeRight opening new) (sym happens.disk_is) (subst (λ (e : Engine). HomeRight opening e disk) (sym happens.engine) right)
+event-right opening old new disk after CommitStep right happens = step-right opening old new disk after happens right
+event-right opening old new disk after CommitFault right happens = fault-right opening old new disk after happens right
+event-right opening old new disk after CheckpointStep right happens = round-right opening old new disk after happens right
+event-right opening old new disk after CheckpointFault right happens = round-fault-right opening old new disk after happens right
+event-right opening old new disk after ReadFault right happens =
+    subst (HomeRight opening new) (sym happens.disk_is)
+    (subst (λ (e : Engine). HomeRight opening e disk) (sym happens.engine) (abort-right opening old disk right))
+
+-- each step keeps what a running engine keeps
+pub event-runs : (shape : Shape) (opening : Disk) (old new : Engine) (disk after : Disk) (event : Event) → IsRunning shape opening old disk →
+    Happens old disk event new after → IsRunning shape opening new after
+event-runs shape opening old new disk after event runs happens = record {
+  shape_is = event-shape old new disk after event happens ∙ runs.shape_is;
+  sound = event-sound old new disk after event runs.sound happens;
+  home = event-right opening old new disk after event runs.home happens;
+}
+
+-- transactions with these batches are numbered as they are
+pub batches-numbered : (first : ℕ) (ts : History) (bs : List Batch) → AreNumberedFrom first bs → AreBatchesOf ts bs → AreNumbered first ts
+batches-numbered first [] bs numbered are = tt
+batches-numbered first (t ∷ ts) [] numbered are = absurd are
+batches-numbered first (t ∷ ts) (b ∷ bs) numbered are = (sym are.0 ∙ numbered.0, batches-numbered (suc first) ts bs numbered.1 are.2)
+
+-- so each image that a stop may leave keeps what is promised
+left-kept : (opening : Disk) (e : Engine) (disk : Disk) (image : Image) → Sound e disk → HomeRight opening e disk → Leaves disk image →
+    KeepsImage e.shape (record { opening = opening; engine = e; pin = None }) image
+left-kept opening e disk image sound home leaves ts are =
+    let (n, low, high, to) = (images-open e disk sound).each image leaves in
+    record {
+      n = n;
+      low = low;
+      high = high;
+      count = to.count ts are;
+      opens = to.opens ts are;
+      others = rightly-left e e.shape.home_blocks n ts opening disk image home low are leaves;
+      numbered = batches-numbered e.first ts e.accepted sound.plain.numbered are;
+    }
+
+pub running-keeps : (shape : Shape) (opening : Disk) (e : Engine) (disk : Disk) → IsRunning shape opening e disk →
+    KeepsNow shape (Some (record { opening = opening; engine = e; pin = None })) disk
+running-keeps shape opening e disk runs = λ image leaves.
+    subst (λ (s : Shape). KeepsImage s (record { opening = opening; engine = e; pin = None }) image) runs.shape_is
+    (left-kept opening e disk image runs.sound runs.home leaves)

@@ -1,0 +1,91 @@
+-- What every run of moves keeps of an engine's world: each epoch's transactions, and the rule for home.
+-- Source: the GoJournal paper; journal.rst (a copy goes home only after its commit).
+use Rattle.std.specs.Prelude.{◌≡◌, ⊤, ℕ, ◌≤◌, List, [], length, Option, Some, None, unwrap_or}
+use Rattle.std.specs.List.{AllByRecursion}
+use Rattle.journal_model.specs.declared.number.Area.TheVariants.{Home}
+use Rattle.journal_model.specs.Disk.{Disk, Image, IsOneOf, Leaves, held}
+use Rattle.journal_model.specs.HomeChange.{Addition, HomeAddsOnly, OthersRightlyHeld}
+use Rattle.journal_model.specs.Opening.{IsClean, IsCountOf, Opens}
+use Rattle.journal_model.specs.Replay.{IsNewest}
+use Rattle.journal_model.specs.Superblock.{Shape}
+use Rattle.journal_model.specs.Transaction.{AreNumbered, History}
+use Rattle.journal_world.specs.Checkpoint.{IsNewestCopy}
+use Rattle.journal_world.specs.Engine.{AreBatchesOf, Engine}
+use Rattle.log_epochs.specs.Epoch.{Ended, Epoch}
+use Rattle.log_epochs.specs.EngineWorld.{Move, Moves, Phase, World}
+use Rattle.log_epochs.specs.EngineWorld.Move.{Step, CloseStep, CloseFault, GiveUp, Stop, Begin, OpeningStep, OpeningFault, AnswerOk}
+use Rattle.log_epochs.specs.EngineWorld.Phase.{Shut, Opening, Running, Closing, Closed}
+
+-- the direct writes of home since an opening: none, as long as the engine makes none
+abbrev pub direct_writes : List (ℕ × List ℕ)
+direct_writes = []
+
+-- What an image keeps, over transactions whose entries the epoch's batches are. It opens to a number n, from the committed
+-- to the accepted ones. That is the count of what the log of the image that pinned it has, and of its own where none has.
+-- The blocks that the first n leave to home are rightly held, and the numbers follow one another.
+pub record Kept (shape : Shape) (epoch : Epoch) (ts : History) (image : Image) : Type 0 where
+  pub n : ℕ
+  pub low : epoch.engine.committed ≤ n
+  pub high : n ≤ length epoch.engine.accepted
+  pub count : IsCountOf shape (unwrap_or epoch.pin image) ts n
+  pub opens : Opens shape ts n image
+  pub others : OthersRightlyHeld shape.home_blocks epoch.opening direct_writes ts n (image Home)
+  pub numbered : AreNumbered epoch.engine.first ts
+
+abbrev pub KeepsImage : Shape → Epoch → Image → Type 0
+KeepsImage shape epoch image = (ts : History) → AreBatchesOf ts epoch.engine.accepted → Kept shape epoch ts image
+
+-- each image that a stop may leave keeps it; before the first opening that answers Ok nothing is promised
+abbrev pub KeepsNow : Shape → Option Epoch → Disk → Type 0
+KeepsNow shape None disk = ⊤
+KeepsNow shape (Some epoch) disk = (image : Image) → Leaves disk image → KeepsImage shape epoch image
+
+-- an epoch ended with a clean log that keeps it, so home reads as its first n transactions make it
+pub record EndedWell (shape : Shape) (x : Ended) : Type 0 where
+  pub pin : Image
+  pub pin_is : x.epoch.pin ≡ Some pin
+  pub clean : IsClean shape x.after
+  pub keeps : KeepsImage shape x.epoch x.after
+
+-- a closed log is clean, and opens to all transactions
+pub record IsClosed (shape : Shape) (epoch : Epoch) (image : Image) : Type 0 where
+  pub clean : IsClean shape image
+  pub all : (ts : History) → AreBatchesOf ts epoch.engine.accepted → Opens shape ts (length epoch.engine.accepted) image
+
+abbrev pub KeepsClosed : Shape → Option Epoch → Disk → Phase → Type 0
+KeepsClosed shape (Some epoch) disk Closed = (image : Image) → Leaves disk image → IsClosed shape epoch image
+KeepsClosed shape None disk Closed = ⊥
+KeepsClosed shape epoch disk Shut = ⊤
+KeepsClosed shape epoch disk (Opening found stage) = ⊤
+KeepsClosed shape epoch disk Running = ⊤
+KeepsClosed shape epoch disk Closing = ⊤
+
+-- what whoever works on the device may add to home: an engine the newest committed copy of the block, an opening the
+-- newest live copy of its chain
+abbrev pub MayAddIn : Phase → Option Epoch → Addition
+MayAddIn Running (Some epoch) b v = (i : ℕ) × IsNewestCopy epoch.engine i b v
+MayAddIn Running None b v = ⊥
+MayAddIn (Opening found stage) epoch b v = IsNewest found.texts b v
+MayAddIn Shut epoch b v = ⊥
+MayAddIn Closing epoch b v = ⊥
+MayAddIn Closed epoch b v = ⊥
+
+-- what a move may add; a stop leaves one of the values that were held
+abbrev pub MayAdd : World → Move → Addition
+MayAdd w (Stop left) b v = IsOneOf (held (w.disk Home b)) v
+MayAdd w (Step event) b v = MayAddIn w.phase w.epoch b v
+MayAdd w CloseStep b v = MayAddIn w.phase w.epoch b v
+MayAdd w CloseFault b v = MayAddIn w.phase w.epoch b v
+MayAdd w GiveUp b v = MayAddIn w.phase w.epoch b v
+MayAdd w (Begin found) b v = MayAddIn w.phase w.epoch b v
+MayAdd w OpeningStep b v = MayAddIn w.phase w.epoch b v
+MayAdd w OpeningFault b v = MayAddIn w.phase w.epoch b v
+MayAdd w AnswerOk b v = MayAddIn w.phase w.epoch b v
+
+-- Each epoch keeps its promise: the one of now whatever a stop leaves at this moment, those that ended with what home
+-- then read. Whatever move comes next adds to home nothing but what it may.
+pub record KeepsPromise (w : World) : Type 0 where
+  pub now : KeepsNow w.shape w.epoch w.disk
+  pub ended : AllByRecursion (EndedWell w.shape) w.ended
+  pub closed : KeepsClosed w.shape w.epoch w.disk w.phase
+  pub home : (move : Move) (new : World) → Moves w move new → HomeAddsOnly (MayAdd w move) w.disk new.disk

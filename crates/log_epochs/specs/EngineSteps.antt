@@ -1,0 +1,58 @@
+-- The steps of an engine beside its disk, and the closing of its log, which is two calls. Source: journal.rst,
+-- fs/jbd2/journal.c by behaviour (the superblock of a journal that is destroyed says that the log is clean).
+use Rattle.std.specs.Prelude.{◌≡◌, ℕ, ◌+◌, true, false, List}
+use Rattle.journal_model.specs.declared.entry.Batch.{Batch}
+use Rattle.journal_model.specs.declared.number.Area.TheVariants.{Log}
+use Rattle.journal_model.specs.Disk.{Disk}
+use Rattle.journal_model.specs.Superblock.{with_tail}
+use Rattle.journal_world.specs.declared.stage.Stage.TheVariants.{Idle}
+use Rattle.journal_world.specs.Checkpoint.{IsRead, RoundFaults, RoundSteps}
+use Rattle.journal_world.specs.Engine.{Accepts, CommitFaults, CommitSteps, Engine}
+
+pub data Event : Type 0 where
+  Accept : (batch : Batch) → Event
+  Read : (block : ℕ) → (bytes : List ℕ) → Event
+  CommitStep : Event
+  CommitFault : Event
+  CheckpointStep : Event
+  CheckpointFault : Event
+  ReadFault : Event
+
+-- the engine takes a batch
+pub record Takes (old : Engine) (disk : Disk) (b : Batch) (new : Engine) (after : Disk) : Type 0 where
+  pub engine : Accepts old b new
+  pub disk_is : after ≡ disk
+
+-- a read of a block hands out these bytes, and changes nothing
+pub record Reads (old : Engine) (disk : Disk) (b : ℕ) (v : List ℕ) (new : Engine) (after : Disk) : Type 0 where
+  pub running : old.aborted ≡ false
+  pub gives : IsRead old disk b v
+  pub engine : new ≡ old
+  pub disk_is : after ≡ disk
+
+-- a read of home fails: the engine is aborted
+pub record ReadFails (old : Engine) (disk : Disk) (new : Engine) (after : Disk) : Type 0 where
+  pub running : old.aborted ≡ false
+  pub engine : new ≡ record old { aborted = true }
+  pub disk_is : after ≡ disk
+
+-- what each event does
+abbrev pub Happens : Engine → Disk → Event → Engine → Disk → Type 0
+Happens old disk (Accept b) new after = Takes old disk b new after
+Happens old disk (Read b v) new after = Reads old disk b v new after
+Happens old disk CommitStep new after = CommitSteps old disk new after
+Happens old disk CommitFault new after = CommitFaults old disk new after
+Happens old disk CheckpointStep new after = RoundSteps old disk new after
+Happens old disk CheckpointFault new after = RoundFaults old disk new after
+Happens old disk ReadFault new after = ReadFails old disk new after
+
+-- the log may be closed: all is committed and released, and it is not clean yet
+pub record MayClose (e : Engine) : Type 0 where
+  pub running : e.aborted ≡ false
+  pub started : e.started ≡ true
+  pub idle : e.stage ≡ Idle
+  pub released : e.released ≡ e.committed
+
+-- the superblock of the clean log that a close leaves: it names the next transaction
+abbrev pub closed_superblock : Engine → List ℕ
+closed_superblock e = with_tail e.superblock (e.first + e.committed) 0

@@ -1,0 +1,139 @@
+-- The engine with its device over the whole life of a log: who works on the device, and every move that may come.
+-- Source: the GoJournal paper (a disk that may crash at any step); fs/jbd2/recovery.c by behaviour.
+use Rattle.std.specs.Prelude.{◌≡◌, ℕ, List, [], ◌∷◌, Option, Some, None}
+use Rattle.journal_model.specs.declared.number.Area.TheVariants.{Log}
+use Rattle.journal_model.specs.Disk.{Disk, Image, Leaves, disk_of, reading}
+use Rattle.journal_model.specs.Superblock.{Shape}
+use Rattle.journal_world.specs.Call.{Call, after_success, IsAfterFault}
+use Rattle.journal_world.specs.Call.Call.{Write, Flush}
+use Rattle.journal_world.specs.Engine.{Engine}
+use Rattle.journal_world.specs.Opening.{IsOpenedLog, cleaned}
+use Rattle.log_epochs.specs.EngineSteps.{Event, Happens, MayClose, closed_superblock}
+use Rattle.log_epochs.specs.Epoch.{Ended, Epoch, ending, fresh_epoch, pinning, pinning_at}
+use Rattle.log_epochs.specs.OpeningRun.{IsFoundOn}
+use Rattle.log_epochs.specs.OpeningSteps.{Found, OpeningCall, OpeningStage, next_of}
+use Rattle.log_epochs.specs.OpeningSteps.OpeningStage.{LogFlush, Done}
+
+-- who works on the device
+pub data Phase : Type 0 where
+  Shut : Phase  -- nobody: it was never opened, a stop came, or it was handed out
+  Opening : (found : Found) → (stage : OpeningStage) → Phase
+  Running : Phase  -- the epoch's engine
+  Closing : Phase  -- the engine has written the superblock of a clean log, which is to be flushed
+  Closed : Phase  -- the close answered Ok
+
+pub record World : Type 0 where
+  pub shape : Shape  -- of the device
+  pub disk : Disk
+  pub phase : Phase
+  pub epoch : Option Epoch  -- none before the first opening that answers Ok
+  pub ended : List Ended  -- newest first
+
+-- the device call of a close that is due, and the phase after it succeeded
+pub data CloseCall (e : Engine) : Phase → Call → Phase → Type 0 where
+  WriteClosed : MayClose e → CloseCall e Running (Write Log 0 (closed_superblock e)) Closing
+  FlushClosed : CloseCall e Closing (Flush Log) Closed
+
+-- what may come
+pub data Move : Type 0 where
+  Step : (event : Event) → Move  -- the engine makes a step, or the device fails in it
+  CloseStep : Move
+  CloseFault : Move
+  GiveUp : Move  -- whoever works on the device hands it out, with no stop
+  Stop : (left : Image) → Move  -- the power goes away, at any time
+  Begin : (found : Found) → Move  -- an opening has read and tested the log
+  OpeningStep : Move
+  OpeningFault : Move
+  AnswerOk : Move  -- the opening answers Ok
+
+pub record Steps (old : World) (event : Event) (new : World) : Type 0 where
+  pub running : old.phase ≡ Running
+  pub epoch : Epoch
+  pub now : old.epoch ≡ Some epoch
+  pub engine : Engine
+  pub happens : Happens epoch.engine old.disk event engine new.disk
+  pub after : new ≡ record old { disk = new.disk; epoch = Some (record epoch { engine = engine }) }
+
+pub record Closes (old new : World) : Type 0 where
+  pub epoch : Epoch
+  pub now : old.epoch ≡ Some epoch
+  pub call : Call
+  pub phase : Phase
+  pub due : CloseCall epoch.engine old.phase call phase
+  pub after : new ≡ record old { disk = after_success call old.disk; phase = phase }
+
+pub record CloseFails (old new : World) : Type 0 where
+  pub epoch : Epoch
+  pub now : old.epoch ≡ Some epoch
+  pub call : Call
+  pub phase : Phase
+  pub due : CloseCall epoch.engine old.phase call phase
+  pub disk_is : IsAfterFault call old.disk new.disk
+  pub after : new ≡ record old { disk = new.disk; phase = Shut }
+
+pub record GivesUp (old new : World) : Type 0 where
+  pub after : new ≡ record old { phase = Shut }
+
+pub record Stops (old : World) (left : Image) (new : World) : Type 0 where
+  pub leaves : Leaves old.disk left
+  pub after : new ≡ record old { disk = disk_of left; phase = Shut; epoch = pinning old.epoch left }
+
+pub record BeginsOpening (old : World) (found : Found) (new : World) : Type 0 where
+  pub shut : old.phase ≡ Shut
+  pub found_is : IsFoundOn old.shape found old.disk
+  pub after : new ≡ record old { phase = Opening found LogFlush }
+
+pub record Recovers (old new : World) : Type 0 where
+  pub found : Found
+  pub stage : OpeningStage
+  pub next : OpeningStage
+  pub opening : old.phase ≡ Opening found stage
+  pub call : Call
+  pub due : OpeningCall old.shape found old.disk stage call next
+  pub after : new ≡ record old {
+    disk = after_success call old.disk;
+    phase = Opening found next;
+    epoch = pinning_at stage old.epoch (reading old.disk);
+  }
+
+pub record RecoveryFails (old new : World) : Type 0 where
+  pub found : Found
+  pub stage : OpeningStage
+  pub next : OpeningStage
+  pub opening : old.phase ≡ Opening found stage
+  pub call : Call
+  pub due : OpeningCall old.shape found old.disk stage call next
+  pub disk_is : IsAfterFault call old.disk new.disk
+  pub after : new ≡ record old { disk = new.disk; phase = Shut }
+
+-- the epoch before ends, and one begins with a new history
+pub record AnswersOk (old new : World) : Type 0 where
+  pub found : Found
+  pub opening : old.phase ≡ Opening found Done
+  pub after : new ≡ record old {
+    phase = Running;
+    epoch = Some (fresh_epoch old.shape (cleaned (found.image Log 0) (next_of found)) (next_of found) old.disk);
+    ended = ending old.epoch (reading old.disk) old.ended;
+  }
+
+abbrev pub Moves : World → Move → World → Type 0
+Moves old (Step event) new = Steps old event new
+Moves old CloseStep new = Closes old new
+Moves old CloseFault new = CloseFails old new
+Moves old GiveUp new = GivesUp old new
+Moves old (Stop left) new = Stops old left new
+Moves old (Begin found) new = BeginsOpening old found new
+Moves old OpeningStep new = Recovers old new
+Moves old OpeningFault new = RecoveryFails old new
+Moves old AnswerOk new = AnswersOk old new
+
+-- these moves, one after the other, may lead from one world to the other
+abbrev pub Leads : World → List Move → World → Type 0
+Leads old [] new = new ≡ old
+Leads old (move ∷ moves) new = (mid : World) × Moves old move mid × Leads mid moves new
+
+-- where a life may begin: a device that nobody has opened, whatever it holds; or an engine just made on an opened log
+pub data Begins (w : World) : Type 0 where
+  Unopened : w.phase ≡ Shut → w.epoch ≡ None → w.ended ≡ [] → Begins w
+  Made : (superblock : List ℕ) (next : ℕ) → IsOpenedLog w.shape w.disk superblock next → w.phase ≡ Running →
+      w.epoch ≡ Some (fresh_epoch w.shape superblock next w.disk) → w.ended ≡ [] → Begins w

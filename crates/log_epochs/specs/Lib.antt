@@ -1,0 +1,6 @@
+pub mod OpeningSteps
+pub mod OpeningRun
+pub mod EngineSteps
+pub mod Epoch
+pub mod EngineWorld
+pub mod EnginePromise

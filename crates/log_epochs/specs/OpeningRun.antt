@@ -1,0 +1,42 @@
+-- What the calls of an opening lead to, from the disk that it read: how far they came, and each moment between them.
+use Rattle.std.specs.Prelude.{◌≡◌, ◌≢◌, ◌⊎◌, ℕ, List}
+use Rattle.journal_model.specs.declared.number.Area.TheVariants.{Log, Home}
+use Rattle.journal_model.specs.Disk.{Disk, IsOneOf, flushed, held, reading}
+use Rattle.journal_model.specs.HomeChange.{HomeAddsOnly}
+use Rattle.journal_model.specs.Replay.{IsNewest}
+use Rattle.journal_model.specs.Superblock.{Shape}
+use Rattle.journal_world.specs.Call.{Call, IsAfterFault, after_success}
+use Rattle.journal_world.specs.Opening.{KeepsOpening}
+use Rattle.log_epochs.specs.OpeningSteps.{Found, IsFound, OpeningCall, OpeningStage}
+use Rattle.log_epochs.specs.OpeningSteps.OpeningStage.{LogFlush}
+
+-- it is what the disk reads, and good
+pub record IsFoundOn (shape : Shape) (found : Found) (old : Disk) : Type 0 where
+  pub read : found.image ≡ reading old
+  pub good : IsFound shape found
+
+-- calls that were due and succeeded, one after the other, lead from the disk that was read to this one at this stage
+pub data Reached (shape : Shape) (found : Found) (old : Disk) : OpeningStage → Disk → Type 0 where
+  Tested : Reached shape found old LogFlush old
+  Called : (stage next : OpeningStage) (call : Call) (disk new : Disk) → Reached shape found old stage disk →
+      OpeningCall shape found disk stage call next → new ≡ after_success call disk → Reached shape found old next new
+
+-- a call that was due failed
+pub record Failed (shape : Shape) (found : Found) (old new : Disk) : Type 0 where
+  pub stage : OpeningStage
+  pub next : OpeningStage
+  pub call : Call
+  pub disk : Disk
+  pub reached : Reached shape found old stage disk
+  pub due : OpeningCall shape found disk stage call next
+  pub fault : IsAfterFault call disk new
+
+-- a moment of an opening of the old disk
+pub data IsMoment (shape : Shape) (old disk : Disk) : Type 0 where
+  Unread : disk ≡ old → IsMoment shape old disk
+  At : (found : Found) (stage : OpeningStage) → IsFoundOn shape found old → Reached shape found old stage disk → IsMoment shape old disk
+  Fault : (found : Found) → IsFoundOn shape found old → Failed shape found old disk → IsMoment shape old disk
+
+-- Each image that a stop may leave opens to what every image opened to when the log was flushed.
+abbrev pub KeepsCount : Shape → Disk → Disk → Type 0
+KeepsCount shape old disk = (disk ≡ old) ⊎ KeepsOpening shape (flushed old Log) disk
