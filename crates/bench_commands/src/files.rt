@@ -7,6 +7,7 @@ use file_device::{Contents, FileDevice, UnknownContents};
 use std::fs::{File, Files, OpenOptions};
 use std::io::ErrorKind;
 use std::os::unix::fs::{FileExt, MetadataExt};
+use std::path::Path;
 use std::{fs, io};
 
 /// A device over the files of a log, which may hold anything.
@@ -29,7 +30,8 @@ pub fn open_log<R: Files<File = File>>(rt: &R, path: &str) -> io::Result<LogFile
 
 /// The log that a file holds.
 fn log_in(file: File) -> io::Result<LogFiles> {
-    FileDevice::new(UnknownContents, block_size_of(&file)?, file, None)
+    let size = block_size_of(&file)?;
+    Ok(FileDevice::new(UnknownContents, size, file, None)?)
 }
 
 /// Opens a file of a log or of a home area to be read and written. What it holds stays.
@@ -44,11 +46,12 @@ pub fn open_there<R: Files<File = File>>(rt: &R, path: &str) -> io::Result<File>
     }
 }
 
-/// Opens a file to be written, and makes it where there is none. What it holds stays.
+/// Opens a file to be written, and makes it where there is none. What it holds stays. Its folder is synced, so that a stop
+/// does not take its name away.
 ///
 /// # Errors
 ///
-/// What has this path is no regular file, or can't be written, or nothing can be made there.
+/// What has this path is no regular file, or can't be written, or nothing can be made there; or its folder can't be synced.
 pub fn open_or_make<R: Files<File = File>>(rt: &R, path: &str) -> io::Result<File> {
     let opened = OpenOptions::new()
         .read(true)
@@ -56,17 +59,62 @@ pub fn open_or_make<R: Files<File = File>>(rt: &R, path: &str) -> io::Result<Fil
         .create(true)
         .open(rt, path);
     match opened {
-        Ok(file) => regular(file),
+        Ok(file) => named(rt, path, regular(file)?),
+        Err(e) => Err(e),
+    }
+}
+
+/// This file of this path, the name of which is made durable.
+fn named<R: Files<File = File>>(rt: &R, path: &str, file: File) -> io::Result<File> {
+    match sync_folder(rt, path) {
+        Ok(()) => Ok(file),
+        Err(e) => Err(e),
+    }
+}
+
+/// Makes durable which files are in the folder of this path.
+fn sync_folder<R: Files<File = File>>(rt: &R, path: &str) -> io::Result<()> {
+    match fs::open(rt, folder_of(path)) {
+        Ok(folder) => folder.sync_all(),
+        Err(e) => Err(e),
+    }
+}
+
+/// The folder of the file that has this path.
+fn folder_of(path: &str) -> &str {
+    match Path::new(path).parent() {
+        Some(folder) if !folder.as_str().is_empty() => folder.as_str(),
+        _ => ".",
+    }
+}
+
+/// Opens the file of a home area to be written, which is not that of its log, and makes it where there is none. What it holds
+/// stays.
+///
+/// # Errors
+///
+/// Those of `open_or_make`; the file is that of the log.
+pub fn open_home<R: Files<File = File>>(rt: &R, path: &str, log: &File) -> io::Result<File> {
+    match open_or_make(rt, path) {
+        Ok(home) => other_than(log, home),
+        Err(e) => Err(e),
+    }
+}
+
+/// Opens the file of a home area to be read and written, which is not that of its log. What it holds stays.
+///
+/// # Errors
+///
+/// Those of `open_there`; the file is that of the log.
+pub fn open_home_there<R: Files<File = File>>(rt: &R, path: &str, log: &File) -> io::Result<File> {
+    match open_there(rt, path) {
+        Ok(home) => other_than(log, home),
         Err(e) => Err(e),
     }
 }
 
 /// This file of a home area, where it is not that of its log.
-///
-/// # Errors
-///
-/// Both are one file, or nothing can be told of them.
-pub fn other_than(log: &File, home: File) -> io::Result<File> {
+fn other_than(log: &File, home: File) -> io::Result<File> {
     if are_one(log, &home)? {
         Err(io::Error::from(ErrorKind::InvalidInput))
     } else {
@@ -88,18 +136,16 @@ fn are_one(log: &File, home: &File) -> io::Result<bool> {
 ///
 /// The log can't be read, or nothing can be told of a file.
 pub fn device_of<C: Contents>(contents: C, log: File, home: File) -> io::Result<FileDevice<C>> {
-    match block_size_of(&log) {
-        Ok(size) => FileDevice::new(contents, size, log, Some(home)),
-        Err(e) => Err(e),
-    }
+    let size = block_size_of(&log)?;
+    Ok(FileDevice::new(contents, size, log, Some(home))?)
 }
 
-/// Makes the files as long as these measures say, all zeros, and a device of them.
+/// Makes the files as long as these measures say, all zeros, durably, and a device of them.
 ///
 /// # Errors
 ///
-/// A block can't have so many bytes, and both files are as they were; or a file can't be made so long, and what both held may
-/// be lost.
+/// A block can't have so many bytes, and both files are as they were; or a file can't be made so long or synced, and what both
+/// held may be lost.
 pub fn make_device(measures: &Measures, log: File, home: File) -> io::Result<LogFiles> {
     let size = measures.block_size as u64;
     if !is_block_size(size) {
@@ -107,13 +153,15 @@ pub fn make_device(measures: &Measures, log: File, home: File) -> io::Result<Log
     }
     clear(&log, u64::from(measures.log_blocks).saturating_mul(size))?;
     clear(&home, measures.home_blocks.saturating_mul(size))?;
-    FileDevice::new(UnknownContents, measures.block_size, log, Some(home))
+    let size = measures.block_size;
+    Ok(FileDevice::new(UnknownContents, size, log, Some(home))?)
 }
 
-/// Takes all that a file holds, and gives it so many zero bytes.
+/// Takes all that a file holds, gives it so many zero bytes, and makes that durable.
 fn clear(file: &File, bytes: u64) -> io::Result<()> {
     file.set_len(0)?;
-    file.set_len(bytes)
+    file.set_len(bytes)?;
+    file.sync_all()
 }
 
 /// A regular file; what is none holds no log.

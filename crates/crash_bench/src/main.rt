@@ -10,7 +10,6 @@ use bench_commands::fault::{Status, refuse_file, refuse_rest};
 use bench_commands::words::{FormatWords, RecoverWords, RunWords, Words};
 use bench_commands::{files, logs, run, words};
 use file_device::UnknownContents;
-use std::fs::File;
 use std::process::ExitCode;
 use std::{env, fs, io};
 
@@ -48,7 +47,7 @@ fn format_files(rt: &HostRuntime, words: &FormatWords<'_>) -> io::Result<Status>
         Ok(file) => file,
         Err(e) => return refuse_file(&mut rt.stderr(), words.log, e),
     };
-    let home = match home_beside(&log, files::open_or_make(rt, words.home)) {
+    let home = match files::open_home(rt, words.home, &log) {
         Ok(file) => file,
         Err(e) => return refuse_file(&mut rt.stderr(), words.home, e),
     };
@@ -64,21 +63,13 @@ fn format_files(rt: &HostRuntime, words: &FormatWords<'_>) -> io::Result<Status>
     }
 }
 
-/// The file of a home area that was opened, where it is not that of its log.
-fn home_beside(log: &File, opened: io::Result<File>) -> io::Result<File> {
-    match opened {
-        Ok(home) => files::other_than(log, home),
-        Err(e) => Err(e),
-    }
-}
-
 /// Opens a log in two files, both of which are opened before either is read.
 fn recover_files(rt: &HostRuntime, words: &RecoverWords<'_>) -> io::Result<Status> {
     let log = match files::open_there(rt, words.log) {
         Ok(file) => file,
         Err(e) => return refuse_file(&mut rt.stderr(), words.log, e),
     };
-    let home = match home_beside(&log, files::open_there(rt, words.home)) {
+    let home = match files::open_home_there(rt, words.home, &log) {
         Ok(file) => file,
         Err(e) => return refuse_file(&mut rt.stderr(), words.home, e),
     };

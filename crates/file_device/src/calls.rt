@@ -1,11 +1,12 @@
 //! The calls that a device makes on its files. Each function here makes one call of `std::fs::File` on the file of an
 //! area, and notes it with its answer just as that was. No proof sees what such a call does or gives, so these functions
 //! have to be read.
-ghost use Rattle.std.specs.Prelude.{◌≡◌, [], option_map, IsNone, IfOk, OnOk, OnErr};
+ghost use Rattle.std.specs.Prelude.{◌≡◌, [], option_map, IsNone, IfOk, IfErr, OnOk, OnErr};
 ghost use Rattle.journal_model.specs.declared.number.Area.TheVariants.{Home};
 ghost use Rattle.file_device.specs.Calls.{Measured, Read, ReadFailed, Wrote, WriteFailed, Synced, SyncFailed};
 
 use crate::history::{History, Note};
+use crate::unmeasured::Unmeasured;
 use journal_model::Area;
 use std::fs::File;
 use std::io;
@@ -42,21 +43,30 @@ impl NotedFiles {
         }
     }
 
-    /// How long the file of an area is, in bytes; 0 where there is none. A call that fails is not noted: no device is
-    /// made then.
-    pub(crate) fn measure(&mut self, area: Area) -> io::Result<u64>
+    /// How long the file of an area is, in bytes; 0 where there is none, which is no call. A call that fails is not noted:
+    /// no device is made then.
+    pub(crate) fn measure(&mut self, area: Area) -> Result<u64, Unmeasured>
         ensures noted { IfOk result (λ length. self.new ≡ with_call self.old (Measured area length)) }
-        ensures lone { IsNone self.old.home → area ≡ Home → IfOk result (λ length. length ≡ 0) }
+        ensures lone { IsNone self.old.home → area ≡ Home → result ≡ Ok 0 }
+        ensures whose { IfErr result (λ e. e.area ≡ area) }
     {
-        let length = match area {
-            Area::Log => self.log.metadata()?.len(),
-            Area::Home => match &self.home {
-                Some(file) => file.metadata()?.len(),
-                None => 0,
-            },
-        };
-        self.history = self.history.then(&Note::Measured(area, length));
-        Ok(length)
+        match self.length(area) {
+            Ok(length) => {
+                self.history = self.history.then(&Note::Measured(area, length));
+                Ok(length)
+            }
+            Err(error) => Err(Unmeasured { area, error }),
+        }
+    }
+
+    /// How long the file of an area is; 0 where there is none.
+    fn length(&self, area: Area) -> io::Result<u64>
+        ensures { IsNone self.now.home → area ≡ Home → result ≡ Ok 0 }
+    {
+        match self.file(area) {
+            Some(file) => Ok(file.metadata()?.len()),
+            None => Ok(0),
+        }
     }
 
     /// Fills a buffer with what the file of an area has from byte `at` on. An area without a file has nothing to read.

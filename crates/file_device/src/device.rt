@@ -16,10 +16,10 @@ ghost use Rattle.block_device.specs.State.{one_more_fault};
 ghost use Rattle.file_device.specs.Files.{FileContents};
 
 use crate::calls::NotedFiles;
+use crate::unmeasured::Unmeasured;
 use block_device::{Device, DeviceFault};
 use journal_model::Area;
 use std::fs::File;
-use std::io;
 use std::marker::{Model, PhantomData};
 
 /// What is supposed of the files of one device. No code can read it: a function over any `C: Contents` is proved for
@@ -94,7 +94,8 @@ fn place_of(n: u64, size: usize, length: u64) -> u64
 }
 
 impl<C: Contents> FileDevice<C> {
-    ghost use Rattle.std.specs.Prelude.{◌≡◌, ◌<◌, IfOk, IsNone};
+    ghost use Rattle.std.specs.Prelude.{◌≡◌, ◌<◌, IfErr, IfOk, IsNone, IsSome};
+    ghost use Rattle.journal_model.specs.declared.number.Area.TheVariants.{Home};
     ghost use Rattle.file_device.specs.Files.{bytes_in, new_device};
 
     /// A device with blocks of `block_size` bytes over these files. They are to be two regular files, each open for
@@ -103,11 +104,18 @@ impl<C: Contents> FileDevice<C> {
     ///
     /// # Errors
     ///
-    /// That of the call that can't tell the length of a file; both are closed then.
-    pub fn new(_contents: C, block_size: usize, log: File, home: Option<File>) -> io::Result<Self>
+    /// The system can't tell the length of a file; both are closed then. It is asked for that of the log file, and for that
+    /// of the home file where there is one. What it answers is as it gave it: std says nothing of when such a call fails.
+    pub fn new(
+        _contents: C,
+        block_size: usize,
+        log: File,
+        home: Option<File>,
+    ) -> Result<Self, Unmeasured>
         requires block { 0 < block_size }
         ensures new { IfOk result (λ device. device ≡ new_device block_size log home device.log_bytes device.home_bytes) }
         ensures lone { IsNone home → IfOk result (λ device. device.home_bytes ≡ 0) }
+        ensures refused { IfErr result (λ e. e.area ≡ Home → IsSome home) }
     {
         let mut files = NotedFiles::new(log, home);
         let log_bytes = files.measure(Area::Log)?;

@@ -9,6 +9,8 @@ mod calls;
 mod device;
 mod history;
 mod laws;
+mod unmeasured;
 
 pub use device::{Contents, FileDevice, UnknownContents};
 pub use laws::answers_that_agree_keep_the_premise;
+pub use unmeasured::Unmeasured;
