@@ -1,0 +1,4 @@
+pub mod BoardView
+pub mod Place
+pub mod Rule
+pub mod Values
