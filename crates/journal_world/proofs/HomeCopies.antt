@@ -67,7 +67,7 @@ last-copy (t ∷ ts) (d ∷ bs) (suc n) (suc i) b v c are below stands copy none
     (last-copy ts bs n i b v c are.2 (omega arith) stands copy (λ j x behind less at has. none (suc j) x (omega arith) (omega arith) at has))
 
 -- the newest committed copy of a block is the one that the committed transactions leave of it
-newest-after : (e : Engine) (ts : History) (i b : ℕ) (v : List ℕ) → AreBatchesOf ts e.accepted → IsNewestCopy e i b v → IsCommittedCopy ts e.committed b v
+pub newest-after : (e : Engine) (ts : History) (i b : ℕ) (v : List ℕ) → AreBatchesOf ts e.accepted → IsNewestCopy e i b v → IsCommittedCopy ts e.committed b v
 newest-after e ts i b v are newest =
     ap content_of (last-copy ts e.accepted e.committed i b v newest.copy.batch are newest.copy.committed newest.copy.stands newest.copy.copy newest.last)
 

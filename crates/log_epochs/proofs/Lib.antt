@@ -3,6 +3,8 @@ pub mod CleanLogs
 pub mod Closing
 pub mod HomeRule
 pub mod Homes
+pub mod JournalSteps
+pub mod Journals
 pub mod Keeping
 pub mod Lives
 pub mod Moments

@@ -4,27 +4,29 @@ use Rattle.std.proofs.Common.{refl, sym, subst, inl, inr, ⊎_elim}
 use Rattle.std.specs.Prelude.{◌≡◌, ◌⊎◌, ⊤, ℕ, ◌<◌, [], length, None}
 use Rattle.journal_model.specs.declared.number.Area.TheVariants.{Log, Home}
 use Rattle.journal_model.specs.Disk.{Disk, Image, flushed}
-use Rattle.journal_model.specs.Opening.{HasLimit, OpensAs, greatest_number, super_of}
+use Rattle.journal_model.specs.Opening.{HasChain, HasLimit, OpensAs, greatest_number, super_of}
 use Rattle.journal_model.specs.Opening.HasLimit.{OfChain, OfClean}
 use Rattle.journal_model.specs.Opening.OpensAs.{Clean, Replayed}
 use Rattle.journal_model.specs.Replay.{IsNewest}
 use Rattle.journal_model.specs.Superblock.{Shape}
 use Rattle.journal_model.specs.Transaction.{Volume}
 use Rattle.journal_world.specs.Call.{Call, IsAfterFault}
-use Rattle.journal_world.specs.Opening.{KeepsOpening}
 use Rattle.journal_world.proofs.Places.{is_write-fault}
 use Rattle.log_epochs.specs.OpeningSteps.{Found, IsFound, OpeningCall, OpeningStage, clean_superblock}
 use Rattle.log_epochs.specs.OpeningSteps.HasTexts.{NoTexts, Texts}
 use Rattle.log_epochs.specs.OpeningSteps.OpeningCall.{FlushClean, FlushLog, CopyHome, FlushHome, WriteSuperblock, FlushSuperblock}
 use Rattle.log_epochs.specs.OpeningSteps.OpeningStage.{LogFlush, Copies, SuperblockWrite, SuperblockFlush, Done}
-use Rattle.log_epochs.specs.OpeningRun.{IsFoundOn, IsMoment, Reached}
+use Rattle.log_epochs.specs.OpeningRun.{IsFoundOn, IsMoment, IsPastFlush, KeepsCount, Reached}
+use Rattle.log_epochs.specs.OpeningRun.KeepsCount.{Unwritten, Past}
 use Rattle.log_epochs.specs.OpeningRun.IsMoment.{Unread, At, Fault}
 use Rattle.log_epochs.specs.OpeningRun.Reached.{Tested, Called}
 use Rattle.log_epochs.proofs.Homes.{copying-fault}
-use Rattle.log_epochs.proofs.Keeping.{ready}
+use Rattle.log_epochs.proofs.Keeping.{IsFlushed, ready}
 use Rattle.log_epochs.proofs.Replaying.{opens-replaying}
-use Rattle.log_epochs.proofs.Stages.{IsCleaning, IsCopying, StageHolds, cleaning-replaying, cleaning-write, copying-replaying, flush-undone}
-use Rattle.log_epochs.proofs.Whole.{reached-holds, whole-keeps}
+use Rattle.log_epochs.proofs.ReplayMoments.{IsReplaying}
+use Rattle.log_epochs.proofs.Stages.{IsCleaning, IsCopying, IsWhole, StageHolds, cleaning-replaying, cleaning-write, copying-replaying, flush-undone}
+use Rattle.log_epochs.proofs.Stages.IsWhole.{Untouched, Replayed as WasReplayed}
+use Rattle.log_epochs.proofs.Whole.{reached-holds}
 
 -- no call leads back to the begin
 abbrev IsLater : OpeningStage → Type 0
@@ -47,55 +49,83 @@ reached-first : (shape : Shape) (found : Found) (old : Disk) (stage : OpeningSta
 reached-first shape found old stage disk Tested = inl refl
 reached-first shape found old stage disk (Called before next call mid new reached due same) = inr (call-later shape found mid before next call due)
 
--- every image opens as at the flush
-copying-opens : (shape : Shape) (found : Found) (base disk : Disk) → IsFound shape found → IsCopying shape found base None disk → KeepsOpening shape base disk
-copying-opens shape found base disk is c =
-    opens-replaying shape found.texts (clean_superblock found) found.image base disk (ready shape found None base is c.has c.flush) (copying-replaying shape found base disk c.writing)
+-- while home is written and the log is cleaned
+replaying-past : (shape : Shape) (found : Found) (old disk : Disk) → IsFound shape found → HasChain shape found.image found.texts →
+    IsFlushed shape found None (flushed old Log) → IsReplaying shape.home_blocks found.texts (clean_superblock found) (flushed old Log) disk →
+    IsPastFlush shape found old disk
+replaying-past shape found old disk is has flush replaying = record {
+  keeps =
+      opens-replaying shape found.texts (clean_superblock found) found.image (flushed old Log) disk (ready shape found None (flushed old Log) is has flush)
+      replaying;
+  home = record { reads = replaying.home.reads; left = replaying.home.left };
+  log = λ n other. ⊎_elim (λ kept. kept) (λ durable. durable) (replaying.log n other);
+  block_0 = λ v one. ⊎_elim (λ was. inl (⊎_elim (λ same. same) (λ none. absurd none) was)) (λ new. inr (new.0, has)) (replaying.block_0 v one);
+}
 
-cleaning-opens : (shape : Shape) (found : Found) (base disk : Disk) → IsFound shape found → IsCleaning shape found base None disk → KeepsOpening shape base disk
-cleaning-opens shape found base disk is c =
-    opens-replaying shape found.texts (clean_superblock found) found.image base disk (ready shape found None base is c.has c.flush) (cleaning-replaying shape found base None disk c)
+-- nothing is written but the flush
+flushed-past : (shape : Shape) (found : Found) (old : Disk) → IsPastFlush shape found old (flushed old Log)
+flushed-past shape found old = record {
+  keeps = record { keeps = λ ts n always. always };
+  home = record { reads = λ b. inl refl; left = λ b v one. inl one };
+  log = λ n other. refl;
+  block_0 = λ v one. inl (⊎_elim (λ same. same) (λ none. absurd none) one);
+}
 
-later-opens : (shape : Shape) (found : Found) (base : Disk) (stage : OpeningStage) (disk : Disk) → IsFound shape found → IsLater stage →
-    StageHolds shape found base stage None disk → KeepsOpening shape base disk
-later-opens shape found base LogFlush disk is later holds = absurd later
-later-opens shape found base Copies disk is later holds = copying-opens shape found base disk is holds
-later-opens shape found base SuperblockWrite disk is later holds = copying-opens shape found base disk is holds.copying
-later-opens shape found base SuperblockFlush disk is later holds = cleaning-opens shape found base disk is holds.cleaning
-later-opens shape found base Done disk is later holds = whole-keeps shape found base disk is holds.flush holds.whole
+copying-past : (shape : Shape) (found : Found) (old disk : Disk) → IsFound shape found → IsCopying shape found (flushed old Log) None disk →
+    IsPastFlush shape found old disk
+copying-past shape found old disk is c =
+    replaying-past shape found old disk is c.has c.flush (copying-replaying shape found (flushed old Log) disk c.writing)
+
+cleaning-past : (shape : Shape) (found : Found) (old disk : Disk) → IsFound shape found → IsCleaning shape found (flushed old Log) None disk →
+    IsPastFlush shape found old disk
+cleaning-past shape found old disk is c =
+    replaying-past shape found old disk is c.has c.flush (cleaning-replaying shape found (flushed old Log) None disk c)
+
+whole-past : (shape : Shape) (found : Found) (old disk : Disk) → IsFound shape found → IsFlushed shape found None (flushed old Log) →
+    IsWhole shape found (flushed old Log) disk → IsPastFlush shape found old disk
+whole-past shape found old disk is flush (Untouched clean same) = subst (IsPastFlush shape found old) (sym same) (flushed-past shape found old)
+whole-past shape found old disk is flush (WasReplayed has replaying replayed) = replaying-past shape found old disk is has flush replaying
+
+later-past : (shape : Shape) (found : Found) (old : Disk) (stage : OpeningStage) (disk : Disk) → IsFound shape found → IsLater stage →
+    StageHolds shape found (flushed old Log) stage None disk → IsPastFlush shape found old disk
+later-past shape found old LogFlush disk is later holds = absurd later
+later-past shape found old Copies disk is later holds = copying-past shape found old disk is holds
+later-past shape found old SuperblockWrite disk is later holds = copying-past shape found old disk is holds.copying
+later-past shape found old SuperblockFlush disk is later holds = cleaning-past shape found old disk is holds.cleaning
+later-past shape found old Done disk is later holds = whole-past shape found old disk is holds.flush holds.whole
 
 -- a call that failed left the disk as it was, or so
-fault-opens : (shape : Shape) (found : Found) (base : Disk) (stage next : OpeningStage) (call : Call) (disk after : Disk) → IsFound shape found →
-    OpeningCall shape found disk stage call next → StageHolds shape found base stage None disk → IsAfterFault call disk after →
-    (after ≡ disk) ⊎ KeepsOpening shape base after
-fault-opens shape found base stage next call disk after is (FlushClean clean) holds fault = inl (flush-undone Log disk after fault)
-fault-opens shape found base stage next call disk after is (FlushLog has) holds fault = inl (flush-undone Log disk after fault)
-fault-opens shape found base stage next call disk after is (CopyHome b v newest) holds fault =
-    inr (copying-opens shape found base after is
-    (record { has = holds.has; flush = holds.flush; writing = copying-fault (IsNewest found.texts) base disk after b v newest holds.writing fault }))
-fault-opens shape found base stage next call disk after is (FlushHome replayed) holds fault = inl (flush-undone Home disk after fault)
-fault-opens shape found base stage next call disk after is WriteSuperblock holds fault =
-    inr (cleaning-opens shape found base after is (cleaning-write shape found base None disk after holds (is_write-fault disk after 0 (clean_superblock found) fault)))
-fault-opens shape found base stage next call disk after is FlushSuperblock holds fault = inl (flush-undone Log disk after fault)
+fault-past : (shape : Shape) (found : Found) (old : Disk) (stage next : OpeningStage) (call : Call) (disk after : Disk) → IsFound shape found →
+    OpeningCall shape found disk stage call next → StageHolds shape found (flushed old Log) stage None disk → IsAfterFault call disk after →
+    (after ≡ disk) ⊎ IsPastFlush shape found old after
+fault-past shape found old stage next call disk after is (FlushClean clean) holds fault = inl (flush-undone Log disk after fault)
+fault-past shape found old stage next call disk after is (FlushLog has) holds fault = inl (flush-undone Log disk after fault)
+fault-past shape found old stage next call disk after is (CopyHome b v newest) holds fault =
+    inr (copying-past shape found old after is
+    (record { has = holds.has; flush = holds.flush; writing = copying-fault (IsNewest found.texts) (flushed old Log) disk after b v newest holds.writing fault }))
+fault-past shape found old stage next call disk after is (FlushHome replayed) holds fault = inl (flush-undone Home disk after fault)
+fault-past shape found old stage next call disk after is WriteSuperblock holds fault =
+    inr (cleaning-past shape found old after is
+    (cleaning-write shape found (flushed old Log) None disk after holds (is_write-fault disk after 0 (clean_superblock found) fault)))
+fault-past shape found old stage next call disk after is FlushSuperblock holds fault = inl (flush-undone Log disk after fault)
 
--- a disk that was reached is the old one, or every image opens as at the flush
-at-opens : (shape : Shape) (found : Found) (old : Disk) (stage : OpeningStage) (disk : Disk) → IsFoundOn shape found old → Reached shape found old stage disk →
-    (disk ≡ old) ⊎ KeepsOpening shape (flushed old Log) disk
-at-opens shape found old stage disk is reached =
-    ⊎_elim (λ same. inl same)
-    (λ later. inr (later-opens shape found (flushed old Log) stage disk is.good later (reached-holds shape found old stage disk is reached)))
+-- a disk that was reached is the old one, or behind the flush
+at-keeps : (shape : Shape) (found : Found) (old : Disk) (stage : OpeningStage) (disk : Disk) → IsFoundOn shape found old → Reached shape found old stage disk →
+    KeepsCount shape old disk
+at-keeps shape found old stage disk is reached =
+    ⊎_elim (λ same. Unwritten same)
+    (λ later. Past found is (later-past shape found old stage disk is.good later (reached-holds shape found old stage disk is reached)))
     (reached-first shape found old stage disk reached)
 
 -- so it is at each moment of an opening
-pub moment-opens : (shape : Shape) (old disk : Disk) → IsMoment shape old disk → (disk ≡ old) ⊎ KeepsOpening shape (flushed old Log) disk
-moment-opens shape old disk (Unread same) = inl same
-moment-opens shape old disk (At found stage is reached) = at-opens shape found old stage disk is reached
-moment-opens shape old disk (Fault found is failed) =
+pub moment-keeps : (shape : Shape) (old disk : Disk) → IsMoment shape old disk → KeepsCount shape old disk
+moment-keeps shape old disk (Unread same) = Unwritten same
+moment-keeps shape old disk (At found stage is reached) = at-keeps shape found old stage disk is reached
+moment-keeps shape old disk (Fault found is failed) =
     ⊎_elim
-    (λ same.
-    subst (λ (d : Disk). (d ≡ old) ⊎ KeepsOpening shape (flushed old Log) d) (sym same) (at-opens shape found old failed.stage failed.disk is failed.reached))
-    (λ keeps. inr keeps)
-    (fault-opens shape found (flushed old Log) failed.stage failed.next failed.call failed.disk disk is.good failed.due
+    (λ same. subst (KeepsCount shape old) (sym same) (at-keeps shape found old failed.stage failed.disk is failed.reached))
+    (λ past. Past found is past)
+    (fault-past shape found old failed.stage failed.next failed.call failed.disk disk is.good failed.due
     (reached-holds shape found old failed.stage failed.disk is failed.reached) failed.fault)
 
 -- an image that is opened to something is good, where a number is left

@@ -4,3 +4,5 @@ pub mod EngineSteps
 pub mod Epoch
 pub mod EngineWorld
 pub mod EnginePromise
+pub mod JournalWorld
+pub mod JournalPromise

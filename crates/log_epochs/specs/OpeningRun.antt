@@ -1,13 +1,14 @@
 -- What the calls of an opening lead to, from the disk that it read: how far they came, and each moment between them.
 use Rattle.std.specs.Prelude.{◌≡◌, ◌≢◌, ◌⊎◌, ℕ, List}
-use Rattle.journal_model.specs.declared.number.Area.TheVariants.{Log, Home}
+use Rattle.journal_model.specs.declared.number.Area.TheVariants.{Log}
 use Rattle.journal_model.specs.Disk.{Disk, IsOneOf, flushed, held, reading}
 use Rattle.journal_model.specs.HomeChange.{HomeAddsOnly}
+use Rattle.journal_model.specs.Opening.{HasChain}
 use Rattle.journal_model.specs.Replay.{IsNewest}
 use Rattle.journal_model.specs.Superblock.{Shape}
 use Rattle.journal_world.specs.Call.{Call, IsAfterFault, after_success}
 use Rattle.journal_world.specs.Opening.{KeepsOpening}
-use Rattle.log_epochs.specs.OpeningSteps.{Found, IsFound, OpeningCall, OpeningStage}
+use Rattle.log_epochs.specs.OpeningSteps.{Found, IsFound, OpeningCall, OpeningStage, clean_superblock}
 use Rattle.log_epochs.specs.OpeningSteps.OpeningStage.{LogFlush}
 
 -- it is what the disk reads, and good
@@ -37,6 +38,16 @@ pub data IsMoment (shape : Shape) (old disk : Disk) : Type 0 where
   At : (found : Found) (stage : OpeningStage) → IsFoundOn shape found old → Reached shape found old stage disk → IsMoment shape old disk
   Fault : (found : Found) → IsFoundOn shape found old → Failed shape found old disk → IsMoment shape old disk
 
--- Each image that a stop may leave opens to what every image opened to when the log was flushed.
-abbrev pub KeepsCount : Shape → Disk → Disk → Type 0
-KeepsCount shape old disk = (disk ≡ old) ⊎ KeepsOpening shape (flushed old Log) disk
+-- What stands behind the flush of the log. Each image that a stop may leave opens to what every image opened to at that
+-- flush. Home has gained newest live copies alone. Of the log nothing but block 0 is written, and that only with the
+-- superblock of the clean log where the log was not clean.
+pub record IsPastFlush (shape : Shape) (found : Found) (old disk : Disk) : Type 0 where
+  pub keeps : KeepsOpening shape (flushed old Log) disk
+  pub home : HomeAddsOnly (IsNewest found.texts) old disk
+  pub log : (n : ℕ) → n ≢ 0 → disk Log n ≡ flushed old Log Log n
+  pub block_0 : (v : List ℕ) → IsOneOf (held (disk Log 0)) v → (v ≡ (old Log 0).reads) ⊎ ((v ≡ clean_superblock found) × HasChain shape found.image found.texts)
+
+-- nothing is written yet, or the log was flushed
+pub data KeepsCount (shape : Shape) (old disk : Disk) : Type 0 where
+  Unwritten : disk ≡ old → KeepsCount shape old disk
+  Past : (found : Found) → IsFoundOn shape found old → IsPastFlush shape found old disk → KeepsCount shape old disk

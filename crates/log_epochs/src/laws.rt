@@ -1,19 +1,28 @@
 //! What every run keeps. Each function states a law of the words in `specs/`, and has no body to run.
-ghost use Rattle.std.specs.Prelude.{List};
-ghost use Rattle.journal_model.specs.Disk.{Disk};
+ghost use Rattle.std.specs.Prelude.{◌≡◌, ℕ, ◌<◌, List, length};
+ghost use Rattle.journal_model.specs.Disk.{Disk, Image};
 ghost use Rattle.journal_model.specs.declared.number.Area.TheVariants.{Log};
+ghost use Rattle.journal_model.specs.Opening.{HasLimit, OpensAs, greatest_number};
 ghost use Rattle.journal_model.specs.Superblock.{Shape};
+ghost use Rattle.journal_model.specs.Transaction.{Volume};
 ghost use Rattle.journal_world.specs.Opening.{IsOpening, cleaned};
-ghost use Rattle.log_epochs.specs.OpeningSteps.{Found, next_of};
+ghost use Rattle.log_epochs.specs.OpeningSteps.{Found, IsFound, next_of};
 ghost use Rattle.log_epochs.specs.OpeningSteps.OpeningStage.{Done};
 ghost use Rattle.log_epochs.specs.OpeningRun.{IsFoundOn, IsMoment, KeepsCount, Reached};
 ghost use Rattle.log_epochs.specs.EngineWorld.{World, Move, Begins, Leads};
 ghost use Rattle.log_epochs.specs.EnginePromise.{KeepsPromise};
+ghost use Rattle.log_epochs.specs.JournalWorld.{JournalWorld, Move as JournalMove, Begins as JournalBegins, Leads as JournalLeads};
+ghost use Rattle.log_epochs.specs.JournalPromise.{KeepsPromise as JournalKeepsPromise};
 
-/// At each moment of an opening nothing is written yet, or each image that a stop may leave opens to what every image
-/// opened to when the log was flushed.
+/// At each moment of an opening nothing is written yet, or the log was flushed, and then each image that a stop may leave
+/// opens to what every image opened to at that flush.
 pub fn every_moment_of_an_opening_keeps_n()
     ensures { (shape : Shape) (old disk : Disk) → IsMoment shape old disk → KeepsCount shape old disk }
+{}
+
+/// An image that opens is one that an opening finds good, where its block 0 fills a block and numbers are left.
+pub fn what_opens_is_found_good()
+    ensures { (shape : Shape) (image : Image) (got : Volume) → OpensAs shape image got → length (image Log 0) ≡ shape.block_size → ((limit : ℕ) → HasLimit shape image limit → limit < greatest_number) → (found : Found) × (found.image ≡ image) × IsFound shape found }
 {}
 
 /// Calls that lead an opening to its end are a whole opening: home reads as replay of the chain makes it, the log is clean
@@ -28,3 +37,7 @@ pub fn every_engine_keeps_the_promise()
     ensures { (start end : World) (moves : List Move) → Begins start → Leads start moves end → KeepsPromise end }
 {}
 
+/// Whatever steps of a journal come between them, each epoch keeps what its callers were told.
+pub fn every_journal_keeps_the_promise()
+    ensures { (start end : JournalWorld) (moves : List JournalMove) → JournalBegins start → JournalLeads start moves end → JournalKeepsPromise end }
+{}

@@ -1,0 +1,340 @@
+-- The journal's law, from the engine's law and the front's steps alone.
+use Rattle.std.proofs.Common.{refl, sym, ◌∙◌, ap, subst, arith, inl, inr, ⊎_elim}
+use Rattle.std.specs.Prelude.{◌≡◌, ⊤, ℕ, suc, ◌≤◌, List, [], ◌∷◌, length, Option, Some, None}
+use Rattle.std.specs.List.{AllByRecursion}
+use Rattle.std.proofs.lemmas.Option.{same_Some}
+use Rattle.journal_model.specs.declared.entry.Batch.{Batch}
+use Rattle.journal_model.specs.declared.number.Area.TheVariants.{Home}
+use Rattle.journal_model.specs.Disk.{Disk, Image, IsOneOf, held, reading}
+use Rattle.journal_model.specs.HomeChange.{Addition, HomeAddsOnly, IsCommittedCopy}
+use Rattle.journal_model.specs.Opening.{Opens}
+use Rattle.journal_model.specs.Superblock.{Shape}
+use Rattle.journal_model.specs.Transaction.{AreNumbered, History}
+use Rattle.journal_world.specs.Engine.{AreBatchesOf, Engine}
+use Rattle.journal_world.specs.Front.{Front, fresh_front}
+use Rattle.journal_world.specs.Journal.{Event as JournalEvent, Journal, fresh_engine}
+use Rattle.journal_world.specs.Opening.{cleaned}
+use Rattle.journal_world.specs.Sound.{AreNumberedFrom}
+use Rattle.journal_world.proofs.Batches.{same-length}
+use Rattle.journal_world.proofs.Fronts.{FrontAgrees, answer-agrees, fresh-agrees}
+use Rattle.journal_world.proofs.HomeCopies.{newest-after}
+use Rattle.journal_world.proofs.Promises.{acknowledged-few}
+use Rattle.log_epochs.specs.EnginePromise.{EndedWell as BelowEndedWell, IsClosed as IsClosedBelow, KeepsClosed as BelowKeepsClosed, KeepsImage, KeepsNow as BelowKeepsNow, KeepsPromise as BelowKeepsPromise, Kept as BelowKept, MayAdd as BelowMayAdd, MayAddIn}
+use Rattle.log_epochs.specs.EngineSteps.{Event}
+use Rattle.log_epochs.specs.EngineSteps.Event.{Accept, Read, CommitStep, CommitFault, CheckpointStep, CheckpointFault, ReadFault}
+use Rattle.log_epochs.specs.EngineWorld.{Begins as BelowBegins, Leads as BelowLeads, Move as BelowMove, Moves as BelowMoves, Phase, Steps as BelowSteps, World}
+use Rattle.log_epochs.specs.EngineWorld.Begins.{Unopened, Made}
+use Rattle.log_epochs.specs.EngineWorld.Move.{Step as EngineStep, CloseStep, CloseFault, GiveUp, Stop, Begin, OpeningStep, OpeningFault, AnswerOk}
+use Rattle.log_epochs.specs.EngineWorld.Phase.{Shut, Opening, Running, Closing, Closed}
+use Rattle.log_epochs.specs.Epoch.{Ended, Epoch, ending, fresh_epoch, pinning, pinning_at}
+use Rattle.log_epochs.specs.JournalPromise.{EndedWell, HaveEndedWell, KeepsClosed, KeepsNow, KeepsPromise, Kept, MayAdd, MayCheckpoint}
+use Rattle.log_epochs.specs.JournalWorld.{Begins, IsFreshTold, JournalWorld, Leads, Move, Moves, Steps, TellsAfter, TellsAfterStep, TellsAnew, TellsNothing, TellsSame, Told, journal_of, telling}
+use Rattle.log_epochs.specs.JournalWorld.Move.{Step, Answer, Below}
+use Rattle.log_epochs.specs.OpeningSteps.{OpeningStage, next_of}
+use Rattle.log_epochs.specs.OpeningSteps.OpeningStage.{LogFlush, Copies, SuperblockWrite, SuperblockFlush, Done}
+use Rattle.log_epochs.proofs.JournalSteps.{Agrees, IsBelow, event-agrees, event-below}
+use Rattle.log_epochs.proofs.JournalSteps.IsBelow.{Nothing, Same}
+
+-- what was told in an epoch agrees with its engine
+abbrev pub AgreesIn : Epoch → Told → Type 0
+AgreesIn epoch told = FrontAgrees told.front epoch.engine told.answered
+
+abbrev pub AgreesNow : Option Epoch → Told → Type 0
+AgreesNow None told = ⊤
+AgreesNow (Some epoch) told = AgreesIn epoch told
+
+-- so it is with the epochs that ended
+abbrev pub AgreesPast : List Ended → List Told → Type 0
+AgreesPast [] [] = ⊤
+AgreesPast (x ∷ xs) (t ∷ ts) = AgreesIn x.epoch t × AgreesPast xs ts
+AgreesPast [] (t ∷ ts) = ⊥
+AgreesPast (x ∷ xs) [] = ⊥
+
+abbrev pub Holds : JournalWorld → Type 0
+Holds w = AgreesNow w.below.epoch w.told × AgreesPast w.below.ended w.past
+
+-- a pin does not matter
+pinning-agrees : (epoch : Option Epoch) (image : Image) (told : Told) → AgreesNow epoch told → AgreesNow (pinning epoch image) told
+pinning-agrees None image told agrees = tt
+pinning-agrees (Some epoch) image told agrees = agrees
+
+stage-agrees : (stage : OpeningStage) (epoch : Option Epoch) (image : Image) (told : Told) → AgreesNow epoch told → AgreesNow (pinning_at stage epoch image) told
+stage-agrees LogFlush epoch image told agrees = pinning-agrees epoch image told agrees
+stage-agrees Copies epoch image told agrees = agrees
+stage-agrees SuperblockWrite epoch image told agrees = agrees
+stage-agrees SuperblockFlush epoch image told agrees = agrees
+stage-agrees Done epoch image told agrees = agrees
+
+-- what was told stays, and what agrees with the world below does so still
+same-holds : (old new : JournalWorld) (below : World) → new.below ≡ below → below.ended ≡ old.below.ended → TellsSame old new →
+    AgreesNow below.epoch old.told → AgreesPast old.below.ended old.past → Holds new
+same-holds old new below is ended tells now past =
+    let told : AgreesNow below.epoch new.told = subst (AgreesNow below.epoch) (sym tells.told) now in
+    let before : AgreesPast below.ended new.past =
+    subst (AgreesPast below.ended) (sym tells.past) (subst (λ (xs : List Ended). AgreesPast xs old.past) (sym ended) past) in (
+      subst (λ (w : World). AgreesNow w.epoch new.told) (sym is) told,
+      subst (λ (w : World). AgreesPast w.ended new.past) (sym is) before,
+    )
+
+-- the epoch is the world's
+now-agrees : (epoch : Option Epoch) (now : Epoch) (told : Told) → epoch ≡ Some now → AgreesNow epoch told → AgreesIn now told
+now-agrees epoch now told is agrees = subst (λ (o : Option Epoch). AgreesNow o told) is agrees
+
+-- a step of the journal
+step-holds : (old new : JournalWorld) (event : JournalEvent) → Steps old event new → Holds old → Holds new
+step-holds old new event step holds =
+    let now : Agrees step.journal old.told.answered =
+    event-agrees (journal_of step.epoch old.told) step.journal old.below.disk new.below.disk old.told.answered event
+    (now-agrees old.below.epoch step.epoch old.told step.now holds.0) step.happens in
+    subst Holds (sym step.after) (now, holds.1)
+
+-- the past once an epoch ended
+ending-agrees : (epoch : Option Epoch) (after : Image) (ended : List Ended) (told : Told) (past : List Told) → AgreesNow epoch told → AgreesPast ended past →
+    AgreesPast (ending epoch after ended) (telling epoch told past)
+ending-agrees None after ended told past now before = before
+ending-agrees (Some epoch) after ended told past now before = (now, before)
+
+-- a fresh front agrees with its engine
+fresh-told : (epoch : Epoch) (told : Told) → IsFreshTold epoch told → AgreesIn epoch told
+fresh-told epoch told fresh =
+    let e : Engine = epoch.engine in
+    subst (λ (answered : List ℕ). FrontAgrees told.front e answered) (sym fresh.unanswered)
+    (subst (λ (f : Front). FrontAgrees f e []) (sym fresh.journal.front)
+    (subst (λ (x : Engine). FrontAgrees (fresh_front told.front.capacity e.first) x []) (sym fresh.journal.engine)
+    (fresh-agrees told.front.capacity e.shape e.superblock e.first)))
+
+-- an opening answers Ok
+answer-holds : (old new : JournalWorld) → BelowMoves old.below AnswerOk new.below → TellsAnew old new → Holds old → Holds new
+answer-holds old new answer tells holds =
+    let past : AgreesPast (ending old.below.epoch (reading old.below.disk) old.below.ended) new.past =
+    subst (AgreesPast (ending old.below.epoch (reading old.below.disk) old.below.ended)) (sym tells.past)
+    (ending-agrees old.below.epoch (reading old.below.disk) old.below.ended old.told old.past holds.0 holds.1) in (
+      subst (λ (o : Option Epoch). AgreesNow o new.told) (sym tells.now) (fresh-told tells.epoch new.told tells.fresh),
+      subst (λ (w : World). AgreesPast w.ended new.past) (sym answer.after) past,
+    )
+
+-- a read of the engine
+read-holds : (old new : JournalWorld) (b : ℕ) (v : List ℕ) → BelowSteps old.below (Read b v) new.below → TellsSame old new → Holds old → Holds new
+read-holds old new b v step tells holds =
+    let now : AgreesIn step.epoch old.told = now-agrees old.below.epoch step.epoch old.told step.now holds.0 in
+    same-holds old new _ step.after refl tells
+    (subst (λ (e : Engine). FrontAgrees old.told.front e old.told.answered) (sym step.happens.engine) now) holds.1
+
+-- a step of the engine that is none of the journal's
+engine-holds : (old new : JournalWorld) (event : Event) → BelowSteps old.below event new.below → TellsAfterStep event old new → Holds old → Holds new
+engine-holds old new (Read b v) step tells holds = read-holds old new b v step tells holds
+engine-holds old new (Accept b) step tells holds = absurd tells
+engine-holds old new CommitStep step tells holds = absurd tells
+engine-holds old new CommitFault step tells holds = absurd tells
+engine-holds old new CheckpointStep step tells holds = absurd tells
+engine-holds old new CheckpointFault step tells holds = absurd tells
+engine-holds old new ReadFault step tells holds = absurd tells
+
+-- each other move of the world below
+below-holds : (old new : JournalWorld) (move : BelowMove) → BelowMoves old.below move new.below → TellsAfter move old new → Holds old → Holds new
+below-holds old new (EngineStep event) moves tells holds = engine-holds old new event moves tells holds
+below-holds old new CloseStep moves tells holds = same-holds old new _ moves.after refl tells holds.0 holds.1
+below-holds old new CloseFault moves tells holds = same-holds old new _ moves.after refl tells holds.0 holds.1
+below-holds old new GiveUp moves tells holds = same-holds old new _ moves.after refl tells holds.0 holds.1
+below-holds old new (Stop left) moves tells holds =
+    same-holds old new _ moves.after refl tells (pinning-agrees old.below.epoch left old.told holds.0) holds.1
+below-holds old new (Begin found) moves tells holds = same-holds old new _ moves.after refl tells holds.0 holds.1
+below-holds old new OpeningStep moves tells holds =
+    same-holds old new _ moves.after refl tells (stage-agrees moves.stage old.below.epoch (reading old.below.disk) old.told holds.0) holds.1
+below-holds old new OpeningFault moves tells holds = same-holds old new _ moves.after refl tells holds.0 holds.1
+below-holds old new AnswerOk moves tells holds = answer-holds old new moves tells holds
+
+-- one more answer, where there is an epoch
+told-agrees : (epoch : Option Epoch) (told : Told) (tid : ℕ) → tid ≤ told.front.mark → AgreesNow epoch told →
+    AgreesNow epoch (record told { answered = tid ∷ told.answered })
+told-agrees None told tid marked agrees = tt
+told-agrees (Some epoch) told tid marked agrees = answer-agrees told.front epoch.engine told.answered tid marked agrees
+
+-- each move keeps what holds
+move-holds : (old new : JournalWorld) (move : Move) → Moves old move new → Holds old → Holds new
+move-holds old new (Step event) moves holds = step-holds old new event moves holds
+move-holds old new (Answer tid) moves holds = subst Holds (sym moves.after) (told-agrees old.below.epoch old.told tid moves.marked holds.0, holds.1)
+move-holds old new (Below move) moves holds = below-holds old new move moves.below moves.tells holds
+
+run-holds : (old new : JournalWorld) (moves : List Move) → Holds old → Leads old moves new → Holds new
+run-holds old new [] holds same = subst Holds (sym same) holds
+run-holds old new (move ∷ moves) holds (mid, first, rest) = run-holds mid new moves (move-holds old mid move first holds) rest
+
+-- a step of the journal is a step of the engine below, or nothing
+data IsStepBelow (old new : World) : Type 0 where
+  Unchanged : new ≡ old → IsStepBelow old new
+  Stepped : (event : Event) → BelowSteps old event new → IsStepBelow old new
+
+-- a world whose engine and disk are as they were is the same
+same-world : (w : World) (epoch : Epoch) (engine : Engine) (disk : Disk) → w.epoch ≡ Some epoch → engine ≡ epoch.engine → disk ≡ w.disk →
+    record w { disk = disk; epoch = Some (record epoch { engine = engine }) } ≡ w
+same-world w epoch engine disk now same_engine same_disk =
+    ap (λ (e : Engine). record w { disk = disk; epoch = Some (record epoch { engine = e }) }) same_engine
+    ∙ ap (λ (d : Disk). record w { disk = d; epoch = Some epoch }) same_disk
+    ∙ ap (λ (o : Option Epoch). record w { epoch = o }) (sym now)
+
+step-below : (old new : JournalWorld) (event : JournalEvent) → Steps old event new → IsStepBelow old.below new.below
+step-below old new event step = below (event-below (journal_of step.epoch old.told) step.journal old.below.disk new.below.disk event step.happens)
+  where
+    is : new.below ≡ record old.below { disk = new.below.disk; epoch = Some (record step.epoch { engine = step.journal.engine }) }
+    is = ap (λ (w : JournalWorld). w.below) step.after
+    below : IsBelow step.epoch.engine old.below.disk step.journal.engine new.below.disk → IsStepBelow old.below new.below
+    below (Nothing same_engine same_disk) =
+        Unchanged (is ∙ same-world old.below step.epoch step.journal.engine new.below.disk step.now same_engine same_disk)
+    below (Same e happens) = Stepped e (record {
+      running = step.running;
+      epoch = step.epoch;
+      now = step.now;
+      engine = step.journal.engine;
+      happens = happens;
+      after = is;
+    })
+
+-- moves of the world below that lead on from where others came to
+leads-on : (old mid new : World) (moves others : List BelowMove) → BelowLeads old moves mid → BelowLeads mid others new →
+    (all : List BelowMove) × BelowLeads old all new
+leads-on old mid new [] others first rest = (others, subst (λ (w : World). BelowLeads w others new) first rest)
+leads-on old mid new (move ∷ moves) others (next, one, more) rest =
+    let on = leads-on next mid new moves others more rest in (move ∷ on.0, (next, one, on.1))
+
+-- each move of the journal is some of them
+move-below : (old new : JournalWorld) (move : Move) → Moves old move new → (moves : List BelowMove) × BelowLeads old.below moves new.below
+move-below old new (Step event) moves = below (step-below old new event moves)
+  where
+    below : IsStepBelow old.below new.below → (all : List BelowMove) × BelowLeads old.below all new.below
+    below (Unchanged same) = ([], same)
+    below (Stepped e step) = (EngineStep e ∷ [], (new.below, step, refl))
+move-below old new (Answer tid) moves = ([], ap (λ (w : JournalWorld). w.below) moves.after)
+move-below old new (Below move) moves = (move ∷ [], (new.below, moves.below, refl))
+
+-- so a run of the journal is one of the world below
+run-below : (old new : JournalWorld) (moves : List Move) → Leads old moves new → (all : List BelowMove) × BelowLeads old.below all new.below
+run-below old new [] same = ([], ap (λ (w : JournalWorld). w.below) same)
+run-below old new (move ∷ moves) (mid, first, rest) =
+    let one = move-below old mid move first in
+    let more = run-below mid new moves rest in
+    leads-on old.below mid.below new.below one.0 more.0 one.1 more.1
+
+-- batches of numbered transactions are numbered as they are
+numbered-batches : (first : ℕ) (ts : History) (bs : List Batch) → AreNumbered first ts → AreBatchesOf ts bs → AreNumberedFrom first bs
+numbered-batches first [] [] numbered are = tt
+numbered-batches first [] (b ∷ bs) numbered are = absurd are
+numbered-batches first (t ∷ ts) [] numbered are = absurd are
+numbered-batches first (t ∷ ts) (b ∷ bs) numbered are = (are.0 ∙ numbered.0, numbered-batches (suc first) ts bs numbered.1 are.2)
+
+-- what the engine's world keeps of an image, the journal's keeps
+image-kept : (shape : Shape) (epoch : Epoch) (told : Told) (image : Image) → AgreesIn epoch told → KeepsImage shape epoch image → Kept shape epoch told image
+image-kept shape epoch told image agrees keeps =
+    let e : Engine = epoch.engine in
+    let kept : BelowKept shape epoch told.front.sealed image = keeps told.front.sealed agrees.batches in
+    let few =
+    acknowledged-few e.first e.committed told.front.mark told.answered told.front.sealed e.accepted agrees.told agrees.marked
+    (numbered-batches e.first told.front.sealed e.accepted kept.numbered agrees.batches) agrees.batches in
+    let low : e.committed ≤ kept.n = kept.low in
+    let high : kept.n ≤ length e.accepted = kept.high in
+    let size : length told.front.sealed ≡ length e.accepted = same-length told.front.sealed e.accepted agrees.batches in
+    record {
+      n = kept.n;
+      low = omega arith;
+      high = omega arith;
+      count = kept.count;
+      opens = kept.opens;
+      others = kept.others;
+      numbered = kept.numbered;
+      handles = agrees.handles.each;
+    }
+
+now-kept : (shape : Shape) (epoch : Option Epoch) (disk : Disk) (told : Told) → AgreesNow epoch told → BelowKeepsNow shape epoch disk → KeepsNow shape epoch disk told
+now-kept shape None disk told agrees keeps = tt
+now-kept shape (Some epoch) disk told agrees keeps = λ image leaves. image-kept shape epoch told image agrees (keeps image leaves)
+
+past-kept : (shape : Shape) (ended : List Ended) (past : List Told) → AgreesPast ended past → AllByRecursion (BelowEndedWell shape) ended → HaveEndedWell shape ended past
+past-kept shape [] [] agrees all = tt
+past-kept shape [] (t ∷ ts) agrees all = absurd agrees
+past-kept shape (x ∷ xs) [] agrees all = absurd agrees
+past-kept shape (x ∷ xs) (t ∷ ts) agrees all = (
+  record { pin = all.0.pin; pin_is = all.0.pin_is; clean = all.0.clean; keeps = image-kept shape x.epoch t x.after agrees.0 all.0.keeps },
+  past-kept shape xs ts agrees.1 all.1,
+)
+
+-- a closed log has all sealed transactions
+closed-kept : (shape : Shape) (epoch : Option Epoch) (disk : Disk) (told : Told) (phase : Phase) → AgreesNow epoch told →
+    BelowKeepsClosed shape epoch disk phase → KeepsClosed shape disk told phase
+closed-kept shape epoch disk told Shut agrees keeps = tt
+closed-kept shape epoch disk told (Opening found stage) agrees keeps = tt
+closed-kept shape epoch disk told Running agrees keeps = tt
+closed-kept shape epoch disk told Closing agrees keeps = tt
+closed-kept shape None disk told Closed agrees keeps = absurd keeps
+closed-kept shape (Some epoch) disk told Closed agrees keeps = λ image leaves.
+    let closed : IsClosedBelow shape epoch image = keeps image leaves in
+    let size : length told.front.sealed ≡ length epoch.engine.accepted = same-length told.front.sealed epoch.engine.accepted agrees.batches in
+    record {
+      clean = closed.clean;
+      all = subst (λ (n : ℕ). Opens shape told.front.sealed n image) (sym size) (closed.all told.front.sealed agrees.batches);
+    }
+
+-- what may be added may be added by another rule
+more-adds : (may other : Addition) (old new : Disk) → ((b : ℕ) (v : List ℕ) → may b v → other b v) → HomeAddsOnly may old new → HomeAddsOnly other old new
+more-adds may other old new more adds = record {
+  reads = λ b. ⊎_elim (λ same. inl same) (λ added. inr (more b _ added)) (adds.reads b);
+  left = λ b v one. ⊎_elim (λ was. inl was) (λ added. inr (more b v added)) (adds.left b v one);
+}
+
+-- an unchanged world below adds nothing
+unchanged-adds : (may : Addition) (old new : World) → new ≡ old → HomeAddsOnly may old.disk new.disk
+unchanged-adds may old new same = subst (λ (w : World). HomeAddsOnly may old.disk w.disk) (sym same) (record { reads = λ b. inl refl; left = λ b v one. inl one })
+
+-- a running engine's newest committed copy is what the committed transactions leave
+checkpoint-copy : (phase : Phase) (epoch : Option Epoch) (told : Told) → phase ≡ Running → AgreesNow epoch told → (b : ℕ) (v : List ℕ) →
+    MayAddIn phase epoch b v → MayCheckpoint epoch told b v
+checkpoint-copy phase None told running agrees b v may =
+    let none : MayAddIn Running None b v = subst (λ (p : Phase). MayAddIn p None b v) running may in absurd none
+checkpoint-copy phase (Some epoch) told running agrees b v may =
+    let own : MayAddIn Running (Some epoch) b v = subst (λ (p : Phase). MayAddIn p (Some epoch) b v) running may in
+    newest-after epoch.engine told.front.sealed own.0 b v agrees.batches own.1
+
+-- a step adds to home what the committed transactions leave
+step-home : (w new : JournalWorld) (event : JournalEvent) → Holds w → BelowKeepsPromise w.below → Steps w event new →
+    HomeAddsOnly (MayCheckpoint w.below.epoch w.told) w.below.disk new.below.disk
+step-home w new event holds promise step = adds (step-below w new event step)
+  where
+    adds : IsStepBelow w.below new.below → HomeAddsOnly (MayCheckpoint w.below.epoch w.told) w.below.disk new.below.disk
+    adds (Unchanged same) = unchanged-adds (MayCheckpoint w.below.epoch w.told) w.below new.below same
+    adds (Stepped e below) =
+        more-adds (MayAddIn w.below.phase w.below.epoch) (MayCheckpoint w.below.epoch w.told) w.below.disk new.below.disk
+        (checkpoint-copy w.below.phase w.below.epoch w.told step.running holds.0) (promise.home (EngineStep e) new.below below)
+
+-- each move adds to home nothing but what it may, as the world below does
+move-home : (w new : JournalWorld) (move : Move) → Holds w → BelowKeepsPromise w.below → Moves w move new →
+    HomeAddsOnly (MayAdd w move) w.below.disk new.below.disk
+move-home w new (Step event) holds promise moves = step-home w new event holds promise moves
+move-home w new (Answer tid) holds promise moves =
+    unchanged-adds (MayAdd w (Answer tid)) w.below new.below (ap (λ (x : JournalWorld). x.below) moves.after)
+move-home w new (Below move) holds promise moves = promise.home move new.below moves.below
+
+-- at the begin
+begin-told : (epoch : Option Epoch) (told : Told) → TellsNothing epoch told → AgreesNow epoch told
+begin-told None told fresh = tt
+begin-told (Some epoch) told fresh = fresh-told epoch told fresh
+
+begin-past : (w : JournalWorld) → Begins w → AgreesPast w.below.ended w.past
+begin-past w begins =
+    subst (AgreesPast w.below.ended) (sym begins.first) (subst (λ (xs : List Ended). AgreesPast xs []) (sym (none-ended w.below begins.below)) tt)
+  where
+    none-ended : (below : World) → BelowBegins below → below.ended ≡ []
+    none-ended below (Unopened shut none first) = first
+    none-ended below (Made superblock next log running is first) = first
+
+-- the journal's law, where the engine's holds
+pub journal-promise : ((start end : World) (moves : List BelowMove) → BelowBegins start → BelowLeads start moves end → BelowKeepsPromise end) →
+    (start end : JournalWorld) (moves : List Move) → Begins start → Leads start moves end → KeepsPromise end
+journal-promise law start end moves begins leads =
+    let below = run-below start end moves leads in
+    let promise : BelowKeepsPromise end.below = law start.below end.below below.0 begins.below below.1 in
+    let holds : Holds end = run-holds start end moves (begin-told start.below.epoch start.told begins.fresh, begin-past start begins) leads in
+    record {
+      now = now-kept end.below.shape end.below.epoch end.below.disk end.told holds.0 promise.now;
+      ended = past-kept end.below.shape end.below.ended end.past holds.1 promise.ended;
+      closed = closed-kept end.below.shape end.below.epoch end.below.disk end.told end.below.phase holds.0 promise.closed;
+      home = λ move new moved. move-home end new move holds promise moved;
+    }

@@ -1,0 +1,79 @@
+-- What every run of moves keeps of a journal's world: whole handles, nothing lost that was told, and the rule for home.
+-- Source: the GoJournal paper (atomic handles over a disk that may crash at any step), journalling.rst.
+use Rattle.std.specs.Prelude.{◌≡◌, ⊤, ℕ, ◌≤◌, List, [], ◌∷◌, ◌++◌, length, Option, Some, None, unwrap_or}
+use Rattle.journal_model.specs.declared.number.Area.TheVariants.{Home}
+use Rattle.journal_model.specs.Disk.{Disk, Image, Leaves}
+use Rattle.journal_model.specs.HomeChange.{Addition, HomeAddsOnly, IsCommittedCopy, OthersRightlyHeld}
+use Rattle.journal_model.specs.Opening.{IsClean, IsCountOf, Opens}
+use Rattle.journal_model.specs.Record.{EachHandleOnce, acknowledged}
+use Rattle.journal_model.specs.Superblock.{Shape}
+use Rattle.journal_model.specs.Transaction.{AreNumbered, History}
+use Rattle.log_epochs.specs.Epoch.{Ended, Epoch}
+use Rattle.log_epochs.specs.EnginePromise.{MayAdd as BelowMayAdd, direct_writes}
+use Rattle.log_epochs.specs.EngineWorld.{Phase}
+use Rattle.log_epochs.specs.EngineWorld.Phase.{Shut, Opening, Running, Closing, Closed}
+use Rattle.log_epochs.specs.JournalWorld.{JournalWorld, Move, Moves, Told}
+use Rattle.log_epochs.specs.JournalWorld.Move.{Step, Answer, Below}
+
+-- What an image keeps, with one number n: all that was told committed and nothing that was not sealed; n is the count of
+-- what the log of the image that pinned it has, and of its own where none has. An opening makes each block its last copy in
+-- the first n transactions, or else leaves it as home held it, and that rightly. The numbers follow one another, and each
+-- handle has all its steps in one transaction.
+pub record Kept (shape : Shape) (epoch : Epoch) (told : Told) (image : Image) : Type 0 where
+  pub n : ℕ
+  pub low : acknowledged told.answered told.front.sealed ≤ n
+  pub high : n ≤ length told.front.sealed
+  pub count : IsCountOf shape (unwrap_or epoch.pin image) told.front.sealed n
+  pub opens : Opens shape told.front.sealed n image
+  pub others : OthersRightlyHeld shape.home_blocks epoch.opening direct_writes told.front.sealed n (image Home)
+  pub numbered : AreNumbered epoch.engine.first told.front.sealed
+  pub handles : EachHandleOnce (told.front.sealed ++ told.front.running ∷ [])
+
+-- each image that a stop may leave now keeps it; before the first opening that answers Ok nothing is promised
+abbrev pub KeepsNow : Shape → Option Epoch → Disk → Told → Type 0
+KeepsNow shape None disk told = ⊤
+KeepsNow shape (Some epoch) disk told = (image : Image) → Leaves disk image → Kept shape epoch told image
+
+-- so does what home read when an opening ended an epoch
+pub record EndedWell (shape : Shape) (x : Ended) (told : Told) : Type 0 where
+  pub pin : Image
+  pub pin_is : x.epoch.pin ≡ Some pin
+  pub clean : IsClean shape x.after
+  pub keeps : Kept shape x.epoch told x.after
+
+abbrev pub HaveEndedWell : Shape → List Ended → List Told → Type 0
+HaveEndedWell shape [] [] = ⊤
+HaveEndedWell shape (x ∷ xs) (t ∷ ts) = EndedWell shape x t × HaveEndedWell shape xs ts
+HaveEndedWell shape [] (t ∷ ts) = ⊥
+HaveEndedWell shape (x ∷ xs) [] = ⊥
+
+-- a closed log is clean, and opens to all sealed transactions
+pub record IsClosed (shape : Shape) (ts : History) (image : Image) : Type 0 where
+  pub clean : IsClean shape image
+  pub all : Opens shape ts (length ts) image
+
+abbrev pub KeepsClosed : Shape → Disk → Told → Phase → Type 0
+KeepsClosed shape disk told Closed = (image : Image) → Leaves disk image → IsClosed shape told.front.sealed image
+KeepsClosed shape disk told Shut = ⊤
+KeepsClosed shape disk told (Opening found stage) = ⊤
+KeepsClosed shape disk told Running = ⊤
+KeepsClosed shape disk told Closing = ⊤
+
+-- the copy that the committed transactions leave of the block
+abbrev pub MayCheckpoint : Option Epoch → Told → Addition
+MayCheckpoint None told b v = ⊥
+MayCheckpoint (Some epoch) told b v = IsCommittedCopy told.front.sealed epoch.engine.committed b v
+
+-- what a move may add to home: a step of the journal such a copy, an answer nothing
+abbrev pub MayAdd : JournalWorld → Move → Addition
+MayAdd w (Step event) b v = MayCheckpoint w.below.epoch w.told b v
+MayAdd w (Answer tid) b v = ⊥
+MayAdd w (Below move) b v = BelowMayAdd w.below move b v
+
+-- Each epoch keeps its promise: the one of now whatever a stop leaves at this moment, those that ended with what home
+-- then read. Whatever move comes next adds to home nothing but what it may.
+pub record KeepsPromise (w : JournalWorld) : Type 0 where
+  pub now : KeepsNow w.below.shape w.below.epoch w.below.disk w.told
+  pub ended : HaveEndedWell w.below.shape w.below.ended w.past
+  pub closed : KeepsClosed w.below.shape w.below.disk w.told w.below.phase
+  pub home : (move : Move) (new : JournalWorld) → Moves w move new → HomeAddsOnly (MayAdd w move) w.below.disk new.below.disk

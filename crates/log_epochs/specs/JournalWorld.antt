@@ -1,0 +1,118 @@
+-- The journal's world: the engine's, with the front of each epoch and what callers were told in it. The journal's steps
+-- are those which the contracts of the crate that runs it cite.
+-- Source: the GoJournal paper (atomic handles over a disk that may crash at any step), journalling.rst.
+use Rattle.std.specs.Prelude.{◌≡◌, ⊤, ℕ, ◌≤◌, List, [], ◌∷◌, Option, Some, None}
+use Rattle.journal_world.specs.Front.{Front}
+use Rattle.journal_world.specs.Journal.{Event, Happens, IsFresh, Journal}
+use Rattle.log_epochs.specs.EngineSteps.{Event as EngineEvent}
+use Rattle.log_epochs.specs.EngineSteps.Event.{Accept, Read, CommitStep, CommitFault, CheckpointStep, CheckpointFault, ReadFault}
+use Rattle.log_epochs.specs.EngineWorld.{Begins as BelowBegins, Move as BelowMove, Moves as BelowMoves, World}
+use Rattle.log_epochs.specs.EngineWorld.Move.{Step as EngineStep, CloseStep, CloseFault, GiveUp, Stop, Begin, OpeningStep, OpeningFault, AnswerOk}
+use Rattle.log_epochs.specs.EngineWorld.Phase.{Running}
+use Rattle.log_epochs.specs.Epoch.{Epoch}
+
+-- the front of an epoch, and the numbers of the transactions that a wait or a status told committed in it
+pub record Told : Type 0 where
+  pub front : Front
+  pub answered : List ℕ
+
+pub record JournalWorld : Type 0 where
+  pub below : World
+  pub told : Told  -- in the epoch of now
+  pub past : List Told  -- in the epochs that ended, as the world below has them
+
+-- what may come
+pub data Move : Type 0 where
+  Step : (event : Event) → Move  -- the journal makes a step, or the device fails in it
+  Answer : (tid : ℕ) → Move  -- a wait or a status of a transaction is answered by the mark
+  Below : (move : BelowMove) → Move  -- a move of the engine's world that is no step of the journal
+
+-- the journal of an epoch
+abbrev pub journal_of : Epoch → Told → Journal
+journal_of epoch told = record { front = told.front; engine = epoch.engine }
+
+pub record Steps (old : JournalWorld) (event : Event) (new : JournalWorld) : Type 0 where
+  pub running : old.below.phase ≡ Running
+  pub epoch : Epoch
+  pub now : old.below.epoch ≡ Some epoch
+  pub journal : Journal
+  pub happens : Happens (journal_of epoch old.told) old.below.disk event journal new.below.disk
+  pub after : new ≡ record old {
+    below = record old.below { disk = new.below.disk; epoch = Some (record epoch { engine = journal.engine }) };
+    told = record old.told { front = journal.front };
+  }
+
+-- a wait or a status tells that this transaction is committed: the mark has come to its number
+pub record Answers (old : JournalWorld) (tid : ℕ) (new : JournalWorld) : Type 0 where
+  pub running : old.below.phase ≡ Running
+  pub marked : tid ≤ old.told.front.mark
+  pub after : new ≡ record old { told = record old.told { answered = tid ∷ old.told.answered } }
+
+-- the front of an epoch that begins, in which nothing is told yet
+pub record IsFreshTold (epoch : Epoch) (told : Told) : Type 0 where
+  pub journal : IsFresh epoch.engine.shape epoch.engine.superblock epoch.engine.first (journal_of epoch told)
+  pub unanswered : told.answered ≡ []
+
+-- what was told stays
+pub record TellsSame (old new : JournalWorld) : Type 0 where
+  pub told : new.told ≡ old.told
+  pub past : new.past ≡ old.past
+
+-- what was told in the epochs that ended, newest first, once this one has
+abbrev pub telling : Option Epoch → Told → List Told → List Told
+telling None told past = past
+telling (Some epoch) told past = told ∷ past
+
+-- an epoch begins
+pub record TellsAnew (old new : JournalWorld) : Type 0 where
+  pub epoch : Epoch
+  pub now : new.below.epoch ≡ Some epoch
+  pub fresh : IsFreshTold epoch new.told
+  pub past : new.past ≡ telling old.below.epoch old.told old.past
+
+-- of the engine's steps a read alone is none of the journal's
+abbrev pub TellsAfterStep : EngineEvent → JournalWorld → JournalWorld → Type 0
+TellsAfterStep (Read block bytes) old new = TellsSame old new
+TellsAfterStep (Accept batch) old new = ⊥
+TellsAfterStep CommitStep old new = ⊥
+TellsAfterStep CommitFault old new = ⊥
+TellsAfterStep CheckpointStep old new = ⊥
+TellsAfterStep CheckpointFault old new = ⊥
+TellsAfterStep ReadFault old new = ⊥
+
+-- what is told after a move of the world below
+abbrev pub TellsAfter : BelowMove → JournalWorld → JournalWorld → Type 0
+TellsAfter (EngineStep event) old new = TellsAfterStep event old new
+TellsAfter CloseStep old new = TellsSame old new
+TellsAfter CloseFault old new = TellsSame old new
+TellsAfter GiveUp old new = TellsSame old new
+TellsAfter (Stop left) old new = TellsSame old new
+TellsAfter (Begin found) old new = TellsSame old new
+TellsAfter OpeningStep old new = TellsSame old new
+TellsAfter OpeningFault old new = TellsSame old new
+TellsAfter AnswerOk old new = TellsAnew old new
+
+pub record GoesBelow (old : JournalWorld) (move : BelowMove) (new : JournalWorld) : Type 0 where
+  pub below : BelowMoves old.below move new.below
+  pub tells : TellsAfter move old new
+
+abbrev pub Moves : JournalWorld → Move → JournalWorld → Type 0
+Moves old (Step event) new = Steps old event new
+Moves old (Answer tid) new = Answers old tid new
+Moves old (Below move) new = GoesBelow old move new
+
+-- these moves, one after the other, may lead from one world to the other
+abbrev pub Leads : JournalWorld → List Move → JournalWorld → Type 0
+Leads old [] new = new ≡ old
+Leads old (move ∷ moves) new = (mid : JournalWorld) × Moves old move mid × Leads mid moves new
+
+-- where there is an epoch, its front is fresh
+abbrev pub TellsNothing : Option Epoch → Told → Type 0
+TellsNothing None told = ⊤
+TellsNothing (Some epoch) told = IsFreshTold epoch told
+
+-- a device that nobody has opened, or a journal just made on an opened log
+pub record Begins (w : JournalWorld) : Type 0 where
+  pub below : BelowBegins w.below
+  pub fresh : TellsNothing w.below.epoch w.told
+  pub first : w.past ≡ []
