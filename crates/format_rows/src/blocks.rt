@@ -1,0 +1,271 @@
+//! Rows of descriptors, revoke blocks and commit blocks, byte for byte.
+ghost use Rattle.std.specs.Prelude.{◌≤◌, length};
+ghost use Rattle.journal_model.specs.Layout.{narrow, numbers_of};
+ghost use Rattle.log_format.specs.Size.{IsBlockSize, most_tags};
+
+use crate::RowError;
+use crate::spelling::{Measures, UUID, block_of};
+use crate::telling::{
+    block_text, bytes_before_zeros, malformed_text, numbers_text, tags_text, text,
+};
+use crate::words::{cut, hex32, number32, series, values};
+use journal_model::{BlockNo, Items, Tag};
+use log_format::{CommitBlock, Descriptor, Header, Malformed, RevokeBlock};
+use std::alloc::Global;
+
+/// Blocks of 1024 bytes.
+pub(crate) const USUAL: Measures = Measures {
+    block_size: 1024,
+    log_blocks: 33,
+};
+
+/// What is told of tags and numbers that no one block has room for.
+const NO_ROOM: &str = "does not fit";
+
+/// Headers of blocks. Given: a block of 1024 bytes. Found: the type and the sequence in its header, or that it has none.
+pub fn headers(alloc: Global, given: &str) -> Result<String, RowError> {
+    let block = block_of(alloc, &USUAL, given)?;
+    if block.len() < 12 {
+        return Err(RowError::Unread);
+    }
+    match Header::read(&block) {
+        Some(
+            Header {
+                block_type,
+                sequence,
+            },
+        ) => Ok(format!(in alloc; "type {block_type} sequence {sequence}")?),
+        None => text(alloc, "no header"),
+    }
+}
+
+/// The tag of a home block with these flags.
+fn tag(block: u64, flags: u32) -> Tag {
+    Tag {
+        block: BlockNo(block),
+        escaped: flags & 1 != 0,
+        same_uuid: flags & 2 != 0,
+        last: flags & 8 != 0,
+    }
+}
+
+/// Adds the tags of a word.
+fn push_tags(tags: &mut Items<Tag>, word: &str) -> Result<(), RowError> {
+    let (blocks, flags) = cut(word, "/")?;
+    let (first, last) = series(blocks)?;
+    let flags = hex32(flags)?;
+    for block in first..=last {
+        tags.push(tag(block, flags))?;
+    }
+    Ok(())
+}
+
+/// The tags of these words, as `spelling` has them.
+fn tags_of(alloc: Global, words: &str) -> Result<Items<Tag>, RowError> {
+    let mut tags = Items::new(alloc);
+    for word in words.split_whitespace() {
+        push_tags(&mut tags, word)?;
+    }
+    Ok(tags)
+}
+
+/// Adds the numbers of a word.
+fn push_numbers(numbers: &mut Items<BlockNo>, word: &str) -> Result<(), RowError> {
+    let (first, last) = series(word)?;
+    for number in first..=last {
+        numbers.push(BlockNo(number))?;
+    }
+    Ok(())
+}
+
+/// The numbers of these words, as `spelling` has them.
+fn numbers_of(alloc: Global, words: &str) -> Result<Items<BlockNo>, RowError> {
+    let mut numbers = Items::new(alloc);
+    for word in words.split_whitespace() {
+        push_numbers(&mut numbers, word)?;
+    }
+    Ok(numbers)
+}
+
+/// Writes a descriptor, where the tags fit one.
+fn write_tags(block: &mut [u8], sequence: u32, tags: &[Tag]) -> bool
+    requires { IsBlockSize (length block.old) }
+{
+    if tags.is_empty() || tags.len() > (block.len() - 44) / 8 {
+        return false;
+    }
+    let (_, later) = tags.split_at(1);
+    if later.iter().all(|t| t.same_uuid) && tags.iter().all(|t| t.block.0 < 0x1_0000_0000) {
+        Descriptor::write(block, &UUID, sequence, tags);
+        return true;
+    }
+    false
+}
+
+/// Writes a revoke block, where the numbers fit one.
+fn write_numbers(block: &mut [u8], sequence: u32, numbers: &[BlockNo]) -> bool
+    requires { IsBlockSize (length block.old) }
+{
+    let few = numbers.len() <= (block.len() - 16) / 4;
+    let spelled = numbers.iter().all(|b| b.0 < 0x1_0000_0000);
+    if few && spelled {
+        RevokeBlock::write(block, sequence, numbers);
+        return true;
+    }
+    false
+}
+
+/// Writes the block that some words say: `descriptor=2 9/0008` is a descriptor of sequence 2 with a tag, `revoke=3 7 9` a revoke
+/// block of two home blocks, and `commit=3` a commit block. False where it has no room for the tags or numbers.
+fn write_words(alloc: Global, block: &mut [u8], words: &str) -> Result<bool, RowError>
+    requires { IsBlockSize (length block.old) }
+{
+    let (head, behind) = words.split_once(' ').unwrap_or((words, ""));
+    let (name, sequence) = cut(head, "=")?;
+    let sequence = number32(sequence)?;
+    match name {
+        "descriptor" => {
+            let tags = tags_of(alloc, behind)?;
+            Ok(write_tags(block, sequence, tags.as_slice()))
+        }
+        "revoke" => {
+            let numbers = numbers_of(alloc, behind)?;
+            Ok(write_numbers(block, sequence, numbers.as_slice()))
+        }
+        "commit" => {
+            CommitBlock::write(block, sequence);
+            Ok(true)
+        }
+        _ => Err(RowError::Unread),
+    }
+}
+
+/// Blocks as they are written. Given: `descriptor=T` and tags, `revoke=T` and numbers, or `commit=T`. Found: the bytes of the
+/// block of 1024 bytes that is written so over bytes ff.
+pub fn written_blocks(alloc: Global, given: &str) -> Result<String, RowError> {
+    let mut block = [0xff; 1024];
+    if write_words(alloc, &mut block, given)? {
+        block_text(alloc, &block)
+    } else {
+        text(alloc, NO_ROOM)
+    }
+}
+
+/// Reads a descriptor, where the block has the header of one.
+fn read_tags(block: &[u8], home_blocks: u64, tags: &mut [Tag]) -> Option<Result<usize, Malformed>>
+    requires size { IsBlockSize (length block.now) }
+    requires room { most_tags (narrow (length block.now)) ≤ length tags.old }
+{
+    let header = Header::read(block)?;
+    if header.block_type != 1 {
+        return None;
+    }
+    Some(Descriptor::read(block, home_blocks, tags))
+}
+
+/// Reads a revoke block, where the block has the header of one.
+fn read_numbers(
+    block: &[u8],
+    home_blocks: u64,
+    numbers: &mut [BlockNo],
+) -> Option<Result<usize, Malformed>>
+    requires size { IsBlockSize (length block.now) }
+    requires room { numbers_of (narrow (length block.now)) ≤ length numbers.old }
+{
+    let header = Header::read(block)?;
+    if header.block_type != 5 {
+        return None;
+    }
+    Some(RevokeBlock::read(block, home_blocks, numbers))
+}
+
+/// The tags that are read from a block, where it has the header of a descriptor.
+fn told_tags(alloc: Global, block: &[u8], home_blocks: u64) -> Result<Option<String>, RowError>
+    requires { IsBlockSize (length block.now) }
+{
+    let mut tags = [tag(0, 0); 510];
+    match read_tags(block, home_blocks, &mut tags) {
+        Some(Ok(count)) => Ok(Some(tags_text(alloc, &tags[..count.min(510)])?)),
+        Some(Err(e)) => Ok(Some(malformed_text(alloc, e)?)),
+        None => Ok(None),
+    }
+}
+
+/// The numbers that are read from a block, where it has the header of a revoke block.
+fn told_numbers(alloc: Global, block: &[u8], home_blocks: u64) -> Result<Option<String>, RowError>
+    requires { IsBlockSize (length block.now) }
+{
+    let mut numbers = [BlockNo(0); 1020];
+    match read_numbers(block, home_blocks, &mut numbers) {
+        Some(Ok(count)) => Ok(Some(numbers_text(alloc, &numbers[..count.min(1020)])?)),
+        Some(Err(e)) => Ok(Some(malformed_text(alloc, e)?)),
+        None => Ok(None),
+    }
+}
+
+/// What is read from a block, where home has so many blocks.
+fn told(alloc: Global, block: &[u8], home_blocks: u64) -> Result<String, RowError>
+    requires { IsBlockSize (length block.now) }
+{
+    if let Some(tags) = told_tags(alloc, block, home_blocks)? {
+        return Ok(tags);
+    }
+    match told_numbers(alloc, block, home_blocks)? {
+        Some(numbers) => Ok(numbers),
+        None => text(alloc, "neither"),
+    }
+}
+
+/// Blocks as they are read. Given: `home=N`, `|`, and a block of 1024 bytes. Found: the tags of a descriptor or the numbers of a
+/// revoke block where home has N blocks, `malformed block`, or `neither` where it is neither of them.
+pub fn read_blocks(alloc: Global, given: &str) -> Result<String, RowError> {
+    let (home, words) = cut(given, " | ")?;
+    let [home_blocks] = values::<1>(home, "home")?;
+    let block = block_of(alloc, &USUAL, words)?;
+    if block.len() != 1024 {
+        return Err(RowError::Unread);
+    }
+    told(alloc, &block, home_blocks)
+}
+
+/// What is read from the block that some words say, as it is told.
+fn words_text(alloc: Global, words: &str) -> Result<String, RowError> {
+    let (head, behind) = cut(words, " ")?;
+    if head.starts_with("descriptor") {
+        tags_text(alloc, tags_of(alloc, behind)?.as_slice())
+    } else {
+        numbers_text(alloc, numbers_of(alloc, behind)?.as_slice())
+    }
+}
+
+/// What a full block tells: how many bytes it has before the zeros at its end, and what is read from it.
+fn told_full(alloc: Global, block: &[u8], home_blocks: u64, words: &str) -> Result<String, RowError>
+    requires { IsBlockSize (length block.now) }
+{
+    let bytes = bytes_before_zeros(block);
+    let same = told(alloc, block, home_blocks)? == words_text(alloc, words)?;
+    let read = if same {
+        "read as written"
+    } else {
+        "read otherwise"
+    };
+    let below = told(alloc, block, home_blocks.saturating_sub(1))?;
+    Ok(format!(in alloc; "{bytes} bytes, {read}, {below}")?)
+}
+
+/// Full blocks. Given: `block=N home=N`, `|`, and what is written into a block of that many bytes, as `written_blocks` takes it.
+/// Found: how many bytes it has before the zeros at its end, whether the same is read from it where home has so many blocks,
+/// and what is read where home has one less.
+pub fn full_blocks(alloc: Global, given: &str) -> Result<String, RowError> {
+    let (measures, words) = cut(given, " | ")?;
+    let [block_size, home_blocks] = values::<2>(measures, "block home")?;
+    if block_size != 1024 && block_size != 2048 && block_size != 4096 {
+        return Err(RowError::Unread);
+    }
+    let mut block = vec![in alloc; 0xff; block_size as usize]?;
+    if write_words(alloc, &mut block, words)? {
+        told_full(alloc, &block, home_blocks, words)
+    } else {
+        text(alloc, NO_ROOM)
+    }
+}

@@ -1,0 +1,196 @@
+//! Rows of places in the ring, room, and layouts of transactions.
+use crate::RowError;
+use crate::telling::{refusal_text, text};
+use crate::words::{cut, number, values};
+use journal_model::JournalError;
+use journal_plain::room;
+use log_ring::{Layout, Part, Ring};
+use std::alloc::Global;
+use std::fmt::Write;
+
+/// The greatest position of a row.
+const MOST_POSITION: u64 = 1_000_000;
+
+/// The ring of the log blocks `first` to `maxlen - 1`.
+fn ring_of(first: u64, maxlen: u64) -> Result<Ring, RowError> {
+    let (Ok(first), Ok(maxlen)) = (u32::try_from(first), u32::try_from(maxlen)) else {
+        return Err(RowError::Unread);
+    };
+    if first == 0 || maxlen < first || maxlen - first < 16 {
+        return Err(RowError::Unread);
+    }
+    Ok(Ring::new(first, maxlen))
+}
+
+/// Releases so many blocks, which have to be taken, and answers how many are free then.
+fn release(ring: &mut Ring, count: u64) -> Result<u64, RowError> {
+    if ring.blocks() - ring.free() < count {
+        return Err(RowError::Unread);
+    }
+    ring.release(count);
+    Ok(ring.free())
+}
+
+/// Takes so many blocks.
+fn take(ring: &mut Ring, count: u64) -> Result<Result<u64, JournalError>, RowError> {
+    if ring.head() > MOST_POSITION {
+        return Err(RowError::Unread);
+    }
+    Ok(ring.take(count))
+}
+
+/// What a ring answers to a call without an operand.
+fn asked(ring: &Ring, name: &str) -> Result<u64, RowError> {
+    match name {
+        "blocks" => Ok(ring.blocks()),
+        "free" => Ok(ring.free()),
+        "head" => Ok(ring.head()),
+        "tail" => Ok(ring.tail()),
+        _ => Err(RowError::Unread),
+    }
+}
+
+/// What a ring answers to a call with an operand, or more.
+fn called(
+    ring: &mut Ring,
+    name: &str,
+    operands: &str,
+) -> Result<Result<u64, JournalError>, RowError> {
+    match name {
+        "place" => Ok(Ok(ring.place(number(operands)?))),
+        "release" => Ok(Ok(release(ring, number(operands)?)?)),
+        "take" => take(ring, number(operands)?),
+        "advance" => {
+            let (place, count) = cut(operands, " ")?;
+            Ok(Ok(ring.advance(number(place)?, number(count)?)))
+        }
+        _ => Err(RowError::Unread),
+    }
+}
+
+/// What a ring answers to the call of a line.
+fn answer_to(ring: &mut Ring, call: &str) -> Result<Result<u64, JournalError>, RowError> {
+    match call.split_once(' ') {
+        Some((name, operands)) => called(ring, name, operands),
+        None => Ok(Ok(asked(ring, call)?)),
+    }
+}
+
+/// The answer to a call as it is told.
+fn answer_text(alloc: Global, answer: Result<u64, JournalError>) -> Result<String, RowError> {
+    match answer {
+        Ok(number) => Ok(format!(in alloc; "{number}")?),
+        Err(e) => refusal_text(alloc, e),
+    }
+}
+
+/// Calls of a ring. Given: a line `first=N maxlen=N`, and a call a line: `blocks`, `free`, `head`, `tail`, `place P`,
+/// `advance B N`, `take N`, `release N`. Found: each call with its answer, one after the other; a release answers how many blocks
+/// are free behind it.
+pub fn ring_calls(alloc: Global, given: &str) -> Result<String, RowError> {
+    let (measures, calls) = cut(given, "\n")?;
+    let [first, maxlen] = values::<2>(measures, "first maxlen")?;
+    let mut ring = ring_of(first, maxlen)?;
+    let mut told = String::new(alloc);
+    for call in calls.lines() {
+        let answer = answer_to(&mut ring, call)?;
+        let answer = answer_text(alloc, answer)?;
+        writeln!(told, "{call} = {answer}")?;
+    }
+    text(alloc, told.as_str().trim_end())
+}
+
+/// The layout of a transaction in blocks of this size.
+fn layout_of(size: u64, copies: u64, revokes: u64) -> Result<Layout, RowError> {
+    let known = size == 1024 || size == 2048 || size == 4096;
+    if !known || copies > 2000 || revokes > 2000 {
+        return Err(RowError::Unread);
+    }
+    Ok(Layout::new(size as usize, copies, revokes))
+}
+
+/// How many blocks the ring and the plain program need.
+fn need(size: u64, copies: u64, revokes: u64) -> Result<(u64, usize), RowError> {
+    let known = size == 1024 || size == 2048 || size == 4096;
+    if !known || copies > 2000 || revokes > 2000 {
+        return Err(RowError::Unread);
+    }
+    let plain = room::need(size as usize, 4, copies as usize, revokes as usize);
+    Ok((Ring::need(size as usize, copies, revokes), plain))
+}
+
+/// The most copies, by the layout and by the plain program.
+fn capacity(size: u64, ring: u64) -> Result<(u64, usize), RowError> {
+    let known = size == 1024 || size == 2048 || size == 4096;
+    if !known || ring < 16 || ring > 1_048_576 {
+        return Err(RowError::Unread);
+    }
+    let plain = room::capacity(size as usize, 4, ring as usize);
+    Ok((Layout::capacity(size as usize, ring), plain))
+}
+
+/// Room of transactions. Given: `block=N copies=N revokes=N`. Found: how many log blocks a transaction with these needs, by the
+/// ring and by the plain program.
+pub fn needs(alloc: Global, given: &str) -> Result<String, RowError> {
+    let [block_size, copies, revokes] = values::<3>(given, "block copies revokes")?;
+    let (need, plain) = need(block_size, copies, revokes)?;
+    Ok(format!(in alloc; "{need}, plain {plain}")?)
+}
+
+/// The most copies of a transaction. Given: `block=N ring=N`, the bytes of a block and the blocks of the ring. Found: the most
+/// copies, by the layout and by the plain program.
+pub fn capacities(alloc: Global, given: &str) -> Result<String, RowError> {
+    let [block_size, ring] = values::<2>(given, "block ring")?;
+    let (capacity, plain) = capacity(block_size, ring)?;
+    Ok(format!(in alloc; "{capacity}, plain {plain}")?)
+}
+
+/// Adds a part of a transaction, behind its place.
+fn add_part(told: &mut String, place: u64, part: Part) -> Result<(), RowError> {
+    match part {
+        Part::Revokes { first, numbers } => {
+            writeln!(told, "{place} revokes from {first}, {numbers}")?
+        }
+        Part::Descriptor { first, tags } => {
+            writeln!(told, "{place} descriptor from {first}, {tags}")?
+        }
+        Part::Copy(copy) => writeln!(told, "{place} copy {copy}")?,
+        Part::Commit => writeln!(told, "{place} commit")?,
+    }
+    Ok(())
+}
+
+/// Parts of transactions. Given: `block=N copies=N revokes=N from=N to=N`. Found: what each block of such a transaction is, from
+/// the one place, counted from 0, up to the other, as far as it has any, or `none`.
+pub fn parts(alloc: Global, given: &str) -> Result<String, RowError> {
+    let [block_size, copies, revokes, from, to] = values::<5>(
+        given,
+        "block copies revokes from to",
+    )?;
+    let layout = layout_of(block_size, copies, revokes)?;
+    let mut told = String::new(alloc);
+    for place in from..=to.min(layout.blocks() - 1) {
+        add_part(&mut told, place, layout.part(place))?;
+    }
+    if told.is_empty() {
+        return text(alloc, "none");
+    }
+    text(alloc, told.as_str().trim_end())
+}
+
+/// Places of transactions. Given: `first=N maxlen=N block=N copies=N revokes=N start=N at=N`: a
+/// ring, a transaction that begins at this position of it, and a block of that, counted from 0. Found: the log block where it
+/// stands.
+pub fn places(alloc: Global, given: &str) -> Result<String, RowError> {
+    let [first, maxlen, block_size, copies, revokes, start, at] = values::<7>(
+        given,
+        "first maxlen block copies revokes start at",
+    )?;
+    let ring = ring_of(first, maxlen)?;
+    let layout = layout_of(block_size, copies, revokes)?;
+    if at >= layout.blocks() || start > MOST_POSITION {
+        return Err(RowError::Unread);
+    }
+    let place = layout.place(&ring, start, at);
+    Ok(format!(in alloc; "{place}")?)
+}
