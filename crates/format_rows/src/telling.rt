@@ -33,8 +33,17 @@ fn add_byte(told: &mut String, place: usize, byte: u8) -> Result<(), RowError> {
     Ok(())
 }
 
+/// Adds the byte that all further ones of a block are.
+fn add_rest(told: &mut String, rest: u8) -> Result<(), RowError> {
+    if !told.is_empty() {
+        told.push(' ')?;
+    }
+    write!(told, "..{rest:02x}")?;
+    Ok(())
+}
+
 /// The bytes of a block in hex digits, four together, up to those at its end that are all the same. These are not told where
-/// they are zeros, or else as in ` ..11`.
+/// they are zeros, or else as in `..11`.
 pub fn block_text(alloc: Global, block: &[u8]) -> Result<String, RowError> {
     let mut told = String::new(alloc);
     for (place, byte) in block.iter().take(bytes_before_rest(block)).enumerate() {
@@ -42,7 +51,7 @@ pub fn block_text(alloc: Global, block: &[u8]) -> Result<String, RowError> {
     }
     match block.last() {
         None | Some(0) => {}
-        Some(rest) => write!(told, " ..{rest:02x}")?,
+        Some(rest) => add_rest(&mut told, *rest)?,
     }
     Ok(told)
 }
@@ -65,7 +74,7 @@ fn flags_of(tag: &Tag) -> u8 {
 }
 
 /// The word that spells a tag.
-fn tag_word(alloc: Global, tag: &Tag) -> Result<String, RowError> {
+pub fn tag_word(alloc: Global, tag: &Tag) -> Result<String, RowError> {
     let flags = flags_of(tag);
     Ok(format!(in alloc; "{}/{flags:04x}", tag.block.0)?)
 }

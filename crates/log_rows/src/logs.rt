@@ -1,0 +1,120 @@
+//! The spelling of logs, which all rows share:
+//!
+//! ```text
+//! LOG    = [ DEVICE ] { BLOCKS }
+//! DEVICE = "device" { "log=" N | "home=" N | "block=" N }   33 blocks of the log's area, 64 home blocks, and 1024 bytes
+//!                                                           of a block, unless they are said
+//! BLOCKS = P ":" BLOCK { "|" BLOCK }                        blocks of the log's area, from block P on
+//! ```
+//!
+//! Each part is a line. A block that no line spells is zeros. The module `spelling` of the crate `format_rows` has the
+//! spelling of a block.
+use block_device::{Device, MemDevice};
+use format_rows::RowError;
+use format_rows::spelling::{Measures, block_of};
+use format_rows::words::{count, cut, number};
+use journal_model::{Area, Block, Items};
+use std::alloc::Global;
+
+/// The measures of a device.
+#[derive(Clone, Copy)]
+pub struct Shape {
+    /// Bytes of a block, and blocks of the log's area.
+    pub measures: Measures,
+    /// Blocks of home.
+    pub home_blocks: u64,
+}
+
+/// The measures that need not be said.
+const USUAL: Shape = Shape {
+    measures: Measures {
+        block_size: 1024,
+        log_blocks: 33,
+    },
+    home_blocks: 64,
+};
+
+/// A log that is spelled.
+#[derive(Drop)]
+pub struct Log {
+    /// The measures of its device.
+    pub shape: Shape,
+    /// Its blocks that are spelled, each behind its place, in the order of their lines.
+    pub blocks: Items<(u64, Block)>,
+}
+
+/// The measures that the words behind `device` give.
+fn shape_of(words: &str) -> Result<Shape, RowError> {
+    let mut shape = USUAL;
+    for word in words.split_whitespace() {
+        let (name, value) = cut(word, "=")?;
+        match name {
+            "log" => shape.measures.log_blocks = number(value)?,
+            "home" => shape.home_blocks = number(value)?,
+            "block" => shape.measures.block_size = count(value)?,
+            _ => return Err(RowError::Unread),
+        }
+    }
+    Ok(shape)
+}
+
+/// The measures of a text, which its first line may give, and the lines behind that.
+fn split_shape(given: &str) -> Result<(Shape, &str), RowError> {
+    match given.strip_prefix("device ") {
+        Some(behind) => {
+            let (words, lines) = behind.split_once('\n').unwrap_or((behind, ""));
+            Ok((shape_of(words)?, lines))
+        }
+        None => Ok((USUAL, given)),
+    }
+}
+
+/// Adds the blocks of a line.
+fn push_line(
+    alloc: Global,
+    blocks: &mut Items<(u64, Block)>,
+    measures: &Measures,
+    line: &str,
+) -> Result<(), RowError> {
+    let (first, spelled) = cut(line, ":")?;
+    let mut place = number(first)?;
+    for words in spelled.split('|') {
+        let block = block_of(alloc, measures, words.trim())?;
+        blocks.push((place, Block::new(block)))?;
+        place = place.saturating_add(1);
+    }
+    Ok(())
+}
+
+/// The log that a text spells.
+pub fn log_of(alloc: Global, given: &str) -> Result<Log, RowError> {
+    let (shape, lines) = split_shape(given)?;
+    let mut blocks = Items::new(alloc);
+    for line in lines.lines() {
+        push_line(alloc, &mut blocks, &shape.measures, line)?;
+    }
+    Ok(Log { shape, blocks })
+}
+
+/// Writes a block of a log.
+fn write_block(device: &mut MemDevice, place: u64, bytes: &[u8]) -> Result<(), RowError> {
+    if bytes.len() != device.block_size() || place >= device.blocks(Area::Log) {
+        return Err(RowError::Unread);
+    }
+    device.write(Area::Log, place, bytes)?;
+    Ok(())
+}
+
+/// A device that lost power with a log on it. No write is counted yet, and home is zeros.
+pub fn device_of(alloc: Global, log: &Log) -> Result<MemDevice, RowError> {
+    let Measures {
+        block_size,
+        log_blocks,
+    } = log.shape.measures;
+    let mut device = MemDevice::new(alloc, block_size, log_blocks, log.shape.home_blocks);
+    for (place, block) in log.blocks.as_slice() {
+        write_block(&mut device, *place, block.bytes())?;
+    }
+    device.flush(Area::Log)?;
+    Ok(device.crash(&[]))
+}
