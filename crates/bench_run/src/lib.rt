@@ -16,5 +16,5 @@ mod verdict;
 
 pub use disk::empty_disk;
 pub use log_dump::Fault;
-pub use running::{Stopped, judge, run, run_operations};
+pub use running::{Stopped, judge, run, run_operations, run_operations_over};
 pub use verdict::Record;

@@ -13,8 +13,8 @@ use crate::disk::empty_disk;
 use crate::interpreter::Interpreter;
 use crate::outcome::{Hex, Outcome, PRINTED_BYTES};
 use crate::verdict::Record;
-use bench_script::{Measures, Operation, Script};
-use block_device::{Device, MemDevice};
+use bench_script::{Operation, Script};
+use block_device::{Device, MemDevice, StopAt};
 use journal_model::{Area, JournalError, Tid};
 use log_dump::{Fault, dump};
 use recovery::{Opened, Report, open};
@@ -67,22 +67,31 @@ pub fn run_operations(
     stop: Option<u64>,
     out: &mut impl Write,
 ) -> Result<Stopped, Fault> {
-    let mut interpreter = make_interpreter(alloc, &script.measures, stop)?;
-    let performed = perform_all(&mut interpreter, &script.operations, out);
+    let device = empty_disk(alloc, &script.measures, stop)?;
+    run_operations_over(alloc, device, &script.operations, stop, out)
+}
+
+/// Runs operations over a device in memory with a log, which it opens, and prints a line for each. The device stops at write
+/// `stop` of its own, or at the end.
+///
+/// # Errors
+///
+/// `Fault::Refused` where the log is refused, or memory runs out; `Fault::Output` where the output can't be written. Some of the
+/// lines may have been written.
+pub fn run_operations_over(
+    alloc: Global,
+    device: StopAt<MemDevice>,
+    operations: &[Operation],
+    stop: Option<u64>,
+    out: &mut impl Write,
+) -> Result<Stopped, Fault> {
+    let mut interpreter = Interpreter::new(alloc, device)?;
+    let performed = perform_all(&mut interpreter, operations, out);
     let stopped = stopped_of(interpreter, stop);
     match performed {
         Ok(()) => Ok(stopped),
         Err(e) => Err(Fault::Output(e)),
     }
-}
-
-/// An interpreter on an empty disk, which stops at write `stop`, or never.
-fn make_interpreter(
-    alloc: Global,
-    measures: &Measures,
-    stop: Option<u64>,
-) -> Result<Interpreter, JournalError> {
-    Interpreter::new(alloc, empty_disk(alloc, measures, stop)?)
 }
 
 /// Performs operations up to the first that the device refuses, and prints a line for each.

@@ -1,0 +1,258 @@
+//! Rows of runs over logs that were changed by hand, and of the bytes that runs leave.
+//!
+//! Bytes are spelled as in `log 3 from 8: 00000002`: these, from place 8 of block 3 of the log on. `home` names the home area.
+use crate::row_error::RowError;
+use crate::scripts::given_script;
+use crate::texts::{cut, hex_bytes, number, write_hex, written};
+use bench_run::{Fault, Stopped, empty_disk, judge, run_operations, run_operations_over};
+use bench_script::Script;
+use block_device::{Device, MemDevice, StopAt};
+use journal_model::{Area, JournalError};
+use recovery::open;
+use std::alloc::{AllocError, Global};
+use std::fmt::Write;
+use std::io;
+
+/// A run over a log that was changed by hand, of which the image is changed by hand once more. Given: lines of bytes that stand in
+/// the formatted log, a line `run`, a script on one line, and behind it lines of bytes that stand in the image. Found: the lines of the run and of the
+/// verdict, and the verdict as an answer, or the refusal.
+pub fn changed(alloc: Global, given: &str) -> Result<String, RowError> {
+    let (before, behind) = cut(given, "run\n")?;
+    let (text, after) = behind.split_once('\n').unwrap_or((behind, ""));
+    let script = given_script(alloc, text)?;
+    let mut out = Vec::new(alloc);
+    let answer = run_changed(alloc, &script, before, after, &mut out)?;
+    let mut found = String::from_str(alloc, written(&out)?)?;
+    write_answer(&mut found, answer)?;
+    Ok(found)
+}
+
+/// What comes of a run: the verdict, or a refusal.
+type Answer = Result<bool, JournalError>;
+
+/// Writes what came of a run.
+fn write_answer(found: &mut String, answer: Answer) -> Result<(), AllocError> {
+    match answer {
+        Ok(right) => write!(found, "right {right}"),
+        Err(e) => write!(found, "refusal {} {e}", e.number()),
+    }
+}
+
+/// The answer of a call whose output can't fail but for want of memory.
+fn answer_of<T: Drop>(answer: Result<T, Fault>) -> Result<Result<T, JournalError>, RowError> {
+    match answer {
+        Ok(value) => Ok(Ok(value)),
+        Err(Fault::Refused(JournalError::Memory) | Fault::Output(_)) => Err(RowError::Memory),
+        Err(Fault::Refused(e)) => Ok(Err(e)),
+    }
+}
+
+/// Runs the operations of a script over its log with these bytes, and judges the image with those.
+fn run_changed(
+    alloc: Global,
+    script: &Script,
+    before: &str,
+    after: &str,
+    out: &mut Vec<u8>,
+) -> Result<Answer, RowError> {
+    let device = StopAt::new(changed_disk(alloc, script, before)?, 0);
+    let answer = run_operations_over(alloc, device, &script.operations, None, out);
+    match answer_of(answer)? {
+        Ok(stopped) => judge_changed(alloc, script, stopped, after, out),
+        Err(e) => Ok(Err(e)),
+    }
+}
+
+/// The device of a script, formatted, with these bytes.
+fn changed_disk(alloc: Global, script: &Script, lines: &str) -> Result<MemDevice, RowError> {
+    match empty_disk(alloc, &script.measures, None) {
+        Ok(disk) => with_bytes(alloc, disk.into_inner(), lines),
+        Err(_) => Err(RowError::Memory),
+    }
+}
+
+/// Judges what a run left, with these bytes in the image.
+fn judge_changed(
+    alloc: Global,
+    script: &Script,
+    stopped: Stopped,
+    lines: &str,
+    out: &mut Vec<u8>,
+) -> Result<Answer, RowError> {
+    let Stopped {
+        device,
+        recorded,
+        at_write,
+    } = stopped;
+    let changed = Stopped {
+        device: with_bytes(alloc, device.crash(&[]), lines)?,
+        recorded,
+        at_write,
+    };
+    let named = script.named_blocks(alloc)?;
+    answer_of(judge(alloc, changed, &[], &named, out))
+}
+
+/// The device with the bytes of these lines, which are durable. Its writes are numbered from 1 again.
+fn with_bytes(alloc: Global, mut device: MemDevice, lines: &str) -> Result<MemDevice, RowError> {
+    for line in lines.lines() {
+        write_line(alloc, &mut device, line)?;
+    }
+    flush(&mut device, Area::Log)?;
+    flush(&mut device, Area::Home)?;
+    Ok(device.crash(&[]))
+}
+
+/// Makes an area durable.
+fn flush(device: &mut MemDevice, area: Area) -> Result<(), RowError> {
+    match device.flush(area) {
+        Ok(()) => Ok(()),
+        Err(_) => Err(RowError::Memory),
+    }
+}
+
+/// Writes the bytes of a line into the block that it names.
+fn write_line(alloc: Global, device: &mut MemDevice, line: &str) -> Result<(), RowError> {
+    let (place, digits) = cut(line, ": ")?;
+    let (area, n, from) = place_of(place)?;
+    let mut block = block_of(alloc, device, area, n)?;
+    put(&mut block, from, &hex_bytes(alloc, digits)?)?;
+    if block.len() != device.block_size() || n >= device.blocks(area) {
+        return Err(RowError::Unread);
+    }
+    match device.write(area, n, &block) {
+        Ok(()) => Ok(()),
+        Err(_) => Err(RowError::Memory),
+    }
+}
+
+/// The area, the block and the place that a text as `log 3 from 8` names.
+fn place_of(text: &str) -> Result<(Area, u64, usize), RowError> {
+    let (block, from) = cut(text, " from ")?;
+    let (area, n) = named_block(block)?;
+    Ok((area, n, number(from)? as usize))
+}
+
+/// The area and the block that a text as `log 3` names.
+fn named_block(text: &str) -> Result<(Area, u64), RowError> {
+    let (area, n) = cut(text, " ")?;
+    match area {
+        "log" => Ok((Area::Log, number(n)?)),
+        "home" => Ok((Area::Home, number(n)?)),
+        _ => Err(RowError::Unread),
+    }
+}
+
+/// Puts bytes into a block, from this place on.
+fn put(block: &mut [u8], from: usize, bytes: &[u8]) -> Result<(), RowError> {
+    if from.saturating_add(bytes.len()) > block.len() {
+        return Err(RowError::Unread);
+    }
+    for (place, byte) in block.iter_mut().skip(from).zip(bytes) {
+        *place = *byte;
+    }
+    Ok(())
+}
+
+/// A block of a device.
+fn block_of(
+    alloc: Global,
+    device: &mut MemDevice,
+    area: Area,
+    n: u64,
+) -> Result<Vec<u8>, RowError> {
+    if n >= device.blocks(area) {
+        return Err(RowError::Unread);
+    }
+    let mut bytes = vec![in alloc; 0; device.block_size()]?;
+    match device.read(area, n, &mut bytes) {
+        Ok(()) => Ok(bytes),
+        Err(_) => Err(RowError::Memory),
+    }
+}
+
+/// The bytes that a run leaves. Given: a script on one line, and behind it lines that name blocks, as `log 3`, or bytes of them, as
+/// `log 3 from 8 for 4`. Found: these lines with the bytes of the device behind the run, and behind a line `opened` those of the
+/// device that was opened behind a crash.
+pub fn bytes(alloc: Global, given: &str) -> Result<String, RowError> {
+    let (text, lines) = cut(given, "\n")?;
+    let script = given_script(alloc, text)?;
+    let device = device_behind(alloc, &script)?;
+    let (left, opened) = lines.split_once("opened\n").unwrap_or((lines, ""));
+    let mut all = String::new(alloc);
+    let device = write_lines(&mut all, alloc, device, left)?;
+    if !opened.is_empty() {
+        all.push_str("opened\n")?;
+        write_lines(&mut all, alloc, opened_device(alloc, device)?, opened)?;
+    }
+    Ok(all)
+}
+
+/// The device behind the run of a script.
+fn device_behind(alloc: Global, script: &Script) -> Result<MemDevice, RowError> {
+    match run_operations(alloc, script, None, &mut io::sink()) {
+        Ok(stopped) => Ok(stopped.device),
+        Err(_) => Err(RowError::Memory),
+    }
+}
+
+/// The device once a crash has taken what was not flushed, and its log is opened.
+fn opened_device(alloc: Global, device: MemDevice) -> Result<MemDevice, RowError> {
+    match open(alloc, device.crash(&[])) {
+        Ok(opened) => Ok(opened.into_device()),
+        Err(_) => Err(RowError::Unread),
+    }
+}
+
+/// Writes these lines with the bytes that they name.
+fn write_lines(
+    all: &mut String,
+    alloc: Global,
+    mut device: MemDevice,
+    lines: &str,
+) -> Result<MemDevice, RowError> {
+    for line in lines.lines() {
+        write!(all, "{line}: ")?;
+        write_named(all, alloc, &mut device, line)?;
+        all.push('\n')?;
+    }
+    Ok(device)
+}
+
+/// Writes the bytes that a line names.
+fn write_named(
+    all: &mut String,
+    alloc: Global,
+    device: &mut MemDevice,
+    line: &str,
+) -> Result<(), RowError> {
+    let (block, part) = line.split_once(" from ").unwrap_or((line, "0 for 4096"));
+    let (area, n) = named_block(block)?;
+    let bytes = block_of(alloc, device, area, n)?;
+    write_part(all, &bytes, part)
+}
+
+/// Writes the bytes of a block that a text as `8 for 4` names, and no more than there are.
+fn write_part(all: &mut String, block: &[u8], part: &str) -> Result<(), RowError> {
+    let (from, count) = cut(part, " for ")?;
+    let from = number(from)? as usize;
+    let to = from.saturating_add(number(count)? as usize).min(block.len());
+    match block.get(from..to) {
+        Some(bytes) => Ok(write_bytes(all, bytes)?),
+        None => Err(RowError::Unread),
+    }
+}
+
+/// Writes bytes as digits of base 16; in the place of more than eight zeros at the end it says how many there are.
+fn write_bytes(all: &mut String, bytes: &[u8]) -> Result<(), AllocError> {
+    let used = bytes.iter().rposition(|byte| *byte != 0).map_or(0, |last| last.saturating_add(1));
+    let zeros = bytes.len().saturating_sub(used);
+    if zeros <= 8 {
+        return write_hex(all, bytes);
+    }
+    if used > 0 {
+        write_hex(all, bytes.get(..used).unwrap_or(bytes))?;
+        all.push_str(" and ")?;
+    }
+    write!(all, "{zeros} zeros")
+}

@@ -1,0 +1,182 @@
+//! Rows of the commands of `jbench`, over readers, writers and devices in memory.
+use crate::row_error::RowError;
+use crate::scripts::measures_text;
+use crate::texts::{cut, numbers_in, written};
+use bench_commands::fault::Status;
+use bench_commands::words::{FormatWords, RunWords, Words, answer, parse};
+use bench_commands::{logs, run};
+use block_device::MemDevice;
+use std::alloc::{AllocError, Global};
+use std::fmt::Write;
+
+/// A run of a script. Given: the words of the program on a line, and the script. Found: the lines that it prints, each line on
+/// standard error behind its name, and the exit status.
+pub fn run(alloc: Global, given: &str) -> Result<String, RowError> {
+    let (line, script) = given.split_once('\n').unwrap_or((given, ""));
+    let words = words_in(alloc, line)?;
+    match parse(alloc, &words) {
+        Ok(Words::Run(words)) => run_script(alloc, &words, script),
+        _ => Err(RowError::Unread),
+    }
+}
+
+/// What `run` says of this script.
+fn run_script(alloc: Global, words: &RunWords<'_>, script: &str) -> Result<String, RowError> {
+    let mut out = Vec::new(alloc);
+    let mut err = Vec::new(alloc);
+    match run::run(alloc, words, script.as_bytes(), &mut out, &mut err) {
+        Ok(status) => text_of(alloc, &out, &err, status),
+        Err(_) => Err(RowError::Memory),
+    }
+}
+
+/// An empty log on a device in memory. Given: the words of the program on a line, and as `1024 33 64` the bytes of the device's
+/// blocks and how many its log and its home area have. Found: as of a run.
+pub fn format(alloc: Global, given: &str) -> Result<String, RowError> {
+    let (line, shape) = cut(given, "\n")?;
+    let words = words_in(alloc, line)?;
+    match parse(alloc, &words) {
+        Ok(Words::Format(words)) => format_device(alloc, &words, device_of(alloc, shape)?),
+        _ => Err(RowError::Unread),
+    }
+}
+
+/// What `format` says of an empty log on this device.
+fn format_device(
+    alloc: Global,
+    words: &FormatWords<'_>,
+    device: MemDevice,
+) -> Result<String, RowError> {
+    let mut out = Vec::new(alloc);
+    let mut err = Vec::new(alloc);
+    match logs::format(words.log, &words.measures, device, &mut out, &mut err) {
+        Ok(status) => text_of(alloc, &out, &err, status),
+        Err(_) => Err(RowError::Memory),
+    }
+}
+
+/// A device in memory of this shape.
+fn device_of(alloc: Global, shape: &str) -> Result<MemDevice, RowError> {
+    let [size, log, home] = numbers_in::<3>(shape)?;
+    Ok(MemDevice::new(alloc, size as usize, log, home))
+}
+
+/// What the words of the program say. Given: the words. Found: the command with all that it is told, or what is said where they
+/// tell nothing to do: on which output, and the exit status.
+pub fn words(alloc: Global, given: &str) -> Result<String, RowError> {
+    let words = words_in(alloc, given)?;
+    match parse(alloc, &words) {
+        Ok(words) => told(alloc, &words),
+        Err(e) => answered(alloc, &e),
+    }
+}
+
+/// What words tell.
+fn told(alloc: Global, words: &Words<'_>) -> Result<String, RowError> {
+    match words {
+        Words::Run(words) => Ok(told_run(alloc, words)?),
+        Words::Format(words) => told_format(alloc, words),
+        Words::Dump(log) => Ok(format!(in alloc; "dump {log}")?),
+    }
+}
+
+/// What words tell `run`.
+fn told_run(alloc: Global, words: &RunWords<'_>) -> Result<String, AllocError> {
+    let mut text = format!(in alloc; "run {}", words.script)?;
+    match words.stop {
+        Some(k) => write!(text, ", stop {k}")?,
+        None => text.push_str(", no stop")?,
+    }
+    text.push_str(", keep")?;
+    for number in &words.keep {
+        write!(text, " {number}")?;
+    }
+    Ok(text)
+}
+
+/// What words tell `format`.
+fn told_format(alloc: Global, words: &FormatWords<'_>) -> Result<String, RowError> {
+    let measures = measures_text(alloc, &words.measures)?;
+    Ok(format!(in alloc; "format {} {}: {measures}", words.log, words.home)?)
+}
+
+/// What is said of words that tell nothing to do.
+fn answered(alloc: Global, e: &clap::Error) -> Result<String, RowError> {
+    let mut out = Vec::new(alloc);
+    let mut err = Vec::new(alloc);
+    match answer(e, &mut out, &mut err) {
+        Ok(status) => Ok(format!(in alloc;
+            "exit {}{}{}",
+            exit_status(status),
+            if out.is_empty() { "" } else { ", output" },
+            if err.is_empty() { "" } else { ", error" }
+        )?),
+        Err(_) => Err(RowError::Memory),
+    }
+}
+
+/// The operations that a help text has. Given: the words that ask for it. Found: each operation in the form that stands at the
+/// front of its line.
+pub fn help(alloc: Global, given: &str) -> Result<String, RowError> {
+    let words = words_in(alloc, given)?;
+    match parse(alloc, &words) {
+        Ok(_) => Err(RowError::Unread),
+        Err(e) => {
+            let text = format!(in alloc; "{e}")?;
+            Ok(forms_in(alloc, text.as_str())?)
+        }
+    }
+}
+
+/// The lists in brackets at the front of lines of this text.
+fn forms_in(alloc: Global, text: &str) -> Result<String, AllocError> {
+    let mut forms = String::new(alloc);
+    for line in text.lines() {
+        if let Some(form) = line.strip_prefix("  [\"")
+            && let Some((form, _)) = form.split_once(']')
+        {
+            writeln!(forms, "[\"{form}]")?;
+        }
+    }
+    Ok(forms)
+}
+
+/// The words of a line, which blanks separate. A word between quotes may have blanks, or nothing.
+fn words_in(alloc: Global, line: &str) -> Result<Vec<&str>, AllocError> {
+    let mut words = Vec::new(alloc);
+    for (i, part) in line.split('\'').enumerate() {
+        if i % 2 == 1 {
+            words.push(part)?;
+        } else {
+            push_words(&mut words, part)?;
+        }
+    }
+    Ok(words)
+}
+
+/// Adds the words of a text without quotes.
+fn push_words<'a>(words: &mut Vec<&'a str>, text: &'a str) -> Result<(), AllocError> {
+    for word in text.split_whitespace() {
+        words.push(word)?;
+    }
+    Ok(())
+}
+
+/// What a command wrote on standard output and standard error, and its exit status.
+fn text_of(alloc: Global, out: &[u8], err: &[u8], status: Status) -> Result<String, RowError> {
+    let mut text = String::from_str(alloc, written(out)?)?;
+    for line in written(err)?.lines() {
+        writeln!(text, "stderr: {line}")?;
+    }
+    write!(text, "exit {}", exit_status(status))?;
+    Ok(text)
+}
+
+/// The exit status of a command that ended so.
+fn exit_status(status: Status) -> u8 {
+    match status {
+        Status::Fine => 0,
+        Status::Refused => 1,
+        Status::VerdictFalse => 2,
+    }
+}

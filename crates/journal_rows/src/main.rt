@@ -1,0 +1,67 @@
+//! Examples as rows of data: does what each row of the files says that the program is told of, over the public functions of the
+//! crates, and prints for each file how many of its rows held and each row that did not.
+//!
+//! `row_file` reads a file of rows, `repetition` writes out what a row says more than once, `kinds` knows what may be done with
+//! a row, `report` compares what is found with what is wanted, and each other module does rows of its kinds.
+#![tactic(auto)]
+
+mod changed;
+mod commands;
+mod kinds;
+mod repetition;
+mod report;
+mod row_error;
+mod row_file;
+mod scripts;
+mod stops;
+mod texts;
+mod verdicts;
+
+use report::report_of;
+use row_error::RowError;
+use std::alloc::Global;
+use std::process::ExitCode;
+use std::{env, fs, io};
+
+fn main(rt: HostRuntime) -> ExitCode {
+    match check_files(&rt) {
+        Ok(true) => ExitCode::from(0),
+        _ => ExitCode::from(1),
+    }
+}
+
+/// Does the rows of each file that a word names, and prints what was found. The answer is whether all could be done.
+fn check_files(rt: &HostRuntime) -> io::Result<bool> {
+    let words: Vec<String> = env::args(rt)?.collect(rt.alloc())?;
+    let mut is_whole = true;
+    for name in words.iter().skip(1) {
+        is_whole = check_file(rt, name.as_str())? && is_whole;
+    }
+    Ok(is_whole)
+}
+
+/// Does the rows of one file, and prints what was found. The answer is whether all could be done.
+fn check_file(rt: &HostRuntime, name: &str) -> io::Result<bool> {
+    match fs::read_to_string(rt, name) {
+        Ok(text) => print_report(rt, rt.alloc(), name, text.as_str()),
+        Err(_) => print_failure(rt, name, "it can't be read"),
+    }
+}
+
+/// Prints what was found of the rows of a text.
+fn print_report(rt: &HostRuntime, alloc: Global, name: &str, text: &str) -> io::Result<bool> {
+    match report_of(alloc, name, text) {
+        Ok(report) => {
+            print!(rt; "{}", report.lines)?;
+            Ok(report.is_whole)
+        }
+        Err(RowError::Unread) => print_failure(rt, name, "its head, its kind or a row's name can't be read"),
+        Err(RowError::Memory) => print_failure(rt, name, "memory ran out"),
+    }
+}
+
+/// Says why the rows of a file can't be done.
+fn print_failure(rt: &HostRuntime, name: &str, why: &str) -> io::Result<bool> {
+    println!(rt; "{name}: {why}")?;
+    Ok(false)
+}

@@ -1,0 +1,46 @@
+//! What stands in a row more than once.
+use crate::row_error::RowError;
+use crate::texts::{cut, numbers_in};
+use std::alloc::Global;
+use std::fmt::Write;
+
+/// The text with its repetitions written out. A repetition is `<2 4 1|#=@ >`, which is here `2=3 3=4 4=5 `: the text behind the
+/// bar for each number from 2 to 4, which stands for `#`, and the number that is 1 more, for `@`, or for `$` in base 16.
+///
+/// # Errors
+///
+/// `Unread` where a `<` begins no repetition; `Memory`.
+pub fn written_out(alloc: Global, text: &str) -> Result<String, RowError> {
+    let mut all = String::new(alloc);
+    let mut parts = text.split('<');
+    all.push_str(parts.next().unwrap_or(""))?;
+    for part in parts {
+        let (repetition, behind) = cut(part, ">")?;
+        write_repetition(&mut all, repetition)?;
+        all.push_str(behind)?;
+    }
+    Ok(all)
+}
+
+/// Writes a repetition, which is `first last more|text`.
+fn write_repetition(all: &mut String, repetition: &str) -> Result<(), RowError> {
+    let (line, text) = cut(repetition, "|")?;
+    let [first, last, more] = numbers_in::<3>(line)?;
+    for number in first..=last {
+        write_numbered(all, text, number, number.saturating_add(more))?;
+    }
+    Ok(())
+}
+
+/// Writes the text with this number for each `#`, the other one for each `@`, and that as two digits of base 16 for each `$`.
+fn write_numbered(all: &mut String, text: &str, number: u64, other: u64) -> Result<(), RowError> {
+    for c in text.chars() {
+        match c {
+            '#' => write!(all, "{number}")?,
+            '@' => write!(all, "{other}")?,
+            '$' => write!(all, "{other:02x}")?,
+            _ => all.push(c)?,
+        }
+    }
+    Ok(())
+}

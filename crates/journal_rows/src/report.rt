@@ -1,0 +1,105 @@
+//! Does the rows of a file, and tells which of them did not hold.
+use crate::kinds::Kind;
+use crate::repetition::written_out;
+use crate::row_error::RowError;
+use crate::row_file::{Row, RowFile, read};
+use std::alloc::{AllocError, Global};
+use std::fmt::Write;
+
+/// What is told of a file.
+#[derive(Drop)]
+pub struct Report {
+    /// The lines to be printed.
+    pub lines: String,
+    /// Whether each row could be done.
+    pub is_whole: bool,
+}
+
+/// What was found of the rows of a file.
+#[derive(Drop)]
+struct Findings {
+    held: u64,
+    /// Lines on the other rows.
+    others: String,
+    is_whole: bool,
+}
+
+/// Does the rows of a file with this name and this text: a line with its name and how many of its rows held, and below it the
+/// name, the wanted and the found text of each that did not.
+///
+/// # Errors
+///
+/// `Unread` where the text is no file of rows, or its kind is not known; `Memory`.
+pub fn report_of(alloc: Global, name: &str, text: &str) -> Result<Report, RowError> {
+    let file = read(alloc, text)?;
+    let found = findings_of(alloc, &file)?;
+    let (held, count) = (found.held, file.rows.len());
+    let lines = format!(in alloc; "{name}: {held} of {count} rows held\n{}", found.others)?;
+    Ok(Report {
+        lines,
+        is_whole: found.is_whole,
+    })
+}
+
+/// Does the rows of a file.
+fn findings_of(alloc: Global, file: &RowFile<'_>) -> Result<Findings, RowError> {
+    let kind = Kind::named(file.kind).ok_or(RowError::Unread)?;
+    let mut findings = Findings {
+        held: 0,
+        others: String::new(alloc),
+        is_whole: true,
+    };
+    for row in &file.rows {
+        check_row(alloc, kind, row, &mut findings)?;
+    }
+    Ok(findings)
+}
+
+/// Does one row, and notes what came of it.
+fn check_row(
+    alloc: Global,
+    kind: Kind,
+    row: &Row<'_>,
+    findings: &mut Findings,
+) -> Result<(), RowError> {
+    let wanted = written_out(alloc, row.wanted)?;
+    match found_of(alloc, kind, row.given) {
+        Ok(found) if found.trim_end() == wanted.trim_end() => {
+            findings.held = findings.held.saturating_add(1);
+        }
+        Ok(found) => write_other(&mut findings.others, row.name, wanted.as_str(), found.as_str())?,
+        Err(RowError::Unread) => {
+            writeln!(findings.others, "  {}: its given text can't be read", row.name)?;
+            findings.is_whole = false;
+        }
+        Err(RowError::Memory) => return Err(RowError::Memory),
+    }
+    Ok(())
+}
+
+/// What is found of a given text.
+fn found_of(alloc: Global, kind: Kind, given: &str) -> Result<String, RowError> {
+    let given = written_out(alloc, given)?;
+    kind.found(alloc, given.as_str())
+}
+
+/// Writes the lines on a row that did not hold.
+fn write_other(
+    others: &mut String,
+    name: &str,
+    wanted: &str,
+    found: &str,
+) -> Result<(), AllocError> {
+    writeln!(others, "  {name}\n    wanted:")?;
+    write_indented(others, wanted)?;
+    writeln!(others, "    found:")?;
+    write_indented(others, found)
+}
+
+/// Writes lines behind blanks.
+fn write_indented(others: &mut String, text: &str) -> Result<(), AllocError> {
+    for line in text.lines() {
+        writeln!(others, "      {line}")?;
+    }
+    Ok(())
+}

@@ -1,0 +1,81 @@
+//! The form of a file of rows: lines that begin with `#`, a line `rows KIND`, and its rows. A long row is a line `== NAME`, what
+//! is given, a line `-->` and what is wanted. Or each row is a line `NAME: GIVEN --> WANTED`.
+use crate::row_error::RowError;
+use crate::texts::cut;
+use std::alloc::Global;
+
+/// A row: what is done with the given text is to be the wanted one.
+#[derive(Clone, Copy)]
+pub struct Row<'a> {
+    pub name: &'a str,
+    pub given: &'a str,
+    pub wanted: &'a str,
+}
+
+/// A file of rows.
+#[derive(Drop)]
+pub struct RowFile<'a> {
+    /// What is done with each row.
+    pub kind: &'a str,
+    /// The rows, in their order.
+    pub rows: Vec<Row<'a>>,
+}
+
+/// The file of this text.
+///
+/// # Errors
+///
+/// `Unread` where nothing at its head says what its rows show, where it has no line with their kind, or where a row has no name
+/// or no arrow; `Memory`.
+pub fn read<'a>(alloc: Global, text: &'a str) -> Result<RowFile<'a>, RowError> {
+    let (head, behind) = cut(text, "\nrows ")?;
+    if !head.lines().all(|line| line.starts_with('#')) {
+        return Err(RowError::Unread);
+    }
+    let (kind, body) = cut(behind, "\n")?;
+    let rows = rows_of(alloc, body.trim())?;
+    Ok(RowFile { kind, rows })
+}
+
+/// The rows of a file, which are all long or all short.
+fn rows_of<'a>(alloc: Global, body: &'a str) -> Result<Vec<Row<'a>>, RowError> {
+    match body.strip_prefix("== ") {
+        Some(long) => long_rows(alloc, long),
+        None => short_rows(alloc, body),
+    }
+}
+
+/// Long rows, the first of which begins with its name.
+fn long_rows<'a>(alloc: Global, body: &'a str) -> Result<Vec<Row<'a>>, RowError> {
+    let mut rows = Vec::new(alloc);
+    for part in body.split("\n== ") {
+        let (name, behind) = cut(part, "\n")?;
+        rows.push(row_of(name, behind)?)?;
+    }
+    Ok(rows)
+}
+
+/// Rows of one line each, with blank lines at will.
+fn short_rows<'a>(alloc: Global, body: &'a str) -> Result<Vec<Row<'a>>, RowError> {
+    let mut rows = Vec::new(alloc);
+    for line in body.lines() {
+        if !line.trim().is_empty() {
+            let (name, behind) = cut(line, ": ")?;
+            rows.push(row_of(name, behind)?)?;
+        }
+    }
+    Ok(rows)
+}
+
+/// The row with this name, and behind it its texts with the arrow between them.
+fn row_of<'a>(name: &'a str, texts: &'a str) -> Result<Row<'a>, RowError> {
+    let (given, wanted) = cut(texts, "-->")?;
+    if name.trim().is_empty() {
+        return Err(RowError::Unread);
+    }
+    Ok(Row {
+        name,
+        given: given.trim(),
+        wanted: wanted.trim(),
+    })
+}

@@ -1,0 +1,76 @@
+//! Rows of texts that are scripts, and of texts that are none.
+use crate::row_error::RowError;
+use crate::texts::write_hex;
+use bench_script::{Measures, Operation, Script, ScriptError, read};
+use std::alloc::{AllocError, Global};
+use std::fmt::Write;
+
+/// The script of a text, or none where it is no script.
+fn script_of(alloc: Global, text: &[u8]) -> Result<Option<Script>, RowError> {
+    match read(alloc, text) {
+        Ok(script) => Ok(Some(script)),
+        Err(ScriptError::BadScript) => Ok(None),
+        Err(ScriptError::Memory) => Err(RowError::Memory),
+    }
+}
+
+/// The script that a row gives.
+///
+/// # Errors
+///
+/// `Unread` where the text is no script; `Memory`.
+pub fn given_script(alloc: Global, text: &str) -> Result<Script, RowError> {
+    script_of(alloc, text.as_bytes())?.ok_or(RowError::Unread)
+}
+
+/// The bytes of a text in which `\xff` is the byte 255, which stands in no text.
+fn bytes_of(alloc: Global, text: &str) -> Result<Vec<u8>, AllocError> {
+    let mut bytes = Vec::new(alloc);
+    for (i, part) in text.split(r"\xff").enumerate() {
+        if i > 0 {
+            bytes.push(0xff)?;
+        }
+        bytes.extend_from_slice(part.as_bytes())?;
+    }
+    Ok(bytes)
+}
+
+/// Whether a text is a script, and the measures that its keys give: `no script`, or as
+/// `block 1024, log 33, home 64, uuid aa...`.
+pub fn script(alloc: Global, given: &str) -> Result<String, RowError> {
+    let bytes = bytes_of(alloc, given)?;
+    match script_of(alloc, &bytes)? {
+        Some(script) => Ok(measures_text(alloc, &script.measures)?),
+        None => Ok(String::from_str(alloc, "no script")?),
+    }
+}
+
+/// Measures in words.
+pub fn measures_text(alloc: Global, measures: &Measures) -> Result<String, AllocError> {
+    let mut text = format!(in alloc;
+        "block {}, log {}, home {}, uuid ",
+        measures.block_size, measures.log_blocks, measures.home_blocks
+    )?;
+    write_hex(&mut text, &measures.uuid)?;
+    Ok(text)
+}
+
+/// The operations as which a script is read, one a line: its word, handle and number, and behind a write its bytes.
+pub fn operations(alloc: Global, given: &str) -> Result<String, RowError> {
+    let script = given_script(alloc, given)?;
+    let mut all = String::new(alloc);
+    for operation in &script.operations {
+        write_operation(&mut all, operation)?;
+    }
+    Ok(all)
+}
+
+/// Writes the line of an operation.
+fn write_operation(all: &mut String, operation: &Operation) -> Result<(), AllocError> {
+    write!(all, "{operation}")?;
+    if let Operation::Write(_, _, bytes) = operation {
+        all.push(' ')?;
+        write_hex(all, bytes)?;
+    }
+    all.push('\n')
+}

@@ -1,0 +1,156 @@
+//! Rows of runs that stop at each of their writes.
+use crate::row_error::RowError;
+use crate::scripts::given_script;
+use crate::texts::{cut, numbers_in, written};
+use bench_run::run;
+use bench_script::Script;
+use std::alloc::{AllocError, Global};
+use std::fmt::Write;
+
+/// A way in which runs end, and where these stop.
+#[derive(Drop)]
+struct Ending {
+    /// What an opening finds, the named blocks, and the verdict.
+    text: String,
+    /// The first and the last write of each series of stops that end so.
+    stops: Vec<(u64, u64)>,
+    /// Whether a run without a stop ends so.
+    is_of_end: bool,
+}
+
+/// Runs that stop at each write. Given: a line as `stops 1 to 13, any of the last 4 writes kept`, and a script. Found: each way in
+/// which runs end, with what an opening finds, the named blocks and the verdict, and the stops of which some kept writes make a
+/// run end so.
+pub fn stops(alloc: Global, given: &str) -> Result<String, RowError> {
+    let (line, text) = cut(given, "\n")?;
+    let [first, last, back] = numbers_in::<3>(line)?;
+    let script = given_script(alloc, text)?;
+    let mut endings = Vec::new(alloc);
+    for k in first..=last {
+        add_stop(alloc, &script, k, back, &mut endings)?;
+    }
+    let mut all = String::new(alloc);
+    for ending in &endings {
+        write_ending(&mut all, ending)?;
+    }
+    Ok(all)
+}
+
+/// Adds how runs end that stop at write `k` and keep any of so many writes up to that.
+fn add_stop(
+    alloc: Global,
+    script: &Script,
+    k: u64,
+    back: u64,
+    endings: &mut Vec<Ending>,
+) -> Result<(), RowError> {
+    if back > 8 {
+        return Err(RowError::Unread);
+    }
+    for bits in 0..1u64 << back {
+        let kept = kept(alloc, k, bits)?;
+        add_run(alloc, script, k, &kept, endings)?;
+    }
+    Ok(())
+}
+
+/// Of the last writes up to `k` those whose bit is set, the last one's first.
+fn kept(alloc: Global, k: u64, bits: u64) -> Result<Vec<u64>, AllocError> {
+    let mut kept = Vec::new(alloc);
+    for back in 0..8 {
+        if bits >> back & 1 == 1 {
+            kept.push(k.saturating_sub(back))?;
+        }
+    }
+    Ok(kept)
+}
+
+/// Adds how a run ends that stops at write `k` and keeps these.
+fn add_run(
+    alloc: Global,
+    script: &Script,
+    k: u64,
+    kept: &[u64],
+    endings: &mut Vec<Ending>,
+) -> Result<(), RowError> {
+    let mut out = Vec::new(alloc);
+    match run(alloc, script, Some(k), kept, &mut out) {
+        Ok(right) => add_lines(alloc, written(&out)?, right, endings),
+        Err(_) => Err(RowError::Memory),
+    }
+}
+
+/// Adds how a run ends that printed these lines.
+fn add_lines(
+    alloc: Global,
+    lines: &str,
+    right: bool,
+    endings: &mut Vec<Ending>,
+) -> Result<(), RowError> {
+    let (_, behind) = cut(lines, "\nstopped ")?;
+    let (stop, behind) = cut(behind, "\n")?;
+    let (_, ending) = cut(behind, " n=")?;
+    let text = format!(in alloc; "n={}, right {right}", in_one_line(alloc, ending)?)?;
+    note(alloc, endings, text, stop)
+}
+
+/// Lines as one, with commas.
+fn in_one_line(alloc: Global, lines: &str) -> Result<String, AllocError> {
+    lines.trim_end().replace(alloc, "\n", ", ")
+}
+
+/// Notes that a run with this stop ends so.
+fn note(
+    alloc: Global,
+    endings: &mut Vec<Ending>,
+    text: String,
+    stop: &str,
+) -> Result<(), RowError> {
+    for ending in endings.iter_mut() {
+        if ending.text.as_str() == text.as_str() {
+            return Ok(add_to(ending, stop)?);
+        }
+    }
+    let mut ending = Ending {
+        text,
+        stops: Vec::new(alloc),
+        is_of_end: false,
+    };
+    add_to(&mut ending, stop)?;
+    endings.push(ending)?;
+    Ok(())
+}
+
+/// Adds a stop to those of an ending.
+fn add_to(ending: &mut Ending, stop: &str) -> Result<(), AllocError> {
+    match stop.parse() {
+        Ok(k) => add_number(&mut ending.stops, k),
+        Err(_) => {
+            ending.is_of_end = true;
+            Ok(())
+        }
+    }
+}
+
+/// Adds a number to series of numbers, of which it may continue the last.
+fn add_number(series: &mut Vec<(u64, u64)>, k: u64) -> Result<(), AllocError> {
+    match series.last_mut() {
+        Some((_, last)) if *last == k || last.saturating_add(1) == k => {
+            *last = k;
+            Ok(())
+        }
+        _ => Ok(series.push((k, k))?),
+    }
+}
+
+/// Writes the line of an ending.
+fn write_ending(all: &mut String, ending: &Ending) -> Result<(), AllocError> {
+    write!(all, "{}: stops", ending.text)?;
+    for (first, last) in &ending.stops {
+        write!(all, " {first} to {last}")?;
+    }
+    if ending.is_of_end {
+        all.push_str(" and the end")?;
+    }
+    all.push('\n')
+}

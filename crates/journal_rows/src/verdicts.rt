@@ -1,0 +1,111 @@
+//! Rows of verdicts on records and devices that are made by hand, where a run never leaves them so.
+//!
+//! A row has parts with `; ` between two: `2 writes 3 07` is a sealed transaction 2 in which block 3 becomes bytes 07,
+//! `acknowledged 2` the greatest transaction that was shown committed, `end 3` the end that an opening found, and `home 3 07` a
+//! block of home that is named, and reads so. A block has 16 bytes.
+use crate::row_error::RowError;
+use crate::texts::{cut, hex_bytes, number, number32};
+use bench_run::Record;
+use block_device::{Device, MemDevice};
+use journal_model::{Area, Block, BlockNo, HandleNo, Items, Op, Sealed, Step, Tid};
+use std::alloc::Global;
+use std::collections::BTreeSet;
+
+/// Bytes of a block.
+const SIZE: usize = 16;
+
+/// Blocks of home.
+const HOME: u64 = 8;
+
+/// A record and a device.
+#[derive(Drop)]
+struct Left {
+    record: Record,
+    end: u64,
+    device: MemDevice,
+    named: BTreeSet<u64>,
+}
+
+/// How many recorded transactions are below the end, and the verdict on the named blocks for these: as `n=1, right true`.
+pub fn verdict(alloc: Global, given: &str) -> Result<String, RowError> {
+    let mut left = nothing_left(alloc);
+    for part in given.split("; ") {
+        let (word, behind) = cut(part, " ")?;
+        add_part(alloc, &mut left, word, behind)?;
+    }
+    let n = left.record.count_below(left.end);
+    match left.record.judge(alloc, &mut left.device, &left.named, n) {
+        Ok(right) => Ok(format!(in alloc; "n={n}, right {right}")?),
+        Err(_) => Err(RowError::Unread),
+    }
+}
+
+/// A record of nothing, and a device of zeros.
+fn nothing_left(alloc: Global) -> Left {
+    Left {
+        record: Record {
+            sealed: Vec::new(alloc),
+            acknowledged: None,
+        },
+        end: 0,
+        device: MemDevice::new(alloc, SIZE, 4, HOME),
+        named: BTreeSet::new(alloc),
+    }
+}
+
+/// Adds what a part says.
+fn add_part(
+    alloc: Global,
+    left: &mut Left,
+    word: &str,
+    behind: &str,
+) -> Result<(), RowError> {
+    match word {
+        "acknowledged" => left.record.acknowledged = Some(Tid(number32(behind)?)),
+        "end" => left.end = number(behind)?,
+        "home" => write_home(alloc, left, behind)?,
+        tid => {
+            let written = behind.strip_prefix("writes ").ok_or(RowError::Unread)?;
+            left.record.sealed.push(transaction(alloc, number32(tid)?, written)?)?;
+        }
+    }
+    Ok(())
+}
+
+/// The transaction of this number, with the one write of a text as `3 07`.
+fn transaction(alloc: Global, tid: u32, written: &str) -> Result<Sealed, RowError> {
+    let (block, bytes) = block_in(alloc, written)?;
+    let mut steps = Items::new(alloc);
+    steps.push(Step {
+        handle: HandleNo(1),
+        block: BlockNo(block),
+        op: Op::Write(Block::copy_of(alloc, &bytes)?),
+    })?;
+    Ok(Sealed {
+        tid: Tid(tid),
+        handles: Items::new(alloc),
+        steps,
+    })
+}
+
+/// Names the block of a text as `3 07`, and writes it.
+fn write_home(alloc: Global, left: &mut Left, written: &str) -> Result<(), RowError> {
+    let (block, bytes) = block_in(alloc, written)?;
+    if block >= left.device.blocks(Area::Home) || left.device.block_size() != SIZE {
+        return Err(RowError::Unread);
+    }
+    left.named.insert(block)?;
+    match left.device.write(Area::Home, block, &bytes) {
+        Ok(()) => Ok(()),
+        Err(_) => Err(RowError::Memory),
+    }
+}
+
+/// The number and the bytes of a text as `3 07`.
+fn block_in(alloc: Global, written: &str) -> Result<(u64, [u8; SIZE]), RowError> {
+    let (block, byte) = cut(written, " ")?;
+    match hex_bytes(alloc, byte)?.as_slice() {
+        [byte] => Ok((number(block)?, [*byte; SIZE])),
+        _ => Err(RowError::Unread),
+    }
+}
