@@ -1,12 +1,13 @@
 //! Rows of runs over logs that were changed by hand, and of the bytes that runs leave.
 //!
 //! Bytes are spelled as in `log 3 from 8: 00000002`: these, from place 8 of block 3 of the log on. `home` names the home area.
-use crate::row_error::RowError;
 use crate::scripts::given_script;
-use crate::texts::{cut, hex_bytes, number, write_hex, written};
+use crate::texts::{write_hex, written};
 use bench_run::{Fault, Stopped, empty_disk, judge, run_operations, run_operations_over};
 use bench_script::Script;
 use block_device::{Device, MemDevice, StopAt};
+use format_rows::RowError;
+use format_rows::words::{cut, hex_bytes, number};
 use journal_model::{Area, JournalError};
 use recovery::open;
 use std::alloc::{AllocError, Global};

@@ -1,11 +1,12 @@
 //! Rows of the commands of `jbench`, over readers, writers and devices in memory.
-use crate::row_error::RowError;
 use crate::scripts::measures_text;
-use crate::texts::{cut, numbers_in, written};
+use crate::texts::{numbers_in, written};
 use bench_commands::fault::Status;
 use bench_commands::words::{FormatWords, RunWords, Words, answer, parse};
 use bench_commands::{logs, run};
 use block_device::MemDevice;
+use format_rows::RowError;
+use format_rows::words::cut;
 use std::alloc::{AllocError, Global};
 use std::fmt::Write;
 

@@ -1,58 +1,75 @@
 //! What may be done with a row, by the name of its kind.
-use crate::row_error::RowError;
 use crate::{changed, commands, scripts, stops, verdicts};
+use format_rows::RowError;
 use std::alloc::Global;
 
-/// What is done with a row.
-#[derive(Clone, Copy)]
-pub enum Kind {
-    Bytes,
-    Changed,
-    Format,
-    Help,
-    Operations,
-    Run,
-    Script,
-    Stops,
-    Verdict,
-    Words,
+/// What is found of a row's given text, or that it can't be read, or that memory ran out.
+pub type Found = Result<String, RowError>;
+
+/// What is found of a row of this kind, or nothing where there is no such kind.
+pub fn found(alloc: Global, kind: &str, given: &str) -> Option<Found> {
+    if let Some(found) = found_of_run(alloc, kind, given) {
+        return Some(found);
+    }
+    if let Some(found) = found_of_log(alloc, kind, given) {
+        return Some(found);
+    }
+    found_of_format(alloc, kind, given)
 }
 
-impl Kind {
-    /// The kind with this name, if there is one.
-    pub fn named(name: &str) -> Option<Kind> {
-        match name {
-            "bytes" => Some(Kind::Bytes),
-            "changed" => Some(Kind::Changed),
-            "format" => Some(Kind::Format),
-            "help" => Some(Kind::Help),
-            "operations" => Some(Kind::Operations),
-            "run" => Some(Kind::Run),
-            "script" => Some(Kind::Script),
-            "stops" => Some(Kind::Stops),
-            "verdict" => Some(Kind::Verdict),
-            "words" => Some(Kind::Words),
-            _ => None,
-        }
+/// What is found of a row on runs, scripts and words.
+fn found_of_run(alloc: Global, kind: &str, given: &str) -> Option<Found> {
+    match kind {
+        "bytes" => Some(changed::bytes(alloc, given)),
+        "changed" => Some(changed::changed(alloc, given)),
+        "format" => Some(commands::format(alloc, given)),
+        "help" => Some(commands::help(alloc, given)),
+        "operations" => Some(scripts::operations(alloc, given)),
+        "run" => Some(commands::run(alloc, given)),
+        "script" => Some(scripts::script(alloc, given)),
+        "stops" => Some(stops::stops(alloc, given)),
+        "verdict" => Some(verdicts::verdict(alloc, given)),
+        "words" => Some(commands::words(alloc, given)),
+        _ => None,
     }
+}
 
-    /// What is found of a row's given text.
-    ///
-    /// # Errors
-    ///
-    /// `Unread` where the text can't be read; `Memory`.
-    pub fn found(self, alloc: Global, given: &str) -> Result<String, RowError> {
-        match self {
-            Kind::Bytes => changed::bytes(alloc, given),
-            Kind::Changed => changed::changed(alloc, given),
-            Kind::Format => commands::format(alloc, given),
-            Kind::Help => commands::help(alloc, given),
-            Kind::Operations => scripts::operations(alloc, given),
-            Kind::Run => commands::run(alloc, given),
-            Kind::Script => scripts::script(alloc, given),
-            Kind::Stops => stops::stops(alloc, given),
-            Kind::Verdict => verdicts::verdict(alloc, given),
-            Kind::Words => commands::words(alloc, given),
-        }
+/// What is found of a row on logs and devices.
+fn found_of_log(alloc: Global, kind: &str, given: &str) -> Option<Found> {
+    match kind {
+        "chains" => Some(log_rows::chains(alloc, given)),
+        "contents_after" => Some(log_rows::contents_after(alloc, given)),
+        "counted_dumps" => Some(log_rows::counted_dumps(alloc, given)),
+        "covered_copies" => Some(log_rows::covered_copies(alloc, given)),
+        "crashed_images" => Some(log_rows::crashed_images(alloc, given)),
+        "dumps" => Some(log_rows::dumps(alloc, given)),
+        "memory_calls" => Some(log_rows::memory_calls(alloc, given)),
+        "newest_copies" => Some(log_rows::newest_copies(alloc, given)),
+        "openings" => Some(log_rows::openings(alloc, given)),
+        "second_openings" => Some(log_rows::second_openings(alloc, given)),
+        "short_dumps" => Some(log_rows::short_dumps(alloc, given)),
+        "transaction_entries" => Some(log_rows::transaction_entries(alloc, given)),
+        _ => None,
+    }
+}
+
+/// What is found of a row on blocks, the ring and layouts.
+fn found_of_format(alloc: Global, kind: &str, given: &str) -> Option<Found> {
+    match kind {
+        "capacities" => Some(format_rows::capacities(alloc, given)),
+        "escapes" => Some(format_rows::escapes(alloc, given)),
+        "formatted_superblocks" => Some(format_rows::formatted_superblocks(alloc, given)),
+        "full_blocks" => Some(format_rows::full_blocks(alloc, given)),
+        "headers" => Some(format_rows::headers(alloc, given)),
+        "needs" => Some(format_rows::needs(alloc, given)),
+        "parts" => Some(format_rows::parts(alloc, given)),
+        "places" => Some(format_rows::places(alloc, given)),
+        "read_blocks" => Some(format_rows::read_blocks(alloc, given)),
+        "ring_calls" => Some(format_rows::ring_calls(alloc, given)),
+        "started_superblocks" => Some(format_rows::started_superblocks(alloc, given)),
+        "superblock_fields" => Some(format_rows::superblock_fields(alloc, given)),
+        "tested_superblocks" => Some(format_rows::tested_superblocks(alloc, given)),
+        "written_blocks" => Some(format_rows::written_blocks(alloc, given)),
+        _ => None,
     }
 }

@@ -1,6 +1,7 @@
 //! What stands in a row more than once.
-use crate::row_error::RowError;
-use crate::texts::{cut, numbers_in};
+use crate::texts::numbers_in;
+use format_rows::RowError;
+use format_rows::words::cut;
 use std::alloc::Global;
 use std::fmt::Write;
 

@@ -1,8 +1,8 @@
 //! Does the rows of a file, and tells which of them did not hold.
-use crate::kinds::Kind;
+use crate::kinds::{Found, found};
 use crate::repetition::written_out;
-use crate::row_error::RowError;
 use crate::row_file::{Row, RowFile, read};
+use format_rows::RowError;
 use std::alloc::{AllocError, Global};
 use std::fmt::Write;
 
@@ -43,14 +43,13 @@ pub fn report_of(alloc: Global, name: &str, text: &str) -> Result<Report, RowErr
 
 /// Does the rows of a file.
 fn findings_of(alloc: Global, file: &RowFile<'_>) -> Result<Findings, RowError> {
-    let kind = Kind::named(file.kind).ok_or(RowError::Unread)?;
     let mut findings = Findings {
         held: 0,
         others: String::new(alloc),
         is_whole: true,
     };
     for row in &file.rows {
-        check_row(alloc, kind, row, &mut findings)?;
+        check_row(alloc, file.kind, row, &mut findings)?;
     }
     Ok(findings)
 }
@@ -58,29 +57,35 @@ fn findings_of(alloc: Global, file: &RowFile<'_>) -> Result<Findings, RowError> 
 /// Does one row, and notes what came of it.
 fn check_row(
     alloc: Global,
-    kind: Kind,
+    kind: &str,
     row: &Row<'_>,
     findings: &mut Findings,
 ) -> Result<(), RowError> {
+    let given = written_out(alloc, row.given)?;
     let wanted = written_out(alloc, row.wanted)?;
-    match found_of(alloc, kind, row.given) {
+    let found = found(alloc, kind, given.as_str()).ok_or(RowError::Unread)?;
+    note(findings, row.name, wanted.as_str(), found)
+}
+
+/// Notes what was found of a row.
+fn note(
+    findings: &mut Findings,
+    name: &str,
+    wanted: &str,
+    found: Found,
+) -> Result<(), RowError> {
+    match found {
         Ok(found) if found.trim_end() == wanted.trim_end() => {
             findings.held = findings.held.saturating_add(1);
         }
-        Ok(found) => write_other(&mut findings.others, row.name, wanted.as_str(), found.as_str())?,
+        Ok(found) => write_other(&mut findings.others, name, wanted, found.as_str())?,
         Err(RowError::Unread) => {
-            writeln!(findings.others, "  {}: its given text can't be read", row.name)?;
+            writeln!(findings.others, "  {name}: its given text can't be read")?;
             findings.is_whole = false;
         }
         Err(RowError::Memory) => return Err(RowError::Memory),
     }
     Ok(())
-}
-
-/// What is found of a given text.
-fn found_of(alloc: Global, kind: Kind, given: &str) -> Result<String, RowError> {
-    let given = written_out(alloc, given)?;
-    kind.found(alloc, given.as_str())
 }
 
 /// Writes the lines on a row that did not hold.

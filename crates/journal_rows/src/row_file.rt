@@ -1,8 +1,8 @@
 //! The form of a file of rows: lines that begin with `#`, a line `rows KIND`, and its rows. A long row is a line `== NAME`, what
 //! is given, a line `-->` and what is wanted. Or each row is a line `NAME: GIVEN --> WANTED`.
-use crate::row_error::RowError;
-use crate::texts::cut;
-use std::alloc::Global;
+use format_rows::RowError;
+use format_rows::words::cut;
+use std::alloc::{AllocError, Global};
 
 /// A row: what is done with the given text is to be the wanted one.
 #[derive(Clone, Copy)]
@@ -50,9 +50,14 @@ fn long_rows<'a>(alloc: Global, body: &'a str) -> Result<Vec<Row<'a>>, RowError>
     let mut rows = Vec::new(alloc);
     for part in body.split("\n== ") {
         let (name, behind) = cut(part, "\n")?;
-        rows.push(row_of(name, behind)?)?;
+        push(&mut rows, row_of(name, behind)?)?;
     }
     Ok(rows)
+}
+
+/// Adds a row.
+fn push<'a>(rows: &mut Vec<Row<'a>>, row: Row<'a>) -> Result<(), AllocError> {
+    Ok(rows.push(row)?)
 }
 
 /// Rows of one line each, with blank lines at will.
@@ -61,7 +66,7 @@ fn short_rows<'a>(alloc: Global, body: &'a str) -> Result<Vec<Row<'a>>, RowError
     for line in body.lines() {
         if !line.trim().is_empty() {
             let (name, behind) = cut(line, ": ")?;
-            rows.push(row_of(name, behind)?)?;
+            push(&mut rows, row_of(name, behind)?)?;
         }
     }
     Ok(rows)

@@ -1,9 +1,10 @@
 //! Rows of runs that stop at each of their writes.
-use crate::row_error::RowError;
 use crate::scripts::given_script;
-use crate::texts::{cut, numbers_in, written};
+use crate::texts::{numbers_in, written};
 use bench_run::run;
 use bench_script::Script;
+use format_rows::RowError;
+use format_rows::words::cut;
 use std::alloc::{AllocError, Global};
 use std::fmt::Write;
 
@@ -91,7 +92,7 @@ fn add_lines(
     let (stop, behind) = cut(behind, "\n")?;
     let (_, ending) = cut(behind, " n=")?;
     let text = format!(in alloc; "n={}, right {right}", in_one_line(alloc, ending)?)?;
-    note(alloc, endings, text, stop)
+    Ok(note(alloc, endings, text, stop)?)
 }
 
 /// Lines as one, with commas.
@@ -105,10 +106,10 @@ fn note(
     endings: &mut Vec<Ending>,
     text: String,
     stop: &str,
-) -> Result<(), RowError> {
+) -> Result<(), AllocError> {
     for ending in endings.iter_mut() {
         if ending.text.as_str() == text.as_str() {
-            return Ok(add_to(ending, stop)?);
+            return add_to(ending, stop);
         }
     }
     let mut ending = Ending {
@@ -117,8 +118,7 @@ fn note(
         is_of_end: false,
     };
     add_to(&mut ending, stop)?;
-    endings.push(ending)?;
-    Ok(())
+    Ok(endings.push(ending)?)
 }
 
 /// Adds a stop to those of an ending.

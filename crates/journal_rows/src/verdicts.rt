@@ -3,12 +3,12 @@
 //! A row has parts with `; ` between two: `2 writes 3 07` is a sealed transaction 2 in which block 3 becomes bytes 07,
 //! `acknowledged 2` the greatest transaction that was shown committed, `end 3` the end that an opening found, and `home 3 07` a
 //! block of home that is named, and reads so. A block has 16 bytes.
-use crate::row_error::RowError;
-use crate::texts::{cut, hex_bytes, number, number32};
 use bench_run::Record;
 use block_device::{Device, MemDevice};
+use format_rows::RowError;
+use format_rows::words::{cut, hex_bytes, number, number32};
 use journal_model::{Area, Block, BlockNo, HandleNo, Items, Op, Sealed, Step, Tid};
-use std::alloc::Global;
+use std::alloc::{AllocError, Global};
 use std::collections::BTreeSet;
 
 /// Bytes of a block.
@@ -66,10 +66,15 @@ fn add_part(
         "home" => write_home(alloc, left, behind)?,
         tid => {
             let written = behind.strip_prefix("writes ").ok_or(RowError::Unread)?;
-            left.record.sealed.push(transaction(alloc, number32(tid)?, written)?)?;
+            seal(&mut left.record, transaction(alloc, number32(tid)?, written)?)?;
         }
     }
     Ok(())
+}
+
+/// Adds a transaction to a record.
+fn seal(record: &mut Record, transaction: Sealed) -> Result<(), AllocError> {
+    Ok(record.sealed.push(transaction)?)
 }
 
 /// The transaction of this number, with the one write of a text as `3 07`.
