@@ -1,11 +1,24 @@
 //! Readers and writers that fail.
-use super::{ONE_WRITE, said_of};
+use super::text_of;
 use bench_commands::run::run;
 use bench_commands::words::RunWords;
 use std::alloc::Global;
 use std::io;
 use std::io::{ErrorKind, Read, Write};
 use std::test::Fail;
+
+/// One handle writes block 9 and is waited for.
+const ONE_WRITE: &str =
+    r#"{"ops": [["start",1,1],["write",1,9,"11"],["stop",1],["request",1],["commit"],["wait",1]]}"#;
+
+/// The words of a run without options.
+fn words(alloc: Global) -> RunWords<'static> {
+    RunWords {
+        script: "a.json",
+        stop: None,
+        keep: Vec::new(alloc),
+    }
+}
 
 /// A reader that fails.
 #[derive(Drop)]
@@ -37,23 +50,26 @@ impl Write for BrokenWriter {
     }
 }
 
+/// What a run says of a script that can't be read.
+fn said_of_no_script(alloc: Global) -> Result<String, Fail> {
+    let mut out = Vec::new(alloc);
+    let mut err = Vec::new(alloc);
+    let status = run(alloc, &words(alloc), BrokenReader, &mut out, &mut err)?;
+    text_of(alloc, &out, &err, status)
+}
+
 #[test]
 fn a_script_that_cannot_be_read(rt: HostRuntime) -> Result<(), Fail> {
-    let said = said_of(rt.alloc(), BrokenReader, None, Vec::new(rt.alloc()))?;
+    let said = said_of_no_script(rt.alloc())?;
     assert_eq!(rt; said.as_str(), "| jbench: file a.json\nRefused");
     Ok(())
 }
 
 /// Whether a run whose output breaks behind so many calls fails, and says nothing of it.
 fn is_broken(alloc: Global, calls: u32) -> bool {
-    let words = RunWords {
-        script: "a.json",
-        stop: None,
-        keep: Vec::new(alloc),
-    };
     let mut err = Vec::new(alloc);
     let writer = BrokenWriter { calls };
-    let answer = run(alloc, &words, ONE_WRITE.as_bytes(), writer, &mut err);
+    let answer = run(alloc, &words(alloc), ONE_WRITE.as_bytes(), writer, &mut err);
     answer.is_err() && err.is_empty()
 }
 

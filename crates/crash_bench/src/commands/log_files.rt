@@ -1,9 +1,8 @@
-//! The commands `format` and `dump`, over devices and over files.
+//! The commands `format` and `dump`, over files.
 use super::text_of;
-use bench_commands::files::{make_device, open_home, open_log, open_or_make};
+use bench_commands::files::{LogFiles, make_device, open_home, open_log, open_or_make};
 use bench_commands::logs::{dump, format};
 use bench_script::{DEFAULTS, Measures};
-use block_device::{Device, MemDevice};
 use std::alloc::Global;
 use std::fs;
 use std::test::Fail;
@@ -18,11 +17,7 @@ fn dump_of(rt: &HostRuntime, log: &str) -> Result<String, Fail> {
 }
 
 /// What `format` says of an empty log on this device.
-fn format_of<D: Device + Drop>(
-    alloc: Global,
-    measures: &Measures,
-    device: D,
-) -> Result<String, Fail> {
+fn format_of(alloc: Global, measures: &Measures, device: LogFiles) -> Result<String, Fail> {
     let mut out = Vec::new(alloc);
     let mut err = Vec::new(alloc);
     let status = format("a.log", measures, device, &mut out, &mut err)?;
@@ -154,13 +149,5 @@ fn files_that_hold_no_log(rt: HostRuntime) -> Result<(), Fail> {
     assert!(rt; is_no_log(&rt, 1500, TOO_SHORT)?, "1500 bytes");
     assert!(rt; is_no_log(&rt, 4096, NO_SUPERBLOCK)?, "4096 bytes");
     fs::remove_file(&rt, "no_log")?;
-    Ok(())
-}
-
-#[test]
-fn a_device_that_is_too_small_for_a_log(rt: HostRuntime) -> Result<(), Fail> {
-    let device = MemDevice::new(rt.alloc(), 1024, 32, 64);
-    let said = format_of(rt.alloc(), &DEFAULTS, device)?;
-    assert_eq!(rt; said.as_str(), "| jbench: refusal 16 BadLength\nRefused");
     Ok(())
 }
