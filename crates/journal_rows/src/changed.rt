@@ -14,9 +14,9 @@ use std::alloc::{AllocError, Global};
 use std::fmt::Write;
 use std::io;
 
-/// A run over a log that was changed by hand, of which the image is changed by hand once more. Given: lines of bytes that stand in
-/// the formatted log, a line `run`, a script on one line, and behind it lines of bytes that stand in the image. Found: the lines of the run and of the
-/// verdict, and the verdict as an answer, or the refusal.
+/// A run over a log that was changed by hand, of which the image is changed by hand once more. Given: lines of bytes that
+/// stand in the formatted log, a line `run`, a script on one line, and behind it lines of bytes that stand in the image. Found:
+/// the lines of the run and of the verdict, and the verdict as an answer, or the refusal.
 pub fn changed(alloc: Global, given: &str) -> Result<String, RowError> {
     let (before, behind) = cut(given, "run\n")?;
     let (text, after) = behind.split_once('\n').unwrap_or((behind, ""));
@@ -172,9 +172,9 @@ fn block_of(
     }
 }
 
-/// The bytes that a run leaves. Given: a script on one line, and behind it lines that name blocks, as `log 3`, or bytes of them, as
-/// `log 3 from 8 for 4`. Found: these lines with the bytes of the device behind the run, and behind a line `opened` those of the
-/// device that was opened behind a crash.
+/// The bytes that a run leaves. Given: a script on one line, and behind it lines that name blocks, as `log 3`, or bytes of
+/// them, as `log 3 from 8 for 4`. Found: these lines with the bytes of the device behind the run, and behind a line `opened`
+/// those of the device that was opened behind a crash.
 pub fn bytes(alloc: Global, given: &str) -> Result<String, RowError> {
     let (text, lines) = cut(given, "\n")?;
     let script = given_script(alloc, text)?;
@@ -237,7 +237,9 @@ fn write_named(
 fn write_part(all: &mut String, block: &[u8], part: &str) -> Result<(), RowError> {
     let (from, count) = cut(part, " for ")?;
     let from = number(from)? as usize;
-    let to = from.saturating_add(number(count)? as usize).min(block.len());
+    let to = from
+        .saturating_add(number(count)? as usize)
+        .min(block.len());
     match block.get(from..to) {
         Some(bytes) => Ok(write_bytes(all, bytes)?),
         None => Err(RowError::Unread),
@@ -246,7 +248,10 @@ fn write_part(all: &mut String, block: &[u8], part: &str) -> Result<(), RowError
 
 /// Writes bytes as digits of base 16; in the place of more than eight zeros at the end it says how many there are.
 fn write_bytes(all: &mut String, bytes: &[u8]) -> Result<(), AllocError> {
-    let used = bytes.iter().rposition(|byte| *byte != 0).map_or(0, |last| last.saturating_add(1));
+    let used = bytes
+        .iter()
+        .rposition(|byte| *byte != 0)
+        .map_or(0, |last| last.saturating_add(1));
     let zeros = bytes.len().saturating_sub(used);
     if zeros <= 8 {
         return write_hex(all, bytes);

@@ -68,12 +68,7 @@ fn check_row(
 }
 
 /// Notes what was found of a row.
-fn note(
-    findings: &mut Findings,
-    name: &str,
-    wanted: &str,
-    found: Found,
-) -> Result<(), RowError> {
+fn note(findings: &mut Findings, name: &str, wanted: &str, found: Found) -> Result<(), RowError> {
     match found {
         Ok(found) if found.trim_end() == wanted.trim_end() => {
             findings.held = findings.held.saturating_add(1);

@@ -19,9 +19,9 @@ struct Ending {
     is_of_end: bool,
 }
 
-/// Runs that stop at each write. Given: a line as `stops 1 to 13, any of the last 4 writes kept`, and a script. Found: each way in
-/// which runs end, with what an opening finds, the named blocks and the verdict, and the stops of which some kept writes make a
-/// run end so.
+/// Runs that stop at each write. Given: a line as `stops 1 to 13, any of the last 4 writes kept`, and a script. Found: each way
+/// in which runs end, with what an opening finds, the named blocks and the verdict, and the stops of which some kept writes
+/// make a run end so.
 pub fn stops(alloc: Global, given: &str) -> Result<String, RowError> {
     let (line, text) = cut(given, "\n")?;
     let [first, last, back] = numbers_in::<3>(line)?;

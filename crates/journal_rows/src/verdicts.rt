@@ -54,19 +54,17 @@ fn nothing_left(alloc: Global) -> Left {
 }
 
 /// Adds what a part says.
-fn add_part(
-    alloc: Global,
-    left: &mut Left,
-    word: &str,
-    behind: &str,
-) -> Result<(), RowError> {
+fn add_part(alloc: Global, left: &mut Left, word: &str, behind: &str) -> Result<(), RowError> {
     match word {
         "acknowledged" => left.record.acknowledged = Some(Tid(number32(behind)?)),
         "end" => left.end = number(behind)?,
         "home" => write_home(alloc, left, behind)?,
         tid => {
             let written = behind.strip_prefix("writes ").ok_or(RowError::Unread)?;
-            seal(&mut left.record, transaction(alloc, number32(tid)?, written)?)?;
+            seal(
+                &mut left.record,
+                transaction(alloc, number32(tid)?, written)?,
+            )?;
         }
     }
     Ok(())
