@@ -1,8 +1,8 @@
 //! Devices over real files.
-use crate::bytes::{HOME, LOG, SIZE, read_byte, read_bytes, write_byte};
-use crate::expected::expect;
+use crate::bytes::{HOME, LOG, SIZE, expect, read_byte, read_bytes, write_byte};
 use block_device::{Device, DeviceFault};
 use file_device::{FileDevice, UnknownContents};
+use journal_model::Area;
 use std::fs::{File, OpenOptions};
 use std::process::Abort;
 use std::test::Fail;
@@ -138,11 +138,16 @@ fn a_log_alone_has_no_home_block(rt: HostRuntime) -> Result<(), Fail> {
     Ok(())
 }
 
-/// What a device does once a write or a flush has failed: it reads, and neither writes nor flushes.
-fn expect_failed<D: Device>(rt: &impl Abort, device: &mut D) -> Result<(), DeviceFault> {
-    let writes = write_byte(rt, device, (LOG, 0), 0xd).is_ok();
-    let flushes = device.flush(LOG).is_ok();
-    let read = read_byte(rt, device, (LOG, 0))?;
+/// What a device does once a write or a flush of one area has failed: the other, which begins with an `a`, is read, and neither
+/// written nor flushed.
+fn expect_failed<D: Device>(
+    rt: &impl Abort,
+    device: &mut D,
+    other: Area,
+) -> Result<(), DeviceFault> {
+    let writes = write_byte(rt, device, (other, 0), 0xd).is_ok();
+    let flushes = device.flush(other).is_ok();
+    let read = read_byte(rt, device, (other, 0))?;
     expect(rt, &(writes, flushes, read), &(false, false, b'a'));
     Ok(())
 }
@@ -152,7 +157,7 @@ fn fail_a_write<D: Device>(rt: &impl Abort, device: &mut D) -> Result<(), Device
     write_byte(rt, device, (LOG, 1), 0xb)?;
     let told = write_byte(rt, device, (HOME, 0), 0xc);
     expect(rt, &told, &Err(DeviceFault));
-    expect_failed(rt, device)
+    expect_failed(rt, device, LOG)
 }
 
 /// A device over a log that can be written and a home that can't.
@@ -172,26 +177,103 @@ fn after_a_failed_write_nothing_is_written(rt: HostRuntime) -> Result<(), Fail> 
     Ok(())
 }
 
-/// Flushes the log, and then a home that can't be synced.
-fn fail_a_flush<D: Device>(rt: &impl Abort, device: &mut D) -> Result<(), DeviceFault> {
-    device.flush(LOG)?;
-    expect(rt, &device.flush(HOME), &Err(DeviceFault));
-    expect_failed(rt, device)
+/// Flushes an area, and then the other, whose file can't be synced.
+fn fail_a_flush<D: Device>(
+    rt: &impl Abort,
+    device: &mut D,
+    synced: Area,
+    unsynced: Area,
+) -> Result<(), DeviceFault> {
+    device.flush(synced)?;
+    expect(rt, &device.flush(unsynced), &Err(DeviceFault));
+    expect_failed(rt, device, synced)
+}
+
+/// A file that fails to be synced. It has no bytes.
+fn open_unsynced(rt: &HostRuntime) -> io::Result<File> {
+    open(rt, "/dev/null")
 }
 
 /// A device over a log, and a home that fails to be synced.
 fn unsynced_home(rt: &HostRuntime, folder: &str) -> io::Result<FileDevice<UnknownContents>> {
     make_log(rt, folder, b"aaaabbbb")?;
     let log = open_in(rt, folder, "log")?;
-    let home = open(rt, "/dev/null")?;
-    FileDevice::new(UnknownContents, SIZE, log, Some(home))
+    FileDevice::new(UnknownContents, SIZE, log, Some(open_unsynced(rt)?))
 }
 
 #[test]
 fn after_a_failed_flush_nothing_is_written(rt: HostRuntime) -> Result<(), Fail> {
-    fail_a_flush(&rt, &mut unsynced_home(&rt, "failed_flush_test")?)?;
+    let mut device = unsynced_home(&rt, "failed_flush_test")?;
+    fail_a_flush(&rt, &mut device, LOG, HOME)?;
     let held = log_held(&rt, "failed_flush_test", b"aaaabbbb")?;
     expect(&rt, &held, &true);
+    Ok(())
+}
+
+/// A device over a log that fails to be synced, and a home that is the file `log` of a folder.
+fn unsynced_log(rt: &HostRuntime, folder: &str) -> io::Result<FileDevice<UnknownContents>> {
+    make_log(rt, folder, b"aaaabbbb")?;
+    let home = open_in(rt, folder, "log")?;
+    FileDevice::new(UnknownContents, SIZE, open_unsynced(rt)?, Some(home))
+}
+
+#[test]
+fn a_flush_of_the_log_syncs_its_file(rt: HostRuntime) -> Result<(), Fail> {
+    let mut device = unsynced_log(&rt, "unsynced_log_test")?;
+    fail_a_flush(&rt, &mut device, HOME, LOG)?;
+    let held = log_held(&rt, "unsynced_log_test", b"aaaabbbb")?;
+    expect(&rt, &held, &true);
+    Ok(())
+}
+
+/// Bytes of the largest block of a log.
+const LARGEST: usize = 4096;
+
+/// Bytes of a log of three such blocks.
+const THREE: usize = 3 * LARGEST;
+
+/// A log whose block 1 has bytes that follow one another, and whose other blocks are zeros.
+fn one_written_block() -> [u8; THREE] {
+    let mut log = [0; THREE];
+    let mut byte = 0u8;
+    for slot in &mut log[LARGEST..2 * LARGEST] {
+        byte = if byte < 250 { byte + 1 } else { 0 };
+        *slot = byte;
+    }
+    log
+}
+
+/// Writes block 1 of a log, and reads it into bytes ff.
+fn write_and_read<D: Device>(
+    rt: &impl Abort,
+    device: &mut D,
+    block: &[u8],
+) -> Result<[u8; LARGEST], DeviceFault> {
+    assert_eq!(rt;
+        (device.block_size(), 1 < device.blocks(LOG), block.len()),
+        (LARGEST, true, LARGEST)
+    );
+    device.write(LOG, 1, block)?;
+    device.flush(LOG)?;
+    let mut read = [0xff; LARGEST];
+    device.read(LOG, 1, &mut read)?;
+    Ok(read)
+}
+
+/// A device over a log of three of the largest blocks, all zeros.
+fn zero_log(rt: &HostRuntime, folder: &str) -> io::Result<FileDevice<UnknownContents>> {
+    make_log(rt, folder, &[0; THREE])?;
+    let log = open_in(rt, folder, "log")?;
+    FileDevice::new(UnknownContents, LARGEST, log, None)
+}
+
+#[test]
+fn every_byte_of_a_block_is_written_and_read(rt: HostRuntime) -> Result<(), Fail> {
+    let log = one_written_block();
+    let block = &log[LARGEST..2 * LARGEST];
+    let read = write_and_read(&rt, &mut zero_log(&rt, "whole_block_test")?, block)?;
+    let held = log_held(&rt, "whole_block_test", &log)?;
+    expect(&rt, &(read.as_slice() == block, held), &(true, true));
     Ok(())
 }
 

@@ -1,6 +1,7 @@
-//! Blocks of any device, and those that hold one byte over and over.
+//! Blocks of any device that hold one byte over and over, and what tests find of them.
 use block_device::{Device, DeviceFault};
-use journal_model::{Area, JournalError};
+use journal_model::Area;
+use std::fmt::Debug;
 use std::process::Abort;
 
 /// Blocks of this many bytes.
@@ -14,17 +15,9 @@ pub const HOME: Area = Area::Home;
 /// A block by its area and number.
 pub type Place = (Area, u64);
 
-/// Writes a block of the log.
-pub fn write_block<D: Device>(
-    device: &mut D,
-    place: u64,
-    bytes: &[u8],
-) -> Result<(), JournalError> {
-    if bytes.len() != device.block_size() || place >= device.blocks(LOG) {
-        return Err(JournalError::BadBlock);
-    }
-    device.write(LOG, place, bytes)?;
-    Ok(())
+/// What was told is what was expected.
+pub fn expect<T: PartialEq + Debug>(rt: &impl Abort, told: &T, expected: &T) {
+    assert_eq!(rt; told, expected);
 }
 
 /// Fills a block with a byte.

@@ -1,0 +1,7 @@
+//! Devices over real files. There is nothing here but tests.
+#![tactic(auto)]
+
+#[cfg(test)]
+mod bytes;
+#[cfg(test)]
+mod files;
