@@ -4,7 +4,7 @@ use Rattle.journal_model.specs.declared.refusal.JournalError.{JournalError}
 use Rattle.journal_model.specs.declared.refusal.JournalError.TheVariants.{Full, Memory, NotRunning, SequenceEnd, TooMany}
 use Rattle.journal_model.specs.Opening.{greatest_number}
 use Rattle.journal_model.specs.Transaction.{History}
-use Rattle.journal_world.specs.Front.{Front, next_handle}
+use Rattle.journal_world.specs.Front.{Front, MayJoin, next_handle}
 
 -- what a front keeps true: no more credits are held than a transaction may have, no more numbers are given out than there
 -- are, and a transaction that takes no further handles has one
@@ -24,9 +24,9 @@ pub data ReserveRefused (f : Front) (n : ℕ) : JournalError → Type 0 where
   BeyondCapacity : f.capacity < n → ReserveRefused f n TooMany
   BeyondFree : n ≤ f.capacity → f.capacity < f.held + n → ReserveRefused f n Full
 
--- why a handle may not join
+-- why a handle may not join: memory runs out only where it may
 pub data JoinRefused (f : Front) : JournalError → Type 0 where
   IsLocked : f.locked ≡ true → JoinRefused f NotRunning
   NoNumber : f.locked ≡ false → greatest_number < f.running.tid → JoinRefused f SequenceEnd
   NoHandle : f.locked ≡ false → 2 ^ 64 ≤ next_handle f → JoinRefused f SequenceEnd
-  NoMemory : JoinRefused f Memory
+  NoMemory : MayJoin f → JoinRefused f Memory

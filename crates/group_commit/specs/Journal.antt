@@ -71,7 +71,7 @@ pub data WriteRefused (j : Journal) (left b : ℕ) : JournalError → Type 0 whe
   WhileAborted : j.engine.aborted ≡ true → WriteRefused j left b Aborted
   OutOfHome : j.engine.aborted ≡ false → (MayTouch j b → ⊥) → WriteRefused j left b BadBlock
   WithoutCredit : j.engine.aborted ≡ false → MayTouch j b → IsFirstTouch j.front b → left ≡ 0 → WriteRefused j left b NoCredit
-  WithoutMemory : j.engine.aborted ≡ false → MayTouch j b → WriteRefused j left b Memory
+  WithoutMemory : j.engine.aborted ≡ false → MayTouch j b → (IsFirstTouch j.front b → 0 < left) → WriteRefused j left b Memory
 
 -- how many transactions since the opening are told to be committed
 abbrev pub finished : Journal → ℕ
@@ -86,12 +86,13 @@ pub data HasCopyKept (j : Journal) (b : ℕ) : Type 0 where
   OfUnfinished : (e : Entry) → last_effect b (unfinished j.front) ≡ Some e → HasCopyKept j b
   OfPending : (i : ℕ) (v : List ℕ) → IsPending j.engine i b v → HasCopyKept j b
 
--- why a read is refused: the device failed before, the block is none that may be touched, or the device failed in the read
+-- why a read is refused: the device failed before, the block is none that may be touched, or no copy of it is kept and the
+-- device failed in the read
 pub data ReadRefused {D : Type 0} (state : D → DeviceState) (old : JournalValue D) (b : ℕ) (new : JournalValue D) : JournalError → Type 0 where
   ReadAborted : old.journal.engine.aborted ≡ true → new ≡ old → ReadRefused state old b new Aborted
   ReadOutside : old.journal.engine.aborted ≡ false → (MayTouch old.journal b → ⊥) → new ≡ old → ReadRefused state old b new BadBlock
-  ReadFailed : Does state old ReadFault new → (state new.device).faults ≡ one_more_fault (state old.device).faults →
-      ReadRefused state old b new Device
+  ReadFailed : MayTouch old.journal b → (HasCopyKept old.journal b → ⊥) → Does state old ReadFault new →
+      (state new.device).faults ≡ one_more_fault (state old.device).faults → ReadRefused state old b new Device
 
 -- what a write leaves of the handle: a first touch takes one of its credits, any other write none
 pub record Spends (f : Front) (b : ℕ) (old new : HandleValue) : Type 0 where

@@ -179,6 +179,7 @@ impl<D: Device> Journal<D> {
         ensures err { IfErr result (λ e. WriteRefused self.old.journal handle.old.left block e × (self.new ≡ self.old) × (handle.new ≡ handle.old)) }
         ensures device { self.new.device ≡ self.old.device }
     {
+        self.engine.recall_invariant();
         if self.engine.is_aborted() {
             return Err(JournalError::Aborted);
         }
@@ -225,6 +226,7 @@ impl<D: Device> Journal<D> {
         ensures length { length into.new ≡ length into.old }
         ensures handle { _handle.new ≡ _handle.old }
     {
+        self.engine.recall_invariant();
         if self.engine.is_aborted() {
             return Err(JournalError::Aborted);
         }
@@ -330,6 +332,7 @@ impl<D: Device> Journal<D> {
         ensures one { IsOneMoment (D.state self.old.device) (D.state self.new.device) }
         ensures honest { D.honest self.new.device → D.honest self.old.device }
     {
+        self.engine.recall_invariant();
         if self.engine.is_aborted() {
             return Err(JournalError::Aborted);
         }

@@ -1,5 +1,5 @@
 -- What the calls of an engine do, each as one step of the pure machine, and why they are refused.
-use Rattle.std.specs.Prelude.{◌≡◌, ◌≢◌, ℕ, ◌+◌, ◌≤◌, false, true, length}
+use Rattle.std.specs.Prelude.{◌≡◌, ◌≢◌, ℕ, ◌+◌, ◌≤◌, false, true, List, length}
 use Rattle.journal_model.specs.declared.entry.Batch.{Batch}
 use Rattle.journal_model.specs.declared.refusal.JournalError.{JournalError}
 use Rattle.journal_model.specs.declared.refusal.JournalError.TheVariants.{Aborted, BadBlock, Device, Memory, NeedSpace}
@@ -10,7 +10,7 @@ use Rattle.journal_model.specs.Opening.{greatest_number}
 use Rattle.block_device.specs.State.{DeviceState, Stays, one_more_fault}
 use Rattle.journal_world.specs.declared.round.Round.TheVariants.{Idle as NoRound}
 use Rattle.journal_world.specs.declared.stage.Stage.TheVariants.{Idle}
-use Rattle.journal_world.specs.Checkpoint.{RoundFaults, RoundSteps}
+use Rattle.journal_world.specs.Checkpoint.{IsPending, RoundFaults, RoundSteps}
 use Rattle.journal_world.specs.Engine.{Engine, CommitFaults, CommitSteps, HasRoom, IsBatch}
 use Rattle.journal_world.specs.Sound.{CopiesHome, KeepsHome, OpensBetween}
 use Rattle.log_engine.specs.declared.engine.Progress.{Progress}
@@ -73,13 +73,18 @@ pub data RoundRefused (old : Engine) (before : DeviceState) (new : Engine) (afte
   RoundAborted : old.aborted ≡ true → new ≡ old → Stays before after → after.faults ≡ before.faults → RoundRefused old before new after Aborted
   RoundFailed : RoundFaults old before.disk new after.disk → after.faults ≡ one_more_fault before.faults → RoundRefused old before new after Device
 
--- why a read is refused: the device failed before, the block is none that may be touched, or the device failed in the read
-pub data ReadRefused (old : Engine) (before : DeviceState) (block : ℕ) (new : Engine) (after : DeviceState) : JournalError → Type 0 where
-  ReadAborted : old.aborted ≡ true → new ≡ old → after.faults ≡ before.faults → ReadRefused old before block new after Aborted
-  ReadOutside : old.aborted ≡ false → (IsAllowedBlock (narrow old.shape.block_size) old.shape.home_blocks block → ⊥) → new ≡ old →
-      after.faults ≡ before.faults → ReadRefused old before block new after BadBlock
-  ReadFailed : old.aborted ≡ false → new ≡ record old { aborted = true } → after.faults ≡ one_more_fault before.faults →
-      ReadRefused old before block new after Device
+-- the block is one that may be touched
+abbrev pub MayTouch : Engine → ℕ → Type 0
+MayTouch e b = IsAllowedBlock (narrow e.shape.block_size) e.shape.home_blocks b
+
+-- why a read is refused: the device failed before, the block is none that may be touched, or no copy of it is pending and the
+-- device failed in the read
+pub data ReadRefused {D : Type 0} (state : D → DeviceState) (old : EngineValue D) (b : ℕ) (new : EngineValue D) : JournalError → Type 0 where
+  ReadAborted : old.engine.aborted ≡ true → new ≡ old → ReadRefused state old b new Aborted
+  ReadOutside : old.engine.aborted ≡ false → (MayTouch old.engine b → ⊥) → new ≡ old → ReadRefused state old b new BadBlock
+  ReadFailed : old.engine.aborted ≡ false → MayTouch old.engine b → ((i : ℕ) (v : List ℕ) → IsPending old.engine i b v → ⊥) →
+      new.engine ≡ record old.engine { aborted = true } → (state new.device).faults ≡ one_more_fault (state old.device).faults →
+      ReadRefused state old b new Device
 
 -- a moment of a commit step: home is as it was, and what a stop leaves opens to a number between the committed and the
 -- accepted transactions

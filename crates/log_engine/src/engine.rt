@@ -1,5 +1,5 @@
 //! The engine that a journal stands on: one contract for each step, of the machine's own steps.
-ghost use Rattle.std.specs.Prelude.{◌≡◌, ◌≢◌, ◌+◌, ◌≤◌, ◌↔◌, ℕ, List, IsTrue, length, IfOk, IfErr, OnOk};
+ghost use Rattle.std.specs.Prelude.{◌≡◌, ◌≢◌, ◌+◌, ◌≤◌, ◌↔◌, ℕ, List, IsTrue, false, length, IfOk, IfErr, OnOk};
 ghost use Rattle.journal_model.specs.declared.refusal.JournalError.TheVariants.{Device as DeviceFailed, Memory};
 ghost use Rattle.journal_model.specs.Layout.{narrow};
 ghost use Rattle.journal_model.specs.Opening.{ring_of};
@@ -13,7 +13,7 @@ ghost use Rattle.journal_world.specs.Journal.{fresh_engine};
 ghost use Rattle.journal_world.specs.Opening.{IsOpenedLog};
 ghost use Rattle.journal_world.specs.Sound.{IsPlain, OpensBetween};
 ghost use Rattle.log_engine.specs.Call.{IsOneMoment};
-ghost use Rattle.log_engine.specs.Engine.{AcceptRefused, IsDuringCommit, IsDuringRound, MayHandOver, ReadRefused, RoundDid, RoundRefused, StepDid, StepRefused};
+ghost use Rattle.log_engine.specs.Engine.{AcceptRefused, IsDuringCommit, IsDuringRound, MayHandOver, MayTouch, ReadRefused, RoundDid, RoundRefused, StepDid, StepRefused};
 
 use crate::call::{Due, make_call};
 use crate::ledger::Ledger;
@@ -88,13 +88,20 @@ impl<D: Device> Engine<D> {
         })
     }
 
-    /// Whether the device has failed. Either way what a stop leaves of it opens.
-    pub fn is_aborted(&self) -> bool
-        ensures aborted { result ≡ self.now.engine.aborted }
+    /// States what every engine keeps, for the proofs of callers, who see its value alone: what it knows agrees, what a
+    /// stop leaves of its device opens, and its shape is the device's. It does nothing.
+    pub fn recall_invariant(&self)
         ensures plain { IsPlain self.now.engine }
         ensures opens { D.honest self.now.device →
             OpensBetween self.now.engine.shape self.now.engine.accepted self.now.engine.committed (length self.now.engine.accepted) (D.state self.now.device).disk }
         ensures shape { self.now.engine.shape ≡ (D.state self.now.device).shape }
+    {
+        let _ledger = &self.ledger;
+    }
+
+    /// Whether the device has failed.
+    pub fn is_aborted(&self) -> bool
+        ensures { result ≡ self.now.engine.aborted }
     {
         self.ledger.aborted
     }
@@ -233,9 +240,10 @@ impl<D: Device> Engine<D> {
     /// changes. `Device` where the device fails: the journal is aborted, and the buffer's bytes are unspecified.
     pub fn read(&mut self, block: BlockNo, into: &mut [u8]) -> Result<(), JournalError>
         requires { length into.old ≡ (D.state self.old.device).shape.block_size }
+        ensures may { OnOk result ((self.old.engine.aborted ≡ false) × MayTouch self.old.engine block) }
         ensures ok { OnOk result ((D.honest self.new.device → IsRead self.old.engine (D.state self.old.device).disk block into.new) × (self.new.engine ≡ self.old.engine)) }
         ensures pending { OnOk result ((i : ℕ) (v : List ℕ) → IsPending self.old.engine i block v → (into.new ≡ v) × (self.new ≡ self.old)) }
-        ensures err { IfErr result (λ e. ReadRefused self.old.engine (D.state self.old.device) block self.new.engine (D.state self.new.device) e) }
+        ensures err { IfErr result (λ e. ReadRefused D.state self.old block self.new e) }
         ensures untouched { IfErr result (λ e. e ≢ DeviceFailed → into.new ≡ into.old) }
         ensures stays { Stays (D.state self.old.device) (D.state self.new.device) }
         ensures no_fault { OnOk result ((D.state self.new.device).faults ≡ (D.state self.old.device).faults) }

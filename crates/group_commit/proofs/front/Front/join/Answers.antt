@@ -1,7 +1,8 @@
-use Rattle.std.proofs.Common.{ℕ, List, refl, ap, ap₂, ◌∙◌, ◌+◌, arith}
+use Rattle.std.proofs.Common.{ℕ, List, refl, ap, ap₂, subst, ◌∙◌, ◌+◌, ◌^◌, ◌<◌, ◌≤◌, ◌≡◌, false, arith}
 use Rattle.std.proofs.lemmas.Result.{err_from_is_err_and}
 use Rattle.journal_model.specs.declared.transaction.Sealed.{Sealed}
-use Rattle.journal_world.specs.Front.{Front, next_handle}
+use Rattle.journal_model.specs.Opening.{greatest_number}
+use Rattle.journal_world.specs.Front.{Front, MayJoin, next_handle}
 use Rattle.group_commit.specs.Front.JoinRefused.{IsLocked, NoHandle, NoMemory, NoNumber}
 use Rattle.group_commit.specs.FrontView.{front_of}
 use Rattle.group_commit.proofs.front.Front.join.Goals as goal
@@ -10,6 +11,10 @@ use Rattle.group_commit.proofs.front.Front.join.Goals.{then-tid-gt-GREATEST_NUMB
 -- a front with these sealed transactions, and these handles of the running one
 abbrev remade : Front → List Sealed → List ℕ → Front
 remade f sealed handles = record f { sealed = sealed; running = record f.running { handles = handles } }
+
+-- a handle may join where the transaction takes further ones, and numbers are left
+may-join : (f : Front) → f.locked ≡ false → f.running.tid ≤ greatest_number → next_handle f < 2 ^ 64 → MayJoin f
+may-join f unlocked number handle = record { unlocked = unlocked; number = number; handle = handle }
 
 -- the transaction takes no further handles
 pub returns-then-self-clause-err : goal.returns-then-self-clause-err
@@ -30,14 +35,14 @@ pub returns-in_err-try_reserve-clause-err : goal.returns-in_err-try_reserve-clau
 returns-in_err-try_reserve-clause-err c =
     let p = err_from_is_err_and c.from_residual.result c.from_residual.ensures.1 in
     rw (p.1, p.2)
-    (NoMemory, ap (λ (s : List Sealed). remade (front_of c.self.inside) s c.self.inside.running.handles) c.try_reserve.ensures.items ∙ c.self.view_is)
+    (NoMemory (subst MayJoin c.self.view_is (may-join (front_of c.self.inside) c.if-self.false (omega arith) (omega arith))), ap (λ (s : List Sealed). remade (front_of c.self.inside) s c.self.inside.running.handles) c.try_reserve.ensures.items ∙ c.self.view_is)
 
 -- memory ran out for the handle
 pub returns-in_err-push-clause-err : goal.returns-in_err-push-clause-err
 returns-in_err-push-clause-err c =
     let p = err_from_is_err_and c.from_residual-in_err-push.result c.from_residual-in_err-push.ensures.1 in
     rw (p.1, p.2)
-    (NoMemory, ap₂ (remade (front_of c.self.inside)) c.try_reserve.ensures.items c.in_err-push.ensures.err ∙ c.self.view_is)
+    (NoMemory (subst MayJoin c.self.view_is (may-join (front_of c.self.inside) c.if-self.false (omega arith) (omega arith))), ap₂ (remade (front_of c.self.inside)) c.try_reserve.ensures.items c.in_err-push.ensures.err ∙ c.self.view_is)
 
 -- the handle joins
 pub returns-clause-ok : goal.returns-clause-ok

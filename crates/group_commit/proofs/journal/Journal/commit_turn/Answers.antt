@@ -11,21 +11,21 @@ use Rattle.group_commit.proofs.journal.Journal.commit_turn.Goals as goal
 -- an aborted journal refuses
 pub returns-then-is_aborted-clause-err : goal.returns-then-is_aborted-clause-err
 returns-then-is_aborted-clause-err g c =
-    rw (← c.self.view_is) (TurnRefused.WasAborted (sym c.is_aborted.ensures.aborted ∙ c.if-is_aborted.true) refl)
+    rw (← c.self.view_is) (TurnRefused.WasAborted (sym c.is_aborted.ensures ∙ c.if-is_aborted.true) refl)
 
 -- where the device does nothing, what holds now holds at the one moment
 pub returns-then-is_aborted-clause-moments : goal.returns-then-is_aborted-clause-moments
 returns-then-is_aborted-clause-moments g c =
-    rw (← c.self.view_is) (λ honest. each-stay _ _ (opens-now _ _ c.self.invariant (c.is_aborted.ensures.opens honest)))
+    rw (← c.self.view_is) (λ honest. each-stay _ _ (opens-now _ _ c.self.invariant (c.recall_invariant.ensures.opens honest)))
 
 pub returns-then-not-is_locked-clause-moments : goal.returns-then-not-is_locked-clause-moments
 returns-then-not-is_locked-clause-moments g c =
-    rw (← c.self.view_is) (λ honest. each-stay _ _ (opens-now _ _ c.self.invariant (c.is_aborted.ensures.opens honest)))
+    rw (← c.self.view_is) (λ honest. each-stay _ _ (opens-now _ _ c.self.invariant (c.recall_invariant.ensures.opens honest)))
 
 pub returns-then-has_open_handles-clause-moments :
     goal.returns-then-has_open_handles-clause-moments
 returns-then-has_open_handles-clause-moments g c =
-    rw (← c.self.view_is) (λ honest. each-stay _ _ (opens-now _ _ c.self.invariant (c.is_aborted.ensures.opens honest)))
+    rw (← c.self.view_is) (λ honest. each-stay _ _ (opens-now _ _ c.self.invariant (c.recall_invariant.ensures.opens honest)))
 
 -- a seal makes no device call
 pub returns-clause-moments : goal.returns-clause-moments
@@ -34,7 +34,7 @@ returns-clause-moments g c =
     let before = g.D.Device.state c.self.inside.engine.device in
     let j : Journal = record { front = c.self.inside.front; engine = c.self.inside.engine.engine } in
     rw (← c.self.view_is) (λ honest. subst (λ (d : g.row.D.Denot). EachMoment (IsDuringTurn j before.disk) before (g.D.Device.state d)) (sym device)
-    (each-stay j before (opens-now j before.disk c.self.invariant (c.is_aborted.ensures.opens honest))))
+    (each-stay j before (opens-now j before.disk c.self.invariant (c.recall_invariant.ensures.opens honest))))
 
 -- there is one moment at most
 pub returns-then-is_aborted-clause-one : goal.returns-then-is_aborted-clause-one
@@ -57,7 +57,7 @@ pub returns-then-not-is_locked-clause-ok : goal.returns-then-not-is_locked-claus
 returns-then-not-is_locked-clause-ok g c =
     rw (← c.self.view_is) (
       record {
-        running = sym c.is_aborted.ensures.aborted ∙ c.if-is_aborted.false;
+        running = sym c.is_aborted.ensures ∙ c.if-is_aborted.false;
         idle = c.is_idle.ensures.0 c.if-not-is_idle.false;
         unlocked = sym c.is_locked.ensures ∙ c.if-not-is_locked.true;
       },
@@ -69,7 +69,7 @@ pub returns-then-has_open_handles-clause-ok : goal.returns-then-has_open_handles
 returns-then-has_open_handles-clause-ok g c =
     rw (← c.self.view_is) (
       record {
-        running = sym c.is_aborted.ensures.aborted ∙ c.if-is_aborted.false;
+        running = sym c.is_aborted.ensures ∙ c.if-is_aborted.false;
         idle = c.is_idle.ensures.0 c.if-not-is_idle.false;
         locked = sym c.is_locked.ensures ∙ c.if-not-is_locked.false;
         open_handle = c.has_open_handles.ensures.0 c.if-has_open_handles.true;
@@ -82,7 +82,7 @@ pub seal-requires-clause-due : goal.seal-requires-clause-due
 seal-requires-clause-due g c =
     rw (← c.self.view_is)
     (record {
-      running = sym c.is_aborted.ensures.aborted ∙ c.if-is_aborted.false;
+      running = sym c.is_aborted.ensures ∙ c.if-is_aborted.false;
       idle = c.is_idle.ensures.0 c.if-not-is_idle.false;
       locked = sym c.is_locked.ensures ∙ c.if-not-is_locked.false;
       stopped = none-open _ (λ some. true≢false (sym (c.has_open_handles.ensures.1 some) ∙ c.if-has_open_handles.false));

@@ -4,7 +4,7 @@ use Rattle.group_commit.proofs.journal.Journal.wait.Goals as goal
 
 -- an aborted journal refuses
 pub returns-then-is_aborted-clause-err : goal.returns-then-is_aborted-clause-err
-returns-then-is_aborted-clause-err g c = rw (← c.self.view_is) (refl, refl, sym c.is_aborted.ensures.aborted ∙ c.if-is_aborted.true)
+returns-then-is_aborted-clause-err g c = rw (← c.self.view_is) (refl, refl, sym c.is_aborted.ensures ∙ c.if-is_aborted.true)
 
 -- the receipt is of the ticket's handle and transaction
 pub returns-clause-ok : goal.returns-clause-ok
@@ -13,4 +13,4 @@ returns-clause-ok g c =
     let new = c.new.ensures in
     let handle : c.new.result.handle ≡ c.args.ticket.handle = cc in
     let tid : c.new.result.tid ≡ c.args.ticket.tid = cc in
-    rw (← c.self.view_is) (ap₂ made handle tid, sym c.is_aborted.ensures.aborted ∙ c.if-is_aborted.false)
+    rw (← c.self.view_is) (ap₂ made handle tid, sym c.is_aborted.ensures ∙ c.if-is_aborted.false)

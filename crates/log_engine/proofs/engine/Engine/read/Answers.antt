@@ -1,8 +1,9 @@
-use Rattle.std.proofs.Common.{refl, sym, ap, subst, ◌∙◌, ◌≡◌, ◌<◌, ℕ, Bool, true, false, length}
+use Rattle.std.proofs.Common.{refl, sym, ap, subst, ◌∙◌, ◌≡◌, ◌<◌, ℕ, Bool, true, false, List, length}
 use Rattle.journal_model.specs.declared.number.Area.TheVariants.{Home}
 use Rattle.journal_model.specs.Block.{IsAllowedBlock}
 use Rattle.journal_model.specs.Layout.{narrow}
 use Rattle.journal_model.specs.Superblock.{Shape}
+use Rattle.journal_world.specs.Checkpoint.{IsPending}
 use Rattle.log_engine.specs.Engine.{EngineValue, ReadRefused}
 use Rattle.log_engine.specs.Ledger.{engine_of}
 use Rattle.log_engine.proofs.Reading.{aborted-sound, home-read, none-pending, pending-bytes, pending-read}
@@ -13,7 +14,7 @@ use Rattle.log_engine.proofs.engine.Engine.read.Goals as goal
 
 -- an aborted journal refuses, and nothing changes
 pub returns-then-self-clause-err : goal.returns-then-self-clause-err
-returns-then-self-clause-err g c = rw (← c.self.view_is) (ReadRefused.ReadAborted c.if-self.true refl refl)
+returns-then-self-clause-err g c = rw (← c.self.view_is) (ReadRefused.ReadAborted c.if-self.true refl)
 
 not-both : (b : Bool) → b ≡ true → b ≡ false → ⊥
 not-both b is not = cc
@@ -26,7 +27,7 @@ returns-then-not-is_allowed-clause-err g c =
     λ allowed. not-both c.is_allowed.result
     ((c.is_allowed.ensures shape.block_size).1 (subst (λ (n : ℕ). IsAllowedBlock (narrow shape.block_size) n c.args.block) (sym c.blocks-2.ensures) allowed))
     c.if-not-is_allowed.true in
-    rw (← c.self.view_is) (ReadRefused.ReadOutside c.if-self.false refused refl refl)
+    rw (← c.self.view_is) (ReadRefused.ReadOutside c.if-self.false refused refl)
 
 -- and the buffer is as before
 pub returns-then-not-is_allowed-clause-untouched : goal.returns-then-not-is_allowed-clause-untouched
@@ -49,6 +50,14 @@ copy_from_slice-requires g c =
     let size = subst (λ (v : EngineValue g.row.D.Denot). length c.args.into.now ≡ (g.D.Device.state v.device).shape.block_size)
     (sym c.self.view_is) c.requires in
     size ∙ sym (ap length (c.copy.ensures shape one.0 c.args.block one.1 one.2) ∙ placed-size e one.0 c.args.block c.in-Some.version.place runs.can_run one.2)
+
+-- the engine runs, and the block may be touched
+pub returns-in-Some-clause-may : goal.returns-in-Some-clause-may
+returns-in-Some-clause-may g c =
+    let shape = (g.D.Device.state c.self.inside.device).shape in
+    let may = subst (λ (n : ℕ). IsAllowedBlock (narrow shape.block_size) n c.args.block) c.blocks-2.ensures
+    ((c.is_allowed.ensures shape.block_size).0 c.if-not-is_allowed.false) in
+    rw (← c.self.view_is) (c.if-self.false, may)
 
 -- its bytes are what the block reads
 pub returns-in-Some-clause-ok : goal.returns-in-Some-clause-ok
@@ -92,10 +101,24 @@ invariant_of-self g c =
 -- that is what the answer says
 pub returns-then-is_err-clause-err : goal.returns-then-is_err-clause-err
 returns-then-is_err-clause-err g c =
+    let shape = (g.D.Device.state c.self.inside.device).shape in
     let l = c.self.inside.ledger in
     let failed = sym c.is_err.ensures.value ∙ c.if-is_err.true in
-    rw (← c.self.view_is) (ReadRefused.ReadFailed c.if-self.false (ap (λ (s : Shape). engine_of s (record l { aborted = true })) c.read.ensures.stays.shape)
+    let may = subst (λ (n : ℕ). IsAllowedBlock (narrow shape.block_size) n c.args.block) c.blocks-2.ensures
+    ((c.is_allowed.ensures shape.block_size).0 c.if-not-is_allowed.false) in
+    let none = sym c.lookup.ensures.newest ∙ c.in_default.is in
+    let unkept = λ (i : ℕ) (v : List ℕ) (pending : IsPending (engine_of shape l) i c.args.block v).
+    none-pending (engine_of shape l) l.pending i c.args.block v c.self.invariant.0.pending none pending in
+    rw (← c.self.view_is) (ReadRefused.ReadFailed c.if-self.false may unkept (ap (λ (s : Shape). engine_of s (record l { aborted = true })) c.read.ensures.stays.shape)
     (count-err _ _ c.read.result failed c.read.ensures.faults))
+
+-- so they do where home is read
+pub returns-clause-may : goal.returns-clause-may
+returns-clause-may g c =
+    let shape = (g.D.Device.state c.self.inside.device).shape in
+    let may = subst (λ (n : ℕ). IsAllowedBlock (narrow shape.block_size) n c.args.block) c.blocks-2.ensures
+    ((c.is_allowed.ensures shape.block_size).0 c.if-not-is_allowed.false) in
+    rw (← c.self.view_is) (c.if-self.false, may)
 
 -- where no copy is pending, what home reads is what the block reads
 pub returns-clause-ok : goal.returns-clause-ok

@@ -1,5 +1,5 @@
 use Rattle.journal_world.proofs.Images.{images-open}
-use Rattle.log_engine.proofs.engine.Engine.is_aborted.Goals as goal
+use Rattle.log_engine.proofs.engine.Engine.recall_invariant.Goals as goal
 
 -- what a stop leaves of the device opens
 pub returns-clause-opens : goal.returns-clause-opens
