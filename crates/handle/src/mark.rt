@@ -92,7 +92,7 @@ impl<J: JournalName> CommitMark<J> {
         ensures raiser { raiser.new ≡ raiser.old }
         ensures receipt { receipt.new ≡ receipt.old }
     {
-        let told = self.words.tell(&mut receipt.place);
+        let told = self.words.tell(&mut receipt.ticket.place);
         self.words.hear(&mut raiser.place, told);
         self.words.load_mark(&mut raiser.place);
     }

@@ -1,5 +1,8 @@
 //! What a place at the two words knows, the rule that holds between any two steps, and what each step tells its place.
 
+ghost use Rattle.std.specs.Prelude.{◌≡◌, ◌≤◌};
+ghost use Rattle.handle.specs.Place.{FindsMark, asked, both, credits_loaded, emptied, greater_half, hears, holding, less, lesser_half, mark_loaded, note, raised, seated, settled, unseated};
+
 use atomic_table::{Join, Play, Seat as TableSeat, Split, Table, TableRule};
 use std::alloc::Global;
 use std::marker::{Brand, PhantomData};
@@ -85,9 +88,6 @@ pub(crate) struct Asks<J> {
 }
 
 impl<J: JournalName> Play<(), View> for Asks<J> {
-    ghost use Rattle.std.specs.Prelude.{◌≡◌};
-    ghost use Rattle.handle.specs.Place.{asked};
-
     ghost then = { λ s me found after. after ≡ (asked J.capacity s.first me.0 found, me.1) };
 }
 
@@ -95,9 +95,6 @@ impl<J: JournalName> Play<(), View> for Asks<J> {
 pub(crate) struct TakesBack;
 
 impl Play<(), View> for TakesBack {
-    ghost use Rattle.std.specs.Prelude.{◌≡◌};
-    ghost use Rattle.handle.specs.Place.{settled};
-
     ghost then = { λ s me found after. after ≡ (settled me.0, me.1) };
 }
 
@@ -105,9 +102,6 @@ impl Play<(), View> for TakesBack {
 pub(crate) struct GivesBack;
 
 impl Play<(), View> for GivesBack {
-    ghost use Rattle.std.specs.Prelude.{◌≡◌};
-    ghost use Rattle.handle.specs.Place.{emptied};
-
     ghost then = { λ s me found after. after ≡ (emptied me.0, me.1) };
 }
 
@@ -117,9 +111,6 @@ pub(crate) struct LoadsCredits<J> {
 }
 
 impl<J: JournalName> Play<(), View> for LoadsCredits<J> {
-    ghost use Rattle.std.specs.Prelude.{◌≡◌, ◌≤◌};
-    ghost use Rattle.handle.specs.Place.{credits_loaded};
-
     ghost then = { λ s me found after. (after ≡ (credits_loaded me.0 found, me.1)) × (me.0.held ≤ J.capacity) × (me.0.held ≤ found) };
 }
 
@@ -127,9 +118,6 @@ impl<J: JournalName> Play<(), View> for LoadsCredits<J> {
 pub(crate) struct LoadsMark;
 
 impl Play<(), View> for LoadsMark {
-    ghost use Rattle.std.specs.Prelude.{◌≡◌};
-    ghost use Rattle.handle.specs.Place.{FindsMark, mark_loaded};
-
     ghost then = { λ s me found after. (after ≡ (mark_loaded me.0 found, me.1)) × FindsMark me.0 found };
 }
 
@@ -137,9 +125,6 @@ impl Play<(), View> for LoadsMark {
 pub(crate) struct Raises;
 
 impl Play<(), View> for Raises {
-    ghost use Rattle.std.specs.Prelude.{◌≡◌};
-    ghost use Rattle.handle.specs.Place.{raised};
-
     ghost then = { λ s me found after. after ≡ (raised s.first me.0, me.1) };
 }
 
@@ -147,8 +132,6 @@ impl Play<(), View> for Raises {
 pub(crate) struct Halves;
 
 impl Split<View> for Halves {
-    ghost use Rattle.handle.specs.Place.{greater_half, lesser_half};
-
     ghost left = { greater_half };
 
     ghost right = { lesser_half };
@@ -158,8 +141,6 @@ impl Split<View> for Halves {
 pub(crate) struct HandsOut;
 
 impl Split<View> for HandsOut {
-    ghost use Rattle.handle.specs.Place.{emptied, holding};
-
     ghost left = { emptied };
 
     ghost right = { λ v. holding v.held };
@@ -171,8 +152,6 @@ pub(crate) struct Cuts<N> {
 }
 
 impl<N: Amount> Split<View> for Cuts<N> {
-    ghost use Rattle.handle.specs.Place.{holding, less};
-
     ghost left = { λ v. less N.amount v };
 
     ghost right = { λ v. holding N.amount };
@@ -182,8 +161,6 @@ impl<N: Amount> Split<View> for Cuts<N> {
 pub(crate) struct TakesIn;
 
 impl Join<View> for TakesIn {
-    ghost use Rattle.handle.specs.Place.{both, holding};
-
     ghost both = { both };
 
     ghost spent = { holding 0 };
@@ -193,8 +170,6 @@ impl Join<View> for TakesIn {
 pub(crate) struct Unseats;
 
 impl Split<View> for Unseats {
-    ghost use Rattle.handle.specs.Place.{seated, unseated};
-
     ghost left = { unseated };
 
     ghost right = { λ v. seated v.allotment };
@@ -204,8 +179,6 @@ impl Split<View> for Unseats {
 pub(crate) struct Blanks;
 
 impl Split<View> for Blanks {
-    ghost use Rattle.handle.specs.Place.{holding};
-
     ghost left = { λ v. v };
 
     ghost right = { λ v. holding 0 };
@@ -215,16 +188,12 @@ impl Split<View> for Blanks {
 pub(crate) struct Tells;
 
 impl Split<View> for Tells {
-    ghost use Rattle.handle.specs.Place.{note};
-
     ghost left = { λ v. v };
 
     ghost right = { note };
 }
 
 impl Join<View> for Tells {
-    ghost use Rattle.handle.specs.Place.{hears, holding};
-
     ghost both = { hears };
 
     ghost spent = { holding 0 };

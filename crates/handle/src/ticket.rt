@@ -11,7 +11,7 @@ use std::marker::{Model, PhantomData};
 pub struct Ticket<J: JournalName> {
     handle: HandleNo,
     tid: Tid,
-    place: Place,
+    pub(crate) place: Place,
     of: PhantomData<J>,
 }
 
@@ -26,24 +26,21 @@ impl<J: JournalName> Model for Ticket<J> {
     ghost invariant = { λ t. (t.place.table_id ≡ J.board) × (t.place.me.1 ≡ []) };
 }
 
-/// The proof that a handle's transaction is committed: the mark was seen to have come to its number.
+/// The proof that a handle's transaction is committed: its ticket has seen that the mark has come to its number.
 #[derive(Drop)]
 pub struct Receipt<J: JournalName> {
-    handle: HandleNo,
-    tid: Tid,
-    pub(crate) place: Place,
-    of: PhantomData<J>,
+    pub(crate) ticket: Ticket<J>,
 }
 
 impl<J: JournalName> Model for Receipt<J> {
-    ghost use Rattle.std.specs.Prelude.{◌≡◌, ◌≤◌, []};
-    ghost use Rattle.handle.specs.Values.{TicketValue, ticket_of};
+    ghost use Rattle.std.specs.Prelude.{◌≤◌};
+    ghost use Rattle.handle.specs.Values.{TicketValue};
 
     ghost Value = { TicketValue };
 
-    ghost view = { λ t. ticket_of t.handle t.tid t.place.me.0 };
+    ghost view = { λ r. r.ticket };
 
-    ghost invariant = { λ t. (t.place.table_id ≡ J.board) × (t.place.me.1 ≡ []) × (t.tid ≤ t.place.me.0.seen) };
+    ghost invariant = { λ r. r.ticket.tid ≤ r.ticket.seen };
 }
 
 /// Whether a handle's transaction is committed.
@@ -91,27 +88,12 @@ impl<J: JournalName> Ticket<J> {
         ensures ok { IfOk result (λ receipt. LooksAgain self receipt × (receipt.tid ≤ receipt.seen)) }
         ensures err { IfErr result (λ ticket. LooksAgain self ticket × (ticket.seen < ticket.tid)) }
     {
-        let Ticket {
-            handle,
-            tid,
-            mut place,
-            of,
-        } = self;
-        let found = mark.words.load_mark(&mut place);
-        if tid.0 <= found {
-            Ok(Receipt {
-                handle,
-                tid,
-                place,
-                of,
-            })
+        let mut ticket = self;
+        let found = mark.words.load_mark(&mut ticket.place);
+        if ticket.tid.0 <= found {
+            Ok(Receipt { ticket })
         } else {
-            Err(Ticket {
-                handle,
-                tid,
-                place,
-                of,
-            })
+            Err(ticket)
         }
     }
 }
@@ -121,13 +103,13 @@ impl<J: JournalName> Receipt<J> {
     pub fn handle(&self) -> HandleNo
         ensures { result ≡ self.now.handle }
     {
-        self.handle
+        self.ticket.handle()
     }
 
     /// The number of its transaction, which is committed.
     pub fn tid(&self) -> Tid
         ensures { result ≡ self.now.tid }
     {
-        self.tid
+        self.ticket.tid()
     }
 }
