@@ -1,8 +1,8 @@
 -- What each move adds to home: an engine newest committed copies, an opening newest live ones, and no other move anything.
 use Rattle.std.proofs.Common.{refl, sym, ap, subst, inl, inr, ⊎_elim}
-use Rattle.std.specs.Prelude.{◌≡◌, ℕ, List, Option, Some}
-use Rattle.journal_model.specs.declared.number.Area.TheVariants.{Log, Home}
-use Rattle.journal_model.specs.Disk.{Cell, Disk, Image, IsOneOf, Leaves, disk_of, held}
+use Rattle.std.specs.Prelude.{◌≡◌, ℕ, List, Option}
+use Rattle.journal_model.specs.declared.number.Area.TheVariants.{Home}
+use Rattle.journal_model.specs.Disk.{Disk, Image, IsOneOf, Leaves, disk_of, held}
 use Rattle.journal_model.specs.HomeChange.{Addition, HomeAddsOnly}
 use Rattle.journal_model.specs.Replay.{IsNewest}
 use Rattle.journal_model.specs.Superblock.{Shape}
@@ -18,7 +18,7 @@ use Rattle.log_epochs.specs.EngineSteps.Event.{Accept, Read, CommitStep, CommitF
 use Rattle.log_epochs.specs.EngineWorld.{CloseCall, Move, Moves, Phase, World}
 use Rattle.log_epochs.specs.EngineWorld.CloseCall.{WriteClosed, FlushClosed}
 use Rattle.log_epochs.specs.EngineWorld.Move.{Step, CloseStep, CloseFault, GiveUp, Stop, Begin, OpeningStep, OpeningFault, AnswerOk}
-use Rattle.log_epochs.specs.EngineWorld.Phase.{Opening, Running}
+use Rattle.log_epochs.specs.EngineWorld.Phase.{Running}
 use Rattle.log_epochs.specs.Epoch.{Epoch}
 use Rattle.log_epochs.specs.OpeningSteps.{Found, OpeningCall, OpeningStage, clean_superblock}
 use Rattle.log_epochs.specs.OpeningSteps.OpeningCall.{FlushClean, FlushLog, CopyHome, FlushHome, WriteSuperblock, FlushSuperblock}

@@ -1,12 +1,12 @@
 -- A step of the journal: front and engine agree after it, and the engine's world makes the same step, or none.
-use Rattle.std.proofs.Common.{refl, sym, ◌∙◌, ap, subst, arith}
-use Rattle.std.specs.Prelude.{◌≡◌, ℕ, ◌≤◌, true, List, [], Option, Some}
+use Rattle.std.proofs.Common.{refl, sym, ap, subst, arith}
+use Rattle.std.specs.Prelude.{◌≡◌, ℕ, true, List}
 use Rattle.journal_model.specs.Disk.{Disk}
 use Rattle.journal_world.specs.Engine.{Engine}
 use Rattle.journal_world.specs.Front.{Front}
 use Rattle.journal_world.specs.Journal.{ChangesFront, Event, Happens, Journal, batch_of}
 use Rattle.journal_world.specs.Journal.Event.{Reserve, GiveBack, Join, WriteBlock, StopHandle, Lock, Seal, CommitStep, CommitFault, CheckpointStep, CheckpointFault, ReadFault, Finish}
-use Rattle.journal_world.proofs.Fronts.{FrontAgrees, credits-agree, finish-agrees, fresh-agrees, goes-on, join-agrees, seal-agrees, write-agrees}
+use Rattle.journal_world.proofs.Fronts.{FrontAgrees, credits-agree, finish-agrees, goes-on, join-agrees, seal-agrees, write-agrees}
 use Rattle.journal_world.proofs.Onward.{GoesOn, fault-on, round-fault-on, round-on, step-on}
 use Rattle.log_epochs.specs.EngineSteps.{Event as EngineEvent, Happens as EngineHappens}
 use Rattle.log_epochs.specs.EngineSteps.Event.{Accept, CommitStep as EngineCommit, CommitFault as EngineCommitFault, CheckpointStep as EngineCheckpoint, CheckpointFault as EngineCheckpointFault, ReadFault as EngineReadFault}

@@ -2,35 +2,32 @@
 use Rattle.std.proofs.Common.{refl, sym, ◌∙◌, ap, subst, arith, inl, inr, ⊎_elim}
 use Rattle.std.specs.Prelude.{◌≡◌, ⊤, ℕ, suc, ◌≤◌, List, [], ◌∷◌, length, Option, Some, None}
 use Rattle.std.specs.List.{AllByRecursion}
-use Rattle.std.proofs.lemmas.Option.{same_Some}
 use Rattle.journal_model.specs.declared.entry.Batch.{Batch}
-use Rattle.journal_model.specs.declared.number.Area.TheVariants.{Home}
-use Rattle.journal_model.specs.Disk.{Disk, Image, IsOneOf, held, reading}
-use Rattle.journal_model.specs.HomeChange.{Addition, HomeAddsOnly, IsCommittedCopy}
+use Rattle.journal_model.specs.Disk.{Disk, Image, reading}
+use Rattle.journal_model.specs.HomeChange.{Addition, HomeAddsOnly}
 use Rattle.journal_model.specs.Opening.{Opens}
 use Rattle.journal_model.specs.Superblock.{Shape}
 use Rattle.journal_model.specs.Transaction.{AreNumbered, History}
 use Rattle.journal_world.specs.Engine.{AreBatchesOf, Engine}
 use Rattle.journal_world.specs.Front.{Front, fresh_front}
-use Rattle.journal_world.specs.Journal.{Event as JournalEvent, Journal, fresh_engine}
-use Rattle.journal_world.specs.Opening.{cleaned}
+use Rattle.journal_world.specs.Journal.{Event as JournalEvent}
 use Rattle.journal_world.specs.Sound.{AreNumberedFrom}
 use Rattle.journal_world.proofs.Batches.{same-length}
 use Rattle.journal_world.proofs.Fronts.{FrontAgrees, answer-agrees, fresh-agrees}
 use Rattle.journal_world.proofs.HomeCopies.{newest-after}
 use Rattle.journal_world.proofs.Promises.{acknowledged-few}
-use Rattle.log_epochs.specs.EnginePromise.{EndedWell as BelowEndedWell, IsClosed as IsClosedBelow, KeepsClosed as BelowKeepsClosed, KeepsImage, KeepsNow as BelowKeepsNow, KeepsPromise as BelowKeepsPromise, Kept as BelowKept, MayAdd as BelowMayAdd, MayAddIn}
+use Rattle.log_epochs.specs.EnginePromise.{EndedWell as BelowEndedWell, IsClosed as IsClosedBelow, KeepsClosed as BelowKeepsClosed, KeepsImage, KeepsNow as BelowKeepsNow, KeepsPromise as BelowKeepsPromise, Kept as BelowKept, MayAddIn}
 use Rattle.log_epochs.specs.EngineSteps.{Event}
 use Rattle.log_epochs.specs.EngineSteps.Event.{Accept, Read, CommitStep, CommitFault, CheckpointStep, CheckpointFault, ReadFault}
 use Rattle.log_epochs.specs.EngineWorld.{Begins as BelowBegins, Leads as BelowLeads, Move as BelowMove, Moves as BelowMoves, Phase, Steps as BelowSteps, World}
 use Rattle.log_epochs.specs.EngineWorld.Begins.{Unopened, Made}
 use Rattle.log_epochs.specs.EngineWorld.Move.{Step as EngineStep, CloseStep, CloseFault, GiveUp, Stop, Begin, OpeningStep, OpeningFault, AnswerOk}
 use Rattle.log_epochs.specs.EngineWorld.Phase.{Shut, Opening, Running, Closing, Closed}
-use Rattle.log_epochs.specs.Epoch.{Ended, Epoch, ending, fresh_epoch, pinning, pinning_at}
-use Rattle.log_epochs.specs.JournalPromise.{EndedWell, HaveEndedWell, KeepsClosed, KeepsNow, KeepsPromise, Kept, MayAdd, MayCheckpoint}
+use Rattle.log_epochs.specs.Epoch.{Ended, Epoch, ending, pinning, pinning_at}
+use Rattle.log_epochs.specs.JournalPromise.{HaveEndedWell, KeepsClosed, KeepsNow, KeepsPromise, Kept, MayAdd, MayCheckpoint}
 use Rattle.log_epochs.specs.JournalWorld.{Begins, IsFreshTold, JournalWorld, Leads, Move, Moves, Steps, TellsAfter, TellsAfterStep, TellsAnew, TellsNothing, TellsSame, Told, journal_of, telling}
 use Rattle.log_epochs.specs.JournalWorld.Move.{Step, Answer, Below}
-use Rattle.log_epochs.specs.OpeningSteps.{OpeningStage, next_of}
+use Rattle.log_epochs.specs.OpeningSteps.{OpeningStage}
 use Rattle.log_epochs.specs.OpeningSteps.OpeningStage.{LogFlush, Copies, SuperblockWrite, SuperblockFlush, Done}
 use Rattle.log_epochs.proofs.JournalSteps.{Agrees, IsBelow, event-agrees, event-below}
 use Rattle.log_epochs.proofs.JournalSteps.IsBelow.{Nothing, Same}
@@ -178,6 +175,7 @@ step-below old new event step = below (event-below (journal_of step.epoch old.to
   where
     is : new.below ≡ record old.below { disk = new.below.disk; epoch = Some (record step.epoch { engine = step.journal.engine }) }
     is = ap (λ (w : JournalWorld). w.below) step.after
+
     below : IsBelow step.epoch.engine old.below.disk step.journal.engine new.below.disk → IsStepBelow old.below new.below
     below (Nothing same_engine same_disk) =
         Unchanged (is ∙ same-world old.below step.epoch step.journal.engine new.below.disk step.now same_engine same_disk)
@@ -335,6 +333,7 @@ journal-promise law start end moves begins leads =
     record {
       now = now-kept end.below.shape end.below.epoch end.below.disk end.told holds.0 promise.now;
       ended = past-kept end.below.shape end.below.ended end.past holds.1 promise.ended;
+      follows = promise.follows;
       closed = closed-kept end.below.shape end.below.epoch end.below.disk end.told end.below.phase holds.0 promise.closed;
       home = λ move new moved. move-home end new move holds promise moved;
     }

@@ -1,6 +1,8 @@
 -- The lemmas of this crate.
 pub mod CleanLogs
+pub mod CleanRuns
 pub mod Closing
+pub mod Following
 pub mod HomeRule
 pub mod Homes
 pub mod JournalSteps

@@ -23,6 +23,7 @@ use Rattle.log_epochs.specs.EngineWorld.Move.{Step, CloseStep, CloseFault, GiveU
 use Rattle.log_epochs.specs.EngineWorld.Begins.{Unopened, Made}
 use Rattle.log_epochs.specs.EngineWorld.Phase.{Shut, Opening, Running, Closing, Closed}
 use Rattle.log_epochs.proofs.Closing.{close-closes, close-keeps}
+use Rattle.log_epochs.proofs.Following.{begin-follows, run-follows}
 use Rattle.log_epochs.proofs.HomeRule.{move-home}
 use Rattle.log_epochs.proofs.Keeping.{IsPinned, flush-keeps, flushed-leaves, reads-left, stop-keeps}
 use Rattle.log_epochs.proofs.Running.{IsRunning, event-runs, running-keeps}
@@ -239,6 +240,7 @@ life-promise start end moves begins leads =
     record {
       now = phase-keeps end.shape end.epoch end.disk end.phase holds.0;
       ended = holds.1;
+      follows = run-follows start end moves (begin-follows start begins) leads;
       closed = phase-closed end.shape end.epoch end.disk end.phase holds.0;
       home = move-home end;
     }

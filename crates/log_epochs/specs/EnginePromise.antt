@@ -1,16 +1,16 @@
 -- What every run of moves keeps of an engine's world: each epoch's transactions, and the rule for home.
 -- Source: the GoJournal paper; journal.rst (a copy goes home only after its commit).
-use Rattle.std.specs.Prelude.{◌≡◌, ⊤, ℕ, ◌≤◌, List, [], length, Option, Some, None, unwrap_or}
+use Rattle.std.specs.Prelude.{◌≡◌, ⊤, ℕ, ◌≤◌, List, [], ◌∷◌, length, Option, Some, None, unwrap_or}
 use Rattle.std.specs.List.{AllByRecursion}
 use Rattle.journal_model.specs.declared.number.Area.TheVariants.{Home}
-use Rattle.journal_model.specs.Disk.{Disk, Image, IsOneOf, Leaves, held}
+use Rattle.journal_model.specs.Disk.{Disk, Image, IsOneOf, Leaves, held, reading}
 use Rattle.journal_model.specs.HomeChange.{Addition, HomeAddsOnly, OthersRightlyHeld}
 use Rattle.journal_model.specs.Opening.{IsClean, IsCountOf, Opens}
 use Rattle.journal_model.specs.Replay.{IsNewest}
 use Rattle.journal_model.specs.Superblock.{Shape}
 use Rattle.journal_model.specs.Transaction.{AreNumbered, History}
 use Rattle.journal_world.specs.Checkpoint.{IsNewestCopy}
-use Rattle.journal_world.specs.Engine.{AreBatchesOf, Engine}
+use Rattle.journal_world.specs.Engine.{AreBatchesOf}
 use Rattle.log_epochs.specs.Epoch.{Ended, Epoch}
 use Rattle.log_epochs.specs.EngineWorld.{Move, Moves, Phase, World}
 use Rattle.log_epochs.specs.EngineWorld.Move.{Step, CloseStep, CloseFault, GiveUp, Stop, Begin, OpeningStep, OpeningFault, AnswerOk}
@@ -46,6 +46,13 @@ pub record EndedWell (shape : Shape) (x : Ended) : Type 0 where
   pub pin_is : x.epoch.pin ≡ Some pin
   pub clean : IsClean shape x.after
   pub keeps : KeepsImage shape x.epoch x.after
+
+-- each epoch began with what the device read when the one before it ended
+abbrev pub Continues : Option Epoch → List Ended → Type 0
+Continues None [] = ⊤
+Continues (Some epoch) [] = ⊤
+Continues None (x ∷ xs) = ⊥
+Continues (Some epoch) (x ∷ xs) = (x.after ≡ reading epoch.opening) × Continues (Some x.epoch) xs
 
 -- a closed log is clean, and opens to all transactions
 pub record IsClosed (shape : Shape) (epoch : Epoch) (image : Image) : Type 0 where
@@ -87,5 +94,6 @@ MayAdd w AnswerOk b v = MayAddIn w.phase w.epoch b v
 pub record KeepsPromise (w : World) : Type 0 where
   pub now : KeepsNow w.shape w.epoch w.disk
   pub ended : AllByRecursion (EndedWell w.shape) w.ended
+  pub follows : Continues w.epoch w.ended
   pub closed : KeepsClosed w.shape w.epoch w.disk w.phase
   pub home : (move : Move) (new : World) → Moves w move new → HomeAddsOnly (MayAdd w move) w.disk new.disk

@@ -2,7 +2,6 @@
 -- fs/jbd2/journal.c by behaviour (the superblock of a journal that is destroyed says that the log is clean).
 use Rattle.std.specs.Prelude.{◌≡◌, ℕ, ◌+◌, true, false, List}
 use Rattle.journal_model.specs.declared.entry.Batch.{Batch}
-use Rattle.journal_model.specs.declared.number.Area.TheVariants.{Log}
 use Rattle.journal_model.specs.Disk.{Disk}
 use Rattle.journal_model.specs.Superblock.{with_tail}
 use Rattle.journal_world.specs.declared.stage.Stage.TheVariants.{Idle}

@@ -137,3 +137,10 @@ pub data Begins (w : World) : Type 0 where
   Unopened : w.phase ≡ Shut → w.epoch ≡ None → w.ended ≡ [] → Begins w
   Made : (superblock : List ℕ) (next : ℕ) → IsOpenedLog w.shape w.disk superblock next → w.phase ≡ Running →
       w.epoch ≡ Some (fresh_epoch w.shape superblock next w.disk) → w.ended ≡ [] → Begins w
+
+-- moves lead from this world to an engine that runs
+pub record ComesToRun (w : World) : Type 0 where
+  pub moves : List Move
+  pub end : World
+  pub leads : Leads w moves end
+  pub running : end.phase ≡ Running

@@ -9,7 +9,7 @@ use Rattle.journal_model.specs.Record.{EachHandleOnce, acknowledged}
 use Rattle.journal_model.specs.Superblock.{Shape}
 use Rattle.journal_model.specs.Transaction.{AreNumbered, History}
 use Rattle.log_epochs.specs.Epoch.{Ended, Epoch}
-use Rattle.log_epochs.specs.EnginePromise.{MayAdd as BelowMayAdd, direct_writes}
+use Rattle.log_epochs.specs.EnginePromise.{Continues, MayAdd as BelowMayAdd, direct_writes}
 use Rattle.log_epochs.specs.EngineWorld.{Phase}
 use Rattle.log_epochs.specs.EngineWorld.Phase.{Shut, Opening, Running, Closing, Closed}
 use Rattle.log_epochs.specs.JournalWorld.{JournalWorld, Move, Moves, Told}
@@ -75,5 +75,6 @@ MayAdd w (Below move) b v = BelowMayAdd w.below move b v
 pub record KeepsPromise (w : JournalWorld) : Type 0 where
   pub now : KeepsNow w.below.shape w.below.epoch w.below.disk w.told
   pub ended : HaveEndedWell w.below.shape w.below.ended w.past
+  pub follows : Continues w.below.epoch w.below.ended
   pub closed : KeepsClosed w.below.shape w.below.disk w.told w.below.phase
   pub home : (move : Move) (new : JournalWorld) → Moves w move new → HomeAddsOnly (MayAdd w move) w.below.disk new.below.disk

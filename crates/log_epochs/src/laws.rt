@@ -2,14 +2,15 @@
 ghost use Rattle.std.specs.Prelude.{◌≡◌, ℕ, ◌<◌, List, length};
 ghost use Rattle.journal_model.specs.Disk.{Disk, Image};
 ghost use Rattle.journal_model.specs.declared.number.Area.TheVariants.{Log};
-ghost use Rattle.journal_model.specs.Opening.{HasLimit, OpensAs, greatest_number};
+ghost use Rattle.journal_model.specs.Opening.{HasLimit, IsClean, OpensAs, greatest_number};
 ghost use Rattle.journal_model.specs.Superblock.{Shape};
 ghost use Rattle.journal_model.specs.Transaction.{Volume};
 ghost use Rattle.journal_world.specs.Opening.{IsOpening, cleaned};
 ghost use Rattle.log_epochs.specs.OpeningSteps.{Found, IsFound, next_of};
 ghost use Rattle.log_epochs.specs.OpeningSteps.OpeningStage.{Done};
 ghost use Rattle.log_epochs.specs.OpeningRun.{IsFoundOn, IsMoment, KeepsCount, Reached};
-ghost use Rattle.log_epochs.specs.EngineWorld.{World, Move, Begins, Leads};
+ghost use Rattle.log_epochs.specs.EngineWorld.{World, Move, Begins, ComesToRun, Leads};
+ghost use Rattle.log_epochs.specs.EngineWorld.Phase.{Shut};
 ghost use Rattle.log_epochs.specs.EnginePromise.{KeepsPromise};
 ghost use Rattle.log_epochs.specs.JournalWorld.{JournalWorld, Move as JournalMove, Begins as JournalBegins, Leads as JournalLeads};
 ghost use Rattle.log_epochs.specs.JournalPromise.{KeepsPromise as JournalKeepsPromise};
@@ -23,6 +24,11 @@ pub fn every_moment_of_an_opening_keeps_n()
 /// An image that opens is one that an opening finds good, where its block 0 fills a block and numbers are left.
 pub fn what_opens_is_found_good()
     ensures { (shape : Shape) (image : Image) (got : Volume) → OpensAs shape image got → length (image Log 0) ≡ shape.block_size → ((limit : ℕ) → HasLimit shape image limit → limit < greatest_number) → (found : Found) × (found.image ≡ image) × IsFound shape found }
+{}
+
+/// From a device on which nobody works and whose log is clean and good, an opening leads to an engine that runs.
+pub fn a_clean_log_comes_to_run()
+    ensures { (w : World) (found : Found) → w.phase ≡ Shut → IsFoundOn w.shape found w.disk → IsClean w.shape found.image → ComesToRun w }
 {}
 
 /// Calls that lead an opening to its end are a whole opening: home reads as replay of the chain makes it, the log is clean
