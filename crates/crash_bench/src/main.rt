@@ -74,13 +74,7 @@ fn recover_files(rt: &HostRuntime, words: &RecoverWords<'_>) -> io::Result<Statu
         Err(e) => return refuse_file(&mut rt.stderr(), words.home, e),
     };
     match files::device_of(UnknownContents, log, home) {
-        Ok(device) => logs::recover(
-            rt.alloc(),
-            words.log,
-            device,
-            io::writer(rt),
-            rt.stderr(),
-        ),
+        Ok(device) => logs::recover(rt.alloc(), words.log, device, io::writer(rt), rt.stderr()),
         Err(e) => refuse_file(&mut rt.stderr(), words.log, e),
     }
 }
