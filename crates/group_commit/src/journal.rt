@@ -138,8 +138,9 @@ impl<D: Device> Journal<D> {
     ///
     /// # Errors
     ///
-    /// The credits come back, and nothing else changes. `Aborted` after a device failure, `NotRunning` where the
-    /// transaction takes no further handles, `SequenceEnd` where no number is left for it or for the handle, `Memory`.
+    /// The credits come back, and nothing else changes. The first that applies of `Aborted` after a device failure,
+    /// `NotRunning` where the transaction takes no further handles, `SequenceEnd` where no number is left for it or for the
+    /// handle, and `Memory`.
     /// Source: journalling.rst (`journal_start`).
     pub fn try_join(&mut self, credits: Credits) -> Result<Handle, (Credits, JournalError)>
         ensures ok { IfOk result (λ handle. Does D.state self.old Join self.new
@@ -161,8 +162,8 @@ impl<D: Device> Journal<D> {
     ///
     /// # Errors
     ///
-    /// Nothing changes. `Aborted` after a device failure; `BadBlock` where home has no such block, or its number is not
-    /// below 2^32; `NoCredit` at a first touch without a credit left; `Memory`.
+    /// Nothing changes. The first that applies of `Aborted` after a device failure, `BadBlock` where home has no such block,
+    /// or its number is not below 2^32, `NoCredit` at a first touch without a credit left, and `Memory`.
     /// Source: journalling.rst (`journal_get_write_access`, `journal_dirty_metadata`).
     pub fn write(
         &mut self,
