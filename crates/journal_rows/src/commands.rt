@@ -2,7 +2,7 @@
 use crate::scripts::measures_text;
 use crate::texts::{numbers_in, written};
 use bench_commands::fault::Status;
-use bench_commands::words::{FormatWords, RunWords, Words, answer, parse};
+use bench_commands::words::{FormatWords, RecoverWords, RunWords, Words, answer, parse};
 use bench_commands::{logs, run};
 use block_device::MemDevice;
 use format_rows::RowError;
@@ -62,6 +62,36 @@ fn device_of(alloc: Global, shape: &str) -> Result<MemDevice, RowError> {
     Ok(MemDevice::new(alloc, size as usize, log, home))
 }
 
+/// A log that is recovered. Given: the words of the program on a line, and a log as `log_rows` spells it, on a device in memory
+/// whose home is zeros. Found: as of a run.
+pub fn recover(alloc: Global, given: &str) -> Result<String, RowError> {
+    let (line, log) = cut(given, "\n")?;
+    let words = words_in(alloc, line)?;
+    match parse(alloc, &words) {
+        Ok(Words::Recover(words)) => recover_device(alloc, &words, log_on_device(alloc, log)?),
+        _ => Err(RowError::Unread),
+    }
+}
+
+/// The device that a spelled log is on.
+fn log_on_device(alloc: Global, log: &str) -> Result<MemDevice, RowError> {
+    log_rows::logs::device_of(alloc, &log_rows::logs::log_of(alloc, log)?)
+}
+
+/// What `recover` says of the log on this device.
+fn recover_device(
+    alloc: Global,
+    words: &RecoverWords<'_>,
+    device: MemDevice,
+) -> Result<String, RowError> {
+    let mut out = Vec::new(alloc);
+    let mut err = Vec::new(alloc);
+    match logs::recover(alloc, words.log, device, &mut out, &mut err) {
+        Ok(status) => text_of(alloc, &out, &err, status),
+        Err(_) => Err(RowError::Memory),
+    }
+}
+
 /// What the words of the program say. Given: the words. Found: the command with all that it is told, or what is said where they
 /// tell nothing to do: on which output, and the exit status.
 pub fn words(alloc: Global, given: &str) -> Result<String, RowError> {
@@ -78,6 +108,7 @@ fn told(alloc: Global, words: &Words<'_>) -> Result<String, RowError> {
         Words::Run(words) => Ok(told_run(alloc, words)?),
         Words::Format(words) => told_format(alloc, words),
         Words::Dump(log) => Ok(format!(in alloc; "dump {log}")?),
+        Words::Recover(words) => Ok(format!(in alloc; "recover {} {}", words.log, words.home)?),
     }
 }
 

@@ -25,6 +25,7 @@ fn found_of_run(alloc: Global, kind: &str, given: &str) -> Option<Found> {
         "format" => Some(commands::format(alloc, given)),
         "help" => Some(commands::help(alloc, given)),
         "operations" => Some(scripts::operations(alloc, given)),
+        "recover" => Some(commands::recover(alloc, given)),
         "run" => Some(commands::run(alloc, given)),
         "script" => Some(scripts::script(alloc, given)),
         "stops" => Some(stops::stops(alloc, given)),

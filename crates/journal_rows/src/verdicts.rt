@@ -97,7 +97,7 @@ fn write_home(alloc: Global, left: &mut Left, written: &str) -> Result<(), RowEr
     if block >= left.device.blocks(Area::Home) || left.device.block_size() != SIZE {
         return Err(RowError::Unread);
     }
-    left.named.insert(block)?;
+    left.named.insert(block).map_err(AllocError::from)?;
     match left.device.write(Area::Home, block, &bytes) {
         Ok(()) => Ok(()),
         Err(_) => Err(RowError::Memory),
