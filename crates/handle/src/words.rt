@@ -49,7 +49,8 @@ impl<J: JournalName> Words<J> {
         requires possible { n ≤ J.capacity }
         ensures { (place.new.table_id ≡ place.old.table_id) × (place.new.me ≡ (asked J.capacity n place.old.me.0 result, place.old.me.1)) }
     {
-        self.board.shared.fetch_add::<Asks<J>>(place, CREDITS, n)
+        let shared = &self.board.shared;
+        shared.fetch_add::<Asks<J>>(place, CREDITS, n)
     }
 
     /// The take-back after a refused reserve: subtracts what the place owes from the credit word.
