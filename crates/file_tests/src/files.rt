@@ -98,7 +98,7 @@ fn two_files(
     write_in(rt, folder, "home", home)?;
     let log = open_in(rt, folder, "log")?;
     let home = open_in(rt, folder, "home")?;
-    FileDevice::new(UnknownContents, SIZE, log, Some(home))
+    Ok(FileDevice::new(UnknownContents, SIZE, log, Some(home))?)
 }
 
 #[test]
@@ -122,12 +122,12 @@ fn expect_lone_log<D: Device>(rt: &impl Abort, device: &mut D) -> Result<(), Dev
 /// A device over a log alone, which is read through a handle that can't write.
 fn lone_log(rt: &HostRuntime, folder: &str) -> io::Result<FileDevice<UnknownContents>> {
     make_log(rt, folder, b"aaaabbbb")?;
-    FileDevice::new(
+    Ok(FileDevice::new(
         UnknownContents,
         SIZE,
         open_to_read(rt, folder, "log")?,
         None,
-    )
+    )?)
 }
 
 #[test]
@@ -166,7 +166,7 @@ fn read_only_home(rt: &HostRuntime, folder: &str) -> io::Result<FileDevice<Unkno
     write_in(rt, folder, "home", b"cccc")?;
     let log = open_in(rt, folder, "log")?;
     let home = open_to_read(rt, folder, "home")?;
-    FileDevice::new(UnknownContents, SIZE, log, Some(home))
+    Ok(FileDevice::new(UnknownContents, SIZE, log, Some(home))?)
 }
 
 #[test]
@@ -198,7 +198,7 @@ fn open_unsynced(rt: &HostRuntime) -> io::Result<File> {
 fn unsynced_home(rt: &HostRuntime, folder: &str) -> io::Result<FileDevice<UnknownContents>> {
     make_log(rt, folder, b"aaaabbbb")?;
     let log = open_in(rt, folder, "log")?;
-    FileDevice::new(UnknownContents, SIZE, log, Some(open_unsynced(rt)?))
+    Ok(FileDevice::new(UnknownContents, SIZE, log, Some(open_unsynced(rt)?))?)
 }
 
 #[test]
@@ -214,7 +214,7 @@ fn after_a_failed_flush_nothing_is_written(rt: HostRuntime) -> Result<(), Fail> 
 fn unsynced_log(rt: &HostRuntime, folder: &str) -> io::Result<FileDevice<UnknownContents>> {
     make_log(rt, folder, b"aaaabbbb")?;
     let home = open_in(rt, folder, "log")?;
-    FileDevice::new(UnknownContents, SIZE, open_unsynced(rt)?, Some(home))
+    Ok(FileDevice::new(UnknownContents, SIZE, open_unsynced(rt)?, Some(home))?)
 }
 
 #[test]
@@ -264,7 +264,7 @@ fn write_and_read<D: Device>(
 fn zero_log(rt: &HostRuntime, folder: &str) -> io::Result<FileDevice<UnknownContents>> {
     make_log(rt, folder, &[0; THREE])?;
     let log = open_in(rt, folder, "log")?;
-    FileDevice::new(UnknownContents, LARGEST, log, None)
+    Ok(FileDevice::new(UnknownContents, LARGEST, log, None)?)
 }
 
 #[test]
