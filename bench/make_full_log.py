@@ -15,7 +15,7 @@ import sys
 
 MAGIC = 0xC03B3998
 DESCRIPTOR, COMMIT, SUPERBLOCK = 1, 2, 4
-ESCAPED, SAME_UUID, LAST = 1, 2, 8
+SAME_UUID, LAST = 2, 8
 UUID = b"\xaa" * 16
 COPIES = 200
 
@@ -30,10 +30,10 @@ def superblock(size, blocks):
     return (header(SUPERBLOCK, 0) + fields + UUID + struct.pack(">I", 1)).ljust(size, b"\0")
 
 
-def tags_of(blocks, escaped):
+def tags_of(blocks):
     tags = b""
     for i, block in enumerate(blocks):
-        flags = (SAME_UUID if i else 0) | (LAST if i + 1 == len(blocks) else 0) | (ESCAPED if escaped[i] else 0)
+        flags = (SAME_UUID if i else 0) | (LAST if i + 1 == len(blocks) else 0)
         tags += struct.pack(">IHH", block, 0, flags) + (b"" if i else UUID)
     return tags
 
@@ -44,7 +44,7 @@ def transaction(sequence, blocks, size, contents):
     log = []
     for at in range(0, len(blocks), most):
         part = blocks[at : at + most]
-        log.append((header(DESCRIPTOR, sequence) + tags_of(part, [False] * len(part))).ljust(size, b"\0"))
+        log.append((header(DESCRIPTOR, sequence) + tags_of(part)).ljust(size, b"\0"))
         log.extend(contents(block, sequence) for block in part)
     log.append(header(COMMIT, sequence).ljust(size, b"\0"))
     return log
@@ -79,8 +79,6 @@ def main():
                 if len(text) <= left:
                     break
                 count -= 1
-            if count == 0 and left < 1:
-                break
             chosen = []
             while len(chosen) < count:
                 block = next_block()

@@ -1,6 +1,6 @@
 #!/usr/bin/env bash
-# Times `jbench recover` beside a plain C program that reads the log and writes each copy home with one fsync, and beside e2fsck's
-# own kind of work as far as that is told in figures elsewhere: one line for each block size and length, with medians and their ratio.
+# Times `jbench recover` beside a plain C program that reads the log and writes each copy home with one fsync: one line for each
+# block size and length of the log, with the medians in microseconds and their ratio.
 #
 # usage: bench/recovery.sh [FOLDER] [ROUNDS]
 #
@@ -16,7 +16,7 @@ trap 'rm -f "$folder"/plain "$folder"/log "$folder"/home "$folder"/one.log "$fol
 cc -O2 -o "$folder/plain" "$top/bench/plain_recovery.c"
 "$top/jbench" --help >/dev/null
 
-# Milliseconds that a command takes.
+# Microseconds that a command takes.
 timed() {
     local begun ended
     begun=$(date +%s%N)
