@@ -26,6 +26,13 @@ impl<T> Items<T> {
         }
     }
 
+    /// The values of a vector.
+    pub fn from_vec(items: Vec<T>) -> Self
+        ensures { result ≡ items.items }
+    {
+        Items { items }
+    }
+
     /// Adds a value at the end. Where memory runs out the list stays as it was and the value is dropped.
     pub fn push(&mut self, item: T) -> Result<(), AllocError>
     where
