@@ -1,6 +1,7 @@
 -- The blocks of a lap from one position on.
-use Rattle.std.proofs.Common.{◌≡◌, ℕ, suc, ◌+◌, ◌-◌, ◌<◌, ◌≤◌, List, [], ◌∷◌, length, drop, get_or, ◌∙◌, ap, arith, drop-cons}
+use Rattle.std.proofs.Common.{◌≡◌, ℕ, suc, ◌+◌, ◌-◌, ◌<◌, ◌≤◌, List, [], ◌∷◌, length, drop, get_or, slice_get, Some, ◌∙◌, ap, sym, arith, drop-cons}
 use Rattle.std.proofs.lemmas.List.{drop_all, drop-drop, length-drop}
+use Rattle.std.proofs.lemmas.Option.{slice_get-get_or, slice_get_within}
 use Rattle.std.proofs.lemmas.List.FromFn.{get_or-map-range_with_len, length-map-range_with_len}
 use Rattle.journal_model.specs.declared.number.Area.TheVariants.{Log}
 use Rattle.journal_model.specs.Chain.{Ring, lap, place_from}
@@ -37,3 +38,17 @@ from-end s image k past = drop_all k (lap (ring_of s) image s.s_start) (let size
 -- the blocks behind so many of those from a position on
 pub from-behind : (s : Super) (image : Image) (k n : ℕ) → drop n (blocks_from s image k) ≡ blocks_from s image (k + n)
 from-behind s image k n = drop-drop n k (lap (ring_of s) image s.s_start)
+
+-- the k-th of them stands at its place in the log
+pub from-at : (s : Super) (image : Image) (position k at : ℕ) (block : List ℕ) → at ≡ position + k → slice_get (blocks_from s image position) k ≡ Some block →
+    block ≡ image Log (place_from (ring_of s) s.s_start at)
+from-at s image position k at block is found =
+    let within = slice_get_within (blocks_from s image position) k block found in
+    let size = length-from s image position in
+    let below : at < (ring_of s).blocks = omega arith in
+    let rest : drop k (blocks_from s image position) ≡ image Log (place_from (ring_of s) s.s_start at) ∷ blocks_from s image (suc at) =
+    from-behind s image position k ∙ ap (λ (n : ℕ). blocks_from s image n) (sym is) ∙ from-within s image at below in
+    let first : drop k (blocks_from s image position) ≡ get_or (blocks_from s image position) k block ∷ drop (suc k) (blocks_from s image position) =
+    drop-cons (blocks_from s image position) k block within in
+    let got : get_or (blocks_from s image position) k block ≡ block = let same = sym (slice_get-get_or (blocks_from s image position) k block within) ∙ found in cc in
+    cc

@@ -12,6 +12,7 @@ use Rattle.journal_model.specs.Text.{IsCommitBlock, IsPiece, piece_blocks, piece
 use Rattle.journal_model.proofs.ReadingFronts.{malformed_is_damaged, no_damage_in_good, no_damage_in_none, no_text_in_none, no_text_without_commit, text_begins, texts_are_chain, texts_more}
 use Rattle.journal_model.proofs.ReadingPieces.{damages, none_at_end, one_type}
 use Rattle.log_scan.specs.Finding.{BlockBegins, NothingBegins}
+use Rattle.log_scan.specs.Passing.{StandBefore}
 
 -- one more piece with P
 all-push : (P : Piece → Type 0) (ps : List Piece) (p : Piece) → AllByRecursion P ps → P p → AllByRecursion P (ps ++ p ∷ [])
@@ -68,106 +69,94 @@ module _ (l : Layout) (count sequence : ℕ) (some : 0 < l.number_bytes) (blocks
       no_text_without_commit l count sequence blocks ps n so (b.block ∷ b.behind) (sym b.split) some
       (rw b.split (none_at_end l count sequence b.block b.behind (damages b.is))) b.block b.behind refl (malformed-no-commit l count sequence b.block b.is)
 
--- on the way over a lap: this many texts, and then pieces of the next one, stand before a position
-pub record ReadSoFar (l : Layout) (count sequence : ℕ) (blocks : List (List ℕ)) (number taken : ℕ) : Type 0 where
-  pub texts : List Text
-  pub before : ℕ
-  pub pieces : List Piece
-  pub inside : ℕ
-  pub whole : TextsBegin l count sequence blocks texts (sequence + number) before
-  pub begun : PiecesBegin l count (sequence + number) (drop before blocks) pieces inside
-  pub place : taken ≡ before + inside
-
 -- no text
 pub texts-none : (l : Layout) (count sequence : ℕ) (blocks : List (List ℕ)) → TextsBegin l count sequence blocks [] (sequence + 0) 0
 texts-none l count sequence blocks = record { numbered = tt; front = record { split = refl; size = refl }; due = refl }
 
 -- at the beginning of the lap
-pub so-far-none : (l : Layout) (count sequence : ℕ) (blocks : List (List ℕ)) → ReadSoFar l count sequence blocks 0 0
+pub so-far-none : (l : Layout) (count sequence : ℕ) (blocks : List (List ℕ)) → StandBefore l count sequence blocks [] [] 0 0
 so-far-none l count sequence blocks = record {
-  texts = [];
   before = 0;
-  pieces = [];
   inside = 0;
   whole = texts-none l count sequence blocks;
   begun = pieces-none l count (sequence + 0) blocks;
   place = refl;
 }
 
-module _ (l : Layout) (count sequence : ℕ) (some : 0 < l.number_bytes) (blocks : List (List ℕ)) (number taken : ℕ) (so : ReadSoFar l count sequence blocks number taken) where
-  -- the blocks at the position
-  here : drop taken blocks ≡ drop so.inside (drop so.before blocks)
-  here = ap (λ (n : ℕ). drop n blocks) so.place ∙ sym (drop-drop so.inside so.before blocks)
+module _
+    (l : Layout) (count sequence : ℕ) (some : 0 < l.number_bytes) (blocks : List (List ℕ)) (texts : List Text) (pieces : List Piece) (number taken : ℕ)
+    (so : StandBefore l count sequence blocks texts pieces number taken)
+  where
+    -- the blocks at the position
+    here : drop taken blocks ≡ drop so.inside (drop so.before blocks)
+    here = ap (λ (n : ℕ). drop n blocks) so.place ∙ sym (drop-drop so.inside so.before blocks)
 
-  -- one more piece
-  pub so-far-piece : (p : Piece) (n end : ℕ) → end ≡ taken + n → PieceBegins l count (sequence + number) (drop taken blocks) p n → ReadSoFar l count sequence blocks number end
-  so-far-piece p n end is next = record {
-    texts = so.texts;
-    before = so.before;
-    pieces = so.pieces ++ p ∷ [];
-    inside = so.inside + n;
-    whole = so.whole;
-    begun =
-        pieces-more l count (sequence + number) (drop so.before blocks) so.pieces so.inside p n so.begun
-        (subst (λ (xs : List (List ℕ)). PieceBegins l count (sequence + number) xs p n) here next);
-    place = let place = so.place in omega arith;
-  }
+    -- one more piece
+    pub so-far-piece : (p : Piece) (n end : ℕ) → end ≡ taken + n → PieceBegins l count (sequence + number) (drop taken blocks) p n → StandBefore l count sequence blocks texts (pieces ++ p ∷ []) number end
+    so-far-piece p n end is next = record {
+      before = so.before;
+      inside = so.inside + n;
+      whole = so.whole;
+      begun =
+          pieces-more l count (sequence + number) (drop so.before blocks) pieces so.inside p n so.begun
+          (subst (λ (xs : List (List ℕ)). PieceBegins l count (sequence + number) xs p n) here next);
+      place = let place = so.place in omega arith;
+    }
 
-  -- the commit block that ends a text
-  pub so-far-text : BlockBegins (IsCommitBlock (sequence + number)) (drop taken blocks) → ReadSoFar l count sequence blocks (number + 1) (taken + 1)
-  so-far-text commit = record {
-    texts = so.texts ++ text ∷ [];
-    before = so.before + (so.inside + 1);
-    pieces = [];
-    inside = 0;
-    whole =
-        subst (λ (n : ℕ). TextsBegin l count sequence blocks (so.texts ++ text ∷ []) n (so.before + (so.inside + 1))) (omega arith)
-        (texts_more l count sequence blocks so.texts (sequence + number) so.before so.whole (drop so.before blocks) refl text (so.inside + 1)
-        (text-ends l count (sequence + number) (drop so.before blocks) so.pieces so.inside so.begun there));
-    begun = pieces-none l count (sequence + (number + 1)) (drop (so.before + (so.inside + 1)) blocks);
-    place = let place = so.place in omega arith;
-  } where
-    there : BlockBegins (IsCommitBlock (sequence + number)) (drop so.inside (drop so.before blocks))
-    there = subst (BlockBegins (IsCommitBlock (sequence + number))) here commit
+    -- the text that a commit block ends
+    abbrev pub ended-text : List ℕ → Text
+    ended-text block = record { pieces = pieces; commit = block }
 
-    text : Text
-    text = record { pieces = so.pieces; commit = there.block }
+    -- the commit block that ends a text
+    pub so-far-text : (b : BlockBegins (IsCommitBlock (sequence + number)) (drop taken blocks)) →
+        StandBefore l count sequence blocks (texts ++ ended-text b.block ∷ []) [] (number + 1) (taken + 1)
+    so-far-text commit = record {
+      before = so.before + (so.inside + 1);
+      inside = 0;
+      whole =
+          subst (λ (n : ℕ). TextsBegin l count sequence blocks (texts ++ text ∷ []) n (so.before + (so.inside + 1))) (omega arith)
+          (texts_more l count sequence blocks texts (sequence + number) so.before so.whole (drop so.before blocks) refl text (so.inside + 1)
+          (text-ends l count (sequence + number) (drop so.before blocks) pieces so.inside so.begun there));
+      begun = pieces-none l count (sequence + (number + 1)) (drop (so.before + (so.inside + 1)) blocks);
+      place = let place = so.place in omega arith;
+    } where
+      there : BlockBegins (IsCommitBlock (sequence + number)) (drop so.inside (drop so.before blocks))
+      there = record { block = commit.block; behind = commit.behind; split = sym here ∙ commit.split; is = commit.is }
 
-  -- a malformed block at the position is the damaged one
-  pub so-far-damaged : BlockBegins (IsMalformed l count (sequence + number)) (drop taken blocks) → IsDamaged l count sequence blocks taken
-  so-far-damaged bad =
-      let there : BlockBegins (IsMalformed l count (sequence + number)) (drop so.inside (drop so.before blocks)) =
-      subst (BlockBegins (IsMalformed l count (sequence + number))) here bad in
-      let last = no-text-malformed l count (sequence + number) some (drop so.before blocks) so.pieces so.inside so.begun there in
-      subst (IsDamaged l count sequence blocks) (sym so.place)
-      (malformed_is_damaged l count sequence blocks so.texts (sequence + number) so.before so.whole (drop so.before blocks) refl
-      (texts_are_chain l count sequence blocks so.texts (sequence + number) so.before so.whole (drop so.before blocks) refl some last)
-      so.pieces so.inside so.begun (drop so.inside (drop so.before blocks)) refl there.block there.behind there.split there.is)
+      text : Text
+      text = ended-text commit.block
 
-  module _ (nothing : NothingBegins l count (sequence + number) (drop taken blocks)) where
-    -- nothing more stands behind the pieces
-    there : NothingBegins l count (sequence + number) (drop so.inside (drop so.before blocks))
-    there = subst (NothingBegins l count (sequence + number)) here nothing
+    -- a malformed block at the position is the damaged one
+    pub so-far-damaged : BlockBegins (IsMalformed l count (sequence + number)) (drop taken blocks) → IsDamaged l count sequence blocks taken
+    so-far-damaged bad =
+        let there : BlockBegins (IsMalformed l count (sequence + number)) (drop so.inside (drop so.before blocks)) =
+        subst (BlockBegins (IsMalformed l count (sequence + number))) here bad in
+        let last = no-text-malformed l count (sequence + number) some (drop so.before blocks) pieces so.inside so.begun there in
+        subst (IsDamaged l count sequence blocks) (sym so.place)
+        (malformed_is_damaged l count sequence blocks texts (sequence + number) so.before so.whole (drop so.before blocks) refl
+        (texts_are_chain l count sequence blocks texts (sequence + number) so.before so.whole (drop so.before blocks) refl some last)
+        pieces so.inside so.begun (drop so.inside (drop so.before blocks)) refl there.block there.behind there.split there.is)
 
-    -- so the texts are the chain
-    pub so-far-chain : IsChain l count sequence blocks so.texts
-    so-far-chain =
-        texts_are_chain l count sequence blocks so.texts (sequence + number) so.before so.whole (drop so.before blocks) refl some
-        (no-text-nothing l count (sequence + number) some (drop so.before blocks) so.pieces so.inside so.begun there)
+    module _ (nothing : NothingBegins l count (sequence + number) (drop taken blocks)) where
+      -- nothing more stands behind the pieces
+      there : NothingBegins l count (sequence + number) (drop so.inside (drop so.before blocks))
+      there = subst (NothingBegins l count (sequence + number)) here nothing
 
-    -- and no block is damaged
-    pub so-far-undamaged : (k : ℕ) → IsDamaged l count sequence blocks k → ⊥
-    so-far-undamaged = either (drop so.inside (drop so.before blocks)) refl
-      where
-        either : (end : List (List ℕ)) → end ≡ drop so.inside (drop so.before blocks) → (k : ℕ) → IsDamaged l count sequence blocks k → ⊥
-        either [] at =
-            no_damage_in_none l count sequence blocks so.texts (sequence + number) so.before so.whole (drop so.before blocks) refl so-far-chain
-            so.pieces so.inside so.begun [] at some there.piece refl
-        either (b ∷ others) at =
-            no_damage_in_good l count sequence blocks so.texts (sequence + number) so.before so.whole (drop so.before blocks) refl so-far-chain
-            so.pieces so.inside so.begun (b ∷ others) at some there.piece b others refl
-            (λ bad. there.malformed (record { block = b; behind = others; split = sym at; is = bad }))
+      -- so the texts are the chain
+      pub so-far-chain : IsChain l count sequence blocks texts
+      so-far-chain =
+          texts_are_chain l count sequence blocks texts (sequence + number) so.before so.whole (drop so.before blocks) refl some
+          (no-text-nothing l count (sequence + number) some (drop so.before blocks) pieces so.inside so.begun there)
 
-    -- there are as many as were counted
-    pub so-far-count : number ≡ length so.texts
-    so-far-count = let due = so.whole.due in omega arith
+      -- and no block is damaged
+      pub so-far-undamaged : (k : ℕ) → IsDamaged l count sequence blocks k → ⊥
+      so-far-undamaged = either (drop so.inside (drop so.before blocks)) refl
+        where
+          either : (end : List (List ℕ)) → end ≡ drop so.inside (drop so.before blocks) → (k : ℕ) → IsDamaged l count sequence blocks k → ⊥
+          either [] at =
+              no_damage_in_none l count sequence blocks texts (sequence + number) so.before so.whole (drop so.before blocks) refl so-far-chain
+              pieces so.inside so.begun [] at some there.piece refl
+          either (b ∷ others) at =
+              no_damage_in_good l count sequence blocks texts (sequence + number) so.before so.whole (drop so.before blocks) refl so-far-chain
+              pieces so.inside so.begun (b ∷ others) at some there.piece b others refl
+              (λ bad. there.malformed (record { block = b; behind = others; split = sym at; is = bad }))

@@ -1,11 +1,12 @@
 -- What stands at one place of a log.
-use Rattle.std.specs.Prelude.{◌≡◌, ℕ, ◌+◌, ◌<◌, ◌≤◌, List, ◌∷◌, length, take, drop, Option, unwrap_or, All, ⊤}
+use Rattle.std.specs.Prelude.{◌≡◌, ℕ, ◌+◌, ◌<◌, ◌≤◌, List, ◌∷◌, length, take, drop, Option, MatchOption, unwrap_or, true, false, All, ⊤}
 use Rattle.journal_model.specs.declared.log.Tag.{Tag}
 use Rattle.journal_model.specs.declared.log.Piece.TheVariants.{Revokes, Copies}
+use Rattle.journal_model.specs.declared.number.Area.TheVariants.{Log}
 use Rattle.journal_model.specs.Chain.{IsMalformed, lap}
 use Rattle.journal_model.specs.Descriptor.{IsDescriptor}
 use Rattle.journal_model.specs.Disk.{Image}
-use Rattle.journal_model.specs.Layout.{Layout, every_number, narrow}
+use Rattle.journal_model.specs.Layout.{Layout, begins_with_magic, every_number, narrow, sequence_in}
 use Rattle.journal_model.specs.Opening.{ring_of}
 use Rattle.journal_model.specs.ReadingLog.{NoPieceBegins, PieceBegins}
 use Rattle.journal_model.specs.RevokeBlock.{IsRevokeBlock}
@@ -27,6 +28,10 @@ every_block = every_number (narrow 0)
 -- the numbers of home blocks are below this one, by the count of home's blocks, where that is known
 abbrev pub limit_of : Option ℕ → ℕ
 limit_of home_blocks = unwrap_or home_blocks every_block
+
+-- a block of the log area
+abbrev pub log_block : Image → ℕ → List ℕ
+log_block image place = image Log place
 
 -- the blocks of the lap from position k on
 abbrev pub blocks_from : Super → Image → ℕ → List (List ℕ)
@@ -87,3 +92,7 @@ IsFound l count sequence blocks f (Descriptor n) = DescriptorBegins l count sequ
 IsFound l count sequence blocks f CommitBlock = BlockBegins (IsCommitBlock sequence) blocks
 IsFound l count sequence blocks f Malformed = BlockBegins (IsMalformed l count sequence) blocks
 IsFound l count sequence blocks f Nothing = NothingBegins l count sequence blocks
+
+-- the sequence of a block's header, where it begins with the magic
+abbrev pub IsSequenceOf : List ℕ → Option ℕ → Type 0
+IsSequenceOf block found = MatchOption found (begins_with_magic block ≡ false) (λ sequence. (begins_with_magic block ≡ true) × (sequence ≡ sequence_in block))

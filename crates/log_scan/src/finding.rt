@@ -1,12 +1,14 @@
 //! What stands at one place of a log.
-ghost use Rattle.std.specs.Prelude.{◌≡◌, ℕ, ◌≤◌, length, take, IfOk, MatchResult};
+ghost use Rattle.std.specs.Prelude.{◌≡◌, ℕ, ◌<◌, ◌≤◌, length, take, slice_get, Some, IfOk, OnOk, MatchResult};
+ghost use Rattle.journal_model.specs.Chain.{place_from};
 ghost use Rattle.journal_model.specs.Disk.{reading};
+ghost use Rattle.journal_model.specs.Escape.{unescaped};
 ghost use Rattle.journal_model.specs.Layout.{narrow, HasHeader, descriptor_type, revoke_type, sequence_in};
 ghost use Rattle.journal_model.specs.Opening.{layout_of, ring_of};
 ghost use Rattle.block_device.specs.State.{IsDeviceFailure, Stays};
 ghost use Rattle.log_format.specs.Accepted.{IsAccepted};
 ghost use Rattle.log_format.specs.Size.{IsBlockSize};
-ghost use Rattle.log_scan.specs.Finding.{Fits, IsFound, Says, blocks_from, limit_of};
+ghost use Rattle.log_scan.specs.Finding.{Fits, IsFound, IsSequenceOf, Says, blocks_from, limit_of, log_block};
 
 use crate::log::Log;
 use block_device::Device;
@@ -15,7 +17,7 @@ use journal_model::layout::{
     TAG_BYTES,
 };
 use journal_model::{Area, BlockNo, JournalError, Tag};
-use log_format::{Descriptor, Header, RevokeBlock};
+use log_format::{Descriptor, Header, RevokeBlock, unescape};
 use std::alloc::{AllocError, Global};
 use std::marker::Model;
 
@@ -88,6 +90,74 @@ impl Finder {
         ensures { result.now ≡ take count self.now.numbers }
     {
         &self.numbers[..count]
+    }
+
+    /// Tag `k` of the descriptor that was found last.
+    pub fn tag(&self, k: usize) -> Tag
+        requires { k < length self.now.tags }
+        ensures { slice_get self.now.tags k ≡ Some result }
+    {
+        self.tags[k]
+    }
+
+    /// The block that was read last.
+    pub fn block(&self) -> &[u8]
+        ensures { result.now ≡ self.now.block }
+    {
+        &self.block
+    }
+
+    /// Reads the copy at this position of the lap, as replay writes it home: where it is escaped, the magic stands again in
+    /// its first four bytes. The tags that were found last stay.
+    ///
+    /// # Errors
+    ///
+    /// `Device`: the read failed. What the block holds is then not said.
+    pub fn read_copy<D: Device>(
+        &mut self,
+        device: &mut D,
+        log: &Log,
+        position: u64,
+        escaped: bool,
+    ) -> Result<(), JournalError>
+        requires size { length self.old.block ≡ (D.state device.old).shape.block_size }
+        requires accepted { IsAccepted (D.state device.old).shape.block_size (D.state device.old).shape.log_blocks log.now }
+        ensures size { length self.new.block ≡ length self.old.block }
+        ensures copy { OnOk result (D.honest device.new → self.new.block ≡ unescaped escaped (log_block (reading (D.state device.old).disk) (place_from (ring_of log.now) log.now.s_start position))) }
+        ensures tags { self.new.tags ≡ self.old.tags }
+        ensures numbers { self.new.numbers ≡ self.old.numbers }
+        ensures faults { MatchResult result (λ _. (D.state device.new).faults ≡ (D.state device.old).faults) (IsDeviceFailure (D.state device.old) (D.state device.new)) }
+        ensures stays { Stays (D.state device.old) (D.state device.new) }
+        ensures honest { D.honest device.new → D.honest device.old }
+    {
+        device.read(Area::Log, log.place(position), &mut self.block)?;
+        unescape(&mut self.block, escaped);
+        Ok(())
+    }
+
+    /// Reads the block at this place of the log area, and answers the sequence of its header, where it begins with the magic.
+    /// The tags and numbers that were found last stay.
+    ///
+    /// # Errors
+    ///
+    /// `Device`: the read failed. What the block holds is then not said.
+    pub fn sequence_at<D: Device>(
+        &mut self,
+        device: &mut D,
+        place: u64,
+    ) -> Result<Option<u32>, JournalError>
+        requires size { length self.old.block ≡ (D.state device.old).shape.block_size }
+        requires there { place < (D.state device.old).shape.log_blocks }
+        ensures size { length self.new.block ≡ length self.old.block }
+        ensures sequence { IfOk result (λ found. D.honest device.new → IsSequenceOf (log_block (reading (D.state device.old).disk) place) found) }
+        ensures tags { self.new.tags ≡ self.old.tags }
+        ensures numbers { self.new.numbers ≡ self.old.numbers }
+        ensures faults { MatchResult result (λ _. (D.state device.new).faults ≡ (D.state device.old).faults) (IsDeviceFailure (D.state device.old) (D.state device.new)) }
+        ensures stays { Stays (D.state device.old) (D.state device.new) }
+        ensures honest { D.honest device.new → D.honest device.old }
+    {
+        device.read(Area::Log, place, &mut self.block)?;
+        Ok(Header::read(&self.block).map(|header| header.sequence))
     }
 
     /// Reads the block at this position of the lap, and says what it is to the transaction `sequence`. A descriptor or revoke

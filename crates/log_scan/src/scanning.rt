@@ -7,6 +7,7 @@ ghost use Rattle.log_format.specs.Accepted.{IsAccepted};
 ghost use Rattle.log_scan.specs.Finding.{limit_of};
 ghost use Rattle.log_scan.specs.Scanning.{IsScanned, IsScanRefused};
 
+use crate::cursor::Cursor;
 use crate::finding::{Finder, Found};
 use crate::log::Log;
 use block_device::Device;
@@ -39,19 +40,12 @@ pub fn scan<D: Device>(
     ensures stays { Stays (D.state device.old) (D.state device.new) }
     ensures honest { D.honest device.new → D.honest device.old }
 {
-    let mut position = 0;
-    let mut count = 0;
+    let mut cursor = Cursor::new();
     loop {
-        let sequence = log.first_number() + count;
-        match finder.look(device, log, home_blocks, position, sequence)? {
-            Found::RevokeBlock(_) => position += 1,
-            Found::Descriptor(tags) => position += 1 + tags as u64,
-            Found::CommitBlock => {
-                position += 1;
-                count += 1;
-            }
-            Found::Malformed => return Err(JournalError::Damage(log.place(position))),
-            Found::Nothing => return Ok(count),
+        match cursor.advance(device, log, home_blocks, finder)? {
+            Found::RevokeBlock(_) | Found::Descriptor(_) | Found::CommitBlock => {}
+            Found::Malformed => return Err(JournalError::Damage(log.place(cursor.position))),
+            Found::Nothing => return Ok(cursor.transactions),
         }
     }
 }

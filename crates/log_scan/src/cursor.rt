@@ -1,0 +1,100 @@
+//! The way over a log, one piece after the other.
+ghost use Rattle.std.specs.Prelude.{◌≡◌, ◌<◌, ◌≤◌, ◌^◌, List, length, IfOk, IfErr, MatchResult};
+ghost use Rattle.journal_model.specs.declared.log.Piece.{Piece};
+ghost use Rattle.journal_model.specs.declared.log.Text.{Text};
+ghost use Rattle.journal_model.specs.Disk.{reading};
+ghost use Rattle.journal_model.specs.Opening.{ring_of};
+ghost use Rattle.block_device.specs.State.{IsDeviceFailure, Stays};
+ghost use Rattle.log_format.specs.Accepted.{IsAccepted};
+ghost use Rattle.log_scan.specs.Finding.{Fits, limit_of};
+ghost use Rattle.log_scan.specs.Passing.{IsPassed, LeadsTo, cursor_behind};
+
+use crate::finding::{Finder, Found};
+use crate::log::Log;
+use block_device::Device;
+use journal_model::JournalError;
+
+/// How far the way over a log is.
+#[derive(Clone, Copy, Debug, PartialEq, Eq)]
+pub struct Cursor {
+    /// The position in the ring, in blocks from where the log begins.
+    pub position: u64,
+    /// How many complete transactions stand before it.
+    pub transactions: u64,
+}
+
+impl Cursor {
+    /// A cursor where the log begins.
+    pub fn new() -> Self
+        ensures { result ≡ record { position = 0; transactions = 0 } }
+    {
+        Cursor {
+            position: 0,
+            transactions: 0,
+        }
+    }
+
+    /// Looks at what stands at the cursor, and goes behind it: behind a revoke block, a descriptor with its copies, or a
+    /// commit block. Before a malformed block, and before what is no part of the transaction that is due, it stays.
+    ///
+    /// The numbers of home blocks are tested where `home_blocks` is known.
+    ///
+    /// # Errors
+    ///
+    /// `Device`: the read failed, and the cursor stays.
+    pub fn advance<D: Device>(
+        &mut self,
+        device: &mut D,
+        log: &Log,
+        home_blocks: Option<u64>,
+        finder: &mut Finder,
+    ) -> Result<Found, JournalError>
+        requires size { length finder.old.block ≡ (D.state device.old).shape.block_size }
+        requires accepted { IsAccepted (D.state device.old).shape.block_size (D.state device.old).shape.log_blocks log.now }
+        requires within { self.old.position ≤ (ring_of log.now).blocks }
+        requires few { self.old.transactions ≤ self.old.position }
+        ensures size { length finder.new.block ≡ length finder.old.block }
+        ensures fits { IfOk result (Fits (limit_of home_blocks) (ring_of log.now).blocks self.old.position finder.new) }
+        ensures behind { IfOk result (λ found. self.new ≡ cursor_behind self.old found) }
+        ensures within { self.new.position ≤ (ring_of log.now).blocks }
+        ensures few { self.new.transactions ≤ self.new.position }
+        ensures leads { IfOk result (λ found. D.honest device.new → (texts : List Text) (pieces : List Piece) →
+            IsPassed log.now (limit_of home_blocks) (reading (D.state device.old).disk) texts pieces self.old →
+            LeadsTo log.now (limit_of home_blocks) (reading (D.state device.old).disk) texts pieces finder.new self.old self.new found) }
+        ensures faults { MatchResult result (λ _. (D.state device.new).faults ≡ (D.state device.old).faults) (IsDeviceFailure (D.state device.old) (D.state device.new)) }
+        ensures stays { Stays (D.state device.old) (D.state device.new) }
+        ensures honest { D.honest device.new → D.honest device.old }
+    {
+        let sequence = log.first_number() + self.transactions;
+        let found = finder.look(device, log, home_blocks, self.position, sequence)?;
+        *self = self.behind(found);
+        Ok(found)
+    }
+
+    /// The cursor behind what was found at it.
+    fn behind(self, found: Found) -> Self
+        requires few { self.transactions ≤ self.position }
+        requires room { (cursor_behind self found).position < 2 ^ 64 }
+        ensures { result ≡ cursor_behind self found }
+    {
+        let Cursor {
+            position,
+            transactions,
+        } = self;
+        match found {
+            Found::RevokeBlock(_) => Cursor {
+                position: position + 1,
+                transactions,
+            },
+            Found::Descriptor(tags) => Cursor {
+                position: position + (1 + tags as u64),
+                transactions,
+            },
+            Found::CommitBlock => Cursor {
+                position: position + 1,
+                transactions: transactions + 1,
+            },
+            Found::Malformed | Found::Nothing => self,
+        }
+    }
+}
