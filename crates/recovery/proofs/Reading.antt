@@ -1,5 +1,5 @@
 -- Block 0 of a log, as it was read, and why it is refused.
-use Rattle.std.proofs.Common.{◌∙◌, ap, ap₂, subst, arith, inl, inr}
+use Rattle.std.proofs.Common.{◌∙◌, ap₂, subst, arith, inl, inr}
 use Rattle.std.specs.Prelude.{◌≡◌, ◌≢◌, ℕ, ◌<◌, ◌==◌, Bool, true, false, if◌then◌else◌, List, [], ◌∷◌, length, Option, Some, None}
 use Rattle.std.specs.List.{AllByRecursion}
 use Rattle.std.proofs.lemmas.Bool.{cases_lt}
@@ -7,12 +7,10 @@ use Rattle.std.proofs.lemmas.Bool.Decides.{nat_tests}
 use Rattle.journal_model.specs.declared.number.Area.TheVariants.{Log}
 use Rattle.journal_model.specs.declared.refusal.JournalError.{JournalError}
 use Rattle.journal_model.specs.declared.refusal.JournalError.TheVariants.{BadLength, Device}
-use Rattle.journal_model.specs.Chain.{lap}
 use Rattle.journal_model.specs.Disk.{Image}
-use Rattle.journal_model.specs.Opening.{ring_of}
 use Rattle.journal_model.specs.Superblock.{Shape, Super, first_failed, super_in, super_refusal, super_tests}
 use Rattle.log_format.specs.Accepted.{IsAccepted}
-use Rattle.recovery.specs.Opening.{IsReadFrom, IsWellRead}
+use Rattle.recovery.specs.Opening.{IsWellRead}
 
 -- the refusal of tests that are not the device's is not the device's
 not-device : (tests : List (Bool × JournalError)) (e : JournalError) → AllByRecursion (λ t. t.1 ≢ Device) tests → first_failed tests ≡ Some e → e ≢ Device
@@ -72,14 +70,10 @@ well-read shape size log_blocks block fields long same also tested is accepted =
   accepted = accepted-for shape size log_blocks fields same also accepted;
 }
 
--- what was read is what the image has
-pub read-from : (shape : Shape) (image : Image) (superblock : List ℕ) (fields : Super) (blocks : List (List ℕ)) → IsWellRead shape superblock fields →
-    (0 < shape.log_blocks → superblock ≡ image Log 0) → blocks ≡ lap (ring_of fields) image fields.s_start → IsReadFrom image superblock blocks
-read-from shape image superblock fields blocks well read blocks_are =
+-- block 0 is what the image has
+pub read-there : (shape : Shape) (image : Image) (superblock : List ℕ) (fields : Super) → IsWellRead shape superblock fields →
+    (0 < shape.log_blocks → superblock ≡ image Log 0) → superblock ≡ image Log 0
+read-there shape image superblock fields well read =
     let least = well.accepted.least in
     let within = well.accepted.within in
-    let is : superblock ≡ image Log 0 = read (omega arith) in
-    record {
-      superblock_is = is;
-      lap_is = blocks_are ∙ ap (λ (f : Super). lap (ring_of f) image f.s_start) (well.fields_are ∙ ap super_in is);
-    }
+    read (omega arith)

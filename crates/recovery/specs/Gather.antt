@@ -1,36 +1,72 @@
--- What is gathered of a chain: the copy of each block that replay writes home.
-use Rattle.std.specs.Prelude.{◌≡◌, ℕ, ◌==◌, if◌then◌else◌, List, [], ◌∷◌, Option, Some, MatchOption, unwrap_or}
-use Rattle.std.specs.BTreeMap.{BTreeMap, get}
-use Rattle.std.specs.Option.{option_map}
-use Rattle.std.specs.Ordering.{nat_cmp}
+-- What an opening gathers of a chain before it writes home.
+use Rattle.std.specs.Prelude.{◌≡◌, ◌≢◌, ◌⊎◌, ℕ, suc, ◌<◌, List, [], ◌∷◌, length, map, refl}
+use Rattle.std.specs.Coded.{Coded, code_by, coded×, coded_ℕ}
+use Rattle.std.specs.FinMap as fin_map
+use Rattle.std.specs.FinMap.{empty}
+use Rattle.std.specs.List.{zip}
+use Rattle.journal_model.specs.declared.log.Tag.{Tag}
 use Rattle.journal_model.specs.declared.log.Text.{Text}
+use Rattle.journal_model.specs.declared.refusal.JournalError.{JournalError}
+use Rattle.journal_model.specs.declared.refusal.JournalError.TheVariants.{Device, Memory}
+use Rattle.journal_model.specs.Chain.{place_from}
+use Rattle.journal_model.specs.Disk.{Image, reading}
 use Rattle.journal_model.specs.Escape.{unescaped}
-use Rattle.journal_model.specs.HomeChange.{Addition}
-use Rattle.journal_model.specs.Replay.{HasNoLive, IsNewest}
-use Rattle.journal_model.specs.Transaction.{Volume}
-use Rattle.recovery.specs.declared.gather.StoredCopy.{StoredCopy}
+use Rattle.journal_model.specs.Opening.{ring_of}
+use Rattle.journal_model.specs.Superblock.{Super}
+use Rattle.block_device.specs.State.{DeviceState, IsFailure}
+use Rattle.log_scan.specs.Finding.{log_block}
+use Rattle.log_scan.specs.Scanning.{AreTextsOf}
+use Rattle.journal_world.specs.Call.{Call}
+use Rattle.recovery.specs.Calls.{write_home}
+use Rattle.recovery.specs.Choice.{chosen}
+use Rattle.revoke_table.specs.Copies.{placed_all, places_of}
+use Rattle.revoke_table.specs.Revokes.{BlockTable, noted_all, notes_of, revokes_of}
 
--- a stored copy as replay writes it home
-abbrev pub bytes_home : StoredCopy → List ℕ
-bytes_home copy = unescaped copy.escaped copy.block.now
+-- the greatest transaction that revokes each block, and the place of each block's newest copy
+pub record TablesValue : Type 0 where
+  pub revokes : BlockTable
+  pub copies : BlockTable
 
--- what was gathered for a block, as replay writes it home
-abbrev pub gathered : BTreeMap ℕ StoredCopy → ℕ → Option (List ℕ)
-gathered newest b = option_map bytes_home (get nat_cmp newest b)
+-- they are stored as a pair
+abbrev pub tables_code : Coded TablesValue
+tables_code =
+    code_by (BlockTable × BlockTable) (coded× (fin_map.code coded_ℕ coded_ℕ) (fin_map.code coded_ℕ coded_ℕ)) (λ t. (t.revokes, t.copies))
+    (λ p. record { revokes = p.0; copies = p.1 }) (λ _. refl)
 
--- these bytes were gathered for the block
-abbrev pub IsGathered : BTreeMap ℕ StoredCopy → Addition
-IsGathered newest b bytes = gathered newest b ≡ Some bytes
+-- nothing is noted
+abbrev pub empty_tables : TablesValue
+empty_tables = record { revokes = empty; copies = empty }
 
--- got is home with what was gathered written over left
-abbrev pub IsWrittenOver : BTreeMap ℕ StoredCopy → Volume → Volume → Type 0
-IsWrittenOver newest left got = (b : ℕ) → got b ≡ unwrap_or (gathered newest b) (left b)
+-- the tables of a chain whose first transaction has this number
+abbrev pub tables_of : ℕ → List Text → TablesValue
+tables_of first texts = record { revokes = revokes_of first texts; copies = places_of texts }
 
--- the last copy of a block among these, or what there was before them
-abbrev pub last_of : ℕ → List (ℕ × List ℕ) → Option (List ℕ) → Option (List ℕ)
-last_of b [] before = before
-last_of b (copy ∷ copies) before = last_of b copies (if copy.0 == b then Some copy.1 else before)
+-- the tables, once it is noted that the transaction revokes these blocks
+abbrev pub with_revokes : TablesValue → ℕ → List ℕ → TablesValue
+with_revokes tables tid numbers = record { revokes = noted_all tables.revokes (notes_of tid numbers); copies = tables.copies }
 
--- each block that has a live copy in the chain has its newest one, and no other block has any
-abbrev pub AreNewest : List Text → BTreeMap ℕ StoredCopy → Type 0
-AreNewest texts newest = (b : ℕ) → MatchOption (gathered newest b) (HasNoLive texts b) (IsNewest texts b)
+-- the blocks of these tags, each with the place of its copy, where the first has place p
+abbrev pub tag_notes : ℕ → List Tag → List (ℕ × ℕ)
+tag_notes p [] = []
+tag_notes p (tag ∷ tags) = (tag.block, p) ∷ tag_notes (suc p) tags
+
+-- the tables, once the copies behind these tags are noted
+abbrev pub with_copies : TablesValue → ℕ → List Tag → TablesValue
+with_copies tables place tags = record { revokes = tables.revokes; copies = placed_all tables.copies (tag_notes place tags) }
+
+-- why gathering is refused: the device failed, or memory ran out, or a log that has transactions reads otherwise than it was
+-- scanned
+abbrev pub IsGatherRefused : (honest : Type 0) → Super → ℕ → DeviceState → DeviceState → JournalError → Type 0
+IsGatherRefused honest s transactions old new e =
+    IsFailure old new e
+    ⊎ ((e ≢ Device) × (e ≢ Memory) × (new.faults ≡ old.faults) × (0 < transactions)
+    × (honest → (texts : List Text) → AreTextsOf s old.shape.home_blocks (reading old.disk) texts → transactions ≡ length texts → ⊥))
+
+-- those of the copies behind a descriptor with these tags which go home by the tables, as they go home
+abbrev pub chosen_behind : TablesValue → ℕ → ℕ → List Tag → List (List ℕ) → List (ℕ × List ℕ)
+chosen_behind tables tid place tags blocks =
+    chosen tables.revokes tables.copies tid place (map (λ p. (p.0.block, unescaped p.0.escaped p.1)) (zip tags blocks))
+
+-- the write home of the copy with this tag, which stands at this position of the ring
+abbrev pub copy_calls : Super → Image → ℕ → Tag → List Call
+copy_calls s image position tag = write_home tag.block (unescaped tag.escaped (log_block image (place_from (ring_of s) s.s_start position))) ∷ []

@@ -1,3 +1,6 @@
+pub mod HomeCopies
+pub mod Calls
+pub mod Choice
 pub mod Gather
 pub mod Opening
 pub mod Values

@@ -1,21 +1,23 @@
--- What formatting and opening leave, why an opening is refused, and what holds at each moment of one.
-use Rattle.std.specs.Prelude.{◌≡◌, ◌≢◌, ◌⊎◌, ℕ, ◌+◌, ◌<◌, ◌≤◌, ◌==◌, Bool, true, false, List, [], length, replicate, slice_get, Some, None, All}
+-- What formatting and opening leave, why an opening is refused, and which calls it makes.
+use Rattle.std.specs.Prelude.{◌≡◌, ◌≢◌, ◌⊎◌, ℕ, ◌+◌, ◌<◌, ◌≤◌, Bool, true, false, List, length, replicate, Some, None}
 use Rattle.journal_model.specs.declared.log.Text.{Text}
 use Rattle.journal_model.specs.declared.number.Area.TheVariants.{Log, Home}
 use Rattle.journal_model.specs.declared.refusal.JournalError.{JournalError}
-use Rattle.journal_model.specs.declared.refusal.JournalError.TheVariants.{Memory, Device, BadBlockSize, BadLength, Ahead, Damage, SequenceEnd}
-use Rattle.journal_model.specs.Chain.{IsChain, IsDamaged, place_from}
-use Rattle.journal_model.specs.Disk.{Disk, Image, IsOneOf, flushed, held, reading}
-use Rattle.journal_model.specs.HomeChange.{Addition, HomeAddsOnly, IsChainCopy}
-use Rattle.journal_model.specs.Layout.{begins_with_magic, sequence_in}
-use Rattle.journal_model.specs.Opening.{HasChain, HasLimit, IsClean, IsRefused, greatest_number, layout_of, log_lap, ring_of, super_of}
-use Rattle.journal_model.specs.Replay.{HasNoLive, IsNewest}
-use Rattle.journal_model.specs.Superblock.{Shape, Super, formatted_super, greatest_length, least_length, super_in, super_refusal, with_tail}
-use Rattle.block_device.specs.State.{DeviceState, Stays, one_more_fault}
+use Rattle.journal_model.specs.declared.refusal.JournalError.TheVariants.{Memory, Device, BadBlockSize, BadLength, Ahead, SequenceEnd}
+use Rattle.journal_model.specs.Chain.{IsAhead}
+use Rattle.journal_model.specs.Disk.{Disk, Image, flushed, reading}
+use Rattle.journal_model.specs.Opening.{HasChain, IsClean, IsRefused, greatest_number, ring_of, super_of}
+use Rattle.journal_model.specs.Superblock.{Shape, Super, formatted_super, greatest_length, least_length, super_in, super_refusal}
+use Rattle.block_device.specs.State.{DeviceState, IsDeviceFailure, IsFailure, Stays, one_more_fault}
 use Rattle.log_format.specs.Accepted.{IsAccepted}
 use Rattle.log_format.specs.Size.{IsBlockSize}
-use Rattle.journal_world.specs.Opening.{KeepsOpening}
+use Rattle.log_scan.specs.Scanning.{AreTextsOf, IsDamageOf, IsScanned}
+use Rattle.journal_world.specs.Opening.{cleaned}
 use Rattle.journal_world.specs.Sound.{durable_cell}
+use Rattle.log_epochs.specs.OpeningRun.{IsFoundOn}
+use Rattle.log_epochs.specs.OpeningSteps.{Found, next_of}
+use Rattle.recovery.specs.Calls.{HasBegun, HasMade, opening_calls}
+use Rattle.recovery.specs.Gather.{TablesValue, tables_of}
 
 -- A log of `maxlen` blocks that was just formatted, and both sizes are within their limits. Its superblock is durable, and
 -- its other blocks are zeros, durably. The log area's blocks behind it read as they did, durably, and home is as it was.
@@ -45,44 +47,31 @@ pub data Tells (shape : Shape) (image : Image) : (clean : Bool) → (ends_at tra
   OfChain : (texts : List Text) → HasChain shape image texts →
       Tells shape image false ((super_of image).s_sequence + length texts) (length texts)
 
--- what an opening of the old disk may add to home: live copies of its chain
-abbrev pub IsCopyOfChain : Shape → Disk → ℕ → List ℕ → Type 0
-IsCopyOfChain shape old b v = (texts : List Text) × HasChain shape (reading old) texts × IsChainCopy texts b v
-
--- what block 0 of the log may hold during an opening: what the old disk reads there, or, only where that is not clean,
--- the same block with the number behind the limit and no start
-pub data IsSuperblockDuring (shape : Shape) (old : Disk) (v : List ℕ) : Type 0 where
-  AsRead : v ≡ (old Log 0).reads → IsSuperblockDuring shape old v
-  Cleaned : (limit : ℕ) → HasLimit shape (reading old) limit → (super_in (old Log 0).reads).s_start ≢ 0 →
-      v ≡ with_tail (old Log 0).reads (limit + 1) 0 → IsSuperblockDuring shape old v
-
--- A moment behind the flush of the log: each image opens to what every image opened to at that flush, and home has gained
--- nothing but copies of the chain. No other block of the log than block 0 is written.
-pub record IsBehindFlush (shape : Shape) (old disk : Disk) : Type 0 where
-  pub keeps : KeepsOpening shape (flushed old Log) disk
-  pub home : HomeAddsOnly (IsCopyOfChain shape old) old disk
-  pub others : (n : ℕ) → (n ≡ 0 → ⊥) → disk Log n ≡ flushed old Log Log n
-  pub superblock : (v : List ℕ) → IsOneOf (held (disk Log 0)) v → IsSuperblockDuring shape old v
-
--- a moment of an opening: nothing is written yet, or the log was flushed
-pub data IsDuringOpening (shape : Shape) (old disk : Disk) : Type 0 where
-  Untouched : disk ≡ old → IsDuringOpening shape old disk
-  Behind : IsBehindFlush shape old disk → IsDuringOpening shape old disk
-
--- Why an opening is refused: the device failed; memory ran out; or else nothing was written, and what was read is
--- refused for what stands in it.
+-- Why an opening is refused: the device failed; memory ran out, and nothing was written; or else nothing was written, and what
+-- was read is refused for what stands in it.
 pub record OpeningRefused (honest : Type 0) (old new : DeviceState) (e : JournalError) : Type 0 where
   pub device : e ≡ Device → new.faults ≡ one_more_fault old.faults
   pub no_fault : e ≢ Device → new.faults ≡ old.faults
+  pub memory : e ≡ Memory → Stays old new
   pub content : e ≢ Device → e ≢ Memory → Stays old new × (honest → IsRefused old.shape (reading old.disk) e)
 
--- the device failed, and counted that
-abbrev pub IsDeviceFailure : DeviceState → DeviceState → JournalError → Type 0
-IsDeviceFailure old new e = (e ≡ Device) × (new.faults ≡ one_more_fault old.faults)
+-- An opening that ended: what it read is good, and it made the calls that are due for that.
+pub record IsDone (old new : DeviceState) : Type 0 where
+  pub found : Found
+  pub is : IsFoundOn old.shape found old.disk
+  pub made : HasMade (opening_calls found) old new
 
--- the device failed, or memory ran out and the device did not fail
-abbrev pub IsFailure : DeviceState → DeviceState → JournalError → Type 0
-IsFailure old new e = IsDeviceFailure old new e ⊎ ((e ≡ Memory) × (new.faults ≡ old.faults))
+-- an opening that ended, with this superblock and this next number
+pub record IsDoneWith (old new : DeviceState) (superblock : List ℕ) (next : ℕ) : Type 0 where
+  pub done : IsDone old new
+  pub superblock_is : superblock ≡ cleaned (done.found.image Log 0) next
+  pub next_is : next ≡ next_of done.found
+
+-- An opening that the device failed in: it came no farther than to read, or some of the calls were made that are due for what
+-- it read.
+pub data IsBroken (old new : DeviceState) : Type 0 where
+  Reading : Stays old new → IsBroken old new
+  Writing : (found : Found) → IsFoundOn old.shape found old.disk → HasBegun (opening_calls found) old new → IsBroken old new
 
 -- a failure, or block 0 of the log, as it was read, is refused
 abbrev pub IsReadingRefused : (honest : Type 0) → DeviceState → DeviceState → JournalError → Type 0
@@ -104,115 +93,51 @@ pub record IsWellRead (shape : Shape) (superblock : List ℕ) (fields : Super) :
   pub fields_are : fields ≡ super_in superblock
   pub accepted : IsAccepted shape.block_size shape.log_blocks fields
 
--- a lap has all blocks of the ring, each of the size that the superblock says
-pub record IsWholeLap (fields : Super) (lap : List (List ℕ)) : Type 0 where
-  pub count : length lap ≡ (ring_of fields).blocks
-  pub whole : All (λ b. length b ≡ fields.s_blocksize) lap
+-- so many complete transactions has the log: none where it is clean, else those that a scan counts
+pub record HasTransactions (s : Super) (count : ℕ) (image : Image) (transactions : ℕ) : Type 0 where
+  pub clean : s.s_start ≡ 0 → transactions ≡ 0
+  pub scanned : s.s_start ≢ 0 → IsScanned s count image transactions
 
--- what was read is what the image has
-pub record IsReadFrom (image : Image) (superblock : List ℕ) (lap : List (List ℕ)) : Type 0 where
-  pub superblock_is : superblock ≡ image Log 0
-  pub lap_is : lap ≡ log_lap image
+-- no ring block has a sequence above this one
+abbrev pub NoneAhead : Super → Image → ℕ → Type 0
+NoneAhead s image limit = (place : ℕ) → IsAhead (ring_of s) image limit place → ⊥
 
--- these are the texts of a log that was read: none where it is clean, else those of its chain, which no damage ends
-pub record AreTextsOf (fields : Super) (count : ℕ) (lap : List (List ℕ)) (texts : List Text) : Type 0 where
-  pub clean : fields.s_start ≡ 0 → texts ≡ []
-  pub chain : fields.s_start ≢ 0 → IsChain (layout_of fields) count fields.s_sequence lap texts
-  pub undamaged : fields.s_start ≢ 0 → (k : ℕ) → IsDamaged (layout_of fields) count fields.s_sequence lap k → ⊥
+-- the lowest ring block that has one
+pub record IsLowestAhead (s : Super) (image : Image) (limit place : ℕ) : Type 0 where
+  pub ahead : IsAhead (ring_of s) image limit place
+  pub lowest : (other : ℕ) → IsAhead (ring_of s) image limit other → place ≤ other
 
--- the block is one of the log's own, and its sequence is above the limit
-pub record IsAheadBlock (limit : ℕ) (block : List ℕ) : Type 0 where
-  pub magic : begins_with_magic block ≡ true
-  pub above : limit < sequence_in block
+-- a log that is not refused for what stands in its ring
+pub record IsTested (s : Super) (count : ℕ) (image : Image) (transactions : ℕ) : Type 0 where
+  pub has : HasTransactions s count image transactions
+  pub none_ahead : NoneAhead s image (s.s_sequence + transactions)
 
--- no block of the lap is ahead
-abbrev pub NoneAhead : List (List ℕ) → ℕ → Type 0
-NoneAhead lap limit = (k : ℕ) (block : List ℕ) → slice_get lap k ≡ Some block → IsAheadBlock limit block → ⊥
+-- why a log is refused for what stands in its ring: a damaged block, a block that is ahead, or no number left
+pub data IsRefusedLog (s : Super) (count : ℕ) (image : Image) : JournalError → Type 0 where
+  ForDamage : (e : JournalError) → s.s_start ≢ 0 → IsDamageOf s count image e → IsRefusedLog s count image e
+  ForAhead : (transactions place : ℕ) → HasTransactions s count image transactions → IsLowestAhead s image (s.s_sequence + transactions) place →
+      IsRefusedLog s count image (Ahead place)
+  ForNumber : (transactions : ℕ) → HasTransactions s count image transactions → NoneAhead s image (s.s_sequence + transactions) →
+      greatest_number ≤ s.s_sequence + transactions → IsRefusedLog s count image SequenceEnd
 
--- block k of the lap is ahead, and stands at this place
-pub record StandsAhead (fields : Super) (lap : List (List ℕ)) (limit k place : ℕ) : Type 0 where
-  pub block : List ℕ
-  pub stands : slice_get lap k ≡ Some block
-  pub ahead : IsAheadBlock limit block
-  pub place_is : place ≡ place_from (ring_of fields) fields.s_start k
+-- why the tests of a log's ring refuse it: the device failed, or what stands there
+abbrev pub IsTestRefused : (honest : Type 0) → Super → DeviceState → DeviceState → JournalError → Type 0
+IsTestRefused honest s old new e =
+    IsDeviceFailure old new e
+    ⊎ ((e ≢ Device) × (e ≢ Memory) × (new.faults ≡ old.faults) × (honest → IsRefusedLog s old.shape.home_blocks (reading old.disk) e))
 
--- the lowest place of a block of the first so many of a lap that is ahead
-pub record IsLowestAhead (fields : Super) (lap : List (List ℕ)) (limit end place : ℕ) : Type 0 where
-  pub k : ℕ
-  pub within : k < end
-  pub ahead : StandsAhead fields lap limit k place
-  pub lowest : (j other : ℕ) → j < end → StandsAhead fields lap limit j other → place ≤ other
+-- What is known of a log that was read and is not refused, whatever the device answered: block 0 is accepted, and a number is
+-- left for the next transaction.
+pub record IsExamined (shape : Shape) (superblock : List ℕ) (fields : Super) (transactions : ℕ) : Type 0 where
+  pub well : IsWellRead shape superblock fields
+  pub number : fields.s_sequence + transactions < greatest_number
+  pub clean : fields.s_start ≡ 0 → transactions ≡ 0
 
--- what a log that was read holds, where it is not refused: its texts, and the number behind the last of them
-pub record IsFound (fields : Super) (count : ℕ) (lap : List (List ℕ)) (texts : List Text) (limit : ℕ) : Type 0 where
-  pub texts_of : AreTextsOf fields count lap texts
-  pub limit_is : limit ≡ fields.s_sequence + length texts
-  pub none_ahead : NoneAhead lap limit
-  pub number : limit < greatest_number
-
--- why a log that was read is refused: a damaged block, a block that is ahead, or no number left
-pub data IsRefusedLog (fields : Super) (count : ℕ) (lap : List (List ℕ)) : JournalError → Type 0 where
-  ForDamage : (k : ℕ) → fields.s_start ≢ 0 → IsDamaged (layout_of fields) count fields.s_sequence lap k →
-      IsRefusedLog fields count lap (Damage (place_from (ring_of fields) fields.s_start k))
-  ForAhead : (texts : List Text) (place : ℕ) → AreTextsOf fields count lap texts →
-      IsLowestAhead fields lap (fields.s_sequence + length texts) (length lap) place → IsRefusedLog fields count lap (Ahead place)
-  ForNumber : (texts : List Text) → AreTextsOf fields count lap texts → NoneAhead lap (fields.s_sequence + length texts) →
-      greatest_number ≤ fields.s_sequence + length texts → IsRefusedLog fields count lap SequenceEnd
-
--- an image whose superblock is accepted, and what its measures are
-pub record IsTaken (shape : Shape) (image : Image) : Type 0 where
-  pub accepted : super_refusal shape (image Log 0) ≡ None
-  pub measures : IsAccepted shape.block_size shape.log_blocks (super_of image)
-
--- what may be added to home can be written there: home has the block, and the bytes fill it
-pub record FitsHome (shape : Shape) (may : Addition) : Type 0 where
-  pub within : (b : ℕ) (bytes : List ℕ) → may b bytes → b < shape.home_blocks
-  pub whole : (b : ℕ) (bytes : List ℕ) → may b bytes → length bytes ≡ shape.block_size
-
--- What is known of a log that was read and is not refused, whatever the device answered: block 0 is accepted, and says
--- whether the log is clean; in a clean log the limit is its number, and else the copies can be written.
-pub record IsExamined (shape : Shape) (superblock : List ℕ) (clean : Bool) (texts : List Text) (limit : ℕ) : Type 0 where
-  pub tested : super_refusal shape superblock ≡ None
-  pub size : length superblock ≡ shape.block_size
-  pub allowed : IsBlockSize (length superblock)
-  pub there : 0 < shape.log_blocks
-  pub start : ((super_in superblock).s_start == 0) ≡ clean
-  pub number : limit < greatest_number
-  pub end : clean ≡ true → limit ≡ (super_in superblock).s_sequence
-  pub copies : clean ≡ false → FitsHome shape (IsNewest texts)
-
--- what was found stands in the image
-pub record IsExaminedOf (shape : Shape) (image : Image) (superblock : List ℕ) (texts : List Text) (limit : ℕ) : Type 0 where
-  pub read : superblock ≡ image Log 0
-  pub taken : IsTaken shape image
-  pub found : IsFound (super_of image) shape.home_blocks (log_lap image) texts limit
-
--- a moment of writing home: home has gained nothing but what may be added, and the log is as it was
-pub record IsWritingHome (may : Addition) (old disk : Disk) : Type 0 where
-  pub home : HomeAddsOnly may old disk
-  pub log : (n : ℕ) → disk Log n ≡ old Log n
-
--- home is durable as it read
-abbrev pub IsHomeDurable : Disk → Disk → Type 0
-IsHomeDurable old disk = (b : ℕ) → disk Home b ≡ durable_cell (old Home b).reads
-
--- a log block that is not written is as it was, or durable as it read
-abbrev pub IsLogKept : Disk → Disk → ℕ → Type 0
-IsLogKept old disk n = (disk Log n ≡ old Log n) ⊎ (disk Log n ≡ durable_cell (old Log n).reads)
-
--- a moment of the end of replay: block 0 of the log may be the new superblock only where home is durable
-pub record IsEnding (superblock : List ℕ) (old disk : Disk) : Type 0 where
-  pub home : (b : ℕ) → (disk Home b ≡ old Home b) ⊎ (disk Home b ≡ durable_cell (old Home b).reads)
-  pub log : (n : ℕ) → n ≢ 0 → IsLogKept old disk n
-  pub block_0 : (v : List ℕ) → IsOneOf (held (disk Log 0)) v → IsOneOf (held (old Log 0)) v ⊎ ((v ≡ superblock) × IsHomeDurable old disk)
-
--- whatever home holds is what replay makes of it
-abbrev pub IsHomeDone : ℕ → List Text → Disk → Disk → Type 0
-IsHomeDone count texts old disk =
-    (b : ℕ) (v : List ℕ) → b < count → IsOneOf (held (disk Home b)) v → IsNewest texts b v ⊎ (HasNoLive texts b × IsOneOf (held (old Home b)) v)
-
--- a moment of replay and its end: block 0 of the log may be the new superblock only where home is done
-pub record IsReplaying (count : ℕ) (texts : List Text) (superblock : List ℕ) (old disk : Disk) : Type 0 where
-  pub home : HomeAddsOnly (IsNewest texts) old disk
-  pub log : (n : ℕ) → n ≢ 0 → IsLogKept old disk n
-  pub block_0 : (v : List ℕ) → IsOneOf (held (disk Log 0)) v → IsOneOf (held (old Log 0)) v ⊎ ((v ≡ superblock) × IsHomeDone count texts old disk)
+-- what was read stands on the disk: this was found there, and these tables are those of its chain
+pub record IsExaminedOn (shape : Shape) (disk : Disk) (superblock : List ℕ) (fields : Super) (transactions : ℕ) (tables : TablesValue) (found : Found) : Type 0 where
+  pub is : IsFoundOn shape found disk
+  pub superblock_is : superblock ≡ found.image Log 0
+  pub fields_are : fields ≡ super_of found.image
+  pub count : transactions ≡ length found.texts
+  pub texts : fields.s_start ≢ 0 → AreTextsOf fields shape.home_blocks (reading disk) found.texts
+  pub tables_are : fields.s_start ≢ 0 → tables ≡ tables_of fields.s_sequence found.texts

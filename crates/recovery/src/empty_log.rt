@@ -3,7 +3,8 @@ ghost use Rattle.std.specs.Prelude.{◌≡◌, ◌<◌, ◌≤◌, length, OnOk,
 ghost use Rattle.journal_model.specs.declared.number.Area.TheVariants.{Log};
 ghost use Rattle.journal_model.specs.Superblock.{greatest_length, least_length};
 ghost use Rattle.log_format.specs.Size.{IsBlockSize};
-ghost use Rattle.recovery.specs.Opening.{FormatRefused, HasZeros, IsDeviceFailure, IsFormatted};
+ghost use Rattle.block_device.specs.State.{IsDeviceFailure};
+ghost use Rattle.recovery.specs.Opening.{FormatRefused, HasZeros, IsFormatted};
 
 use block_device::Device;
 use journal_model::layout::{GREATEST_LENGTH, LEAST_LENGTH};

@@ -1,17 +1,19 @@
 //! Makes a log on a device, and opens one: the log is tested, the transactions that a stop left in it go home, and it is
 //! left clean.
 //!
-//! `scan` reads the superblock and the ring, tests both, and finds the chain of complete transactions. `gather` goes over
-//! the chain once, for the newest live copy of each block; `replay` writes these home and then marks the log clean.
-//! `opening` puts them together and makes an `Opened`, and `empty_log` formats. What an opening gives back, and what a stop
-//! within it leaves, is said by `specs/Opening.antt`.
+//! `examine` reads the superblock and goes over the ring, block by block, and tests both. `gathering` goes over the chain of
+//! complete transactions, for what they revoke and for the newest copy of each block; `replaying` goes over it once more, writes
+//! these copies home and then marks the log clean. `opening` puts them together and makes an `Opened`, and `empty_log` formats.
+//! Which calls an opening makes is said by `specs/Calls.antt`, and what it answers by `specs/Opening.antt`.
 #![tactic(auto)]
 
 mod empty_log;
-mod gather;
+mod examine;
+mod gathering;
 mod opening;
-mod replay;
-mod scan;
+mod replaying;
 
 pub use empty_log::format;
+pub use gathering::{Tables, gather};
 pub use opening::{Opened, Report, open};
+pub use replaying::replay;

@@ -2,15 +2,16 @@
 ghost use Rattle.std.specs.Prelude.{◌<◌, ◌≡◌, ◌+◌, OnOk, IfOk, IfErr, MatchResult};
 ghost use Rattle.journal_model.specs.Disk.{reading};
 ghost use Rattle.journal_model.specs.Opening.{greatest_number};
-ghost use Rattle.block_device.specs.State.{EachMoment, Stays};
+ghost use Rattle.block_device.specs.State.{EachMoment};
 ghost use Rattle.journal_world.specs.Opening.{IsOpenedLog, IsOpening};
+ghost use Rattle.log_epochs.specs.OpeningRun.{IsMoment};
 ghost use Rattle.recovery.specs.Values.{IsNextNamed};
-ghost use Rattle.recovery.specs.Opening.{IsDuringOpening, IsExamined, IsExaminedOf, OpeningRefused, Tells};
+ghost use Rattle.recovery.specs.Opening.{IsBroken, IsDone, IsDoneWith, OpeningRefused, Tells};
 
-use crate::replay::bring_home;
-use crate::scan::{Read, is_clean, read_log, scan};
+use crate::examine::{Examined, examine};
+use crate::replaying::{clean_log, replay};
 use block_device::Device;
-use journal_model::{Area, Items, JournalError, Text, Tid};
+use journal_model::{Area, JournalError, Tid};
 use std::alloc::Global;
 use std::marker::Model;
 
@@ -57,19 +58,27 @@ impl<D: Device> Model for Opened<D> {
 /// Opens the log of a device: tests it, replays the transactions that it holds to home, and leaves it clean. Before
 /// anything else is relied on, the log area is flushed, so that no later stop takes back what was read.
 ///
+/// The calls that it makes are those of `opening_calls` (`specs/Calls.antt`), one after the other: a flush of the log, and where
+/// that is not clean, one write of each home block that has a live copy, in the order of the chain, a flush of home, the write
+/// of the superblock, and a flush of the log. It holds one buffer of a block, and memory in proportion to the blocks that the
+/// chain names.
+///
 /// # Errors
 ///
 /// The device comes back with the refusal. `BadMagic` to `ErrnoSet`: the superblock; `Damage` and `Ahead`: a ring block;
-/// `SequenceEnd`: no number is left for a transaction. Before these nothing is written. `Device` where the device failed
-/// and `Memory` where memory ran out: home may have been written, and what a stop then leaves opens to the same
-/// transactions.
-/// Source: fs/jbd2/recovery.c by behaviour; the flush and the tests of ring blocks are this project's own.
+/// `SequenceEnd`: no number is left for a transaction; `Memory` where memory ran out: nothing is written. `Device` where the
+/// device failed: home may have been written, and what a stop then leaves opens to the same transactions.
+/// Source: fs/jbd2/recovery.c by behaviour; the flush, the tests of ring blocks, and that each home block is written once are
+/// this project's own.
 pub fn open<D: Device>(alloc: Global, device: D) -> Result<Opened<D>, (D, JournalError)>
     ensures opened { IfOk result (λ o. D.honest o.device → IsOpening (D.state device).shape (D.state device).disk (D.state o.device).disk o.superblock o.next) }
     ensures report { IfOk result (λ o. D.honest o.device → Tells (D.state device).shape (reading (D.state device).disk) o.clean o.ends_at o.transactions) }
+    ensures calls { MatchResult result
+        (λ o. D.honest o.device → IsDone (D.state device) (D.state o.device))
+        (λ e. D.honest e.0 → IsBroken (D.state device) (D.state e.0)) }
     ensures moments { MatchResult result
-        (λ o. D.honest o.device → EachMoment (IsDuringOpening (D.state device).shape (D.state device).disk) (D.state device) (D.state o.device))
-        (λ e. D.honest e.0 → EachMoment (IsDuringOpening (D.state device).shape (D.state device).disk) (D.state device) (D.state e.0)) }
+        (λ o. D.honest o.device → EachMoment (IsMoment (D.state device).shape (D.state device).disk) (D.state device) (D.state o.device))
+        (λ e. D.honest e.0 → EachMoment (IsMoment (D.state device).shape (D.state device).disk) (D.state device) (D.state e.0)) }
     ensures refused { IfErr result (λ e. OpeningRefused (D.honest e.0) (D.state device) (D.state e.0) e.1) }
     ensures no_fault { IfOk result (λ o. (D.state o.device).faults ≡ (D.state device).faults) }
     ensures shape { MatchResult result (λ o. (D.state o.device).shape ≡ (D.state device).shape) (λ e. (D.state e.0).shape ≡ (D.state device).shape) }
@@ -152,15 +161,6 @@ impl<D: Device> Opened<D> {
     }
 }
 
-/// What a log holds: block 0, whether it is clean, its complete transactions, and the number behind the last of them.
-#[derive(Drop)]
-struct Found {
-    superblock: Vec<u8>,
-    clean: bool,
-    texts: Items<Text>,
-    limit: u64,
-}
-
 /// The number of the next transaction, behind the transactions that end at this number.
 fn number_from(limit: u64) -> u32
     requires { limit < greatest_number }
@@ -173,56 +173,35 @@ fn number_from(limit: u64) -> u32
 /// found.
 fn recover<D: Device>(alloc: Global, device: &mut D) -> Result<(Vec<u8>, Tid, Report), JournalError>
     ensures named { IfOk result (λ r. IsNextNamed (D.state device.new).shape r.0.items r.1) }
-    ensures opened { IfOk result (λ r. D.honest device.new → IsOpening (D.state device.old).shape (D.state device.old).disk (D.state device.new).disk r.0.items r.1) }
+    ensures done { IfOk result (λ r. D.honest device.new → IsDoneWith (D.state device.old) (D.state device.new) r.0.items r.1) }
     ensures report { IfOk result (λ r. D.honest device.new → Tells (D.state device.old).shape (reading (D.state device.old).disk) r.2.clean r.2.ends_at r.2.transactions) }
-    ensures moments { D.honest device.new → EachMoment (IsDuringOpening (D.state device.old).shape (D.state device.old).disk) (D.state device.old) (D.state device.new) }
-    ensures refused { IfErr result (λ e. OpeningRefused (D.honest device.new) (D.state device.old) (D.state device.new) e) }
+    ensures broken { IfErr result (λ e. D.honest device.new → IsBroken (D.state device.old) (D.state device.new)) }
+    ensures refused { IfErr result (OpeningRefused (D.honest device.new) (D.state device.old) (D.state device.new)) }
     ensures no_fault { OnOk result ((D.state device.new).faults ≡ (D.state device.old).faults) }
     ensures shape { (D.state device.new).shape ≡ (D.state device.old).shape }
     ensures honest { D.honest device.new → D.honest device.old }
 {
-    let Found {
+    let Examined {
         superblock,
-        clean,
-        texts,
-        limit,
+        log,
+        transactions,
+        tables,
+        finder,
     } = examine(alloc, device)?;
     device.flush(Area::Log)?;
+    let limit = log.first_number() + transactions;
     let next = number_from(limit);
     let report = Report {
-        clean,
+        clean: log.is_clean(),
         ends_at: limit,
-        transactions: texts.len() as u64,
+        transactions,
     };
-    if clean {
+    if report.clean {
         return Ok((superblock, Tid(next), report));
     }
-    let superblock = bring_home(alloc, device, texts.as_slice(), superblock, next)?;
+    let mut finder = finder;
+    let mut superblock = superblock;
+    replay(device, &log, transactions, &tables, &mut finder)?;
+    clean_log(device, &mut superblock, next)?;
     Ok((superblock, Tid(next), report))
-}
-
-/// Reads the log and tests all that stands in it. Nothing is written.
-fn examine<D: Device>(alloc: Global, device: &mut D) -> Result<Found, JournalError>
-    ensures found { IfOk result (λ found. IsExamined (D.state device.old).shape found.superblock.items found.clean found.texts found.limit) }
-    ensures read { IfOk result (λ found. D.honest device.new → IsExaminedOf (D.state device.old).shape (reading (D.state device.old).disk) found.superblock.items found.texts found.limit) }
-    ensures faults { OnOk result ((D.state device.new).faults ≡ (D.state device.old).faults) }
-    ensures refused { IfErr result (λ e. OpeningRefused (D.honest device.new) (D.state device.old) (D.state device.new) e) }
-    ensures stays { Stays (D.state device.old) (D.state device.new) }
-    ensures honest { D.honest device.new → D.honest device.old }
-{
-    let log = read_log(alloc, device)?;
-    let home_blocks = device.blocks(Area::Home);
-    let (texts, limit) = scan(alloc, &log, home_blocks)?;
-    let Read {
-        superblock,
-        fields,
-        ring: _,
-        lap: _,
-    } = log;
-    Ok(Found {
-        superblock,
-        clean: is_clean(&fields),
-        texts,
-        limit,
-    })
 }

@@ -1,151 +1,158 @@
-use Rattle.std.proofs.Common.{◌≡◌, ◌<◌, ◌+◌, ℕ, List, ap, sym, subst, ◌∙◌, refl}
+use Rattle.std.proofs.Common.{◌≡◌, ◌≢◌, ◌∙◌, ◌+◌, List, ℕ, ap, sym, subst, length, arith}
+use Rattle.std.proofs.lemmas.List.{with_items_is}
 use Rattle.std.proofs.lemmas.Result.{err_from_is_err_and}
 use Rattle.journal_model.specs.declared.log.Text.{Text}
-use Rattle.journal_model.specs.Replay.{IsNewest}
-use Rattle.journal_model.specs.Superblock.{Shape, with_tail}
+use Rattle.journal_model.specs.Superblock.{Shape, Super, with_tail}
 use Rattle.block_device.specs.State.{DeviceState}
-use Rattle.recovery.specs.Opening.{FitsHome}
+use Rattle.recovery.specs.Calls.{HasBegun, HasMade, cleaning_calls, writes_home}
+use Rattle.recovery.specs.Gather.{TablesValue}
+use Rattle.recovery.specs.HomeCopies.{home_copies}
+use Rattle.recovery.specs.Opening.{IsDoneWith}
 use Rattle.recovery.specs.Values.{IsNextNamed}
-use Rattle.journal_world.specs.Opening.{IsOpening}
-use Rattle.recovery.proofs.During.{flush-moments}
-use Rattle.recovery.proofs.Recovering.{chain-tells, clean-opening, clean-tells, failure-behind, replayed-moments, replayed-named, replayed-opening, same-moments, same-replayed}
+use Rattle.recovery.proofs.Recovering.{clean-done, clean-start, cleaning-broken, copies-broken, device-refused, examined-tells, of-found, other-start, started-done, tail-named}
 use Rattle.recovery.proofs.opening.recover.Goals as goal
 
 -- a clean log is opened
-pub returns-then-clean-clause-opened : goal.returns-then-clean-clause-opened
-returns-then-clean-clause-opened g c = λ honest.
-    let s : DeviceState = g.D.Device.state c.args.device.now in
-    let clean = rw c.if-clean.true at c.in_ok-superblock.ensures.found in
-    rw c.number_from-next.ensures
-    (clean-opening s (g.D.Device.state c.examine.new.device) (g.D.Device.state c.flush.new.self) c.in_ok-superblock.field-0.superblock.items
-    c.in_ok-superblock.field-0.texts c.in_ok-superblock.field-0.limit clean c.examine.ensures.stays c.in_ok-flush.ensures.ok
-    (c.in_ok-superblock.ensures.read (c.flush.ensures.honest honest)))
+pub returns-then-report-clause-done : goal.returns-then-report-clause-done
+returns-then-report-clause-done g c = λ honest.
+    let log : Super = c.in_ok-superblock.field-0.log in
+    let on = c.in_ok-superblock.ensures.on (c.flush.ensures.honest honest) in
+    clean-done (g.D.Device.state c.args.device.now) c.in_ok-superblock.field-0.superblock.items log c.in_ok-superblock.field-0.transactions
+    c.in_ok-superblock.field-0.tables on.0 on.1 (g.D.Device.state c.examine.new.device) (g.D.Device.state c.flush.new.self) c.number_from-next.result
+    (clean-start log c.is_clean.result c.is_clean.ensures c.if-report.true)
+    (c.number_from-next.ensures ∙ ap (λ (n : ℕ). n + c.in_ok-superblock.field-0.transactions + 1) c.first_number.ensures.value) c.examine.ensures.stays
+    c.in_ok-flush.ensures.ok
 
 -- what that tells
-pub returns-then-clean-clause-report : goal.returns-then-clean-clause-report
-returns-then-clean-clause-report g c = λ honest.
-    let s : DeviceState = g.D.Device.state c.args.device.now in
-    let clean = rw c.if-clean.true at c.in_ok-superblock.ensures.found in
-    rw c.if-clean.true
-    (clean-tells s.shape _ c.in_ok-superblock.field-0.superblock.items
-    c.in_ok-superblock.field-0.texts c.in_ok-superblock.field-0.limit c.len.result clean c.len.ensures
-    (c.in_ok-superblock.ensures.read (c.flush.ensures.honest honest)))
+pub returns-then-report-clause-report : goal.returns-then-report-clause-report
+returns-then-report-clause-report g c = λ honest.
+    let on = c.in_ok-superblock.ensures.on (c.flush.ensures.honest honest) in
+    examined-tells (g.D.Device.state c.args.device.now) c.in_ok-superblock.field-0.superblock.items c.in_ok-superblock.field-0.log
+    c.in_ok-superblock.field-0.transactions c.in_ok-superblock.field-0.tables on.0 on.1 c.is_clean.result
+    (c.first_number.result + c.in_ok-superblock.field-0.transactions) c.is_clean.ensures
+    (ap (λ (n : ℕ). n + c.in_ok-superblock.field-0.transactions) c.first_number.ensures.value)
 
-pub returns-then-clean-clause-moments : goal.returns-then-clean-clause-moments
-returns-then-clean-clause-moments g c = λ honest.
-    flush-moments (g.D.Device.state c.args.device.now).shape (g.D.Device.state c.args.device.now) (g.D.Device.state c.examine.new.device)
-    (g.D.Device.state c.flush.new.self) c.examine.ensures.stays c.in_ok-flush.ensures.ok
-
--- the copies can be written
-pub bring_home-requires-clause-copies : goal.bring_home-requires-clause-copies
-bring_home-requires-clause-copies g c =
-    let other = rw c.if-clean.false at c.in_ok-superblock.ensures.found in
-    let shape = c.in_ok-flush.ensures.ok.shape ∙ c.examine.ensures.stays.shape in
-    subst (λ (s : Shape). FitsHome s (IsNewest c.as_slice.result.now)) (sym shape)
-    (subst (λ (ts : List Text). FitsHome (g.D.Device.state c.args.device.now).shape (IsNewest ts)) (sym c.as_slice.ensures) (other.copies refl))
-
--- the superblock fills a block
-pub bring_home-requires-clause-size : goal.bring_home-requires-clause-size
-bring_home-requires-clause-size g c =
-    c.in_ok-superblock.ensures.found.size
-    ∙ sym (ap (λ (s : Shape). s.block_size) (c.in_ok-flush.ensures.ok.shape ∙ c.examine.ensures.stays.shape))
-
--- the log has a block
-pub bring_home-requires-clause-there : goal.bring_home-requires-clause-there
-bring_home-requires-clause-there g c =
-    subst (λ (s : Shape). 0 < s.log_blocks) (sym (c.in_ok-flush.ensures.ok.shape ∙ c.examine.ensures.stays.shape)) c.in_ok-superblock.ensures.found.there
-
--- replay or its end failed
-pub returns-in_err-superblock-2-clause-refused : goal.returns-in_err-superblock-2-clause-refused
-returns-in_err-superblock-2-clause-refused g c =
-    let p = err_from_is_err_and c.from_residual-in_err-superblock-2.result c.from_residual-in_err-superblock-2.ensures.1 in
+-- the device failed in replay
+pub returns-in_err-replay-clause-refused : goal.returns-in_err-replay-clause-refused
+returns-in_err-replay-clause-refused g c =
+    let p = err_from_is_err_and c.from_residual-in_err-replay.result c.from_residual-in_err-replay.ensures.1 in
     rw (p.1, p.2)
-    (failure-behind (g.D.Device.honest c.bring_home.new.device) (g.D.Device.state c.args.device.now) (g.D.Device.state c.flush.new.self)
-    (g.D.Device.state c.bring_home.new.device) c.in_err-superblock-2.field-0.0 (c.in_ok-flush.ensures.faults ∙ c.in_ok-superblock.ensures.faults)
-    c.in_err-superblock-2.ensures.faults)
+    (device-refused (g.D.Device.honest c.replay.new.device) (g.D.Device.state c.args.device.now) (g.D.Device.state c.flush.new.self)
+    (g.D.Device.state c.replay.new.device) c.in_err-replay.field-0.0 (c.in_ok-flush.ensures.faults ∙ c.in_ok-superblock.ensures.faults)
+    c.in_err-replay.ensures.faults)
 
-pub returns-in_err-superblock-2-clause-moments : goal.returns-in_err-superblock-2-clause-moments
-returns-in_err-superblock-2-clause-moments g c = λ honest.
+-- some copies are home
+pub returns-in_err-replay-clause-broken : goal.returns-in_err-replay-clause-broken
+returns-in_err-replay-clause-broken g c =
+    let p = err_from_is_err_and c.from_residual-in_err-replay.result c.from_residual-in_err-replay.ensures.1 in
     let s : DeviceState = g.D.Device.state c.args.device.now in
+    let t : DeviceState = g.D.Device.state c.examine.new.device in
     let u : DeviceState = g.D.Device.state c.flush.new.self in
-    let w : DeviceState = g.D.Device.state c.bring_home.new.device in
-    let other = rw c.if-clean.false at c.in_ok-superblock.ensures.found in
-    let shape : u.shape ≡ s.shape = c.in_ok-flush.ensures.ok.shape ∙ c.examine.ensures.stays.shape in
-    let home : u.shape.home_blocks ≡ s.shape.home_blocks = ap (λ (m : Shape). m.home_blocks) shape in
-    replayed-moments s (g.D.Device.state c.examine.new.device) u w c.in_ok-superblock.field-0.superblock.items c.in_ok-superblock.field-0.texts
-    c.in_ok-superblock.field-0.limit other c.examine.ensures.stays c.in_ok-flush.ensures.ok
-    (same-moments u.shape.home_blocks s.shape.home_blocks c.as_slice.result.now c.in_ok-superblock.field-0.texts
-    (with_tail c.in_ok-superblock.field-0.superblock.items (c.in_ok-superblock.field-0.limit + 1) 0) u w home c.as_slice.ensures (rw c.number_from-next.ensures at c.bring_home.ensures.moments))
-    (c.in_ok-superblock.ensures.read (c.flush.ensures.honest (c.bring_home.ensures.honest honest)))
+    let w : DeviceState = g.D.Device.state c.replay.new.device in
+    let block : List ℕ = c.in_ok-superblock.field-0.superblock.items in
+    let log : Super = c.in_ok-superblock.field-0.log in
+    let count : ℕ = c.in_ok-superblock.field-0.transactions in
+    let tables : TablesValue = c.in_ok-superblock.field-0.tables in
+    rw p.1
+    (λ honest.
+    let on = c.in_ok-superblock.ensures.on (c.flush.ensures.honest (c.replay.ensures.honest honest)) in
+    let started : log.s_start ≢ 0 = other-start log c.is_clean.result c.is_clean.ensures c.if-report.false in
+    copies-broken s block log count tables on.0 on.1 t u w c.number_from-next.result started
+    (c.number_from-next.ensures ∙ ap (λ (n : ℕ). n + c.in_ok-superblock.field-0.transactions + 1) c.first_number.ensures.value)
+    c.examine.ensures.stays c.in_ok-flush.ensures.ok
+    (of-found s block log count tables on.0 on.1 (λ (texts : List Text). HasBegun (writes_home (home_copies texts)) u w) t u started
+    c.examine.ensures.stays c.in_ok-flush.ensures.ok (c.in_err-replay.ensures.begun honest)))
 
--- the log is clean again
-pub returns-clause-moments : goal.returns-clause-moments
-returns-clause-moments g c = λ honest.
+-- it failed where the log was to be marked clean
+pub returns-in_err-clean_log-clause-refused : goal.returns-in_err-clean_log-clause-refused
+returns-in_err-clean_log-clause-refused g c =
+    let p = err_from_is_err_and c.from_residual-in_err-clean_log.result c.from_residual-in_err-clean_log.ensures.1 in
+    rw (p.1, p.2)
+    (device-refused (g.D.Device.honest c.clean_log.new.device) (g.D.Device.state c.args.device.now) (g.D.Device.state c.replay.new.device)
+    (g.D.Device.state c.clean_log.new.device) c.in_err-clean_log.field-0.0
+    (c.in_ok-replay.ensures.faults ∙ c.in_ok-flush.ensures.faults ∙ c.in_ok-superblock.ensures.faults) c.in_err-clean_log.ensures.faults)
+
+-- all copies are home
+pub returns-in_err-clean_log-clause-broken : goal.returns-in_err-clean_log-clause-broken
+returns-in_err-clean_log-clause-broken g c =
+    let p = err_from_is_err_and c.from_residual-in_err-clean_log.result c.from_residual-in_err-clean_log.ensures.1 in
     let s : DeviceState = g.D.Device.state c.args.device.now in
+    let t : DeviceState = g.D.Device.state c.examine.new.device in
     let u : DeviceState = g.D.Device.state c.flush.new.self in
-    let w : DeviceState = g.D.Device.state c.bring_home.new.device in
-    let other = rw c.if-clean.false at c.in_ok-superblock.ensures.found in
-    let shape : u.shape ≡ s.shape = c.in_ok-flush.ensures.ok.shape ∙ c.examine.ensures.stays.shape in
-    let home : u.shape.home_blocks ≡ s.shape.home_blocks = ap (λ (m : Shape). m.home_blocks) shape in
-    replayed-moments s (g.D.Device.state c.examine.new.device) u w c.in_ok-superblock.field-0.superblock.items c.in_ok-superblock.field-0.texts
-    c.in_ok-superblock.field-0.limit other c.examine.ensures.stays c.in_ok-flush.ensures.ok
-    (same-moments u.shape.home_blocks s.shape.home_blocks c.as_slice.result.now c.in_ok-superblock.field-0.texts
-    (with_tail c.in_ok-superblock.field-0.superblock.items (c.in_ok-superblock.field-0.limit + 1) 0) u w home c.as_slice.ensures (rw c.number_from-next.ensures at c.bring_home.ensures.moments))
-    (c.in_ok-superblock.ensures.read (c.flush.ensures.honest (c.bring_home.ensures.honest honest)))
+    let w : DeviceState = g.D.Device.state c.replay.new.device in
+    let x : DeviceState = g.D.Device.state c.clean_log.new.device in
+    let block : List ℕ = c.in_ok-superblock.field-0.superblock.items in
+    let log : Super = c.in_ok-superblock.field-0.log in
+    let count : ℕ = c.in_ok-superblock.field-0.transactions in
+    let tables : TablesValue = c.in_ok-superblock.field-0.tables in
+    let next : ℕ = c.number_from-next.result in
+    rw p.1
+    (λ honest.
+    let replayed = c.clean_log.ensures.honest honest in
+    let on = c.in_ok-superblock.ensures.on (c.flush.ensures.honest (c.replay.ensures.honest replayed)) in
+    let started : log.s_start ≢ 0 = other-start log c.is_clean.result c.is_clean.ensures c.if-report.false in
+    cleaning-broken s block log count tables on.0 on.1 t u w x next started
+    (c.number_from-next.ensures ∙ ap (λ (n : ℕ). n + c.in_ok-superblock.field-0.transactions + 1) c.first_number.ensures.value)
+    c.examine.ensures.stays c.in_ok-flush.ensures.ok
+    (of-found s block log count tables on.0 on.1 (λ (texts : List Text). HasMade (writes_home (home_copies texts)) u w) t u started
+    c.examine.ensures.stays c.in_ok-flush.ensures.ok (c.in_ok-replay.ensures.made replayed))
+    (subst (λ (b : List ℕ). HasBegun (cleaning_calls (with_tail b next 0)) w x) c.deref_mut.ensures.value c.in_err-clean_log.ensures.begun))
 
--- its superblock names the next transaction
+-- the superblock names the next transaction
 pub returns-clause-named : goal.returns-clause-named
 returns-clause-named g c =
     let s : DeviceState = g.D.Device.state c.args.device.now in
-    let shape = c.bring_home.ensures.shape ∙ c.in_ok-flush.ensures.ok.shape ∙ c.examine.ensures.stays.shape in
-    rw c.number_from-next.ensures
-    (subst (λ (block : List ℕ). IsNextNamed (g.D.Device.state c.bring_home.new.device).shape block (c.in_ok-superblock.field-0.limit + 1))
-    (sym (rw c.number_from-next.ensures at c.in_ok-superblock-2.ensures.superblock))
-    (subst (λ (m : Shape). IsNextNamed m (with_tail c.in_ok-superblock.field-0.superblock.items (c.in_ok-superblock.field-0.limit + 1) 0) (c.in_ok-superblock.field-0.limit + 1))
-    (sym shape)
-    (replayed-named s.shape c.in_ok-superblock.field-0.superblock.items c.in_ok-superblock.field-0.clean c.in_ok-superblock.field-0.texts
-    c.in_ok-superblock.field-0.limit c.in_ok-superblock.ensures.found)))
+    let x : DeviceState = g.D.Device.state c.clean_log.new.device in
+    let items : List ℕ = c.in_ok-superblock.field-0.superblock.items in
+    let next : ℕ = c.number_from-next.result in
+    let size : length c.clean_log.new.superblock ≡ c.in_ok-superblock.field-0.superblock.len =
+    let new = c.clean_log.auto.superblock in
+    let old = c.deref_mut.ensures.len in
+    omega arith in
+    let block = with_items_is c.in_ok-superblock.field-0.superblock c.clean_log.new.superblock size ∙ c.in_ok-clean_log.ensures.superblock
+    ∙ ap (λ (b : List ℕ). with_tail b next 0) c.deref_mut.ensures.value in
+    let shape : x.shape ≡ s.shape =
+    c.clean_log.ensures.shape ∙ c.replay.ensures.shape ∙ c.in_ok-flush.ensures.ok.shape ∙ c.examine.ensures.stays.shape in
+    subst (λ (b : List ℕ). IsNextNamed x.shape b next) (sym block)
+    (subst (λ (m : Shape). IsNextNamed m (with_tail items next 0) next) (sym shape)
+    (tail-named s.shape items c.in_ok-superblock.field-0.log c.in_ok-superblock.field-0.transactions next c.in_ok-superblock.ensures.examined
+    (c.number_from-next.ensures ∙ ap (λ (n : ℕ). n + c.in_ok-superblock.field-0.transactions + 1) c.first_number.ensures.value)))
 
--- it is opened
-pub returns-clause-opened : goal.returns-clause-opened
-returns-clause-opened g c = λ honest.
+-- the log is replayed and clean
+pub returns-clause-done : goal.returns-clause-done
+returns-clause-done g c = λ honest.
     let s : DeviceState = g.D.Device.state c.args.device.now in
+    let t : DeviceState = g.D.Device.state c.examine.new.device in
     let u : DeviceState = g.D.Device.state c.flush.new.self in
-    let w : DeviceState = g.D.Device.state c.bring_home.new.device in
-    let tail : List ℕ = with_tail c.in_ok-superblock.field-0.superblock.items (c.in_ok-superblock.field-0.limit + 1) 0 in
-    let other = rw c.if-clean.false at c.in_ok-superblock.ensures.found in
-    let shape : u.shape ≡ s.shape = c.in_ok-flush.ensures.ok.shape ∙ c.examine.ensures.stays.shape in
-    let home : u.shape.home_blocks ≡ s.shape.home_blocks = ap (λ (m : Shape). m.home_blocks) shape in
-    rw c.number_from-next.ensures
-    (subst (λ (block : List ℕ). IsOpening s.shape s.disk w.disk block (c.in_ok-superblock.field-0.limit + 1)) (sym (rw c.number_from-next.ensures at c.in_ok-superblock-2.ensures.superblock))
-    (replayed-opening s (g.D.Device.state c.examine.new.device) u w c.in_ok-superblock.field-0.superblock.items c.in_ok-superblock.field-0.texts
-    c.in_ok-superblock.field-0.limit other c.examine.ensures.stays c.in_ok-flush.ensures.ok
-    (same-moments u.shape.home_blocks s.shape.home_blocks c.as_slice.result.now c.in_ok-superblock.field-0.texts tail u w home
-    c.as_slice.ensures (rw c.number_from-next.ensures at c.bring_home.ensures.moments))
-    (same-replayed u.shape.home_blocks s.shape.home_blocks c.as_slice.result.now c.in_ok-superblock.field-0.texts u w home
-    c.as_slice.ensures c.in_ok-superblock-2.ensures.home)
-    (rw c.number_from-next.ensures at c.in_ok-superblock-2.ensures.durable)
-    (c.in_ok-superblock.ensures.read (c.flush.ensures.honest (c.bring_home.ensures.honest honest)))))
+    let w : DeviceState = g.D.Device.state c.replay.new.device in
+    let x : DeviceState = g.D.Device.state c.clean_log.new.device in
+    let items : List ℕ = c.in_ok-superblock.field-0.superblock.items in
+    let log : Super = c.in_ok-superblock.field-0.log in
+    let count : ℕ = c.in_ok-superblock.field-0.transactions in
+    let tables : TablesValue = c.in_ok-superblock.field-0.tables in
+    let next : ℕ = c.number_from-next.result in
+    let size : length c.clean_log.new.superblock ≡ c.in_ok-superblock.field-0.superblock.len =
+    let new = c.clean_log.auto.superblock in
+    let old = c.deref_mut.ensures.len in
+    omega arith in
+    let block = with_items_is c.in_ok-superblock.field-0.superblock c.clean_log.new.superblock size ∙ c.in_ok-clean_log.ensures.superblock
+    ∙ ap (λ (b : List ℕ). with_tail b next 0) c.deref_mut.ensures.value in
+    let replayed = c.clean_log.ensures.honest honest in
+    let on = c.in_ok-superblock.ensures.on (c.flush.ensures.honest (c.replay.ensures.honest replayed)) in
+    let started : log.s_start ≢ 0 = other-start log c.is_clean.result c.is_clean.ensures c.if-report.false in
+    subst (λ (b : List ℕ). IsDoneWith s x b next) (sym block)
+    (started-done s items log count tables on.0 on.1 t u w x next started
+    (c.number_from-next.ensures ∙ ap (λ (n : ℕ). n + c.in_ok-superblock.field-0.transactions + 1) c.first_number.ensures.value)
+    c.examine.ensures.stays c.in_ok-flush.ensures.ok
+    (of-found s items log count tables on.0 on.1 (λ (texts : List Text). HasMade (writes_home (home_copies texts)) u w) t u started
+    c.examine.ensures.stays c.in_ok-flush.ensures.ok (c.in_ok-replay.ensures.made replayed))
+    (subst (λ (b : List ℕ). HasMade (cleaning_calls (with_tail b next 0)) w x) c.deref_mut.ensures.value c.in_ok-clean_log.ensures.made))
 
--- and that tells of its chain
+-- what that tells
 pub returns-clause-report : goal.returns-clause-report
 returns-clause-report g c = λ honest.
-    let s : DeviceState = g.D.Device.state c.args.device.now in
-    let other = rw c.if-clean.false at c.in_ok-superblock.ensures.found in
-    rw c.if-clean.false
-    (chain-tells s.shape _ c.in_ok-superblock.field-0.superblock.items
-    c.in_ok-superblock.field-0.texts c.in_ok-superblock.field-0.limit c.len.result other c.len.ensures
-    (c.in_ok-superblock.ensures.read (c.flush.ensures.honest (c.bring_home.ensures.honest honest))))
-
-pub returns-clause-honest : goal.returns-clause-honest
-returns-clause-honest g c = λ honest. c.examine.ensures.honest (c.flush.ensures.honest (c.bring_home.ensures.honest honest))
-
-pub returns-then-clean-clause-honest : goal.returns-then-clean-clause-honest
-returns-then-clean-clause-honest g c = λ honest. c.examine.ensures.honest (c.flush.ensures.honest honest)
-
--- no call failed, and none changes the device's measures
-pub returns-clause-no_fault : goal.returns-clause-no_fault
-returns-clause-no_fault g c = c.in_ok-superblock-2.ensures.faults ∙ c.in_ok-flush.ensures.faults ∙ c.in_ok-superblock.ensures.faults
-
-pub returns-clause-shape : goal.returns-clause-shape
-returns-clause-shape g c = c.bring_home.ensures.shape ∙ c.in_ok-flush.ensures.ok.shape ∙ c.examine.ensures.stays.shape
+    let on = c.in_ok-superblock.ensures.on (c.flush.ensures.honest (c.replay.ensures.honest (c.clean_log.ensures.honest honest))) in
+    examined-tells (g.D.Device.state c.args.device.now) c.in_ok-superblock.field-0.superblock.items c.in_ok-superblock.field-0.log
+    c.in_ok-superblock.field-0.transactions c.in_ok-superblock.field-0.tables on.0 on.1 c.is_clean.result
+    (c.first_number.result + c.in_ok-superblock.field-0.transactions) c.is_clean.ensures
+    (ap (λ (n : ℕ). n + c.in_ok-superblock.field-0.transactions) c.first_number.ensures.value)

@@ -1,0 +1,16 @@
+use Rattle.std.proofs.Common.{◌≡◌, ℕ, ◌<◌, length}
+use Rattle.journal_model.specs.Chain.{IsAhead}
+use Rattle.journal_model.specs.Disk.{reading}
+use Rattle.journal_model.specs.Opening.{ring_of}
+use Rattle.block_device.specs.State.{Stays}
+use Rattle.recovery.proofs.examine.lowest_ahead.Given as goal
+
+-- none of the blocks before the place is ahead
+abbrev pub invariant-loop-place : goal.invariant-loop-place
+invariant-loop-place g l = record {
+  size : length l.finder.block ≡ length l.fn.finder.block;
+  stays : Stays (g.D.Device.state l.fn.device) (g.D.Device.state l.device);
+  faults : (g.D.Device.state l.device).faults ≡ (g.D.Device.state l.fn.device).faults;
+  honest : g.D.Device.honest l.device → g.D.Device.honest l.fn.device;
+  none : g.D.Device.honest l.device → (other : ℕ) → other < l.place → IsAhead (ring_of l.log) (reading (g.D.Device.state l.fn.device).disk) l.limit other → ⊥;
+}

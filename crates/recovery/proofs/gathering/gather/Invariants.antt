@@ -1,0 +1,26 @@
+use Rattle.std.proofs.Common.{◌≡◌, ◌≤◌, ◌-◌, length}
+use Rattle.journal_model.specs.Disk.{reading}
+use Rattle.journal_model.specs.Opening.{ring_of}
+use Rattle.block_device.specs.State.{Stays}
+use Rattle.log_scan.specs.Finding.{limit_of}
+use Rattle.recovery.proofs.GatherRuns.{Gathers}
+use Rattle.recovery.proofs.gathering.gather.Given as goal
+
+-- what stands before the cursor is gathered
+abbrev pub invariant-loop-cursor : goal.invariant-loop-cursor
+invariant-loop-cursor g l = record {
+  within : l.cursor.position ≤ (ring_of l.log).blocks;
+  few : l.cursor.transactions ≤ l.cursor.position;
+  held : l.copies ≤ l.cursor.position;
+  below : l.cursor.transactions ≤ l.transactions;
+  size : length l.finder.block ≡ length l.fn.finder.block;
+  stays : Stays (g.D.Device.state l.fn.device) (g.D.Device.state l.device);
+  faults : (g.D.Device.state l.device).faults ≡ (g.D.Device.state l.fn.device).faults;
+  honest : g.D.Device.honest l.device → g.D.Device.honest l.fn.device;
+  gathers : g.D.Device.honest l.device →
+      Gathers l.log (limit_of l.home_blocks) (reading (g.D.Device.state l.fn.device).disk) l.cursor l.transactions l.copies l.tables;
+}
+
+-- the blocks that are left
+abbrev pub decreases-loop-cursor : goal.decreases-loop-cursor
+decreases-loop-cursor g l = (ring_of l.log).blocks - l.cursor.position

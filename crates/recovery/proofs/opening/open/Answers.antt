@@ -1,0 +1,26 @@
+use Rattle.recovery.proofs.OpeningDone.{broken-moments, done-log, done-moments, done-opening}
+use Rattle.recovery.proofs.opening.open.Goals as goal
+
+-- the log is open, and block 0 names the next transaction
+pub invariant_of-result : goal.invariant_of-result
+invariant_of-result g c = (
+  c.in-Ok.ensures.named,
+  λ honest.
+      done-log (g.D.Device.state c.args.device) (g.D.Device.state c.recover.new.device) c.in-Ok.superblock.items c.in-Ok.next
+      (c.in-Ok.ensures.done honest),
+)
+
+-- it is a whole opening
+pub returns-in-Ok-clause-opened : goal.returns-in-Ok-clause-opened
+returns-in-Ok-clause-opened g c = λ honest.
+    done-opening (g.D.Device.state c.args.device) (g.D.Device.state c.recover.new.device) c.in-Ok.superblock.items c.in-Ok.next (c.in-Ok.ensures.done honest)
+
+-- each of its moments is the machine's
+pub returns-in-Ok-clause-moments : goal.returns-in-Ok-clause-moments
+returns-in-Ok-clause-moments g c = λ honest.
+    done-moments (g.D.Device.state c.args.device) (g.D.Device.state c.recover.new.device) c.in-Ok.superblock.items c.in-Ok.next (c.in-Ok.ensures.done honest)
+
+-- and each of one that failed
+pub returns-in-Err-clause-moments : goal.returns-in-Err-clause-moments
+returns-in-Err-clause-moments g c = λ honest.
+    broken-moments (g.D.Device.state c.args.device) (g.D.Device.state c.recover.new.device) (c.in-Err.ensures.broken honest)

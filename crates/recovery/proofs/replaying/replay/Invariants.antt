@@ -1,0 +1,26 @@
+use Rattle.std.proofs.Common.{◌≡◌, ◌≤◌, ◌-◌, length}
+use Rattle.journal_model.specs.Disk.{reading}
+use Rattle.journal_model.specs.Opening.{ring_of}
+use Rattle.log_scan.specs.Finding.{limit_of}
+use Rattle.recovery.proofs.ReplayRuns.{Replays}
+use Rattle.recovery.proofs.replaying.replay.Given as goal
+
+-- what stands before the cursor and goes home is written
+abbrev pub invariant-loop-cursor : goal.invariant-loop-cursor
+invariant-loop-cursor g l = record {
+  within : l.cursor.position ≤ (ring_of l.log).blocks;
+  few : l.cursor.transactions ≤ l.cursor.position;
+  held : l.place ≤ l.cursor.position;
+  below : l.cursor.transactions ≤ l.transactions;
+  size : length l.finder.block ≡ length l.fn.finder.block;
+  shape : (g.D.Device.state l.device).shape ≡ (g.D.Device.state l.fn.device).shape;
+  faults : (g.D.Device.state l.device).faults ≡ (g.D.Device.state l.fn.device).faults;
+  honest : g.D.Device.honest l.device → g.D.Device.honest l.fn.device;
+  replays : g.D.Device.honest l.device →
+      Replays l.log (limit_of l.home_blocks) (reading (g.D.Device.state l.fn.device).disk) l.cursor l.transactions l.place l.tables (g.D.Device.state l.fn.device)
+      (g.D.Device.state l.device);
+}
+
+-- the blocks that are left
+abbrev pub decreases-loop-cursor : goal.decreases-loop-cursor
+decreases-loop-cursor g l = (ring_of l.log).blocks - l.cursor.position

@@ -1,0 +1,19 @@
+use Rattle.std.proofs.Common.{◌≡◌, List, ℕ, take, length}
+use Rattle.journal_model.specs.Disk.{reading}
+use Rattle.log_scan.specs.Passing.{StandAt}
+use Rattle.recovery.specs.Calls.{HasMade, writes_home}
+use Rattle.recovery.proofs.CopyRuns.{chosen_first}
+use Rattle.recovery.proofs.replaying.write_copies.Given as goal
+
+-- those of the copies so far that go home are written
+abbrev pub invariant-loop-k : goal.invariant-loop-k
+invariant-loop-k g l = record {
+  size : length l.finder.block ≡ length l.fn.finder.block;
+  tags : l.finder.tags ≡ l.fn.finder.tags;
+  shape : (g.D.Device.state l.device).shape ≡ (g.D.Device.state l.fn.device).shape;
+  faults : (g.D.Device.state l.device).faults ≡ (g.D.Device.state l.fn.device).faults;
+  honest : g.D.Device.honest l.device → g.D.Device.honest l.fn.device;
+  made : g.D.Device.honest l.device → (blocks : List (List ℕ)) →
+      StandAt l.log (reading (g.D.Device.state l.fn.device).disk) l.copies.position l.copies.count blocks →
+      HasMade (writes_home (chosen_first l.tables l.copies.tid l.copies.place (take l.copies.count l.fn.finder.tags) blocks l.k)) (g.D.Device.state l.fn.device) (g.D.Device.state l.device);
+}

@@ -1,0 +1,40 @@
+-- Which copies of a chain go home by its two tables: that of the revokes, and that of the places of the newest copies. Source:
+-- fs/jbd2/recovery.c and revoke.c by behaviour; the table of places is this project's own.
+use Rattle.std.specs.Prelude.{ℕ, suc, ◌+◌, ◌==◌, ◌&&◌, not, nat_le, Bool, false, if◌then◌else◌, List, [], ◌∷◌, ◌++◌, length, Option, Some, None}
+use Rattle.std.specs.FinMap.{get}
+use Rattle.journal_model.specs.declared.log.Piece.{Piece}
+use Rattle.journal_model.specs.declared.log.Text.{Text}
+use Rattle.journal_model.specs.Text.{text_copies}
+use Rattle.revoke_table.specs.Revokes.{BlockTable}
+
+-- whether what is noted of a block is this place
+abbrev pub is_place : ℕ → Option ℕ → Bool
+is_place place None = false
+is_place place (Some noted) = noted == place
+
+-- whether what is noted of a block covers a copy in this transaction: the number is not below the transaction's
+abbrev pub reaches : ℕ → Option ℕ → Bool
+reaches tid None = false
+reaches tid (Some number) = nat_le tid number
+
+-- whether the copy of block b at this place, in this transaction, goes home: it is the newest, and is not covered
+abbrev pub goes_by : BlockTable → BlockTable → ℕ → ℕ → ℕ → Bool
+goes_by revokes places tid place b = is_place place (get places b) && not (reaches tid (get revokes b))
+
+-- those of a transaction's copies that go home, where the first has this place
+abbrev pub chosen : BlockTable → BlockTable → ℕ → ℕ → List (ℕ × List ℕ) → List (ℕ × List ℕ)
+chosen revokes places tid place [] = []
+chosen revokes places tid place (copy ∷ copies) =
+    if goes_by revokes places tid place copy.0
+    then copy ∷ chosen revokes places tid (suc place) copies
+    else chosen revokes places tid (suc place) copies
+
+-- those of the copies of texts, where the first text has this number, and its first copy this place
+abbrev pub chosen_all : BlockTable → BlockTable → ℕ → ℕ → List Text → List (ℕ × List ℕ)
+chosen_all revokes places tid place [] = []
+chosen_all revokes places tid place (t ∷ ts) =
+    chosen revokes places tid place (text_copies t) ++ chosen_all revokes places (suc tid) (place + length (text_copies t)) ts
+
+-- a transaction whose commit block is not reached yet, with these pieces so far
+abbrev pub unfinished : List Piece → Text
+unfinished pieces = record { pieces = pieces; commit = [] }

@@ -1,0 +1,173 @@
+//! Reading a log, and testing all that stands in it before anything is written.
+ghost use Rattle.std.specs.Prelude.{◌≡◌, ◌↔◌, ◌+◌, ◌<◌, ◌≤◌, IsTrue, length, IfOk, IfErr, OnOk, MatchOption, MatchResult};
+ghost use Rattle.journal_model.specs.declared.number.Area.TheVariants.{Log as LogArea};
+ghost use Rattle.journal_model.specs.Disk.{reading};
+ghost use Rattle.journal_model.specs.declared.refusal.JournalError.TheVariants.{Memory};
+ghost use Rattle.journal_model.specs.Opening.{greatest_number, ring_of};
+ghost use Rattle.block_device.specs.State.{IsDeviceFailure, IsFailure, Stays};
+ghost use Rattle.log_format.specs.Accepted.{IsAccepted};
+ghost use Rattle.log_format.specs.Size.{IsBlockSize};
+ghost use Rattle.log_epochs.specs.OpeningSteps.{Found};
+ghost use Rattle.recovery.specs.Opening.{HasTransactions, IsExamined, IsExaminedOn, IsLowestAhead, IsReadingRefused, IsTestRefused, IsTested, IsWellRead, NoneAhead, OpeningRefused};
+
+use crate::gathering::{Tables, gather};
+use block_device::{Device, read_block};
+use journal_model::layout::GREATEST_NUMBER;
+use journal_model::{Area, JournalError};
+use log_format::Super;
+use log_scan::{Finder, Log, scan};
+use std::alloc::Global;
+
+/// A log that was read and is not refused: block 0, the fields of its superblock, how many complete transactions it has, and
+/// what replay goes by.
+#[derive(Drop)]
+pub(crate) struct Examined {
+    pub(crate) superblock: Vec<u8>,
+    pub(crate) log: Log,
+    pub(crate) transactions: u64,
+    pub(crate) tables: Tables,
+    pub(crate) finder: Finder,
+}
+
+/// Reads the log and tests all that stands in it, and gathers what replay goes by. Nothing is written, and all memory that an
+/// opening needs is taken.
+pub(crate) fn examine<D: Device>(alloc: Global, device: &mut D) -> Result<Examined, JournalError>
+    ensures examined { IfOk result (λ e. IsExamined (D.state device.old).shape e.superblock.items e.log e.transactions) }
+    ensures size { IfOk result (λ e. length e.finder.block ≡ (D.state device.old).shape.block_size) }
+    ensures on { IfOk result (λ e. D.honest device.new → (found : Found) × IsExaminedOn (D.state device.old).shape (D.state device.old).disk e.superblock.items e.log e.transactions e.tables found) }
+    ensures faults { OnOk result ((D.state device.new).faults ≡ (D.state device.old).faults) }
+    ensures refused { IfErr result (OpeningRefused (D.honest device.new) (D.state device.old) (D.state device.new)) }
+    ensures stays { Stays (D.state device.old) (D.state device.new) }
+    ensures honest { D.honest device.new → D.honest device.old }
+{
+    let (superblock, log) = read_super(alloc, device)?;
+    let mut finder = make_finder(alloc, device)?;
+    let transactions = test_log(device, &log, &mut finder)?;
+    let tables = gather(alloc, device, &log, transactions, &mut finder)?;
+    Ok(Examined {
+        superblock,
+        log,
+        transactions,
+        tables,
+        finder,
+    })
+}
+
+/// Reads block 0 and tests it.
+fn read_super<D: Device>(alloc: Global, device: &mut D) -> Result<(Vec<u8>, Log), JournalError>
+    ensures well { IfOk result (λ r. IsWellRead (D.state device.old).shape r.0.items r.1) }
+    ensures read { IfOk result (λ r. D.honest device.new → r.0.items ≡ reading (D.state device.old).disk LogArea 0) }
+    ensures faults { MatchResult result (λ _. (D.state device.new).faults ≡ (D.state device.old).faults) (IsReadingRefused (D.honest device.new) (D.state device.old) (D.state device.new)) }
+    ensures stays { Stays (D.state device.old) (D.state device.new) }
+    ensures honest { D.honest device.new → D.honest device.old }
+{
+    let superblock = read_superblock(alloc, device)?;
+    let fields = Super::read(&superblock, device.blocks(Area::Log))?;
+    Ok((superblock, Log::new(fields)))
+}
+
+/// Reads block 0 of the log, or zeros where the log has no block.
+fn read_superblock<D: Device>(alloc: Global, device: &mut D) -> Result<Vec<u8>, JournalError>
+    ensures size { IfOk result (λ block. length block.items ≡ (D.state device.old).shape.block_size) }
+    ensures read { IfOk result (λ block. D.honest device.new → 0 < (D.state device.old).shape.log_blocks → block.items ≡ reading (D.state device.old).disk LogArea 0) }
+    ensures faults { MatchResult result (λ _. (D.state device.new).faults ≡ (D.state device.old).faults) (λ e. IsFailure (D.state device.old) (D.state device.new) e) }
+    ensures stays { Stays (D.state device.old) (D.state device.new) }
+    ensures honest { D.honest device.new → D.honest device.old }
+{
+    if device.blocks(Area::Log) == 0 {
+        return Ok(vec![in alloc; 0; device.block_size()]?);
+    }
+    Ok(read_block(alloc, device, Area::Log, 0)?.into_bytes())
+}
+
+/// A finder for the blocks of this device.
+fn make_finder<D: Device>(alloc: Global, device: &D) -> Result<Finder, JournalError>
+    requires { IsBlockSize (D.state device.now).shape.block_size }
+    ensures size { IfOk result (λ finder. length finder.block ≡ (D.state device.now).shape.block_size) }
+    ensures refused { IfErr result (λ e. e ≡ Memory) }
+{
+    Ok(Finder::new(alloc, device.block_size())?)
+}
+
+/// How many complete transactions a log has, where nothing that stands in its ring is refused. It takes no memory.
+fn test_log<D: Device>(device: &mut D, log: &Log, finder: &mut Finder) -> Result<u64, JournalError>
+    requires size { length finder.old.block ≡ (D.state device.old).shape.block_size }
+    requires accepted { IsAccepted (D.state device.old).shape.block_size (D.state device.old).shape.log_blocks log.now }
+    ensures size { length finder.new.block ≡ length finder.old.block }
+    ensures number { IfOk result (λ transactions. log.now.s_sequence + transactions < greatest_number) }
+    ensures clean { IfOk result (λ transactions. log.now.s_start ≡ 0 → transactions ≡ 0) }
+    ensures tested { IfOk result (λ transactions. D.honest device.new → IsTested log.now (D.state device.old).shape.home_blocks (reading (D.state device.old).disk) transactions) }
+    ensures refused { IfErr result (IsTestRefused (D.honest device.new) log.now (D.state device.old) (D.state device.new)) }
+    ensures faults { OnOk result ((D.state device.new).faults ≡ (D.state device.old).faults) }
+    ensures stays { Stays (D.state device.old) (D.state device.new) }
+    ensures honest { D.honest device.new → D.honest device.old }
+{
+    let transactions = count_transactions(device, log, finder)?;
+    let limit = log.first_number() + transactions;
+    if let Some(place) = lowest_ahead(device, log, limit, finder)? {
+        return Err(JournalError::Ahead(place));
+    }
+    if limit >= u64::from(GREATEST_NUMBER) {
+        return Err(JournalError::SequenceEnd);
+    }
+    Ok(transactions)
+}
+
+/// How many complete transactions the log has: none where it is clean.
+fn count_transactions<D: Device>(
+    device: &mut D,
+    log: &Log,
+    finder: &mut Finder,
+) -> Result<u64, JournalError>
+    requires size { length finder.old.block ≡ (D.state device.old).shape.block_size }
+    requires accepted { IsAccepted (D.state device.old).shape.block_size (D.state device.old).shape.log_blocks log.now }
+    ensures size { length finder.new.block ≡ length finder.old.block }
+    ensures few { IfOk result (λ transactions. transactions ≤ (ring_of log.now).blocks) }
+    ensures clean { IfOk result (λ transactions. log.now.s_start ≡ 0 → transactions ≡ 0) }
+    ensures has { IfOk result (λ transactions. D.honest device.new → HasTransactions log.now (D.state device.old).shape.home_blocks (reading (D.state device.old).disk) transactions) }
+    ensures refused { IfErr result (IsTestRefused (D.honest device.new) log.now (D.state device.old) (D.state device.new)) }
+    ensures faults { OnOk result ((D.state device.new).faults ≡ (D.state device.old).faults) }
+    ensures stays { Stays (D.state device.old) (D.state device.new) }
+    ensures honest { D.honest device.new → D.honest device.old }
+{
+    if log.is_clean() {
+        return Ok(0);
+    }
+    let home_blocks = device.blocks(Area::Home);
+    scan(device, log, Some(home_blocks), finder)
+}
+
+/// The lowest place of a ring block that begins with the magic and has a sequence above the limit.
+fn lowest_ahead<D: Device>(
+    device: &mut D,
+    log: &Log,
+    limit: u64,
+    finder: &mut Finder,
+) -> Result<Option<u64>, JournalError>
+    requires size { length finder.old.block ≡ (D.state device.old).shape.block_size }
+    requires accepted { IsAccepted (D.state device.old).shape.block_size (D.state device.old).shape.log_blocks log.now }
+    ensures size { length finder.new.block ≡ length finder.old.block }
+    ensures ahead { IfOk result (λ found. D.honest device.new → MatchOption found (NoneAhead log.now (reading (D.state device.old).disk) limit) (IsLowestAhead log.now (reading (D.state device.old).disk) limit)) }
+    ensures faults { MatchResult result (λ _. (D.state device.new).faults ≡ (D.state device.old).faults) (IsDeviceFailure (D.state device.old) (D.state device.new)) }
+    ensures stays { Stays (D.state device.old) (D.state device.new) }
+    ensures honest { D.honest device.new → D.honest device.old }
+{
+    let first = u64::from(log.fields().s_first);
+    let end = u64::from(log.fields().s_maxlen);
+    for place in first..end {
+        if is_ahead(finder.sequence_at(device, place)?, limit) {
+            return Ok(Some(place));
+        }
+    }
+    Ok(None)
+}
+
+/// Whether a block with this sequence in its header, if it begins with the magic, is ahead of the limit.
+fn is_ahead(sequence: Option<u32>, limit: u64) -> bool
+    ensures ahead { IsTrue result ↔ MatchOption sequence ⊥ (λ n. limit < n) }
+{
+    match sequence {
+        Some(sequence) => u64::from(sequence) > limit,
+        None => false,
+    }
+}

@@ -1,0 +1,136 @@
+//! Gathering: what replay goes by, noted in one pass over the chain.
+ghost use Rattle.std.specs.Prelude.{◌≡◌, ◌≢◌, ◌⊎◌, ◌+◌, ◌<◌, ◌≤◌, ◌^◌, List, length, IfOk, IfErr, OnOk};
+ghost use Rattle.journal_model.specs.declared.log.Text.{Text};
+ghost use Rattle.journal_model.specs.declared.refusal.JournalError.TheVariants.{Memory};
+ghost use Rattle.journal_model.specs.Disk.{reading};
+ghost use Rattle.journal_model.specs.Opening.{greatest_number};
+ghost use Rattle.block_device.specs.State.{Stays};
+ghost use Rattle.log_format.specs.Accepted.{IsAccepted};
+ghost use Rattle.log_scan.specs.Scanning.{AreTextsOf};
+ghost use Rattle.revoke_table.specs.Revokes.{noted_all, notes_of};
+ghost use Rattle.revoke_table.specs.Copies.{placed_all};
+ghost use Rattle.recovery.specs.Choice.{goes_by};
+ghost use Rattle.recovery.specs.Gather.{IsGatherRefused, empty_tables, tables_of, with_copies, with_revokes};
+
+use block_device::Device;
+use journal_model::{Area, BlockNo, JournalError, Tag, Tid};
+use log_scan::{Cursor, Finder, Found, Log};
+use revoke_table::{CopyTable, RevokeTable};
+use std::alloc::Global;
+use std::marker::Model;
+
+/// What replay goes by: the greatest transaction that revokes each block, and the place of the newest copy of each block
+/// among all copies of the chain.
+#[derive(Drop)]
+pub struct Tables {
+    revokes: RevokeTable,
+    copies: CopyTable,
+}
+
+impl Model for Tables {
+    ghost use Rattle.recovery.specs.Gather.{TablesValue, tables_code};
+
+    ghost Value = { TablesValue };
+
+    ghost coded = { tables_code };
+
+    ghost view = { λ t. record { revokes = t.revokes; copies = t.copies } };
+}
+
+impl Tables {
+    /// Tables without revokes and copies. They take no memory.
+    pub fn new(alloc: Global) -> Self
+        ensures { result ≡ empty_tables }
+    {
+        Tables {
+            revokes: RevokeTable::new(alloc),
+            copies: CopyTable::new(alloc),
+        }
+    }
+
+    /// Whether the copy of a block goes home that stands in this transaction, at this place among all copies of the chain: it
+    /// is the newest one of its block, and neither its own transaction nor a later one revokes the block.
+    pub fn goes_home(&self, block: BlockNo, tid: Tid, place: u64) -> bool
+        ensures { result ≡ goes_by self.now.revokes self.now.copies tid place block }
+    {
+        self.copies.newest(block) == Some(place) && !self.revokes.covers(block, tid)
+    }
+
+    /// Notes that a transaction revokes these blocks.
+    fn note_revokes(&mut self, numbers: &[BlockNo], tid: Tid) -> Result<(), JournalError>
+        ensures ok { OnOk result (self.new ≡ with_revokes self.old tid numbers.now) }
+        ensures refused { IfErr result (λ e. e ≡ Memory) }
+    {
+        for number in numbers {
+            self.revokes.note(*number, tid)?;
+        }
+        Ok(())
+    }
+
+    /// Notes the copies behind a descriptor with these tags, of which the first has this place.
+    fn note_copies(&mut self, tags: &[Tag], place: u64) -> Result<(), JournalError>
+        requires { place + length tags.now < 2 ^ 64 }
+        ensures ok { OnOk result (self.new ≡ with_copies self.old place tags.now) }
+        ensures refused { IfErr result (λ e. e ≡ Memory) }
+    {
+        for (k, tag) in tags.iter().enumerate() {
+            self.copies.note(tag.block, place + k as u64)?;
+        }
+        Ok(())
+    }
+}
+
+/// The number of the transaction of a log before which so many are complete.
+pub(crate) fn number_of(log: &Log, transactions: u64) -> Tid
+    requires { log.now.s_sequence + transactions ≤ greatest_number }
+    ensures { result ≡ log.now.s_sequence + transactions }
+{
+    Tid((log.first_number() + transactions) as u32)
+}
+
+/// Goes over the complete transactions of a log that is not clean, and notes their revokes and copies. One block is read at a
+/// time, and no copy is. `transactions` is what `scan` answered.
+/// Source: fs/jbd2/recovery.c by behaviour; the table of copies is this project's own.
+///
+/// # Errors
+///
+/// `Memory` where memory ran out, `Device` where a read failed: nothing was written. `Damage` where the log reads otherwise
+/// than it did to `scan`, at the place where that shows.
+pub fn gather<D: Device>(
+    alloc: Global,
+    device: &mut D,
+    log: &Log,
+    transactions: u64,
+    finder: &mut Finder,
+) -> Result<Tables, JournalError>
+    requires size { length finder.old.block ≡ (D.state device.old).shape.block_size }
+    requires accepted { IsAccepted (D.state device.old).shape.block_size (D.state device.old).shape.log_blocks log.now }
+    requires numbers { log.now.s_sequence + transactions ≤ greatest_number }
+    ensures size { length finder.new.block ≡ length finder.old.block }
+    ensures tables { IfOk result (λ tables. D.honest device.new → (texts : List Text) → AreTextsOf log.now (D.state device.old).shape.home_blocks (reading (D.state device.old).disk) texts →
+        transactions ≡ length texts → tables ≡ tables_of log.now.s_sequence texts) }
+    ensures refused { IfErr result (IsGatherRefused (D.honest device.new) log.now transactions (D.state device.old) (D.state device.new)) }
+    ensures faults { OnOk result ((D.state device.new).faults ≡ (D.state device.old).faults) }
+    ensures stays { Stays (D.state device.old) (D.state device.new) }
+    ensures honest { D.honest device.new → D.honest device.old }
+{
+    let home_blocks = Some(device.blocks(Area::Home));
+    let mut tables = Tables::new(alloc);
+    let mut cursor = Cursor::new();
+    let mut copies = 0;
+    while cursor.transactions < transactions {
+        let tid = number_of(log, cursor.transactions);
+        match cursor.advance(device, log, home_blocks, finder)? {
+            Found::RevokeBlock(count) => tables.note_revokes(finder.numbers(count), tid)?,
+            Found::Descriptor(count) => {
+                tables.note_copies(finder.tags(count), copies)?;
+                copies += count as u64;
+            }
+            Found::CommitBlock => {}
+            Found::Malformed | Found::Nothing => {
+                return Err(JournalError::Damage(log.place(cursor.position)));
+            }
+        }
+    }
+    Ok(tables)
+}
