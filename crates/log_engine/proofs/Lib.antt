@@ -1,7 +1,10 @@
 -- The lemmas of this crate.
 pub mod Advancing
 pub mod Calls
+pub mod Closing
 pub mod Copies
+pub mod FewerCalls
+pub mod KeptClean
 pub mod Ledgers
 pub mod PendingCommits
 pub mod PendingLists

@@ -133,7 +133,7 @@ call-keeps e round call new WriteTail = record { shape = refl; uuid = refl; acce
 call-keeps e round call new FlushTail = record { shape = refl; uuid = refl; accepted = refl; committed = refl; start = refl }
 
 -- the blocks of the transaction that is being committed do not depend on the round
-due-alike : (e new : Engine) → KeepsCommit e new → due_blocks new ≡ due_blocks e
+pub due-alike : (e new : Engine) → KeepsCommit e new → due_blocks new ≡ due_blocks e
 due-alike e new keeps =
     ap₂ (λ (bs : List Batch) (n : ℕ). blocks_if new (slice_get bs n)) keeps.accepted keeps.committed ∙ alike (slice_get e.accepted e.committed)
   where

@@ -1,5 +1,7 @@
 pub mod Call
+pub mod Close
 pub mod Engine
 pub mod Ledger
+pub mod Left
 pub mod Rounds
 pub mod Text

@@ -1,5 +1,5 @@
 //! The engine that a journal stands on: one contract for each step, of the machine's own steps.
-ghost use Rattle.std.specs.Prelude.{◌≡◌, ◌≢◌, ◌+◌, ◌≤◌, ◌↔◌, ℕ, List, IsTrue, false, length, IfOk, IfErr, OnOk};
+ghost use Rattle.std.specs.Prelude.{◌≡◌, ◌≢◌, ◌+◌, ◌≤◌, ◌↔◌, ℕ, List, IsTrue, false, length, IfOk, IfErr, MatchResult, OnOk};
 ghost use Rattle.journal_model.specs.declared.refusal.JournalError.TheVariants.{Device as DeviceFailed, Memory};
 ghost use Rattle.journal_model.specs.Layout.{narrow};
 ghost use Rattle.journal_model.specs.Opening.{ring_of};
@@ -13,9 +13,12 @@ ghost use Rattle.journal_world.specs.Journal.{fresh_engine};
 ghost use Rattle.journal_world.specs.Opening.{IsOpenedLog};
 ghost use Rattle.journal_world.specs.Sound.{IsPlain, OpensBetween};
 ghost use Rattle.log_engine.specs.Call.{IsOneMoment};
+ghost use Rattle.log_engine.specs.Close.{CloseDid, CloseRefused, IsAllReleased, IsClosedLog, IsDuringClose};
 ghost use Rattle.log_engine.specs.Engine.{AcceptRefused, IsDuringCommit, IsDuringRound, MayHandOver, MayTouch, ReadRefused, RoundDid, RoundRefused, StepDid, StepRefused};
+ghost use Rattle.log_engine.specs.Left.{LeavesFewer, commit_calls, round_calls};
 
 use crate::call::{Due, make_call};
+use crate::close::write_first;
 use crate::ledger::Ledger;
 use crate::text::TextWriter;
 use block_device::Device;
@@ -49,6 +52,7 @@ pub struct Engine<D: Device> {
 impl<D: Device> Model for Engine<D> {
     ghost use Rattle.std.specs.Prelude.{◌≡◌, length};
     ghost use Rattle.journal_world.specs.Sound.{Sound};
+    ghost use Rattle.log_engine.specs.Close.{KeepsClean};
     ghost use Rattle.log_engine.specs.Engine.{EngineValue};
     ghost use Rattle.log_engine.specs.Ledger.{Runs, engine_of};
 
@@ -58,7 +62,8 @@ impl<D: Device> Model for Engine<D> {
 
     ghost invariant = { λ e. Runs (D.state e.device).shape e.ledger
         × (length e.writer ≡ (D.state e.device).shape.block_size)
-        × (D.honest e.device → Sound (engine_of (D.state e.device).shape e.ledger) (D.state e.device).disk) };
+        × (D.honest e.device → Sound (engine_of (D.state e.device).shape e.ledger) (D.state e.device).disk)
+        × (D.honest e.device → KeepsClean (engine_of (D.state e.device).shape e.ledger) (D.state e.device).disk) };
 }
 
 impl<D: Device> Engine<D> {
@@ -183,6 +188,7 @@ impl<D: Device> Engine<D> {
         ensures shape { (D.state self.new.device).shape ≡ (D.state self.old.device).shape }
         ensures moments { D.honest self.old.device →
             EachMoment (IsDuringCommit self.old.engine (D.state self.old.device).disk) (D.state self.old.device) (D.state self.new.device) }
+        ensures fewer { IfOk result (λ p. LeavesFewer commit_calls p self.old.engine self.new.engine) }
         ensures one { IsOneMoment (D.state self.old.device) (D.state self.new.device) }
         ensures honest { D.honest self.new.device → D.honest self.old.device }
     {
@@ -214,6 +220,7 @@ impl<D: Device> Engine<D> {
         ensures shape { (D.state self.new.device).shape ≡ (D.state self.old.device).shape }
         ensures moments { D.honest self.old.device →
             EachMoment (IsDuringRound self.old.engine (D.state self.old.device).disk) (D.state self.old.device) (D.state self.new.device) }
+        ensures fewer { IfOk result (λ p. LeavesFewer round_calls p self.old.engine self.new.engine) }
         ensures one { IsOneMoment (D.state self.old.device) (D.state self.new.device) }
         ensures honest { D.honest self.new.device → D.honest self.old.device }
     {
@@ -265,6 +272,48 @@ impl<D: Device> Engine<D> {
             return Err(JournalError::Device);
         }
         Ok(())
+    }
+
+    /// Closes the log, asked once all that was handed over is committed and released, and hands out the device. Where the
+    /// log is not clean it writes the superblock of a clean log, with the number that the next transaction would have as
+    /// s_sequence, and flushes the log; a clean log it leaves alone. Whatever a stop leaves at any time opens to all
+    /// transactions. It takes no memory.
+    ///
+    /// # Errors
+    ///
+    /// The device comes back. `Aborted` after a device failure: nothing was done. `Device` where the device fails: open it
+    /// again.
+    /// Source: fs/jbd2/journal.c by behaviour; that the superblock is flushed is this project's own.
+    pub fn close(self) -> Result<D, (D, JournalError)>
+        requires { IsAllReleased self.engine }
+        ensures ok { IfOk result (λ device. CloseDid D.state self device) }
+        ensures err { IfErr result (λ e. CloseRefused D.state self e.0 e.1) }
+        ensures closed { IfOk result (λ device. D.honest self.device → IsClosedLog self.engine (D.state device).disk) }
+        ensures moments { D.honest self.device → MatchResult result
+            (λ device. EachMoment (IsDuringClose self.engine (D.state self.device).disk) (D.state self.device) (D.state device))
+            (λ e. EachMoment (IsDuringClose self.engine (D.state self.device).disk) (D.state self.device) (D.state e.0)) }
+        ensures no_fault { IfOk result (λ device. (D.state device).faults ≡ (D.state self.device).faults) }
+        ensures shape { MatchResult result
+            (λ device. (D.state device).shape ≡ (D.state self.device).shape)
+            (λ e. (D.state e.0).shape ≡ (D.state self.device).shape) }
+        ensures honest { MatchResult result (λ device. D.honest device → D.honest self.device) (λ e. D.honest e.0 → D.honest self.device) }
+    {
+        let Engine {
+            mut device,
+            ledger,
+            mut writer,
+        } = self;
+        if ledger.aborted {
+            return Err((device, JournalError::Aborted));
+        }
+        if !ledger.started {
+            return Ok(device);
+        }
+        ledger.write_closed(&mut writer);
+        match write_first(&mut device, writer.bytes()) {
+            Ok(()) => Ok(device),
+            Err(_) => Err((device, JournalError::Device)),
+        }
     }
 
     /// The device, and how many transactions are committed.

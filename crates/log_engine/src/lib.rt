@@ -5,6 +5,7 @@
 #![tactic(auto)]
 
 mod call;
+mod close;
 mod commit;
 mod engine;
 mod ledger;

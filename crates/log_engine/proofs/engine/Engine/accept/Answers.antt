@@ -4,9 +4,11 @@ use Rattle.journal_model.specs.Room.{need}
 use Rattle.journal_world.proofs.Accepted.{accepts-sound}
 use Rattle.journal_world.specs.Engine.{Engine, HasRoom}
 use Rattle.journal_world.specs.Sound.{Sound}
+use Rattle.log_engine.specs.Close.{KeepsClean}
 use Rattle.log_engine.specs.Engine.{AcceptRefused, EngineValue, MayHandOver}
 use Rattle.log_engine.specs.Ledger.{engine_of}
 use Rattle.log_engine.proofs.Advancing.{room-told, same-runs, takes-on}
+use Rattle.log_engine.proofs.KeptClean.{taken-clean}
 use Rattle.log_engine.proofs.Running.{superblock-of, takes}
 use Rattle.log_engine.proofs.engine.Engine.accept.Goals as goal
 
@@ -43,6 +45,7 @@ invariant_of-self g c =
       same-runs state.shape c.self.inside.ledger c.take.new.self (same.0 state.shape) same.1 c.take.ensures.pending c.self.invariant.0,
       c.self.invariant.1,
       λ honest. subst (λ (e : Engine). Sound e state.disk) (sym (same.0 state.shape)) (c.self.invariant.2 honest),
+      λ honest. subst (λ (e : Engine). KeepsClean e state.disk) (sym (same.0 state.shape)) (c.self.invariant.3 honest),
     )
 
 -- that is what the answer says
@@ -75,6 +78,7 @@ invariant_of-self-2 g c =
       takes-on state.shape l c.take.new.self c.args.batch c.if-self.false may room is head c.take.ensures.pending c.self.invariant.0,
       c.self.invariant.1,
       λ honest. accepts-sound e c.args.batch _ state.disk (c.self.invariant.2 honest) (takes e _ c.args.batch c.if-self.false may room is),
+      λ honest. taken-clean e _ c.args.batch state.disk (takes e _ c.args.batch c.if-self.false may room is),
     )
 
 -- it has taken the batch

@@ -6,6 +6,8 @@ use Rattle.journal_world.proofs.RoundSteps.{round-sound}
 use Rattle.log_engine.specs.Call.{call_of}
 use Rattle.log_engine.specs.Engine.{RoundRefused}
 use Rattle.log_engine.specs.Ledger.{Runs, engine_of}
+use Rattle.log_engine.proofs.FewerCalls.{round-fewer}
+use Rattle.log_engine.proofs.KeptClean.{round-clean, round-fault-clean}
 use Rattle.log_engine.proofs.Rounding.{aborted-runs, each-round, each-round-fault, each-still, round-did, round-faults, round-steps}
 use Rattle.log_engine.proofs.Stepping.{at-err, at-ok, count-err, count-ok}
 use Rattle.log_engine.proofs.engine.Engine.checkpoint_step.Goals as goal
@@ -41,6 +43,7 @@ invariant_of-self-then-is_err g c =
       aborted-runs before.shape after.shape m c.make_call.ensures.shape begun.2,
       c.round_due-due.ensures.size ∙ c.self.invariant.1 ∙ sym (ap (λ (s : Shape). s.block_size) c.make_call.ensures.shape),
       λ honest. round-fault-sound e _ before.disk after.disk (c.self.invariant.2 (c.make_call.ensures.honest honest)) fault,
+      λ honest. round-fault-clean e _ before.disk after.disk c.self.invariant.0.can_run.plain fault,
     )
 
 -- that is what the answer says
@@ -61,6 +64,7 @@ returns-then-is_err g c =
     rw (← c.self.view_is) (record {
       ok = tt;
       err = RoundRefused.RoundFailed fault (count-err _ _ c.make_call.result failed c.make_call.ensures.faults);
+      fewer = tt;
       no_fault = tt;
       shape = c.make_call.ensures.shape;
       moments = λ honest. each-round-fault e _ before after c.make_call.ensures.moment (c.self.invariant.2 honest) fault;
@@ -88,6 +92,7 @@ invariant_of-self-2 g c =
       gone.runs,
       c.round_due-due.ensures.size ∙ c.self.invariant.1 ∙ sym (ap (λ (s : Shape). s.block_size) c.make_call.ensures.shape),
       λ honest. round-sound e _ before.disk after.disk (c.self.invariant.2 (c.make_call.ensures.honest honest)) steps,
+      λ honest. round-clean e _ before.disk after.disk c.self.invariant.0.can_run.plain steps,
     )
 
 -- that is what the answer says
@@ -110,6 +115,7 @@ returns g c =
     rw (← c.self.view_is) (record {
       ok = round-did c.advance_round.result e _ before.disk after.disk (c.advance_round.ensures.progress after.shape) steps;
       err = tt;
+      fewer = round-fewer c.advance_round.result e _ before.disk after.disk c.self.invariant.0.can_run.plain (round-did c.advance_round.result e _ before.disk after.disk (c.advance_round.ensures.progress after.shape) steps);
       no_fault = count-ok _ _ c.make_call.result worked c.make_call.ensures.faults;
       shape = c.make_call.ensures.shape;
       moments = λ honest. each-round e _ before after c.make_call.ensures.moment (c.self.invariant.2 honest) steps;

@@ -7,6 +7,8 @@ use Rattle.log_engine.specs.Call.{call_of}
 use Rattle.log_engine.specs.Engine.{IsProgress, StepRefused}
 use Rattle.log_engine.specs.Ledger.{Runs, engine_of}
 use Rattle.log_engine.proofs.Advancing.{faults-on}
+use Rattle.log_engine.proofs.FewerCalls.{step-fewer}
+use Rattle.log_engine.proofs.KeptClean.{fault-clean, step-clean}
 use Rattle.log_engine.proofs.Running.{superblock-of}
 use Rattle.log_engine.proofs.Stepping.{at-err, at-ok, busy, call-there, count-err, count-ok, each-fault, each-now, each-step, faults-here, idle-at, step-did, steps-here}
 use Rattle.log_engine.proofs.engine.Engine.commit_step.Goals as goal
@@ -47,6 +49,7 @@ invariant_of-self-then-is_err g c =
       faults-on before.shape after.shape c.self.inside.ledger c.make_call.ensures.shape c.self.invariant.0,
       c.due-due.ensures.size ∙ c.self.invariant.1 ∙ sym (ap (λ (s : Shape). s.block_size) c.make_call.ensures.shape),
       λ honest. fault-sound e _ before.disk after.disk (c.self.invariant.2 (c.make_call.ensures.honest honest)) fault,
+      λ honest. fault-clean e _ before.disk after.disk fault,
     )
 
 -- that is what the answer says
@@ -65,6 +68,7 @@ returns-then-is_err g c =
     rw (← c.self.view_is) (record {
       ok = tt;
       err = StepRefused.DeviceFailed fault (count-err _ _ c.make_call.result failed c.make_call.ensures.faults);
+      fewer = tt;
       no_fault = tt;
       shape = c.make_call.ensures.shape;
       moments = λ honest. each-fault e _ before after c.make_call.ensures.moment (c.self.invariant.2 honest) fault;
@@ -91,6 +95,7 @@ invariant_of-self-2 g c =
       c.advance.ensures.runs after.shape (subst (λ (s : Shape). Runs s c.self.inside.ledger) (sym c.make_call.ensures.shape) c.self.invariant.0),
       c.due-due.ensures.size ∙ c.self.invariant.1 ∙ sym (ap (λ (s : Shape). s.block_size) c.make_call.ensures.shape),
       λ honest. step-sound e new before.disk after.disk (c.self.invariant.2 (c.make_call.ensures.honest honest)) step,
+      λ honest. step-clean e new before.disk after.disk c.self.invariant.0.can_run.plain step,
     )
 
 -- that is what the answer says
@@ -115,6 +120,7 @@ returns g c =
     rw (← c.self.view_is) (record {
       ok = step-did c.advance.result e new before.disk after.disk progress step;
       err = tt;
+      fewer = step-fewer c.advance.result e new before.disk after.disk c.self.invariant.0.can_run.plain (step-did c.advance.result e new before.disk after.disk progress step);
       no_fault = count-ok _ _ c.make_call.result worked c.make_call.ensures.faults;
       shape = c.make_call.ensures.shape;
       moments = λ honest. each-step e new before after c.make_call.ensures.moment (c.self.invariant.2 honest) step;

@@ -7,7 +7,9 @@ use Rattle.journal_world.specs.Journal.{fresh_engine}
 use Rattle.journal_world.specs.Opening.{IsOpenedLog}
 use Rattle.journal_world.specs.Sound.{IsPlain, Sound}
 use Rattle.journal_world.proofs.Fresh.{fresh-sound}
+use Rattle.log_engine.specs.Close.{KeepsClean}
 use Rattle.log_engine.specs.Ledger.{CanRun, KeepsPending, engine_of}
+use Rattle.log_engine.proofs.KeptClean.{fresh-clean}
 use Rattle.log_engine.proofs.Ledgers.{fresh-taken}
 use Rattle.log_engine.proofs.Pendings.{fresh-keeps}
 use Rattle.log_engine.proofs.Running.{HasFields, fresh-runs, named-fields}
@@ -70,6 +72,7 @@ invariant_of-result g c =
       },
       c.in-Ok.ensures ∙ c.block_size.ensures ∙ ap (λ (d : g.row.D.Denot). (g.D.Device.state d).shape.block_size) (sym made.device),
       λ honest. subst (λ (e : Engine). Sound e state.disk) (sym is) (fresh-sound state.shape state.disk superblock next (log honest)),
+      λ honest. subst (λ (e : Engine). KeepsClean e state.disk) (sym is) (fresh-clean state.shape state.disk superblock next (log honest)),
     )
 
 -- it is the machine's

@@ -6,6 +6,7 @@ use Rattle.journal_model.specs.Superblock.{Shape}
 use Rattle.journal_world.specs.Checkpoint.{IsPending}
 use Rattle.log_engine.specs.Engine.{EngineValue, ReadRefused}
 use Rattle.log_engine.specs.Ledger.{engine_of}
+use Rattle.log_engine.proofs.KeptClean.{same-clean}
 use Rattle.log_engine.proofs.Reading.{aborted-sound, home-read, none-pending, pending-bytes, pending-read}
 use Rattle.log_engine.proofs.Rounding.{aborted-runs}
 use Rattle.log_engine.proofs.Rounds.{placed-size}
@@ -96,6 +97,7 @@ invariant_of-self g c =
       aborted-runs before.shape after.shape l stays.shape c.self.invariant.0,
       c.self.invariant.1 ∙ sym (ap (λ (s : Shape). s.block_size) stays.shape),
       λ honest. aborted-sound before.shape after.shape l before.disk after.disk stays.shape stays.disk (c.self.invariant.2 (c.read.ensures.honest honest)),
+      λ honest. same-clean (engine_of before.shape l) _ before.disk after.disk refl refl refl stays.disk (c.self.invariant.3 (c.read.ensures.honest honest)),
     )
 
 -- that is what the answer says
