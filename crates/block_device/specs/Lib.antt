@@ -4,3 +4,4 @@ pub mod MemIndex
 pub mod Memory
 pub mod MemInvariant
 pub mod Stop
+pub mod Fail

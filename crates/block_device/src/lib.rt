@@ -1,4 +1,5 @@
-//! Devices that lose power: the trait that the journal is proved over, a device in memory, and one that stops.
+//! Devices that lose power: the trait that the journal is proved over, a device in memory, one that stops, and one that fails
+//! once.
 //!
 //! What contracts see of a device is a `DeviceState`: of each block what a read gives and what else a crash may leave
 //! there, the disks before, and how often the device has failed. Not proved, and not provable here: that a real disk
@@ -6,6 +7,7 @@
 #![tactic(auto)]
 
 mod device;
+mod fail;
 mod laws;
 mod memory;
 mod memory_index;
@@ -14,6 +16,7 @@ mod stop;
 mod stored;
 
 pub use device::{Device, DeviceFault};
+pub use fail::FailOnce;
 pub use laws::a_crash_meets_one_of_the_moments;
 pub use memory::{Call, MemDevice, Write};
 pub use reading::read_block;

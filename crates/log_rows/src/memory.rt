@@ -1,4 +1,4 @@
-//! Rows of devices in memory that lose power and stop.
+//! Rows of devices in memory that lose power, stop, and fail once.
 //!
 //! The device has 4 blocks of the log and 400 home blocks, of 4 bytes each. Its calls are spelled, with bars between them:
 //!
@@ -10,13 +10,15 @@
 //! writes               answers how many writes are counted
 //! stop 3               from here on the device stops at write 3; at none for 0
 //! stopped              answers whether it has stopped
-//! behind               goes on with the device behind the one that stops
+//! fail 3               from here on call 3 of the device fails; none for 0
+//! calls                answers how many calls that device has counted
+//! behind               goes on with the device behind the one that stops, or fails
 //! crash 1 3            the power goes away, and writes 1 and 3 are kept
 //! ```
 //!
 //! A call that fails answers why. A block is told without the zeros at its end.
 use crate::images::known_images;
-use block_device::{Device, DeviceFault, MemDevice, StopAt};
+use block_device::{Device, DeviceFault, FailOnce, MemDevice, StopAt};
 use format_rows::RowError;
 use format_rows::telling::{add_bytes, text};
 use format_rows::words::{cut, hex_byte, number, series};
@@ -27,11 +29,12 @@ use std::fmt::Write;
 /// Bytes of a block.
 const SIZE: usize = 4;
 
-/// A device in memory, or one over it that stops.
+/// A device in memory, or one over it that stops, or fails once.
 #[derive(Drop)]
 enum Rig {
     Memory(MemDevice),
     Stopping(StopAt<MemDevice>),
+    Failing(FailOnce<MemDevice>),
 }
 
 /// The area of this name.
@@ -127,6 +130,8 @@ fn call_memory(
         return Ok(Rig::Memory(device.crash(keep.as_slice())));
     } else if let Some(write) = spelled.strip_prefix("stop ") {
         return Ok(Rig::Stopping(StopAt::new(device, number(write)?)));
+    } else if let Some(at) = spelled.strip_prefix("fail ") {
+        return Ok(Rig::Failing(FailOnce::new(device, number(at)?)));
     } else {
         call(told, &mut device, spelled)?;
     }
@@ -147,6 +152,20 @@ fn call_stopping(
     Ok(Rig::Stopping(device))
 }
 
+/// Makes a call of a device that fails once.
+fn call_failing(
+    told: &mut String,
+    mut device: FailOnce<MemDevice>,
+    spelled: &str,
+) -> Result<Rig, RowError> {
+    match spelled {
+        "behind" => return Ok(Rig::Memory(device.into_inner())),
+        "calls" => write!(told, "calls {} | ", device.calls())?,
+        _ => call(told, &mut device, spelled)?,
+    }
+    Ok(Rig::Failing(device))
+}
+
 /// Answers without the bar behind the last.
 fn answers_text(alloc: Global, answers: &str) -> Result<String, RowError> {
     text(alloc, answers.strip_suffix(" | ").unwrap_or(answers))
@@ -161,6 +180,7 @@ pub fn memory_calls(alloc: Global, given: &str) -> Result<String, RowError> {
         rig = match rig {
             Rig::Memory(device) => call_memory(alloc, &mut told, device, spelled)?,
             Rig::Stopping(device) => call_stopping(&mut told, device, spelled)?,
+            Rig::Failing(device) => call_failing(&mut told, device, spelled)?,
         };
     }
     answers_text(alloc, told.as_str())
