@@ -66,11 +66,11 @@ pub fn no_word(words: &mut SplitWhitespace<'_>) -> Result<(), RowError> {
     }
 }
 
-/// The value of a word `NAME=VALUE` with this name.
-fn value_of(word: &str, name: &str) -> Result<u64, RowError> {
+/// What stands behind this name in a word `NAME=VALUE`.
+pub fn value_of<'a>(word: &'a str, name: &str) -> Result<&'a str, RowError> {
     let (found, value) = cut(word, "=")?;
     if found == name {
-        number(value)
+        Ok(value)
     } else {
         Err(RowError::Unread)
     }
@@ -82,7 +82,7 @@ pub fn values<const N: usize>(given: &str, names: &str) -> Result<[u64; N], RowE
     let mut words = given.split_whitespace();
     let mut names = names.split_whitespace();
     for value in &mut found {
-        *value = value_of(next_word(&mut words)?, next_word(&mut names)?)?;
+        *value = number(value_of(next_word(&mut words)?, next_word(&mut names)?)?)?;
     }
     no_word(&mut words)?;
     Ok(found)
