@@ -14,6 +14,9 @@ pub fn found(alloc: Global, kind: &str, given: &str) -> Option<Found> {
     if let Some(found) = found_of_log(alloc, kind, given) {
         return Some(found);
     }
+    if let Some(found) = found_of_opening(alloc, kind, given) {
+        return Some(found);
+    }
     found_of_format(alloc, kind, given)
 }
 
@@ -46,10 +49,18 @@ fn found_of_log(alloc: Global, kind: &str, given: &str) -> Option<Found> {
         "dumps" => Some(log_rows::dumps(alloc, given)),
         "memory_calls" => Some(log_rows::memory_calls(alloc, given)),
         "newest_copies" => Some(log_rows::newest_copies(alloc, given)),
-        "openings" => Some(log_rows::openings(alloc, given)),
-        "second_openings" => Some(log_rows::second_openings(alloc, given)),
         "short_dumps" => Some(log_rows::short_dumps(alloc, given)),
         "transaction_entries" => Some(log_rows::transaction_entries(alloc, given)),
+        _ => None,
+    }
+}
+
+/// What is found of a row on openings.
+fn found_of_opening(alloc: Global, kind: &str, given: &str) -> Option<Found> {
+    match kind {
+        "opening_calls" => Some(opening_rows::opening_calls(alloc, given)),
+        "openings" => Some(opening_rows::openings(alloc, given)),
+        "second_openings" => Some(opening_rows::second_openings(alloc, given)),
         _ => None,
     }
 }

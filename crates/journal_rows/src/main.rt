@@ -2,8 +2,8 @@
 //! crates, and prints for each file how many of its rows held and each row that did not.
 //!
 //! `row_file` reads a file of rows, `repetition` writes out what a row says more than once, `kinds` knows what may be done with
-//! a row, and `report` compares what is found with what is wanted. Rows of blocks and of logs are done by the crates
-//! `format_rows` and `log_rows`; those of runs, scripts and words by the other modules here.
+//! a row, and `report` compares what is found with what is wanted. Rows of blocks, logs and openings are done by the
+//! crates `format_rows`, `log_rows` and `opening_rows`; those of runs, scripts and words by the other modules here.
 #![tactic(auto)]
 
 mod changed;

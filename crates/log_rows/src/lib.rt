@@ -1,4 +1,4 @@
-//! What is done with rows of logs: texts and transactions of the plain program, dumps, openings, and devices in memory.
+//! What is done with rows of logs: texts and transactions of the plain program, dumps, and devices in memory.
 //!
 //! A row gives a text and says what text is wanted. Each kind of rows is a function here, as in `format_rows`: it does what
 //! the row gives over the public functions of the crates below, and answers the text that it found. `logs` says how logs are
@@ -9,7 +9,6 @@ mod dumping;
 mod images;
 pub mod logs;
 mod memory;
-mod opening;
 mod texts;
 mod transactions;
 
@@ -17,6 +16,5 @@ pub use dumping::{counted_dumps, dumps, short_dumps};
 pub use format_rows::RowError;
 pub use images::known_images;
 pub use memory::{crashed_images, memory_calls};
-pub use opening::{openings, second_openings};
 pub use texts::{chains, covered_copies, newest_copies};
 pub use transactions::{contents_after, transaction_entries};

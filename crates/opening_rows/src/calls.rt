@@ -1,0 +1,110 @@
+//! Rows of the device calls by which an opening changes what a device holds.
+ghost use Rattle.std.specs.Prelude.{◌≡◌};
+
+use block_device::{Device, DeviceFault, MemDevice};
+use format_rows::RowError;
+use journal_model::Area;
+use log_rows::logs::{device_of, log_of};
+use recovery::open;
+use std::alloc::{AllocError, Global};
+use std::fmt::Write;
+
+/// A device call that changes what a device holds.
+#[derive(Clone, Copy)]
+enum Call {
+    Write(Area, u64),
+    Flush(Area),
+}
+
+/// How many calls are noted.
+const MOST_CALLS: usize = 64;
+
+/// A device that notes the first of these calls.
+#[derive(Drop)]
+struct NotedCalls<D> {
+    device: D,
+    calls: [Option<Call>; MOST_CALLS],
+    count: usize,
+}
+
+impl<D: Device> NotedCalls<D> {
+    /// Notes a call.
+    fn note(&mut self, call: Call)
+        ensures { self.new.device ≡ self.old.device }
+    {
+        if let Some(place) = self.calls.get_mut(self.count) {
+            *place = Some(call);
+        }
+        self.count = self.count.saturating_add(1);
+    }
+}
+
+impl<D: Device> Device for NotedCalls<D> {
+    ghost state = { λ r. D.state r.device };
+
+    ghost honest = { λ r. D.honest r.device };
+
+    fn read(&mut self, area: Area, n: u64, into: &mut [u8]) -> Result<(), DeviceFault> {
+        self.device.read(area, n, into)
+    }
+
+    fn write(&mut self, area: Area, n: u64, bytes: &[u8]) -> Result<(), DeviceFault> {
+        self.note(Call::Write(area, n));
+        self.device.write(area, n, bytes)
+    }
+
+    fn flush(&mut self, area: Area) -> Result<(), DeviceFault> {
+        self.note(Call::Flush(area));
+        self.device.flush(area)
+    }
+
+    fn blocks(&self, area: Area) -> u64 {
+        self.device.blocks(area)
+    }
+
+    fn block_size(&self) -> usize {
+        self.device.block_size()
+    }
+}
+
+/// The name of an area.
+fn name_of(area: Area) -> &'static str {
+    match area {
+        Area::Log => "log",
+        Area::Home => "home",
+    }
+}
+
+/// Adds the line of a call.
+fn add_call(told: &mut String, call: Call) -> Result<(), AllocError> {
+    match call {
+        Call::Write(area, n) => writeln!(told, "write {} {n}", name_of(area)),
+        Call::Flush(area) => writeln!(told, "flush {}", name_of(area)),
+    }
+}
+
+/// The lines of the calls that were noted.
+fn calls_text(alloc: Global, device: &NotedCalls<MemDevice>) -> Result<String, RowError> {
+    if device.count > MOST_CALLS {
+        return Err(RowError::Unread);
+    }
+    let mut told = String::new(alloc);
+    for call in device.calls.iter().flatten() {
+        add_call(&mut told, *call)?;
+    }
+    Ok(told)
+}
+
+/// Device calls of openings. Given: a log, on a device that lost power with it and whose home is zeros. Found: a line for each
+/// write and each flush that the opening makes, in their order.
+pub fn opening_calls(alloc: Global, given: &str) -> Result<String, RowError> {
+    let device = NotedCalls {
+        device: device_of(alloc, &log_of(alloc, given)?)?,
+        calls: [None; MOST_CALLS],
+        count: 0,
+    };
+    match open(alloc, device) {
+        Ok(opened) => calls_text(alloc, &opened.into_device()),
+        Err((device, _)) => calls_text(alloc, &device),
+    }
+}

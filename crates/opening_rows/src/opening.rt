@@ -1,0 +1,72 @@
+//! Rows of openings.
+use crate::told::{Told, add_home, report_text};
+use block_device::{Device, MemDevice};
+use format_rows::RowError;
+use format_rows::telling::refusal_text;
+use journal_model::Area;
+use log_rows::logs::{Log, device_of, log_of};
+use recovery::{Opened, open};
+use std::alloc::Global;
+
+/// The bytes of a home block.
+fn read_home(alloc: Global, device: &mut MemDevice, block: u64) -> Result<Vec<u8>, RowError> {
+    if block >= device.blocks(Area::Home) {
+        return Err(RowError::Unread);
+    }
+    let mut bytes = vec![in alloc; 0; device.block_size()]?;
+    device.read(Area::Home, block, &mut bytes)?;
+    Ok(bytes)
+}
+
+/// The lines of the home blocks that are not zeros.
+fn home_text(alloc: Global, device: &mut MemDevice) -> Result<String, RowError> {
+    let mut told = String::new(alloc);
+    for block in 0..device.blocks(Area::Home) {
+        add_home(&mut told, block, &read_home(alloc, device, block)?)?;
+    }
+    Ok(told)
+}
+
+/// The line of an opening.
+fn opened_text(alloc: Global, opened: &Opened<MemDevice>) -> Result<String, RowError> {
+    report_text(alloc, opened.report(), u64::from(opened.next().0))
+}
+
+/// What an opening answers, and the device behind it.
+fn opened_or_refused(alloc: Global, device: MemDevice) -> Result<(String, MemDevice), RowError> {
+    match open(alloc, device) {
+        Ok(opened) => Ok((opened_text(alloc, &opened)?, opened.into_device())),
+        Err((device, e)) => Ok((refusal_text(alloc, e)?, device)),
+    }
+}
+
+/// What is told of the opening of a log, on a device that lost power with it and whose home is zeros.
+pub fn told_of(alloc: Global, log: &Log) -> Result<Told, RowError> {
+    let (answer, device) = opened_or_refused(alloc, device_of(alloc, log)?)?;
+    let writes = device.writes();
+    let (again, mut device) = opened_or_refused(alloc, device.crash(&[]))?;
+    Ok(Told {
+        answer,
+        writes,
+        again,
+        writes_again: device.writes(),
+        home: home_text(alloc, &mut device)?,
+    })
+}
+
+/// Openings. Given: a log, on a device that lost power with it and whose home is zeros. Found: a line with what the opening
+/// answers, each home block that is not zeros where power goes away once more right behind it, and how many writes it made.
+pub fn openings(alloc: Global, given: &str) -> Result<String, RowError> {
+    let told = told_of(alloc, &log_of(alloc, given)?)?;
+    Ok(format!(in alloc; "{}{}\nwrites {}", told.answer, told.home, told.writes)?)
+}
+
+/// Openings once more. Given: as for `openings`. Found: what the first opening answers, and behind that what `openings` finds of
+/// another one, behind a loss of power right behind the first; its writes are its own.
+pub fn second_openings(alloc: Global, given: &str) -> Result<String, RowError> {
+    let told = told_of(alloc, &log_of(alloc, given)?)?;
+    Ok(format!(in alloc;
+        "{}\n{}{}\nwrites {}",
+        told.answer, told.again, told.home, told.writes_again
+    )?)
+}
