@@ -58,8 +58,10 @@ fn found_of_log(alloc: Global, kind: &str, given: &str) -> Option<Found> {
 /// What is found of a row on openings.
 fn found_of_opening(alloc: Global, kind: &str, given: &str) -> Option<Found> {
     match kind {
+        "changed_bytes" => Some(opening_rows::changed_bytes(alloc, given)),
         "opening_calls" => Some(opening_rows::opening_calls(alloc, given)),
         "openings" => Some(opening_rows::openings(alloc, given)),
+        "random_logs" => Some(opening_rows::random_logs(alloc, given)),
         "second_openings" => Some(opening_rows::second_openings(alloc, given)),
         _ => None,
     }

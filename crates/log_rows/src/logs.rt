@@ -14,7 +14,7 @@ use format_rows::RowError;
 use format_rows::spelling::{Measures, block_of};
 use format_rows::words::{count, cut, number};
 use journal_model::{Area, Block, Items};
-use std::alloc::Global;
+use std::alloc::{AllocError, Global};
 
 /// The measures of a device.
 #[derive(Clone, Copy)]
@@ -94,6 +94,16 @@ pub fn log_of(alloc: Global, given: &str) -> Result<Log, RowError> {
         push_line(alloc, &mut blocks, &shape.measures, line)?;
     }
     Ok(Log { shape, blocks })
+}
+
+/// The block that a log has at a place of its area: zeros where no line spells it.
+pub fn block_at(alloc: Global, log: &Log, place: u64) -> Result<Block, AllocError> {
+    for (other, block) in log.blocks.as_slice().iter().rev() {
+        if *other == place {
+            return block.try_clone(alloc);
+        }
+    }
+    Ok(Block::new(vec![in alloc; 0; log.shape.measures.block_size]?))
 }
 
 /// Writes a block of a log.

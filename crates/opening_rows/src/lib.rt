@@ -1,12 +1,19 @@
-//! What is done with rows of openings: what they answer and leave, and their device calls.
+//! What is done with rows of openings: of one log, of each that differs from it in a byte, and of random ones.
 //!
 //! A row gives a text and says what text is wanted. Each kind of rows is a function here, as in `log_rows`, whose module `logs`
-//! says how logs are spelled in every row.
+//! says how logs are spelled in every row. Openings of many logs are compared with what the plain program finds.
 #![tactic(auto)]
 
+mod agreement;
 mod calls;
+mod changes;
+mod drawing;
 mod opening;
+mod plain_opening;
+mod random;
 mod told;
 
 pub use calls::opening_calls;
+pub use changes::changed_bytes;
 pub use opening::{openings, second_openings};
+pub use random::random_logs;

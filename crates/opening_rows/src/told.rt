@@ -2,7 +2,7 @@
 use format_rows::RowError;
 use format_rows::telling::add_bytes;
 use recovery::Report;
-use std::alloc::Global;
+use std::alloc::{AllocError, Global};
 use std::fmt::Write;
 
 /// What is told of the opening of a log, of a loss of power right behind it, and of another opening behind that.
@@ -18,6 +18,32 @@ pub struct Told {
     pub writes_again: u64,
     /// A line for each home block behind both that is not zeros.
     pub home: String,
+}
+
+impl Told {
+    /// Whether another says the same.
+    pub fn is_as(&self, other: &Told) -> bool {
+        self.answer.as_str() == other.answer.as_str()
+            && self.writes == other.writes
+            && self.again.as_str() == other.again.as_str()
+            && self.writes_again == other.writes_again
+            && self.home.as_str() == other.home.as_str()
+    }
+
+    /// Adds all of it.
+    pub fn add_to(&self, all: &mut String) -> Result<(), AllocError> {
+        let Told {
+            answer,
+            writes,
+            again,
+            writes_again,
+            home,
+        } = self;
+        writeln!(
+            all,
+            "{answer}, writes {writes}\n{again}, writes {writes_again}{home}"
+        )
+    }
 }
 
 /// The line of an opening that reports this, with the number of the next transaction.

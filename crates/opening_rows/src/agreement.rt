@@ -1,0 +1,93 @@
+//! Openings of many images, each compared with what the plain program says.
+use crate::opening::told_of;
+use crate::plain_opening::plainly_told;
+use crate::told::Told;
+use format_rows::RowError;
+use log_rows::logs::Log;
+use std::alloc::{AllocError, Global};
+use std::fmt::Write;
+
+/// Why a row goes no further through its images.
+#[derive(Drop)]
+pub enum Stop {
+    /// An opening tells something else than the plain program: what both tell.
+    Differs(String),
+    /// The row has no answer.
+    Row(RowError),
+}
+
+impl From<RowError> for Stop {
+    fn from(e: RowError) -> Stop {
+        Stop::Row(e)
+    }
+}
+
+impl From<AllocError> for Stop {
+    fn from(_e: AllocError) -> Stop {
+        Stop::Row(RowError::Memory)
+    }
+}
+
+/// How many images had each answer, in the order in which the answers came.
+#[derive(Drop)]
+pub struct Tally {
+    images: u64,
+    writes: u64,
+    answers: Vec<(String, u64)>,
+}
+
+impl Tally {
+    /// No image.
+    pub fn new(alloc: Global) -> Tally {
+        Tally {
+            images: 0,
+            writes: 0,
+            answers: Vec::new(alloc),
+        }
+    }
+
+    /// Adds an image with this answer and so many writes.
+    pub fn add(&mut self, alloc: Global, answer: &str, writes: u64) -> Result<(), AllocError> {
+        self.images = self.images.saturating_add(1);
+        self.writes = self.writes.saturating_add(writes);
+        for (other, count) in self.answers.iter_mut() {
+            if other.as_str() == answer {
+                *count = count.saturating_add(1);
+                return Ok(());
+            }
+        }
+        Ok(self.answers.push((String::from_str(alloc, answer)?, 1))?)
+    }
+
+    /// A line with how many images there are and how many writes their first openings make, and one for each answer.
+    fn text(&self, alloc: Global) -> Result<String, AllocError> {
+        let mut all = format!(in alloc; "{} images, writes {}\n", self.images, self.writes)?;
+        for (answer, count) in &self.answers {
+            writeln!(all, "{count} {answer}")?;
+        }
+        Ok(all)
+    }
+
+    /// What is found of a row that went so through its images.
+    pub fn found(&self, alloc: Global, went: Result<(), Stop>) -> Result<String, RowError> {
+        match went {
+            Ok(()) => Ok(self.text(alloc)?),
+            Err(Stop::Differs(text)) => Ok(text),
+            Err(Stop::Row(e)) => Err(e),
+        }
+    }
+}
+
+/// What an opening of this log tells, where the plain program says the same; `image` names it where that is not so.
+pub fn agreed(alloc: Global, log: &Log, image: &str) -> Result<Told, Stop> {
+    let told = told_of(alloc, log)?;
+    let plain = plainly_told(alloc, log)?;
+    if told.is_as(&plain) {
+        return Ok(told);
+    }
+    let mut text = format!(in alloc; "{image}\nopened:\n")?;
+    told.add_to(&mut text)?;
+    text.push_str("by the plain program:\n")?;
+    plain.add_to(&mut text)?;
+    Err(Stop::Differs(text))
+}

@@ -1,0 +1,233 @@
+//! What an opening has to tell of a log, by the plain program: it reads the chain and its damage, and finds the newest copies.
+use crate::told::{Told, add_home, report_text};
+use format_rows::RowError;
+use format_rows::telling::refusal_text;
+use journal_model::layout::GREATEST_NUMBER;
+use journal_model::{Block, BlockNo, Items, JournalError, Text};
+use journal_plain::chain::{chain, damage};
+use journal_plain::replay::newest;
+use log_format::{Header, Super};
+use log_rows::logs::{Log, block_at};
+use recovery::Report;
+use std::alloc::{AllocError, Global};
+use std::fmt::Write;
+
+/// Why a log is not opened.
+#[derive(Drop)]
+enum NotOpened {
+    /// An opening refuses it.
+    Refused(JournalError),
+    /// The row has no answer.
+    Row(RowError),
+}
+
+impl From<JournalError> for NotOpened {
+    fn from(refusal: JournalError) -> NotOpened {
+        NotOpened::Refused(refusal)
+    }
+}
+
+impl From<AllocError> for NotOpened {
+    fn from(_e: AllocError) -> NotOpened {
+        NotOpened::Row(RowError::Memory)
+    }
+}
+
+/// What stands in a log that is not refused.
+#[derive(Drop)]
+struct Found {
+    is_clean: bool,
+    /// The number behind the last complete transaction.
+    end: u64,
+    texts: Items<Text>,
+}
+
+/// All blocks of the log's area.
+fn area_of(alloc: Global, log: &Log) -> Result<Items<Block>, AllocError> {
+    let mut blocks = Items::new(alloc);
+    for place in 0..log.shape.measures.log_blocks {
+        blocks.push(block_at(alloc, log, place)?)?;
+    }
+    Ok(blocks)
+}
+
+/// The blocks of the ring, in their order from where the log begins.
+fn lap_of(alloc: Global, area: &[Block], fields: &Super) -> Result<Items<Block>, AllocError> {
+    let start = fields.s_start as usize;
+    let mut lap = Items::new(alloc);
+    push_blocks(alloc, &mut lap, area, (start, fields.s_maxlen as usize))?;
+    push_blocks(alloc, &mut lap, area, (fields.s_first as usize, start))?;
+    Ok(lap)
+}
+
+/// Adds the blocks from one place to before another.
+fn push_blocks(
+    alloc: Global,
+    lap: &mut Items<Block>,
+    area: &[Block],
+    (from, to): (usize, usize),
+) -> Result<(), AllocError> {
+    for block in area.get(from..to).unwrap_or(&[]) {
+        lap.push(block.try_clone(alloc)?)?;
+    }
+    Ok(())
+}
+
+/// The place of the block that stands behind so many of the ring, counted from where the log begins.
+fn place_of(fields: &Super, behind: usize) -> u64 {
+    let before_end = u64::from(fields.s_maxlen.saturating_sub(fields.s_start));
+    let behind = behind as u64;
+    if behind < before_end {
+        u64::from(fields.s_start).saturating_add(behind)
+    } else {
+        u64::from(fields.s_first).saturating_add(behind.saturating_sub(before_end))
+    }
+}
+
+/// The complete transactions of a log. A malformed block behind them refuses it.
+fn texts_of(
+    alloc: Global,
+    log: &Log,
+    area: &[Block],
+    fields: &Super,
+) -> Result<Items<Text>, NotOpened> {
+    let size = log.shape.measures.block_size;
+    let home = log.shape.home_blocks;
+    let lap = lap_of(alloc, area, fields)?;
+    let number = u64::from(fields.s_sequence);
+    if let Some(behind) = damage(alloc, size, 4, home, number, lap.as_slice())? {
+        return Err(NotOpened::Refused(JournalError::Damage(place_of(fields, behind))));
+    }
+    Ok(chain(alloc, size, 4, home, number, lap.as_slice())?)
+}
+
+/// Whether a block begins as one of the log's own, with a sequence above this.
+fn is_ahead(block: &Block, end: u64) -> bool {
+    let bytes = block.bytes();
+    if bytes.len() < 12 {
+        return false;
+    }
+    match Header::read(bytes) {
+        Some(header) => u64::from(header.sequence) > end,
+        None => false,
+    }
+}
+
+/// No block of the ring is ahead of the end.
+fn none_ahead(area: &[Block], fields: &Super, end: u64) -> Result<(), JournalError> {
+    for place in fields.s_first..fields.s_maxlen {
+        if let Some(block) = area.get(place as usize)
+            && is_ahead(block, end)
+        {
+            return Err(JournalError::Ahead(u64::from(place)));
+        }
+    }
+    Ok(())
+}
+
+/// What stands in a log, or why it is refused.
+fn find(alloc: Global, log: &Log) -> Result<Found, NotOpened> {
+    let area = area_of(alloc, log)?;
+    let front = area
+        .as_slice()
+        .first()
+        .map_or(&[][..], |block| block.bytes());
+    let fields = Super::read(front, log.shape.measures.log_blocks)?;
+    let is_clean = fields.s_start == 0;
+    let texts = if is_clean {
+        Items::new(alloc)
+    } else {
+        texts_of(alloc, log, area.as_slice(), &fields)?
+    };
+    let end = u64::from(fields.s_sequence).saturating_add(texts.len() as u64);
+    none_ahead(area.as_slice(), &fields, end)?;
+    if end >= u64::from(GREATEST_NUMBER) {
+        return Err(NotOpened::Refused(JournalError::SequenceEnd));
+    }
+    Ok(Found {
+        is_clean,
+        end,
+        texts,
+    })
+}
+
+/// The line of each home block that gets a copy that is not zeros, and how many get one.
+fn home_of(alloc: Global, log: &Log, texts: &[Text]) -> Result<(String, u64), RowError> {
+    let mut told = String::new(alloc);
+    let mut count = 0u64;
+    for block in 0..log.shape.home_blocks {
+        if let Some(copy) = newest(alloc, texts, BlockNo(block))? {
+            add_home(&mut told, block, copy.bytes())?;
+            count = count.saturating_add(1);
+        }
+    }
+    Ok((told, count))
+}
+
+/// What a second opening answers behind one that left the log clean, with this number before that of the next transaction.
+fn again_of(alloc: Global, limit: u64) -> Result<String, RowError> {
+    if limit < u64::from(GREATEST_NUMBER) {
+        report_text(alloc, clean_report(limit), limit.saturating_add(1))
+    } else {
+        refusal_text(alloc, JournalError::SequenceEnd)
+    }
+}
+
+/// What is reported of a clean log.
+fn clean_report(ends_at: u64) -> Report {
+    Report {
+        clean: true,
+        ends_at,
+        transactions: 0,
+    }
+}
+
+/// What is told of a clean log. Nothing is written.
+fn told_clean(alloc: Global, end: u64) -> Result<Told, RowError> {
+    Ok(Told {
+        answer: report_text(alloc, clean_report(end), end.saturating_add(1))?,
+        writes: 0,
+        again: again_of(alloc, end)?,
+        writes_again: 0,
+        home: String::new(alloc),
+    })
+}
+
+/// What is told of a log that is not clean: each block with a live copy is written once, and then the superblock.
+fn told_recovered(alloc: Global, log: &Log, end: u64, texts: &[Text]) -> Result<Told, RowError> {
+    let next = end.saturating_add(1);
+    let (home, count) = home_of(alloc, log, texts)?;
+    let report = Report {
+        clean: false,
+        ends_at: end,
+        transactions: texts.len() as u64,
+    };
+    Ok(Told {
+        answer: report_text(alloc, report, next)?,
+        writes: count.saturating_add(1),
+        again: again_of(alloc, next)?,
+        writes_again: 0,
+        home,
+    })
+}
+
+/// What is told of a refusal: nothing is written, and another opening is refused as well.
+fn told_refusal(alloc: Global, refusal: JournalError) -> Result<Told, RowError> {
+    Ok(Told {
+        answer: refusal_text(alloc, refusal)?,
+        writes: 0,
+        again: refusal_text(alloc, refusal)?,
+        writes_again: 0,
+        home: String::new(alloc),
+    })
+}
+
+/// What an opening has to tell of a log on a device whose home is zeros.
+pub fn plainly_told(alloc: Global, log: &Log) -> Result<Told, RowError> {
+    match find(alloc, log) {
+        Ok(found) if found.is_clean => told_clean(alloc, found.end),
+        Ok(found) => told_recovered(alloc, log, found.end, found.texts.as_slice()),
+        Err(NotOpened::Refused(refusal)) => told_refusal(alloc, refusal),
+        Err(NotOpened::Row(e)) => Err(e),
+    }
+}

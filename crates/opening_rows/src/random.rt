@@ -1,0 +1,42 @@
+//! Rows of openings of logs that are drawn: well formed, damaged, and with any superblock.
+use crate::agreement::{Stop, Tally, agreed};
+use crate::drawing::{Draws, RandomLog};
+use format_rows::RowError;
+use format_rows::words::values;
+use log_rows::logs::log_of;
+use std::alloc::Global;
+
+/// The name of an answer: of a refusal its number and its name without a place, else its first word.
+fn name_of(answer: &str) -> &str {
+    let words = if answer.starts_with("refusal") { 3 } else { 1 };
+    match answer.match_indices(' ').nth(words - 1) {
+        Some((end, _)) => answer.get(..end).unwrap_or(answer),
+        None => answer,
+    }
+}
+
+/// Draws an image and opens it.
+fn open_one(alloc: Global, draws: &mut Draws, tally: &mut Tally) -> Result<(), Stop> {
+    let spelled = RandomLog::draw(alloc, draws)?.text(alloc)?;
+    let log = log_of(alloc, spelled.as_str())?;
+    let told = agreed(alloc, &log, spelled.as_str())?;
+    Ok(tally.add(alloc, name_of(told.answer.as_str()), told.writes)?)
+}
+
+/// Draws so many images and opens them.
+fn open_all(alloc: Global, draws: &mut Draws, images: u64, tally: &mut Tally) -> Result<(), Stop> {
+    for _ in 0..images {
+        open_one(alloc, draws, tally)?;
+    }
+    Ok(())
+}
+
+/// Openings of random logs. Given: `seed=N images=N`. Found: how many images there are, how many writes their openings make,
+/// and how often each answer comes, without places. The first image whose opening does not tell what the plain program says of
+/// it is found in their place, as a log that a row of another kind may give.
+pub fn random_logs(alloc: Global, given: &str) -> Result<String, RowError> {
+    let [seed, images] = values::<2>(given, "seed images")?;
+    let mut tally = Tally::new(alloc);
+    let went = open_all(alloc, &mut Draws::new(seed), images, &mut tally);
+    tally.found(alloc, went)
+}
