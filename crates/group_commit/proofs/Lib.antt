@@ -1,4 +1,7 @@
 -- The lemmas of this crate.
+pub mod Closed
+pub mod Finishing
+pub mod Leading
 pub mod Reading
 pub mod Rounding
 pub mod Sealing

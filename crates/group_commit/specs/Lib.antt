@@ -1,3 +1,4 @@
+pub mod Close
 pub mod Front
 pub mod FrontView
 pub mod Journal

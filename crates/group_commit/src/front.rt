@@ -196,6 +196,13 @@ impl Front {
         self.locked
     }
 
+    /// Whether a handle has joined the running transaction.
+    pub(crate) fn has_joined(&self) -> bool
+        ensures { IsTrue result ↔ (0 < length self.now.running.handles) }
+    {
+        self.running.handles.len() > 0
+    }
+
     /// Whether a handle of the running transaction has not stopped.
     pub(crate) fn has_open_handles(&self) -> bool
         ensures { IsTrue result ↔ (0 < self.now.open_handles) }

@@ -1,18 +1,25 @@
 //! The journal that callers hold: a front and an engine.
-ghost use Rattle.std.specs.Prelude.{◌≡◌, ◌<◌, ◌≤◌, ◌≢◌, true, false, length, [], IfOk, IfErr, OnOk, Contains};
+ghost use Rattle.std.specs.Prelude.{◌≡◌, ◌<◌, ◌≤◌, ◌≢◌, ◌↔◌, true, false, length, [], IfOk, IfErr, MatchResult, OnOk, IsTrue, Contains};
 ghost use Rattle.journal_model.specs.declared.refusal.JournalError.TheVariants.{Aborted, Device as DeviceFailed, Memory};
-ghost use Rattle.block_device.specs.State.{EachMoment, Stays};
+ghost use Rattle.journal_model.specs.Disk.{Image, Leaves};
+ghost use Rattle.block_device.specs.State.{EachMoment, Stays, one_more_fault};
 ghost use Rattle.journal_world.specs.declared.stage.Stage.TheVariants.{Idle};
 ghost use Rattle.journal_world.specs.Front.{next_handle, writing};
 ghost use Rattle.journal_world.specs.Sound.{IsPlain};
 ghost use Rattle.journal_world.specs.Journal.{IsFresh};
-ghost use Rattle.journal_world.specs.Journal.Event.{GiveBack, Join, Reserve, StopHandle, WriteBlock};
+ghost use Rattle.journal_world.specs.Journal.Event.{GiveBack, Join, Reserve, Seal, StopHandle, WriteBlock};
 ghost use Rattle.journal_world.specs.World.{Begins};
 ghost use Rattle.journal_world.specs.World.Phase.{Running};
-ghost use Rattle.group_commit.specs.Front.{ReserveRefused};
+ghost use Rattle.log_epochs.specs.EngineWorld.Phase.{Shut};
+ghost use Rattle.log_epochs.specs.JournalPromise.{IsClosed};
 ghost use Rattle.log_engine.specs.Call.{IsOneMoment};
-ghost use Rattle.group_commit.specs.Journal.{CheckTurnDid, CheckTurnRefused, Does, HasCopyKept, IsDuringCheckTurn, IsDuringTurn, IsSeen, MayTouch, OpensNow, ReadRefused, Requests, SealIsDue, Spends, StatusIs, TryJoinRefused, TurnDid, TurnRefused, WriteRefused};
+ghost use Rattle.log_engine.specs.Close.{IsAllReleased};
+ghost use Rattle.log_engine.specs.Left.{commit_calls};
+ghost use Rattle.group_commit.specs.Close.{CloseDid, CloseRefused, EndsWith, LeavesFewerRounds, SealRefused, closing, locked_journal};
+ghost use Rattle.group_commit.specs.Front.{ReserveRefused};
+ghost use Rattle.group_commit.specs.Journal.{Agrees, CheckTurnDid, CheckTurnRefused, Does, HasCopyKept, HasRoomFor, IsDuringCheckTurn, IsDuringTurn, IsSeen, MayTouch, OpensNow, OpensOver, ReadRefused, Requests, SealIsDue, Spends, StatusIs, TryJoinRefused, TurnDid, TurnRefused, WriteRefused};
 
+use crate::close::finish;
 use crate::front::Front;
 use crate::handle::{Credits, Handle, Receipt, Seat, Status, Ticket};
 use block_device::Device;
@@ -350,12 +357,13 @@ impl<D: Device> Journal<D> {
     }
 
     /// One step of the commit that is under way.
-    fn commit_step(&mut self) -> Result<Turn, JournalError>
+    pub(crate) fn commit_step(&mut self) -> Result<Turn, JournalError>
         requires running { self.old.journal.engine.aborted ≡ false }
         requires busy { self.old.journal.engine.stage ≢ Idle }
         requires plain { IsPlain self.old.journal.engine }
         ensures ok { IfOk result (λ turn. TurnDid D.state turn self.old self.new) }
         ensures err { IfErr result (λ e. TurnRefused D.state self.old self.new e) }
+        ensures fewer { OnOk result (commit_calls self.new.journal.engine < commit_calls self.old.journal.engine) }
         ensures no_fault { OnOk result ((D.state self.new.device).faults ≡ (D.state self.old.device).faults) }
         ensures shape { (D.state self.new.device).shape ≡ (D.state self.old.device).shape }
         ensures moments { D.honest self.old.device →
@@ -404,6 +412,7 @@ impl<D: Device> Journal<D> {
     pub fn checkpoint_turn(&mut self) -> Result<CheckTurn, JournalError>
         ensures ok { IfOk result (λ turn. CheckTurnDid D.state turn self.old self.new) }
         ensures err { IfErr result (λ e. CheckTurnRefused D.state self.old self.new e) }
+        ensures fewer { IfOk result (λ turn. LeavesFewerRounds turn self.old.journal.engine self.new.journal.engine) }
         ensures no_fault { OnOk result ((D.state self.new.device).faults ≡ (D.state self.old.device).faults) }
         ensures shape { (D.state self.new.device).shape ≡ (D.state self.old.device).shape }
         ensures moments { D.honest self.old.device →
@@ -415,6 +424,152 @@ impl<D: Device> Journal<D> {
             Progress::Idle => Ok(CheckTurn::Idle),
             Progress::Step => Ok(CheckTurn::Step),
             Progress::Done(tid) => Ok(CheckTurn::Released(tid)),
+        }
+    }
+
+    /// Whether a handle has not stopped.
+    pub fn has_open_handles(&self) -> bool
+        ensures { IsTrue result ↔ (0 < self.now.journal.front.open_handles) }
+    {
+        self.front.has_open_handles()
+    }
+
+    /// Whether the device has failed.
+    pub(crate) fn is_aborted(&self) -> bool
+        ensures { result ≡ self.now.journal.engine.aborted }
+    {
+        self.engine.is_aborted()
+    }
+
+    /// Whether nothing is being committed.
+    pub(crate) fn is_idle(&self) -> bool
+        ensures { IsTrue result ↔ (self.now.journal.engine.stage ≡ Idle) }
+    {
+        self.engine.is_idle()
+    }
+
+    /// Whether a handle has joined the running transaction.
+    pub(crate) fn has_joined(&self) -> bool
+        ensures { IsTrue result ↔ (0 < length self.now.journal.front.running.handles) }
+    {
+        self.front.has_joined()
+    }
+
+    /// Whether the ring has as many free blocks as the running transaction needs.
+    pub(crate) fn has_room(&self) -> bool
+        requires { self.now.journal.engine.stage ≡ Idle }
+        ensures { IsTrue result ↔ HasRoomFor self.now.journal }
+    {
+        self.engine.has_room(self.front.touched())
+    }
+
+    /// States what every journal keeps, for the proofs of callers: its engine knows what agrees, and front and engine agree.
+    /// It does nothing.
+    pub(crate) fn recall_invariant(&self)
+        ensures plain { IsPlain self.now.journal.engine }
+        ensures agrees { Agrees self.now.journal }
+    {
+        self.engine.recall_invariant();
+    }
+
+    /// Seals the running transaction, of which no handle is open, and hands its entries to the engine.
+    pub(crate) fn seal_running(&mut self) -> Result<(), JournalError>
+        requires running { self.old.journal.engine.aborted ≡ false }
+        requires idle { self.old.journal.engine.stage ≡ Idle }
+        requires joined { 0 < length self.old.journal.front.running.handles }
+        requires stopped { self.old.journal.front.open_handles ≡ 0 }
+        ensures ok { OnOk result (Does D.state (locked_journal self.old) Seal self.new) }
+        ensures err { IfErr result (λ e. SealRefused self.old.journal e × (self.new ≡ locked_journal self.old)) }
+        ensures all { self.old.journal.engine.committed ≡ length self.old.journal.front.sealed }
+        ensures device { self.new.device ≡ self.old.device }
+    {
+        self.engine.recall_invariant();
+        self.front.lock();
+        self.seal()?;
+        Ok(())
+    }
+
+    /// Closes the journal: seals the running transaction where a handle has joined it, commits everything and writes it home,
+    /// and closes the log. The next opening finds a clean log, and writes nothing. No handle may be open.
+    ///
+    /// # Errors
+    ///
+    /// What is left of the journal comes back: what was sealed and committed by then stays so, and what a stop leaves of the
+    /// device opens as it says. `Aborted` after a device failure: nothing was done. `Device` where the device failed. `Memory`
+    /// where it ran out for the seal of the running transaction, and `NeedSpace` where a whole ring is too short for that,
+    /// as it may be with handles of another journal: it is not sealed, and all before it is committed.
+    /// Source: fs/jbd2/journal.c by behaviour (`jbd2_journal_destroy`).
+    pub fn close(self) -> Result<Parts<D>, (Parts<D>, JournalError)>
+        requires { self.journal.front.open_handles ≡ 0 }
+        ensures running { OnOk result (self.journal.engine.aborted ≡ false) }
+        ensures ok { IfOk result (λ parts. (parts.sealed.items ≡ closing self.journal.front) × (parts.committed ≡ length parts.sealed.items)) }
+        ensures closed { IfOk result (λ parts. D.honest parts.device → (image : Image) → Leaves (D.state parts.device).disk image → IsClosed self.journal.engine.shape parts.sealed.items image) }
+        ensures err { IfErr result (λ e. CloseRefused D.state self e.0.device e.0.sealed.items e.0.committed e.1) }
+        ensures opens { MatchResult result
+            (λ parts. D.honest parts.device →
+            OpensOver self.journal.engine.shape parts.sealed.items parts.committed (length parts.sealed.items) (D.state parts.device).disk)
+            (λ e. D.honest e.0.device →
+            OpensOver self.journal.engine.shape e.0.sealed.items e.0.committed (length e.0.sealed.items) (D.state e.0.device).disk) }
+        ensures moves { MatchResult result
+            (λ parts. CloseDid self.journal (D.state self.device).disk parts.sealed.items parts.committed (D.state parts.device).disk)
+            (λ e. EndsWith self.journal (D.state self.device).disk e.0.sealed.items e.0.committed (D.state e.0.device).disk Shut) }
+        ensures no_fault { IfOk result (λ parts. (D.state parts.device).faults ≡ (D.state self.device).faults) }
+        ensures shape { MatchResult result
+            (λ parts. (D.state parts.device).shape ≡ (D.state self.device).shape)
+            (λ e. (D.state e.0.device).shape ≡ (D.state self.device).shape) }
+        ensures honest { MatchResult result
+            (λ parts. D.honest parts.device → D.honest self.device)
+            (λ e. D.honest e.0.device → D.honest self.device) }
+    {
+        let mut journal = self;
+        match finish(&mut journal) {
+            Ok(()) => journal.close_log(),
+            Err(e) => Err((journal.into_parts(), e)),
+        }
+    }
+
+    /// Closes the log once everything is committed and released.
+    fn close_log(self) -> Result<Parts<D>, (Parts<D>, JournalError)>
+        requires running { self.journal.engine.aborted ≡ false }
+        requires all { IsAllReleased self.journal.engine }
+        ensures ok { IfOk result (λ parts. (parts.sealed.items ≡ self.journal.front.sealed) × (parts.committed ≡ length parts.sealed.items)) }
+        ensures closed { IfOk result (λ parts. D.honest parts.device → (image : Image) → Leaves (D.state parts.device).disk image → IsClosed self.journal.engine.shape parts.sealed.items image) }
+        ensures err { IfErr result (λ e. (e.1 ≡ DeviceFailed) × (e.0.sealed.items ≡ self.journal.front.sealed) × (e.0.committed ≡ self.journal.engine.committed)
+            × ((D.state e.0.device).faults ≡ one_more_fault (D.state self.device).faults)) }
+        ensures opens { MatchResult result
+            (λ parts. D.honest parts.device →
+            OpensOver self.journal.engine.shape parts.sealed.items parts.committed (length parts.sealed.items) (D.state parts.device).disk)
+            (λ e. D.honest e.0.device →
+            OpensOver self.journal.engine.shape e.0.sealed.items e.0.committed (length e.0.sealed.items) (D.state e.0.device).disk) }
+        ensures moves { MatchResult result
+            (λ parts. CloseDid self.journal (D.state self.device).disk parts.sealed.items parts.committed (D.state parts.device).disk)
+            (λ e. EndsWith self.journal (D.state self.device).disk e.0.sealed.items e.0.committed (D.state e.0.device).disk Shut) }
+        ensures no_fault { IfOk result (λ parts. (D.state parts.device).faults ≡ (D.state self.device).faults) }
+        ensures shape { MatchResult result
+            (λ parts. (D.state parts.device).shape ≡ (D.state self.device).shape)
+            (λ e. (D.state e.0.device).shape ≡ (D.state self.device).shape) }
+        ensures honest { MatchResult result
+            (λ parts. D.honest parts.device → D.honest self.device)
+            (λ e. D.honest e.0.device → D.honest self.device) }
+    {
+        self.engine.recall_invariant();
+        let Journal { front, engine } = self;
+        let sealed = front.into_sealed();
+        let committed = sealed.len() as u64;
+        match engine.close() {
+            Ok(device) => Ok(Parts {
+                device,
+                sealed,
+                committed,
+            }),
+            Err((device, e)) => Err((
+                Parts {
+                    device,
+                    sealed,
+                    committed,
+                },
+                e,
+            )),
         }
     }
 

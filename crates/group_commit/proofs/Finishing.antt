@@ -1,0 +1,517 @@
+-- The way of a journal to its end: what the turns of a close come to, one after the other.
+use Rattle.std.proofs.Common.{refl, sym, ◌∙◌, ap, ap₂, subst, arith, inl, inr}
+use Rattle.std.specs.Prelude.{◌≡◌, ◌≢◌, ℕ, ◌<◌, ◌≤◌, false, List, [], ◌∷◌, ◌++◌, length, Result, Ok, Err, IfErr, OnOk}
+use Rattle.std.proofs.lemmas.Bool.{true≢false}
+use Rattle.std.proofs.lemmas.Option.{none-some}
+use Rattle.journal_model.specs.declared.refusal.JournalError.{JournalError}
+use Rattle.journal_model.specs.declared.refusal.JournalError.TheVariants.{Device}
+use Rattle.journal_model.specs.Layout.{narrow}
+use Rattle.journal_model.specs.Room.{need}
+use Rattle.journal_model.specs.Superblock.{Shape}
+use Rattle.journal_model.specs.Chain.{Ring}
+use Rattle.journal_model.specs.Transaction.{History, Transaction, entries}
+use Rattle.block_device.specs.State.{DeviceState, one_more_fault}
+use Rattle.journal_world.specs.declared.round.Round.{Round}
+use Rattle.journal_world.specs.declared.round.Round.TheVariants.{Idle as NoRound, Copies, TailWrite, TailFlush}
+use Rattle.journal_world.specs.declared.stage.Stage.{Stage}
+use Rattle.journal_world.specs.declared.stage.Stage.TheVariants.{Idle, SuperblockWrite, SuperblockFlush, Blocks, CommitWrite, CommitFlush}
+use Rattle.journal_world.specs.Call.{Call}
+use Rattle.journal_world.specs.Checkpoint.{RoundCall, RoundSteps, begun, begun_from}
+use Rattle.journal_world.specs.Checkpoint.RoundCall.{CopyHome, FlushHome, WriteTail, FlushTail}
+use Rattle.journal_world.specs.Engine.{CommitSteps, Engine, call_in, stepped_from}
+use Rattle.journal_world.specs.Front.{Front}
+use Rattle.journal_world.specs.Journal.{Event, Journal}
+use Rattle.journal_world.specs.Journal.Event.{CheckpointFault, CheckpointStep, CommitFault, CommitStep, Finish, Lock, Seal}
+use Rattle.journal_world.specs.Sound.{IsPlain, StageAgrees, position}
+use Rattle.journal_model.specs.Disk.{Disk}
+use Rattle.journal_world.proofs.Batches.{same-length}
+use Rattle.group_commit.specs.declared.journal.CheckTurn.{CheckTurn}
+use Rattle.group_commit.specs.declared.journal.CheckTurn.TheVariants.{Idle as IdleCheck, Step as StepCheck, Released}
+use Rattle.group_commit.specs.declared.journal.Turn.{Turn}
+use Rattle.group_commit.specs.declared.journal.Turn.TheVariants.{Idle as IdleTurn, Waiting, Step, Sealed, Committed}
+use Rattle.log_epochs.specs.EngineWorld.Phase.{Running}
+use Rattle.group_commit.specs.Close.{CloseRefused, ComesTo, FitsRing, GoesOn, HasSealed, IsFinished, SealRefused, StaysUnsealed, Went, WentWrong, closing, locked_journal, with_running}
+use Rattle.group_commit.specs.Close.CloseRefused.{CloseAborted, CloseFailed, NoMemory, RingTooShort}
+use Rattle.group_commit.specs.Close.SealRefused.{NoMemoryForIt, NoRoomForIt}
+use Rattle.group_commit.specs.Journal.{Agrees, CheckTurnDid, CheckTurnRefused, Does, HasRoomFor, NothingToRelease, TurnDid, TurnRefused}
+use Rattle.group_commit.specs.Journal.CheckTurnRefused.{CheckAborted, CheckFailed}
+use Rattle.group_commit.specs.Journal.TurnRefused.{DeviceFailed, MemoryIsShort, RingIsShort, WasAborted}
+use Rattle.group_commit.specs.Values.{JournalValue}
+use Rattle.group_commit.proofs.Leading.{comes-behind, comes-nowhere, comes-same, comes-step}
+
+-- what a step of a commit or of a round leaves of the log
+record KeepsLog (old new : Engine) : Type 0 where
+  measures : new.shape ≡ old.shape
+  ring : new.ring ≡ old.ring
+  aborted : new.aborted ≡ old.aborted
+  committed : old.committed ≤ new.committed
+
+stepped-log : (e : Engine) (stage : Stage) → KeepsLog e (stepped_from e stage)
+stepped-log e Idle = record { measures = refl; ring = refl; aborted = refl; committed = omega arith }
+stepped-log e SuperblockWrite = record { measures = refl; ring = refl; aborted = refl; committed = omega arith }
+stepped-log e SuperblockFlush = record { measures = refl; ring = refl; aborted = refl; committed = omega arith }
+stepped-log e (Blocks k) = record { measures = refl; ring = refl; aborted = refl; committed = omega arith }
+stepped-log e CommitWrite = record { measures = refl; ring = refl; aborted = refl; committed = omega arith }
+stepped-log e CommitFlush = record { measures = refl; ring = refl; aborted = refl; committed = omega arith }
+
+commit-log : (old new : Engine) (disk after : Disk) → CommitSteps old disk new after → KeepsLog old new
+commit-log old new disk after step = subst (KeepsLog old) (sym step.engine) (stepped-log old old.stage)
+
+-- a round leaves the commit too
+record KeepsStage (old new : Engine) : Type 0 where
+  log : KeepsLog old new
+  stage : new.stage ≡ old.stage
+
+begun-stage : (e : Engine) (round : Round) → KeepsStage e (begun_from e round)
+begun-stage e NoRound = record { log = record { measures = refl; ring = refl; aborted = refl; committed = omega arith }; stage = refl }
+begun-stage e (Copies transaction block) = record { log = record { measures = refl; ring = refl; aborted = refl; committed = omega arith }; stage = refl }
+begun-stage e TailWrite = record { log = record { measures = refl; ring = refl; aborted = refl; committed = omega arith }; stage = refl }
+begun-stage e TailFlush = record { log = record { measures = refl; ring = refl; aborted = refl; committed = omega arith }; stage = refl }
+
+call-stage : (e : Engine) (round : Round) (call : Call) (new : Engine) → RoundCall e round call new → KeepsStage e new
+call-stage e round call new (CopyHome transaction block i b v next) =
+    record { log = record { measures = refl; ring = refl; aborted = refl; committed = omega arith }; stage = refl }
+call-stage e round call new (FlushHome transaction block none) =
+    record { log = record { measures = refl; ring = refl; aborted = refl; committed = omega arith }; stage = refl }
+call-stage e round call new WriteTail = record { log = record { measures = refl; ring = refl; aborted = refl; committed = omega arith }; stage = refl }
+call-stage e round call new FlushTail = record { log = record { measures = refl; ring = refl; aborted = refl; committed = omega arith }; stage = refl }
+
+round-stage : (old new : Engine) (disk after : Disk) → RoundSteps old disk new after → KeepsStage old new
+round-stage old new disk after step =
+    let one = begun-stage old old.round in
+    let two = call-stage (begun old) (begun old).round step.call new step.due in
+    let low : old.committed ≤ (begun old).committed = one.log.committed in
+    let high : (begun old).committed ≤ new.committed = two.log.committed in
+    record {
+      log = record {
+        measures = two.log.measures ∙ one.log.measures;
+        ring = two.log.ring ∙ one.log.ring;
+        aborted = two.log.aborted ∙ one.log.aborted;
+        committed = omega arith;
+      };
+      stage = two.stage ∙ one.stage;
+    }
+
+module _ {D : Type 0} (state : D → DeviceState) where
+  -- moves of the machine lead from one journal to the other, each on its disk
+  abbrev ComesBy : JournalValue D → JournalValue D → Type 0
+  ComesBy old new = ComesTo old.journal (state old.device).disk new.journal (state new.device).disk Running
+
+  -- as one step does
+  by-step : (old new : JournalValue D) (event : Event) → Does state old event new → ComesBy old new
+  by-step old new event does = comes-step old.journal new.journal (state old.device).disk (state new.device).disk event does
+
+  -- one behind another
+  pub ways : (a b c : JournalValue D) → ComesBy a b → ComesBy b c → ComesBy a c
+  ways a b c one two = comes-behind a.journal b.journal c.journal (state a.device).disk (state b.device).disk (state c.device).disk Running one two
+
+  -- a transaction that a handle has joined is locked
+  by-lock : (v : JournalValue D) → v.journal.engine.aborted ≡ false → 0 < length v.journal.front.running.handles → ComesBy v (locked_journal v)
+  by-lock v running joined =
+      by-step v (locked_journal v) Lock (record { running = running; joined = joined; change = record { journal = refl; disk_is = refl } })
+
+  -- one way behind another
+  on-on : (a b c : JournalValue D) → GoesOn state a b → GoesOn state b c → GoesOn state a c
+  on-on a b c one two =
+      let low : a.journal.engine.committed ≤ b.journal.engine.committed = one.committed in
+      let high : b.journal.engine.committed ≤ c.journal.engine.committed = two.committed in
+      record {
+        sealed = two.sealed ∙ one.sealed;
+        transaction = two.transaction ∙ one.transaction;
+        locked = two.locked ∙ one.locked;
+        open_handles = two.open_handles ∙ one.open_handles;
+        measures = two.measures ∙ one.measures;
+        ring = two.ring ∙ one.ring;
+        committed = omega arith;
+        shape = two.shape ∙ one.shape;
+        path = ways a b c one.path two.path;
+      }
+
+  -- where nothing is done
+  pub went-nowhere : (v : JournalValue D) → v.journal.engine.aborted ≡ false → Went state v v
+  went-nowhere v running = record {
+    on = record {
+      sealed = refl;
+      transaction = refl;
+      locked = refl;
+      open_handles = refl;
+      measures = refl;
+      ring = refl;
+      committed = omega arith;
+      shape = refl;
+      path = comes-nowhere v.journal (state v.device).disk;
+    };
+    running = running;
+    faults = refl;
+  }
+
+  pub went-went : (a b c : JournalValue D) → Went state a b → Went state b c → Went state a c
+  went-went a b c one two = record { on = on-on a b c one.on two.on; running = two.running; faults = two.faults ∙ one.faults }
+
+  pub went-wrong : (a b c : JournalValue D) → Went state a b → WentWrong state b c → WentWrong state a c
+  went-wrong a b c one two = record { on = on-on a b c one.on two.on; faults = two.faults ∙ ap one_more_fault one.faults }
+
+  -- a step that leaves the front as it was
+  on-log : (old new : JournalValue D) → new.journal.front ≡ old.journal.front → KeepsLog old.journal.engine new.journal.engine →
+      (state new.device).shape ≡ (state old.device).shape → ComesBy old new → GoesOn state old new
+  on-log old new front log shape path = record {
+    sealed = ap (λ (f : Front). f.sealed) front;
+    transaction = ap (λ (f : Front). f.running) front;
+    locked = ap (λ (f : Front). f.locked) front;
+    open_handles = ap (λ (f : Front). f.open_handles) front;
+    measures = log.measures;
+    ring = log.ring;
+    committed = log.committed;
+    shape = shape;
+    path = path;
+  }
+
+  -- a step of a commit is on the way
+  pub commit-went : (turn : Turn) (old new : JournalValue D) → old.journal.engine.aborted ≡ false → old.journal.engine.stage ≢ Idle →
+      TurnDid state turn old new → (state new.device).shape ≡ (state old.device).shape → (state new.device).faults ≡ (state old.device).faults →
+      Went state old new
+  commit-went IdleTurn old new running busy did shape faults = absurd (busy did.0.idle)
+  commit-went Waiting old new running busy did shape faults = absurd (busy did.0.idle)
+  commit-went Step old new running busy did shape faults =
+      let log = commit-log old.journal.engine new.journal.engine (state old.device).disk (state new.device).disk did.commits.engine in
+      record {
+        on = on-log old new did.commits.front log shape (by-step old new CommitStep did.commits);
+        running = log.aborted ∙ running;
+        faults = faults;
+      }
+  commit-went (Sealed tid) old new running busy did shape faults = absurd (busy did.0.engine.idle)
+  commit-went (Committed tid) old new running busy did shape faults =
+      let made = did.finishes.change.journal in
+      let front = did.commits.front in
+      let engine : new.journal.engine ≡ did.mid.engine = ap (λ (j : Journal). j.engine) made in
+      let log : KeepsLog old.journal.engine new.journal.engine =
+      subst (KeepsLog old.journal.engine) (sym engine)
+      (commit-log old.journal.engine did.mid.engine (state old.device).disk (state new.device).disk did.commits.engine) in
+      record {
+        on = record {
+          sealed = ap (λ (j : Journal). j.front.sealed) made ∙ ap (λ (f : Front). f.sealed) front;
+          transaction = ap (λ (j : Journal). j.front.running) made ∙ ap (λ (f : Front). f.running) front;
+          locked = ap (λ (j : Journal). j.front.locked) made ∙ ap (λ (f : Front). f.locked) front;
+          open_handles = ap (λ (j : Journal). j.front.open_handles) made ∙ ap (λ (f : Front). f.open_handles) front;
+          measures = log.measures;
+          ring = log.ring;
+          committed = log.committed;
+          shape = shape;
+          path =
+              comes-behind old.journal did.mid new.journal (state old.device).disk (state new.device).disk (state new.device).disk Running
+              (comes-step old.journal did.mid (state old.device).disk (state new.device).disk CommitStep did.commits)
+              (comes-step did.mid new.journal (state new.device).disk (state new.device).disk Finish did.finishes);
+        };
+        running = log.aborted ∙ running;
+        faults = faults;
+      }
+
+  -- one that is refused has failed
+  pub commit-wrong : (old new : JournalValue D) (e : JournalError) → old.journal.engine.aborted ≡ false → old.journal.engine.stage ≢ Idle →
+      TurnRefused state old new e → (state new.device).shape ≡ (state old.device).shape → (e ≡ Device) × WentWrong state old new
+  commit-wrong old new e running busy (WasAborted is same) shape = absurd (true≢false (sym is ∙ running))
+  commit-wrong old new e running busy (RingIsShort due none same) shape = absurd (busy due.idle)
+  commit-wrong old new e running busy (MemoryIsShort due room same) shape = absurd (busy due.idle)
+  commit-wrong old new e running busy (DeviceFailed fails counted) shape =
+      let fault = fails.engine in (
+        refl,
+        record {
+          on = record {
+            sealed = ap (λ (f : Front). f.sealed) fails.front;
+            transaction = ap (λ (f : Front). f.running) fails.front;
+            locked = ap (λ (f : Front). f.locked) fails.front;
+            open_handles = ap (λ (f : Front). f.open_handles) fails.front;
+            measures = ap (λ (x : Engine). x.shape) fault.engine;
+            ring = ap (λ (x : Engine). x.ring) fault.engine;
+            committed = (let same : new.journal.engine.committed ≡ old.journal.engine.committed = ap (λ (x : Engine). x.committed) fault.engine in omega arith);
+            shape = shape;
+            path = by-step old new CommitFault fails;
+          };
+          faults = counted;
+        },
+      )
+
+  -- a step of a round is on the way, and leaves the commit
+  pub check-went : (turn : CheckTurn) (old new : JournalValue D) → old.journal.engine.aborted ≡ false → CheckTurnDid state turn old new →
+      (state new.device).shape ≡ (state old.device).shape → (state new.device).faults ≡ (state old.device).faults →
+      Went state old new × (new.journal.engine.stage ≡ old.journal.engine.stage)
+  check-went IdleCheck old new running did shape faults = (
+    record {
+      on = record {
+        sealed = ap (λ (j : Journal). j.front.sealed) did.1;
+        transaction = ap (λ (j : Journal). j.front.running) did.1;
+        locked = ap (λ (j : Journal). j.front.locked) did.1;
+        open_handles = ap (λ (j : Journal). j.front.open_handles) did.1;
+        measures = ap (λ (j : Journal). j.engine.shape) did.1;
+        ring = ap (λ (j : Journal). j.engine.ring) did.1;
+        committed = (let same : new.journal.engine.committed ≡ old.journal.engine.committed = ap (λ (j : Journal). j.engine.committed) did.1 in omega arith);
+        shape = shape;
+        path = comes-same old.journal new.journal (state old.device).disk (state new.device).disk did.1 did.2;
+      };
+      running = ap (λ (j : Journal). j.engine.aborted) did.1 ∙ running;
+      faults = faults;
+    },
+    ap (λ (j : Journal). j.engine.stage) did.1,
+  )
+  check-went StepCheck old new running did shape faults =
+      let keeps = round-stage old.journal.engine new.journal.engine (state old.device).disk (state new.device).disk did.0.engine in (
+        record {
+          on = on-log old new did.0.front keeps.log shape (by-step old new CheckpointStep did.0);
+          running = keeps.log.aborted ∙ running;
+          faults = faults;
+        },
+        keeps.stage,
+      )
+  check-went (Released tid) old new running did shape faults =
+      let keeps = round-stage old.journal.engine new.journal.engine (state old.device).disk (state new.device).disk did.0.engine in (
+        record {
+          on = on-log old new did.0.front keeps.log shape (by-step old new CheckpointStep did.0);
+          running = keeps.log.aborted ∙ running;
+          faults = faults;
+        },
+        keeps.stage,
+      )
+
+  -- one that is refused has failed
+  pub check-wrong : (old new : JournalValue D) (e : JournalError) → old.journal.engine.aborted ≡ false → CheckTurnRefused state old new e →
+      (state new.device).shape ≡ (state old.device).shape →
+      (e ≡ Device) × WentWrong state old new × (new.journal.engine.stage ≡ old.journal.engine.stage)
+  check-wrong old new e running (CheckAborted is same stays counted) shape = absurd (true≢false (sym is ∙ running))
+  check-wrong old new e running (CheckFailed fails counted) shape =
+      let fault = fails.engine in
+      let begins = begun-stage old.journal.engine old.journal.engine.round in (
+        refl,
+        record {
+          on = record {
+            sealed = ap (λ (f : Front). f.sealed) fails.front;
+            transaction = ap (λ (f : Front). f.running) fails.front;
+            locked = ap (λ (f : Front). f.locked) fails.front;
+            open_handles = ap (λ (f : Front). f.open_handles) fails.front;
+            measures = ap (λ (x : Engine). x.shape) fault.engine ∙ begins.log.measures;
+            ring = ap (λ (x : Engine). x.ring) fault.engine ∙ begins.log.ring;
+            committed =
+                (let same : new.journal.engine.committed ≡ (begun old.journal.engine).committed = ap (λ (x : Engine). x.committed) fault.engine in
+                let low : old.journal.engine.committed ≤ (begun old.journal.engine).committed = begins.log.committed in
+                omega arith);
+            shape = shape;
+            path = by-step old new CheckpointFault fails;
+          };
+          faults = counted;
+        },
+        ap (λ (x : Engine). x.stage) fault.engine ∙ begins.stage,
+      )
+
+  -- what is committed is released: the whole ring is free
+  pub all-free : (j : Journal) → IsPlain j.engine → NothingToRelease j.engine → j.engine.start ≡ j.engine.tail
+  all-free j plain nothing = plain.start ∙ ap (position j.engine) (sym nothing.released) ∙ sym plain.tail
+
+  -- a whole ring is as long behind steps of commits and of rounds
+  fits-on : (old mid : JournalValue D) → Went state old mid → FitsRing old.journal → FitsRing mid.journal
+  fits-on old mid went fits =
+      let on = went.on in
+      subst (λ (r : Ring). need (narrow mid.journal.engine.shape.block_size) (length (entries mid.journal.front.running.steps)) 0 ≤ r.blocks) (sym on.ring)
+      (subst (λ (s : Shape). need (narrow s.block_size) (length (entries mid.journal.front.running.steps)) 0 ≤ old.journal.engine.ring.blocks) (sym on.measures)
+      (subst (λ (t : Transaction). need (narrow old.journal.engine.shape.block_size) (length (entries t.steps)) 0 ≤ old.journal.engine.ring.blocks)
+      (sym on.transaction) fits))
+
+  -- then it has room for the running transaction, where a whole ring has
+  pub free-room : (old new : JournalValue D) → Went state old new → new.journal.engine.start ≡ new.journal.engine.tail → FitsRing old.journal →
+      HasRoomFor new.journal
+  free-room old new went free fits = let here = fits-on old new went fits in omega arith
+
+  -- why the running transaction is not sealed
+  pub seal-wrong : (old mid new : JournalValue D) (e : JournalError) → mid ≡ locked_journal old → old.journal.engine.aborted ≡ false →
+      old.journal.engine.stage ≡ Idle → TurnRefused state mid new e → SealRefused old.journal e × (new ≡ locked_journal old)
+  seal-wrong old mid new e is running idle (WasAborted aborted same) =
+      absurd (true≢false (sym aborted ∙ ap (λ (v : JournalValue D). v.journal.engine.aborted) is ∙ running))
+  seal-wrong old mid new e is running idle (RingIsShort due none same) =
+      (NoRoomForIt (λ room. none (subst (λ (v : JournalValue D). HasRoomFor v.journal) (sym is) room)), same ∙ is)
+  seal-wrong old mid new e is running idle (MemoryIsShort due room same) =
+      (NoMemoryForIt (subst (λ (v : JournalValue D). HasRoomFor v.journal) is room), same ∙ is)
+  seal-wrong old mid new e is running idle (DeviceFailed fails counted) =
+      let fault = fails.engine in
+      absurd (none-some fault.call
+      (sym (ap (call_in mid.journal.engine) (ap (λ (v : JournalValue D). v.journal.engine.stage) is ∙ idle)) ∙ fault.due))
+
+  -- the running transaction is among those that a close seals, where a handle has joined it
+  with-joined : (sealed : History) (running : Transaction) (handles : List ℕ) → 0 < length handles → with_running sealed running handles ≡ sealed ++ running ∷ []
+  with-joined sealed running [] some = absurd (omega arith)
+  with-joined sealed running (h ∷ handles) some = refl
+
+  -- and is not, where none has
+  pub with-none : (sealed : History) (running : Transaction) (handles : List ℕ) → (0 < length handles → ⊥) → with_running sealed running handles ≡ sealed
+  with-none sealed running [] none = refl
+  with-none sealed running (h ∷ handles) none = absurd (none (omega arith))
+
+  -- a close seals the same behind steps of commits and of rounds
+  same-closing : (old new : JournalValue D) → GoesOn state old new → closing new.journal.front ≡ closing old.journal.front
+  same-closing old new on = ap₂ (λ (sealed : History) (running : Transaction). with_running sealed running running.handles) on.sealed on.transaction
+
+  -- behind the seal all is sealed
+  pub seal-done : (old mid new : JournalValue D) → Went state old mid → 0 < length mid.journal.front.running.handles →
+      Does state (locked_journal mid) Seal new → new.device ≡ mid.device → HasSealed state old new
+  seal-done old mid new went joined did device =
+      let on = went.on in
+      let after = did.engine.after in
+      let low : old.journal.engine.committed ≤ mid.journal.engine.committed = on.committed in
+      let same : new.journal.engine.committed ≡ mid.journal.engine.committed = ap (λ (e : Engine). e.committed) after in
+      record {
+        sealed =
+            ap (λ (f : Front). f.sealed) did.front
+            ∙ sym (with-joined mid.journal.front.sealed mid.journal.front.running mid.journal.front.running.handles joined) ∙ same-closing old mid on;
+        measures = ap (λ (e : Engine). e.shape) after ∙ on.measures;
+        committed = omega arith;
+        shape = ap (λ (d : D). (state d).shape) device ∙ on.shape;
+        running = ap (λ (e : Engine). e.aborted) after ∙ went.running;
+        faults = ap (λ (d : D). (state d).faults) device ∙ went.faults;
+        path = ways old mid new on.path (ways mid (locked_journal mid) new (by-lock mid went.running joined) (by-step (locked_journal mid) new Seal did));
+      }
+
+  -- and stays so
+  sealed-went : (old mid new : JournalValue D) → HasSealed state old mid → Went state mid new → HasSealed state old new
+  sealed-went old mid new has went =
+      let low : old.journal.engine.committed ≤ mid.journal.engine.committed = has.committed in
+      let high : mid.journal.engine.committed ≤ new.journal.engine.committed = went.on.committed in
+      record {
+        sealed = went.on.sealed ∙ has.sealed;
+        measures = went.on.measures ∙ has.measures;
+        committed = omega arith;
+        shape = went.on.shape ∙ has.shape;
+        running = went.running;
+        faults = went.faults ∙ has.faults;
+        path = ways old mid new has.path went.on.path;
+      }
+
+  pub sealed-on : {T : Type 0} (r : Result T JournalError) (old mid new : JournalValue D) → HasSealed state old mid → OnOk r (Went state mid new) →
+      OnOk r (HasSealed state old new)
+  sealed-on (Ok x) old mid new has went = sealed-went old mid new has went
+  sealed-on (Err e) old mid new has went = tt
+
+  -- where no handle has joined the running transaction, all is sealed without a seal
+  pub none-sealed : (old new : JournalValue D) → Went state old new → (0 < length new.journal.front.running.handles → ⊥) → HasSealed state old new
+  none-sealed old new went none = record {
+    sealed = sym (with-none new.journal.front.sealed new.journal.front.running new.journal.front.running.handles none) ∙ same-closing old new went.on;
+    measures = went.on.measures;
+    committed = went.on.committed;
+    shape = went.on.shape;
+    running = went.running;
+    faults = went.faults;
+    path = went.on.path;
+  }
+
+  -- then all is released, and nothing is left but the log
+  pub finished : (old new : JournalValue D) → old.journal.engine.aborted ≡ false → HasSealed state old new → new.journal.engine.stage ≡ Idle →
+      NothingToRelease new.journal.engine → IsFinished state old new
+  finished old new running has idle nothing = record {
+    was_running = running;
+    sealed = has.sealed;
+    all = record { idle = idle; released = nothing.released };
+    running = has.running;
+    committed = has.committed;
+    faults = has.faults;
+  }
+
+  -- before the seal all that is sealed is committed
+  pub all-sealed : (j : Journal) → Agrees j → IsPlain j.engine → j.engine.stage ≡ Idle → j.engine.committed ≡ length j.front.sealed
+  all-sealed j agrees plain idle =
+      let stage : StageAgrees j.engine Idle = subst (StageAgrees j.engine) idle plain.stage in
+      let all : length j.engine.accepted ≡ j.engine.committed = stage.0 in
+      let same = same-length j.front.sealed j.engine.accepted agrees.batches in
+      omega arith
+
+  -- a failure before the seal refuses the close
+  pub wrong-refused : (old new : JournalValue D) (e : JournalError) → old.journal.engine.aborted ≡ false → (e ≡ Device) × WentWrong state old new →
+      CloseRefused state old new.device new.journal.front.sealed new.journal.engine.committed e
+  wrong-refused old new e running wrong =
+      subst (CloseRefused state old new.device new.journal.front.sealed new.journal.engine.committed) (sym wrong.0)
+      (CloseFailed running (inl wrong.1.on.sealed) wrong.1.on.committed wrong.1.faults)
+
+  -- so does one behind it
+  sealed-wrong : (old mid new : JournalValue D) (e : JournalError) → old.journal.engine.aborted ≡ false → HasSealed state old mid →
+      (e ≡ Device) × WentWrong state mid new → CloseRefused state old new.device new.journal.front.sealed new.journal.engine.committed e
+  sealed-wrong old mid new e running has wrong =
+      let low : old.journal.engine.committed ≤ mid.journal.engine.committed = has.committed in
+      let high : mid.journal.engine.committed ≤ new.journal.engine.committed = wrong.1.on.committed in
+      subst (CloseRefused state old new.device new.journal.front.sealed new.journal.engine.committed) (sym wrong.0)
+      (CloseFailed running (inr (wrong.1.on.sealed ∙ has.sealed)) (omega arith) (wrong.1.faults ∙ ap one_more_fault has.faults))
+
+  -- whatever the answer is
+  pub sealed-refused : {T : Type 0} (r : Result T JournalError) (old mid new : JournalValue D) → old.journal.engine.aborted ≡ false →
+      HasSealed state old mid → IfErr r (λ e. (e ≡ Device) × WentWrong state mid new) →
+      IfErr r (λ e. CloseRefused state old new.device new.journal.front.sealed new.journal.engine.committed e)
+  sealed-refused (Ok x) old mid new running has wrong = tt
+  sealed-refused (Err e) old mid new running has wrong = sealed-wrong old mid new e running has wrong
+
+  -- what is sealed behind some steps is sealed from the first of them on
+  pub went-sealed : (old mid new : JournalValue D) → Went state old mid → HasSealed state mid new → HasSealed state old new
+  went-sealed old mid new went has =
+      let low : old.journal.engine.committed ≤ mid.journal.engine.committed = went.on.committed in
+      let high : mid.journal.engine.committed ≤ new.journal.engine.committed = has.committed in
+      record {
+        sealed = has.sealed ∙ same-closing old mid went.on;
+        measures = has.measures ∙ went.on.measures;
+        committed = omega arith;
+        shape = has.shape ∙ went.on.shape;
+        running = has.running;
+        faults = has.faults ∙ went.faults;
+        path = ways old mid new went.on.path has.path;
+      }
+
+  -- what was sealed and committed before stays so
+  unsealed : (old mid new : JournalValue D) → Went state old mid → 0 < length mid.journal.front.running.handles →
+      mid.journal.engine.committed ≡ length mid.journal.front.sealed → new ≡ locked_journal mid →
+      StaysUnsealed old.journal new.journal.front.sealed new.journal.engine.committed
+  unsealed old mid new went joined all is = record {
+    joined = subst (λ (t : Transaction). 0 < length t.handles) went.on.transaction joined;
+    same = ap (λ (v : JournalValue D). v.journal.front.sealed) is ∙ went.on.sealed;
+    all =
+        ap (λ (v : JournalValue D). v.journal.engine.committed) is ∙ all
+        ∙ sym (ap (λ (v : JournalValue D). length v.journal.front.sealed) is);
+  }
+
+  -- and so does a seal that is refused
+  pub seal-refused : (old mid new : JournalValue D) (e : JournalError) → old.journal.engine.aborted ≡ false → Went state old mid →
+      0 < length mid.journal.front.running.handles → (FitsRing old.journal → HasRoomFor mid.journal) →
+      mid.journal.engine.committed ≡ length mid.journal.front.sealed → SealRefused mid.journal e → new ≡ locked_journal mid →
+      CloseRefused state old new.device new.journal.front.sealed new.journal.engine.committed e
+  seal-refused old mid new e running went joined room all (NoRoomForIt none) is =
+      RingTooShort running (unsealed old mid new went joined all is) (λ fits. none (room fits)) (ap (λ (v : JournalValue D). (state v.device).faults) is ∙ went.faults)
+  seal-refused old mid new e running went joined room all (NoMemoryForIt has) is =
+      NoMemory running (unsealed old mid new went joined all is) (ap (λ (v : JournalValue D). (state v.device).faults) is ∙ went.faults)
+
+  -- the same of an earlier state
+  stays-on : (old mid : JournalValue D) (sealed : History) (committed : ℕ) → Went state old mid → StaysUnsealed mid.journal sealed committed →
+      StaysUnsealed old.journal sealed committed
+  stays-on old mid sealed committed went stays = record {
+    joined = subst (λ (t : Transaction). 0 < length t.handles) went.on.transaction stays.joined;
+    same = stays.same ∙ went.on.sealed;
+    all = stays.all;
+  }
+
+  -- a close that is refused behind some steps is refused from the first of them on
+  pub refused-on : (old mid : JournalValue D) (device : D) (sealed : History) (committed : ℕ) (e : JournalError) → old.journal.engine.aborted ≡ false →
+      Went state old mid → CloseRefused state mid device sealed committed e → CloseRefused state old device sealed committed e
+  refused-on old mid device sealed committed e running went (CloseAborted is same kept count) = absurd (true≢false (sym is ∙ went.running))
+  refused-on old mid device sealed committed e running went (CloseFailed on (inl before) more counted) =
+      let low : old.journal.engine.committed ≤ mid.journal.engine.committed = went.on.committed in
+      let high : mid.journal.engine.committed ≤ committed = more in
+      CloseFailed running (inl (before ∙ went.on.sealed)) (omega arith) (counted ∙ ap one_more_fault went.faults)
+  refused-on old mid device sealed committed e running went (CloseFailed on (inr all) more counted) =
+      let low : old.journal.engine.committed ≤ mid.journal.engine.committed = went.on.committed in
+      let high : mid.journal.engine.committed ≤ committed = more in
+      CloseFailed running (inr (all ∙ same-closing old mid went.on)) (omega arith) (counted ∙ ap one_more_fault went.faults)
+  refused-on old mid device sealed committed e running went (RingTooShort on stays none counted) =
+      RingTooShort running (stays-on old mid sealed committed went stays) (λ fits. none (fits-on old mid went fits)) (counted ∙ went.faults)
+  refused-on old mid device sealed committed e running went (NoMemory on stays counted) =
+      NoMemory running (stays-on old mid sealed committed went stays) (counted ∙ went.faults)
+
+  -- a way that goes on by steps of a commit or of rounds, whether or not one of them has failed
+  pub way-on : {T : Type 0} (r : Result T JournalError) (old mid new : JournalValue D) → ComesBy old mid →
+      OnOk r (Went state mid new) → IfErr r (λ e. (e ≡ Device) × WentWrong state mid new) → ComesBy old new
+  way-on (Ok x) old mid new way went wrong = ways old mid new way went.on.path
+  way-on (Err e) old mid new way went wrong = ways old mid new way wrong.1.on.path
+
+  -- where the seal is refused, the transaction is locked
+  pub way-locked : (old mid new : JournalValue D) → Went state old mid → 0 < length mid.journal.front.running.handles → new ≡ locked_journal mid → ComesBy old new
+  way-locked old mid new went joined is =
+      subst (ComesBy old) (sym is) (ways old mid (locked_journal mid) went.on.path (by-lock mid went.running joined))

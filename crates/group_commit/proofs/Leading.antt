@@ -1,0 +1,87 @@
+-- The moves of the machine that lead from one journal to another, one behind the other.
+use Rattle.std.proofs.Common.{refl, sym, ap, subst}
+use Rattle.std.specs.Prelude.{◌≡◌, List, [], ◌∷◌, ◌++◌}
+use Rattle.journal_model.specs.Disk.{Disk}
+use Rattle.journal_world.specs.Journal.{Event, Happens, Journal}
+use Rattle.log_epochs.specs.EngineWorld.{Phase, World}
+use Rattle.log_epochs.specs.EngineWorld.Move.{CloseStep, CloseFault, GiveUp}
+use Rattle.log_epochs.specs.EngineWorld.Phase.{Closed, Running, Shut}
+use Rattle.log_epochs.specs.JournalWorld.{JournalWorld, Leads, Move}
+use Rattle.log_epochs.specs.JournalWorld.Move.{Step, Below}
+use Rattle.log_engine.specs.Close.{ClosesBy}
+use Rattle.group_commit.specs.Close.{ComesTo, world_with}
+
+leads-behind : (a b c : JournalWorld) (ms ns : List Move) → Leads a ms b → Leads b ns c → Leads a (ms ++ ns) c
+leads-behind a b c [] ns one two = subst (λ (w : JournalWorld). Leads w ns c) one two
+leads-behind a b c (m ∷ ms) ns one two = (one.0, one.1, leads-behind one.0 b c ms ns one.2 two)
+
+-- none
+pub comes-nowhere : (j : Journal) (disk : Disk) → ComesTo j disk j disk Running
+comes-nowhere j disk = record { moves = []; leads = λ w epoch. refl }
+
+-- some behind others
+pub comes-behind : (a b c : Journal) (d e f : Disk) (phase : Phase) → ComesTo a d b e Running → ComesTo b e c f phase → ComesTo a d c f phase
+comes-behind a b c d e f phase one two = record {
+  moves = one.moves ++ two.moves;
+  leads = λ w epoch.
+      leads-behind (world_with w epoch a d Running) (world_with w epoch b e Running) (world_with w epoch c f phase) one.moves two.moves
+      (one.leads w epoch) (two.leads w epoch);
+}
+
+-- neither the journal nor the disk changes
+pub comes-same : (old new : Journal) (disk after : Disk) → new ≡ old → after ≡ disk → ComesTo old disk new after Running
+comes-same old new disk after same still =
+    subst (λ (j : Journal). ComesTo old disk j after Running) (sym same)
+    (subst (λ (d : Disk). ComesTo old disk old d Running) (sym still) (comes-nowhere old disk))
+
+-- a step of the journal
+pub comes-step : (old new : Journal) (disk after : Disk) (event : Event) → Happens old disk event new after → ComesTo old disk new after Running
+comes-step old new disk after event happens = record {
+  moves = Step event ∷ [];
+  leads = λ w epoch. (
+    world_with w epoch new after Running,
+    record { running = refl; epoch = record epoch { engine = old.engine }; now = refl; journal = new; happens = happens; after = refl },
+    refl,
+  );
+}
+
+-- it is handed out
+pub comes-out : (j : Journal) (disk : Disk) → ComesTo j disk j disk Shut
+comes-out j disk = record {
+  moves = Below GiveUp ∷ [];
+  leads = λ w epoch. (
+    world_with w epoch j disk Shut,
+    record { below = record { after = refl }; tells = record { told = refl; past = refl } },
+    refl,
+  );
+}
+
+-- the engine closes the log
+pub comes-closed : (j : Journal) (disk after : Disk) → ClosesBy j.engine disk (CloseStep ∷ CloseStep ∷ []) after Closed → ComesTo j disk j after Closed
+comes-closed j disk after closes = record {
+  moves = Below CloseStep ∷ Below CloseStep ∷ [];
+  leads = λ w epoch.
+      let old = world_with w epoch j disk Running in
+      let both = closes.leads w.below epoch in (
+        record old { below = both.0 },
+        record { below = both.1; tells = record { told = refl; past = refl } },
+        (
+          record old { below = both.2.0 },
+          record { below = both.2.1; tells = record { told = refl; past = refl } },
+          ap (λ (below : World). record old { below = below }) both.2.2,
+        ),
+      );
+}
+
+-- or fails in that
+pub comes-failed : (j : Journal) (disk after : Disk) → ClosesBy j.engine disk (CloseFault ∷ []) after Shut → ComesTo j disk j after Shut
+comes-failed j disk after closes = record {
+  moves = Below CloseFault ∷ [];
+  leads = λ w epoch.
+      let old = world_with w epoch j disk Running in
+      let one = closes.leads w.below epoch in (
+        record old { below = one.0 },
+        record { below = one.1; tells = record { told = refl; past = refl } },
+        ap (λ (below : World). record old { below = below }) one.2,
+      );
+}

@@ -1,0 +1,14 @@
+use Rattle.log_engine.specs.Left.{commit_calls}
+use Rattle.group_commit.specs.Close.{Went}
+use Rattle.group_commit.proofs.close.finish_commit.Given as goal
+
+-- steps of the commit were made, and none has failed
+abbrev pub invariant-loop-journal : goal.invariant-loop-journal
+invariant-loop-journal g l = record {
+  went : Went g.D.Device.state l.fn.journal l.journal;
+  honest : g.D.Device.honest l.journal.device → g.D.Device.honest l.fn.journal.device;
+}
+
+-- the calls that are left
+abbrev pub decreases-loop-journal : goal.decreases-loop-journal
+decreases-loop-journal g l = commit_calls l.journal.journal.engine

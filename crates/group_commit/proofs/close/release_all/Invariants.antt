@@ -1,0 +1,16 @@
+use Rattle.std.proofs.Common.{◌≡◌}
+use Rattle.log_engine.specs.Left.{round_calls}
+use Rattle.group_commit.specs.Close.{Went}
+use Rattle.group_commit.proofs.close.release_all.Given as goal
+
+-- steps of rounds were made, and none has failed
+abbrev pub invariant-loop-journal : goal.invariant-loop-journal
+invariant-loop-journal g l = record {
+  went : Went g.D.Device.state l.fn.journal l.journal;
+  stage : l.journal.journal.engine.stage ≡ l.fn.journal.journal.engine.stage;
+  honest : g.D.Device.honest l.journal.device → g.D.Device.honest l.fn.journal.device;
+}
+
+-- the calls that are left
+abbrev pub decreases-loop-journal : goal.decreases-loop-journal
+decreases-loop-journal g l = round_calls l.journal.journal.engine

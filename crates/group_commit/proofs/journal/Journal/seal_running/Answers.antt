@@ -1,0 +1,30 @@
+use Rattle.std.proofs.Common.{sym, ap, subst, ◌≡◌, ◌<◌, false, length}
+use Rattle.std.proofs.lemmas.Result.{err_from_is_err_and}
+use Rattle.journal_world.specs.declared.stage.Stage.TheVariants.{Idle}
+use Rattle.journal_world.specs.Front.{Front}
+use Rattle.group_commit.specs.Values.{JournalValue}
+use Rattle.group_commit.proofs.Finishing.{all-sealed, seal-wrong}
+use Rattle.group_commit.proofs.journal.Journal.seal_running.Goals as goal
+
+-- the transaction stays as it was, but for the lock
+pub returns-in_err-seal-clause-err : goal.returns-in_err-seal-clause-err
+returns-in_err-seal-clause-err g c =
+    let device = c.self.inside.engine.device in
+    let e = c.self.inside.engine.engine in
+    let running = subst (λ (v : JournalValue g.row.D.Denot). v.journal.engine.aborted ≡ false) (sym c.self.view_is) c.requires.running in
+    let idle = subst (λ (v : JournalValue g.row.D.Denot). v.journal.engine.stage ≡ Idle) (sym c.self.view_is) c.requires.idle in
+    let joined = subst (λ (v : JournalValue g.row.D.Denot). 0 < length v.journal.front.running.handles) (sym c.self.view_is) c.requires.joined in
+    let locked = ap (λ (f : Front). record { device = device; journal = record { front = f; engine = e } }) (c.lock.ensures.joined joined) in
+    let p = err_from_is_err_and c.from_residual.result c.from_residual.ensures.1 in
+    rw (p.1, p.2, ← c.self.view_is) (seal-wrong g.D.Device.state _ _ _ _ locked running idle c.in_err-seal.ensures.err)
+
+-- before it all that is sealed is committed
+pub returns-in_err-seal-clause-all : goal.returns-in_err-seal-clause-all
+returns-in_err-seal-clause-all g c =
+    let idle = subst (λ (v : JournalValue g.row.D.Denot). v.journal.engine.stage ≡ Idle) (sym c.self.view_is) c.requires.idle in
+    rw (← c.self.view_is) (all-sealed g.D.Device.state _ c.self.invariant c.recall_invariant.ensures.plain idle)
+
+pub returns-clause-all : goal.returns-clause-all
+returns-clause-all g c =
+    let idle = subst (λ (v : JournalValue g.row.D.Denot). v.journal.engine.stage ≡ Idle) (sym c.self.view_is) c.requires.idle in
+    rw (← c.self.view_is) (all-sealed g.D.Device.state _ c.self.invariant c.recall_invariant.ensures.plain idle)

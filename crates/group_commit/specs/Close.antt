@@ -1,0 +1,140 @@
+-- The close of a journal: the moves of the machine that it makes, what it seals, how far it came, and why it is refused.
+use Rattle.std.specs.Prelude.{◌≡◌, ◌⊎◌, ⊤, ℕ, ◌<◌, ◌≤◌, true, false, List, [], ◌∷◌, ◌++◌, length, Some}
+use Rattle.journal_model.specs.declared.refusal.JournalError.{JournalError}
+use Rattle.journal_model.specs.declared.refusal.JournalError.TheVariants.{Aborted, Device, Memory, NeedSpace}
+use Rattle.journal_model.specs.Disk.{Disk}
+use Rattle.journal_model.specs.Layout.{narrow}
+use Rattle.journal_model.specs.Room.{need}
+use Rattle.journal_model.specs.Transaction.{History, Transaction, entries}
+use Rattle.block_device.specs.State.{DeviceState, one_more_fault}
+use Rattle.journal_world.specs.Engine.{Engine}
+use Rattle.journal_world.specs.Front.{Front, locking}
+use Rattle.journal_world.specs.Journal.{Journal}
+use Rattle.log_epochs.specs.EngineWorld.{Phase}
+use Rattle.log_epochs.specs.EngineWorld.Phase.{Closed, Running, Shut}
+use Rattle.log_epochs.specs.Epoch.{Epoch}
+use Rattle.log_epochs.specs.JournalWorld.{JournalWorld, Leads, Move}
+use Rattle.log_engine.specs.Close.{IsAllReleased}
+use Rattle.log_engine.specs.Left.{round_calls}
+use Rattle.group_commit.specs.declared.journal.CheckTurn.{CheckTurn}
+use Rattle.group_commit.specs.declared.journal.CheckTurn.TheVariants.{Idle as IdleCheck, Step as StepCheck, Released}
+use Rattle.group_commit.specs.Journal.{HasRoomFor}
+use Rattle.group_commit.specs.Values.{JournalValue}
+
+-- the sealed transactions, with the running one where these handles have joined it
+abbrev pub with_running : History → Transaction → List ℕ → History
+with_running sealed running [] = sealed
+with_running sealed running (handle ∷ handles) = sealed ++ running ∷ []
+
+-- those that are sealed once a journal is closed
+abbrev pub closing : Front → History
+closing f = with_running f.sealed f.running f.running.handles
+
+-- those that are sealed while it is closed: first those of before, then all that it seals
+abbrev pub IsSealedInClose : Front → History → Type 0
+IsSealedInClose f ts = (ts ≡ f.sealed) ⊎ (ts ≡ closing f)
+
+-- a whole ring has as many blocks as the running transaction needs
+abbrev pub FitsRing : Journal → Type 0
+FitsRing j = need (narrow j.engine.shape.block_size) (length (entries j.front.running.steps)) 0 ≤ j.engine.ring.blocks
+
+-- the world in which this journal, in this epoch, works on this disk
+abbrev pub world_with : JournalWorld → Epoch → Journal → Disk → Phase → JournalWorld
+world_with w epoch j disk phase = record w {
+  below = record w.below { disk = disk; phase = phase; epoch = Some (record epoch { engine = j.engine }) };
+  told = record w.told { front = j.front };
+}
+
+-- whatever came before, some moves of the machine lead from the journal that runs on the one disk to this one on the other,
+-- in this phase
+pub record ComesTo (old : Journal) (disk : Disk) (new : Journal) (after : Disk) (phase : Phase) : Type 0 where
+  pub moves : List Move
+  pub leads : (w : JournalWorld) (epoch : Epoch) → Leads (world_with w epoch old disk Running) moves (world_with w epoch new after phase)
+
+-- such moves end with a journal that has these transactions sealed, and so many of them committed
+pub record EndsWith (old : Journal) (disk : Disk) (sealed : History) (committed : ℕ) (after : Disk) (phase : Phase) : Type 0 where
+  pub last : Journal
+  pub comes : ComesTo old disk last after phase
+  pub sealed_is : sealed ≡ last.front.sealed
+  pub committed_is : committed ≡ last.engine.committed
+
+-- what a close that answers Ok did: the last of these moves closed the log, or nothing was sealed since the opening
+pub data CloseDid (old : Journal) (disk : Disk) (sealed : History) (committed : ℕ) (after : Disk) : Type 0 where
+  ClosesLog : EndsWith old disk sealed committed after Closed → CloseDid old disk sealed committed after
+  StaysClean : sealed ≡ [] → EndsWith old disk sealed committed after Shut → CloseDid old disk sealed committed after
+
+-- steps of commits and of rounds alone were made: of the front nothing but the mark has changed, and no fewer are committed
+pub record GoesOn {D : Type 0} (state : D → DeviceState) (old new : JournalValue D) : Type 0 where
+  pub sealed : new.journal.front.sealed ≡ old.journal.front.sealed
+  pub transaction : new.journal.front.running ≡ old.journal.front.running
+  pub locked : new.journal.front.locked ≡ old.journal.front.locked
+  pub open_handles : new.journal.front.open_handles ≡ old.journal.front.open_handles
+  pub measures : new.journal.engine.shape ≡ old.journal.engine.shape
+  pub ring : new.journal.engine.ring ≡ old.journal.engine.ring
+  pub committed : old.journal.engine.committed ≤ new.journal.engine.committed
+  pub shape : (state new.device).shape ≡ (state old.device).shape
+  pub path : ComesTo old.journal (state old.device).disk new.journal (state new.device).disk Running
+
+-- and the device has not failed
+pub record Went {D : Type 0} (state : D → DeviceState) (old new : JournalValue D) : Type 0 where
+  pub on : GoesOn state old new
+  pub running : new.journal.engine.aborted ≡ false
+  pub faults : (state new.device).faults ≡ (state old.device).faults
+
+-- or it has, in the last of them
+pub record WentWrong {D : Type 0} (state : D → DeviceState) (old new : JournalValue D) : Type 0 where
+  pub on : GoesOn state old new
+  pub faults : (state new.device).faults ≡ one_more_fault (state old.device).faults
+
+-- all is sealed that a close seals, and the device has not failed
+pub record HasSealed {D : Type 0} (state : D → DeviceState) (old new : JournalValue D) : Type 0 where
+  pub sealed : new.journal.front.sealed ≡ closing old.journal.front
+  pub measures : new.journal.engine.shape ≡ old.journal.engine.shape
+  pub committed : old.journal.engine.committed ≤ new.journal.engine.committed
+  pub shape : (state new.device).shape ≡ (state old.device).shape
+  pub running : new.journal.engine.aborted ≡ false
+  pub faults : (state new.device).faults ≡ (state old.device).faults
+  pub path : ComesTo old.journal (state old.device).disk new.journal (state new.device).disk Running
+
+-- all is done that comes before the close of the log
+pub record IsFinished {D : Type 0} (state : D → DeviceState) (old new : JournalValue D) : Type 0 where
+  pub was_running : old.journal.engine.aborted ≡ false
+  pub sealed : new.journal.front.sealed ≡ closing old.journal.front
+  pub all : IsAllReleased new.journal.engine
+  pub running : new.journal.engine.aborted ≡ false
+  pub committed : old.journal.engine.committed ≤ new.journal.engine.committed
+  pub faults : (state new.device).faults ≡ (state old.device).faults
+
+-- the running transaction, which a handle has joined, could not be sealed; all that were sealed before are committed
+pub record StaysUnsealed (old : Journal) (sealed : History) (committed : ℕ) : Type 0 where
+  pub joined : 0 < length old.front.running.handles
+  pub same : sealed ≡ old.front.sealed
+  pub all : committed ≡ length sealed
+
+-- Why a close is refused, and what it leaves sealed and committed: the device failed before, and nothing was done; it failed
+-- in a step of the close; or the running transaction could not be sealed, since a whole ring is too short for it, or memory
+-- ran out.
+pub data CloseRefused {D : Type 0} (state : D → DeviceState) (old : JournalValue D) (device : D) (sealed : History) (committed : ℕ) : JournalError → Type 0 where
+  CloseAborted : old.journal.engine.aborted ≡ true → device ≡ old.device → sealed ≡ old.journal.front.sealed → committed ≡ old.journal.engine.committed →
+      CloseRefused state old device sealed committed Aborted
+  CloseFailed : old.journal.engine.aborted ≡ false → IsSealedInClose old.journal.front sealed → old.journal.engine.committed ≤ committed →
+      (state device).faults ≡ one_more_fault (state old.device).faults → CloseRefused state old device sealed committed Device
+  RingTooShort : old.journal.engine.aborted ≡ false → StaysUnsealed old.journal sealed committed → (FitsRing old.journal → ⊥) →
+      (state device).faults ≡ (state old.device).faults → CloseRefused state old device sealed committed NeedSpace
+  NoMemory : old.journal.engine.aborted ≡ false → StaysUnsealed old.journal sealed committed → (state device).faults ≡ (state old.device).faults →
+      CloseRefused state old device sealed committed Memory
+
+-- the journal whose running transaction takes no further handles
+abbrev pub locked_journal : {D : Type 0} → JournalValue D → JournalValue D
+locked_journal old = record old { journal = record old.journal { front = locking old.journal.front } }
+
+-- why the running transaction is not sealed: the ring has too few free blocks for it, or memory ran out
+pub data SealRefused (j : Journal) : JournalError → Type 0 where
+  NoRoomForIt : (HasRoomFor j → ⊥) → SealRefused j NeedSpace
+  NoMemoryForIt : HasRoomFor j → SealRefused j Memory
+
+-- a checkpoint turn that made a call leaves fewer of them
+abbrev pub LeavesFewerRounds : CheckTurn → Engine → Engine → Type 0
+LeavesFewerRounds IdleCheck old new = ⊤
+LeavesFewerRounds StepCheck old new = round_calls new < round_calls old
+LeavesFewerRounds (Released tid) old new = round_calls new < round_calls old

@@ -1,0 +1,104 @@
+//! What a journal does before its log is closed: the running transaction is sealed where a handle has joined it, and
+//! everything is committed and released.
+ghost use Rattle.std.specs.Prelude.{◌≡◌, ◌<◌, ◌≤◌, false, length, IfErr, OnOk};
+ghost use Rattle.journal_model.specs.declared.refusal.JournalError.TheVariants.{Device as DeviceFailed};
+ghost use Rattle.journal_world.specs.declared.stage.Stage.TheVariants.{Idle};
+ghost use Rattle.log_epochs.specs.EngineWorld.Phase.{Running};
+ghost use Rattle.group_commit.specs.Close.{CloseRefused, ComesTo, FitsRing, HasSealed, IsFinished, Went, WentWrong};
+ghost use Rattle.group_commit.specs.Journal.{HasRoomFor, NothingToRelease};
+
+use crate::journal::{CheckTurn, Journal};
+use block_device::Device;
+use journal_model::JournalError;
+
+/// Seals the running transaction where a handle has joined it, and commits and releases everything. Where it is refused,
+/// what was sealed and committed so far stays so.
+pub(crate) fn finish<D: Device>(journal: &mut Journal<D>) -> Result<(), JournalError>
+    requires { journal.old.journal.front.open_handles ≡ 0 }
+    ensures ok { OnOk result (IsFinished D.state journal.old journal.new) }
+    ensures err { IfErr result (λ e. CloseRefused D.state journal.old journal.new.device journal.new.journal.front.sealed journal.new.journal.engine.committed e) }
+    ensures path { ComesTo journal.old.journal (D.state journal.old.device).disk journal.new.journal (D.state journal.new.device).disk Running }
+    ensures measures { journal.new.journal.engine.shape ≡ journal.old.journal.engine.shape }
+    ensures shape { (D.state journal.new.device).shape ≡ (D.state journal.old.device).shape }
+    ensures honest { D.honest journal.new.device → D.honest journal.old.device }
+{
+    if journal.is_aborted() {
+        return Err(JournalError::Aborted);
+    }
+    finish_commit(journal)?;
+    if journal.has_joined() {
+        seal_last(journal)?;
+    }
+    release_all(journal)
+}
+
+/// Seals the running transaction, which a handle has joined, and commits it.
+fn seal_last<D: Device>(journal: &mut Journal<D>) -> Result<(), JournalError>
+    requires running { journal.old.journal.engine.aborted ≡ false }
+    requires idle { journal.old.journal.engine.stage ≡ Idle }
+    requires joined { 0 < length journal.old.journal.front.running.handles }
+    requires stopped { journal.old.journal.front.open_handles ≡ 0 }
+    ensures ok { OnOk result (HasSealed D.state journal.old journal.new) }
+    ensures idle { OnOk result (journal.new.journal.engine.stage ≡ Idle) }
+    ensures err { IfErr result (λ e. CloseRefused D.state journal.old journal.new.device journal.new.journal.front.sealed journal.new.journal.engine.committed e) }
+    ensures path { ComesTo journal.old.journal (D.state journal.old.device).disk journal.new.journal (D.state journal.new.device).disk Running }
+    ensures measures { journal.new.journal.engine.shape ≡ journal.old.journal.engine.shape }
+    ensures shape { (D.state journal.new.device).shape ≡ (D.state journal.old.device).shape }
+    ensures honest { D.honest journal.new.device → D.honest journal.old.device }
+{
+    make_room(journal)?;
+    journal.seal_running()?;
+    finish_commit(journal)
+}
+
+/// Takes the steps that are left of the commit that is under way.
+fn finish_commit<D: Device>(journal: &mut Journal<D>) -> Result<(), JournalError>
+    requires { journal.old.journal.engine.aborted ≡ false }
+    ensures ok { OnOk result (Went D.state journal.old journal.new) }
+    ensures idle { OnOk result (journal.new.journal.engine.stage ≡ Idle) }
+    ensures err { IfErr result (λ e. (e ≡ DeviceFailed) × WentWrong D.state journal.old journal.new) }
+    ensures honest { D.honest journal.new.device → D.honest journal.old.device }
+{
+    while !journal.is_idle() {
+        journal.recall_invariant();
+        journal.commit_step()?;
+    }
+    Ok(())
+}
+
+/// Releases what is committed where the ring has too few free blocks for the running transaction.
+fn make_room<D: Device>(journal: &mut Journal<D>) -> Result<(), JournalError>
+    requires running { journal.old.journal.engine.aborted ≡ false }
+    requires idle { journal.old.journal.engine.stage ≡ Idle }
+    ensures ok { OnOk result (Went D.state journal.old journal.new) }
+    ensures idle { OnOk result (journal.new.journal.engine.stage ≡ Idle) }
+    ensures room { OnOk result (FitsRing journal.old.journal → HasRoomFor journal.new.journal) }
+    ensures err { IfErr result (λ e. (e ≡ DeviceFailed) × WentWrong D.state journal.old journal.new) }
+    ensures honest { D.honest journal.new.device → D.honest journal.old.device }
+{
+    if journal.has_room() {
+        return Ok(());
+    }
+    release_all(journal)
+}
+
+/// Takes the steps of checkpoint rounds until all that is committed is released.
+fn release_all<D: Device>(journal: &mut Journal<D>) -> Result<(), JournalError>
+    requires { journal.old.journal.engine.aborted ≡ false }
+    ensures ok { OnOk result (Went D.state journal.old journal.new) }
+    ensures released { OnOk result (NothingToRelease journal.new.journal.engine) }
+    ensures free { OnOk result (journal.new.journal.engine.start ≡ journal.new.journal.engine.tail) }
+    ensures stage { journal.new.journal.engine.stage ≡ journal.old.journal.engine.stage }
+    ensures err { IfErr result (λ e. (e ≡ DeviceFailed) × WentWrong D.state journal.old journal.new) }
+    ensures honest { D.honest journal.new.device → D.honest journal.old.device }
+{
+    loop {
+        match journal.checkpoint_turn()? {
+            CheckTurn::Idle => {
+                journal.recall_invariant();
+                return Ok(());
+            }
+            CheckTurn::Step | CheckTurn::Released(_) => {}
+        }
+    }
+}
