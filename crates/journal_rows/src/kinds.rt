@@ -1,5 +1,5 @@
 //! What may be done with a row, by the name of its kind.
-use crate::{changed, commands, scripts, stops, verdicts};
+use crate::{changed, closes, commands, scripts, stops, verdicts};
 use format_rows::RowError;
 use std::alloc::Global;
 
@@ -25,8 +25,10 @@ fn found_of_run(alloc: Global, kind: &str, given: &str) -> Option<Found> {
     match kind {
         "bytes" => Some(changed::bytes(alloc, given)),
         "changed" => Some(changed::changed(alloc, given)),
+        "closes" => Some(closes::closes(alloc, given)),
         "format" => Some(commands::format(alloc, given)),
         "help" => Some(commands::help(alloc, given)),
+        "interrupted_closes" => Some(closes::interrupted_closes(alloc, given)),
         "operations" => Some(scripts::operations(alloc, given)),
         "recover" => Some(commands::recover(alloc, given)),
         "run" => Some(commands::run(alloc, given)),

@@ -7,6 +7,8 @@
 #![tactic(auto)]
 
 mod changed;
+mod closes;
+mod closing;
 mod commands;
 mod kinds;
 mod repetition;

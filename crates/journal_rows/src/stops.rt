@@ -10,7 +10,7 @@ use std::fmt::Write;
 
 /// A way in which runs end, and where these stop.
 #[derive(Drop)]
-struct Ending {
+pub struct Ending {
     /// What an opening finds, the named blocks, and the verdict.
     text: String,
     /// The first and the last write of each series of stops that end so.
@@ -32,7 +32,7 @@ pub fn stops(alloc: Global, given: &str) -> Result<String, RowError> {
     }
     let mut all = String::new(alloc);
     for ending in &endings {
-        write_ending(&mut all, ending)?;
+        write_ending(&mut all, ending, "stops")?;
     }
     Ok(all)
 }
@@ -56,7 +56,7 @@ fn add_stop(
 }
 
 /// Of the last writes up to `k` those whose bit is set, the last one's first.
-fn kept(alloc: Global, k: u64, bits: u64) -> Result<Vec<u64>, AllocError> {
+pub fn kept(alloc: Global, k: u64, bits: u64) -> Result<Vec<u64>, AllocError> {
     let mut kept = Vec::new(alloc);
     for back in 0..8 {
         if bits >> back & 1 == 1 {
@@ -96,12 +96,12 @@ fn add_lines(
 }
 
 /// Lines as one, with commas.
-fn in_one_line(alloc: Global, lines: &str) -> Result<String, AllocError> {
+pub fn in_one_line(alloc: Global, lines: &str) -> Result<String, AllocError> {
     lines.trim_end().replace(alloc, "\n", ", ")
 }
 
 /// Notes that a run with this stop ends so.
-fn note(
+pub fn note(
     alloc: Global,
     endings: &mut Vec<Ending>,
     text: String,
@@ -143,9 +143,9 @@ fn add_number(series: &mut Vec<(u64, u64)>, k: u64) -> Result<(), AllocError> {
     }
 }
 
-/// Writes the line of an ending.
-fn write_ending(all: &mut String, ending: &Ending) -> Result<(), AllocError> {
-    write!(all, "{}: stops", ending.text)?;
+/// Writes the line of an ending, with this word for the stops.
+pub fn write_ending(all: &mut String, ending: &Ending, stops: &str) -> Result<(), AllocError> {
+    write!(all, "{}: {stops}", ending.text)?;
     for (first, last) in &ending.stops {
         write!(all, " {first} to {last}")?;
     }

@@ -1,0 +1,152 @@
+//! Rows of journals that are closed.
+use crate::closing::{Closed, Fault, close_after};
+use crate::stops::{Ending, in_one_line, kept, note, write_ending};
+use crate::texts::{numbers_in, written};
+use bench_run::{Record, Stopped, judge};
+use format_rows::RowError;
+use format_rows::words::{cut, number};
+use journal_model::{Sealed, Tid};
+use recovery::open;
+use std::alloc::Global;
+use std::fmt::Write;
+
+/// Journals that are closed. Given: steps with ` | ` between them. The first one says which write of the journal stops the device,
+/// as `stop 4`, or which of its device calls fails, as `fail 7`; 0 is none. Each further one is the writes of a handle, which
+/// then stops, as `9=11 10=22`: home blocks with their first byte; the same with `, request` behind it, where a commit is asked
+/// for; or so many commit turns or checkpoint turns, as `turns 3` or `checks 2`. Found: what the close answers; how many
+/// transactions were sealed and are committed, and how many writes were made; where the device then loses power, the dump of its
+/// log, what an opening finds, and the verdict; and how many writes that opening made.
+pub fn closes(alloc: Global, given: &str) -> Result<String, RowError> {
+    let (first, steps) = given.split_once(" | ").unwrap_or((given, ""));
+    let fault = fault_of(first)?;
+    let reopened = writes_of_opening(alloc, close_after(alloc, fault, steps)?)?;
+    let closed = close_after(alloc, fault, steps)?;
+    let mut told = String::new(alloc);
+    writeln!(told, "{}", closed.answer)?;
+    writeln!(
+        told,
+        "sealed {} committed {} writes {}",
+        closed.sealed.len(),
+        closed.committed,
+        closed.device.writes()
+    )?;
+    let (lines, _) = judged(alloc, closed, &[])?;
+    let (_, lines) = cut(lines.as_str(), "\n")?;
+    told.push_str(lines)?;
+    writeln!(told, "reopened with {reopened} writes")?;
+    Ok(told)
+}
+
+/// Journals that are closed over a device that stops at each write, or of which each call fails. Given: steps as for `closes`,
+/// where the first one is a line as `stops 1 to 8, any of the last 2 writes kept`, or `fails 1 to 14` with the same behind it.
+/// Found: each way in which the closes end, with what is answered, sealed and committed, what an opening finds, the blocks that
+/// were written and the verdict, and the stops or failing calls that make one end so.
+pub fn interrupted_closes(alloc: Global, given: &str) -> Result<String, RowError> {
+    let (line, steps) = cut(given, " | ")?;
+    let [first, last, back] = numbers_in::<3>(line)?;
+    let fails = line.starts_with("fails ");
+    let mut endings = Vec::new(alloc);
+    for k in first..=last {
+        let fault = if fails {
+            Fault::Fail(k)
+        } else {
+            Fault::Stop(k)
+        };
+        add_closes(alloc, fault, steps, k, back, &mut endings)?;
+    }
+    let mut all = String::new(alloc);
+    for ending in &endings {
+        write_ending(&mut all, ending, if fails { "fails" } else { "stops" })?;
+    }
+    Ok(all)
+}
+
+/// Adds how closes end over a device with this fault, where any of so many last writes are kept.
+fn add_closes(
+    alloc: Global,
+    fault: Fault,
+    steps: &str,
+    k: u64,
+    back: u64,
+    endings: &mut Vec<Ending>,
+) -> Result<(), RowError> {
+    if back > 8 {
+        return Err(RowError::Unread);
+    }
+    for bits in 0..1u64 << back {
+        let closed = close_after(alloc, fault, steps)?;
+        let kept = kept(alloc, closed.device.writes(), bits)?;
+        let text = ending_of(alloc, closed, &kept)?;
+        let number = format!(in alloc; "{k}")?;
+        note(alloc, endings, text, number.as_str())?;
+    }
+    Ok(())
+}
+
+/// How a close ends where the device then loses power and keeps these writes.
+fn ending_of(alloc: Global, closed: Closed, kept: &[u64]) -> Result<String, RowError> {
+    let mut told = String::new(alloc);
+    write!(
+        told,
+        "{}, sealed {} committed {}",
+        closed.answer,
+        closed.sealed.len(),
+        closed.committed
+    )?;
+    let (lines, right) = judged(alloc, closed, kept)?;
+    let (_, ending) = cut(lines.as_str(), " n=")?;
+    let ending = in_one_line(alloc, ending)?;
+    write!(told, ", n={ending}, right {right}")?;
+    Ok(told)
+}
+
+/// The fault of a row's first step.
+fn fault_of(step: &str) -> Result<Fault, RowError> {
+    if let Some(k) = step.strip_prefix("fail ") {
+        return Ok(Fault::Fail(number(k)?));
+    }
+    match step.strip_prefix("stop ") {
+        Some(k) => Ok(Fault::Stop(number(k)?)),
+        None => Err(RowError::Unread),
+    }
+}
+
+/// How many writes an opening makes of what a close left, where the device loses power before it.
+fn writes_of_opening(alloc: Global, closed: Closed) -> Result<u64, RowError> {
+    match open(alloc, closed.device.crash(&[])) {
+        Ok(opened) => Ok(opened.into_device().writes()),
+        Err((device, _)) => Ok(device.writes()),
+    }
+}
+
+/// The lines of the verdict on what a close left where the device loses power and keeps these writes, and whether it is right:
+/// what is committed counts as acknowledged.
+fn judged(alloc: Global, closed: Closed, kept: &[u64]) -> Result<(String, bool), RowError> {
+    let Closed {
+        answer: _,
+        sealed,
+        committed,
+        device,
+        named,
+    } = closed;
+    let acknowledged = last_committed(&sealed, committed);
+    let stopped = Stopped {
+        device,
+        recorded: Record {
+            sealed,
+            acknowledged,
+        },
+        at_write: None,
+    };
+    let mut out = Vec::new(alloc);
+    match judge(alloc, stopped, kept, &named, &mut out) {
+        Ok(right) => Ok((String::from_str(alloc, written(&out)?)?, right)),
+        Err(_) => Err(RowError::Memory),
+    }
+}
+
+/// The number of the last committed transaction.
+fn last_committed(sealed: &[Sealed], committed: u64) -> Option<Tid> {
+    let last = usize::try_from(committed).ok()?.checked_sub(1)?;
+    Some(sealed.get(last)?.tid)
+}

@@ -1,0 +1,204 @@
+//! A journal over a device that stops or fails, and its close.
+ghost use Rattle.std.specs.Prelude.{◌≡◌, length, IfOk};
+
+use block_device::{FailOnce, MemDevice, StopAt};
+use format_rows::RowError;
+use format_rows::telling::refusal_text;
+use format_rows::words::{cut, hex_byte, number};
+use group_commit::{Handle, Journal, Parts, Seat};
+use journal_model::{BlockNo, JournalError, Sealed};
+use recovery::{Opened, format, open};
+use std::alloc::{AllocError, Global};
+use std::collections::BTreeSet;
+
+/// What happens to the device of a journal.
+#[derive(Clone, Copy)]
+pub enum Fault {
+    /// It stops at this write of the journal; 0 is none.
+    Stop(u64),
+    /// This of its calls for the journal fails; 0 is none.
+    Fail(u64),
+}
+
+/// A device that stops, or of which a call fails.
+type FaultyDevice = FailOnce<StopAt<MemDevice>>;
+
+/// What is left of a journal that was closed.
+#[derive(Drop)]
+pub struct Closed {
+    /// What the close answered.
+    pub answer: String,
+    /// The transactions that were sealed.
+    pub sealed: Vec<Sealed>,
+    /// How many of them are committed.
+    pub committed: u64,
+    /// The device, with its cache.
+    pub device: MemDevice,
+    /// The home blocks that handles wrote.
+    pub named: BTreeSet<u64>,
+}
+
+/// A journal, the seat of its callers, and the home blocks that handles wrote.
+#[derive(Drop)]
+struct User {
+    journal: Journal<FaultyDevice>,
+    seat: Seat,
+    named: BTreeSet<u64>,
+}
+
+/// Closes a journal after these steps, on a log of 33 blocks of 1024 bytes that was just formatted, with 64 home blocks.
+///
+/// # Errors
+///
+/// `Unread` where a step is none, or can't be made; `Memory`.
+pub fn close_after(alloc: Global, fault: Fault, steps: &str) -> Result<Closed, RowError> {
+    let (journal, seat) = new_journal(alloc, fault)?;
+    let mut user = User {
+        journal,
+        seat,
+        named: BTreeSet::new(alloc),
+    };
+    for step in steps.split(" | ") {
+        make_step(alloc, &mut user, step)?;
+    }
+    close(alloc, user)
+}
+
+/// Closes a journal, of which all handles have stopped.
+fn close(alloc: Global, user: User) -> Result<Closed, RowError> {
+    let User {
+        journal,
+        seat: _,
+        named,
+    } = user;
+    if journal.has_open_handles() {
+        return Err(RowError::Unread);
+    }
+    let (answer, parts) = match journal.close() {
+        Ok(parts) => (String::from_str(alloc, "closed")?, parts),
+        Err((parts, e)) => (refusal_text(alloc, e)?, parts),
+    };
+    let Parts {
+        device,
+        sealed,
+        committed,
+    } = parts;
+    Ok(Closed {
+        answer,
+        sealed,
+        committed,
+        device: device.into_inner().into_inner(),
+        named,
+    })
+}
+
+/// A journal on an empty log, over a device with this fault.
+fn new_journal(alloc: Global, fault: Fault) -> Result<(Journal<FaultyDevice>, Seat), RowError> {
+    let (stop, fail) = match fault {
+        Fault::Stop(k) => (k, 0),
+        Fault::Fail(0) => (0, 0),
+        Fault::Fail(k) => (0, calls_of_opening(alloc)?.saturating_add(k)),
+    };
+    Journal::new(alloc, opened(alloc, stop, fail)?)
+        .ok()
+        .ok_or(RowError::Memory)
+}
+
+/// How many calls the opening of an empty log makes.
+fn calls_of_opening(alloc: Global) -> Result<u64, RowError> {
+    Ok(opened(alloc, 0, 0)?.into_device().calls())
+}
+
+/// An empty log, opened on a device that stops at a write, or of which a call fails.
+fn opened(alloc: Global, stop: u64, fail: u64) -> Result<Opened<FaultyDevice>, RowError> {
+    let mut device = MemDevice::new(alloc, 1024, 33, 64);
+    if format(&mut device, 33, &[0xaa; 16]).is_err() {
+        return Err(RowError::Memory);
+    }
+    let device = FailOnce::new(StopAt::new(device.crash(&[]), stop), fail);
+    open(alloc, device).ok().ok_or(RowError::Memory)
+}
+
+/// Makes one step. Turns that are refused are passed over.
+fn make_step(alloc: Global, user: &mut User, step: &str) -> Result<(), RowError> {
+    if let Some(count) = step.strip_prefix("turns ") {
+        for _ in 0..number(count)? {
+            let _ = user.journal.commit_turn();
+        }
+        return Ok(());
+    }
+    if let Some(count) = step.strip_prefix("checks ") {
+        for _ in 0..number(count)? {
+            let _ = user.journal.checkpoint_turn();
+        }
+        return Ok(());
+    }
+    if step.is_empty() {
+        return Ok(());
+    }
+    write_and_stop(alloc, user, step)
+}
+
+/// Lets a handle write its blocks and stop, and asks for a commit where the step says so.
+fn write_and_stop(alloc: Global, user: &mut User, step: &str) -> Result<(), RowError> {
+    let (writes, request) = match step.strip_suffix(", request") {
+        Some(writes) => (writes, true),
+        None => (step, false),
+    };
+    let mut handle = new_handle(user)?;
+    let written = write_all(alloc, user, &mut handle, writes);
+    let ticket = user.journal.stop(handle);
+    written?;
+    if request {
+        let _ = user.journal.request(&ticket);
+    }
+    Ok(())
+}
+
+/// A handle with two credits.
+fn new_handle(user: &mut User) -> Result<Handle, RowError> {
+    let Ok(credits) = user.journal.reserve(&mut user.seat, 2) else {
+        return Err(RowError::Unread);
+    };
+    match user.journal.try_join(credits) {
+        Ok(handle) => Ok(handle),
+        Err((credits, _)) => {
+            user.journal.give_back(credits);
+            Err(RowError::Unread)
+        }
+    }
+}
+
+/// Writes the blocks of the words.
+fn write_all(
+    alloc: Global,
+    user: &mut User,
+    handle: &mut Handle,
+    words: &str,
+) -> Result<(), RowError> {
+    for word in words.split_whitespace() {
+        let (block, byte) = cut(word, "=")?;
+        let (block, byte) = (number(block)?, hex_byte(byte)?);
+        if user.named.insert(block).is_err() {
+            return Err(RowError::Memory);
+        }
+        let bytes = block_of(alloc, user.journal.block_size(), byte)?;
+        match user.journal.write(handle, BlockNo(block), &bytes) {
+            Ok(()) => {}
+            Err(JournalError::Memory) => return Err(RowError::Memory),
+            Err(_) => return Err(RowError::Unread),
+        }
+    }
+    Ok(())
+}
+
+/// A block of zeros behind one byte.
+fn block_of(alloc: Global, size: usize, first: u8) -> Result<Vec<u8>, AllocError>
+    ensures { IfOk result (λ block. length block.items ≡ size) }
+{
+    let mut block = vec![in alloc; 0; size]?;
+    if size > 0 {
+        block[0] = first;
+    }
+    Ok(block)
+}
