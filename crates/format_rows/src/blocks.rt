@@ -9,7 +9,7 @@ use crate::telling::{
     block_text, bytes_before_zeros, malformed_text, numbers_text, tags_text, text,
 };
 use crate::words::{cut, hex32, number32, series, values};
-use journal_model::{BlockNo, Items, Tag};
+use journal_model::{BlockNo, Items, LogLayout, Tag};
 use log_format::{CommitBlock, Descriptor, Header, Malformed, RevokeBlock};
 use std::alloc::Global;
 
@@ -96,7 +96,7 @@ fn write_tags(block: &mut [u8], sequence: u32, tags: &[Tag]) -> bool
     }
     let (_, later) = tags.split_at(1);
     if later.iter().all(|t| t.same_uuid) && tags.iter().all(|t| t.block.0 < 0x1_0000_0000) {
-        Descriptor::write(block, &UUID, sequence, tags);
+        Descriptor::write(LogLayout::narrow(block.len()), block, &UUID, sequence, tags);
         return true;
     }
     false
@@ -109,7 +109,7 @@ fn write_numbers(block: &mut [u8], sequence: u32, numbers: &[BlockNo]) -> bool
     let few = numbers.len() <= (block.len() - 16) / 4;
     let spelled = numbers.iter().all(|b| b.0 < 0x1_0000_0000);
     if few && spelled {
-        RevokeBlock::write(block, sequence, numbers);
+        RevokeBlock::write(LogLayout::narrow(block.len()), block, sequence, numbers);
         return true;
     }
     false
@@ -160,7 +160,8 @@ fn read_tags(block: &[u8], home_blocks: u64, tags: &mut [Tag]) -> Option<Result<
     if header.block_type != 1 {
         return None;
     }
-    Some(Descriptor::read(block, home_blocks, tags))
+    let layout = LogLayout::narrow(block.len());
+    Some(Descriptor::read(layout, block, home_blocks, tags))
 }
 
 /// Reads a revoke block, where the block has the header of one.
@@ -176,7 +177,8 @@ fn read_numbers(
     if header.block_type != 5 {
         return None;
     }
-    Some(RevokeBlock::read(block, home_blocks, numbers))
+    let layout = LogLayout::narrow(block.len());
+    Some(RevokeBlock::read(layout, block, home_blocks, numbers))
 }
 
 /// The tags that are read from a block, where it has the header of a descriptor.

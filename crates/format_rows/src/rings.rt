@@ -2,7 +2,7 @@
 use crate::RowError;
 use crate::telling::{refusal_text, text};
 use crate::words::{cut, number, values};
-use journal_model::JournalError;
+use journal_model::{JournalError, LogLayout};
 use journal_plain::room;
 use log_ring::{Layout, Part, Ring};
 use std::alloc::Global;
@@ -106,7 +106,7 @@ fn layout_of(size: u64, copies: u64, revokes: u64) -> Result<Layout, RowError> {
     if !known || copies > 2000 || revokes > 2000 {
         return Err(RowError::Unread);
     }
-    Ok(Layout::new(size as usize, copies, revokes))
+    Ok(Layout::new(LogLayout::narrow(size as usize), copies, revokes))
 }
 
 /// How many blocks the ring and the plain program need.
@@ -116,7 +116,8 @@ fn need(size: u64, copies: u64, revokes: u64) -> Result<(u64, usize), RowError> 
         return Err(RowError::Unread);
     }
     let plain = room::need(size as usize, 4, copies as usize, revokes as usize);
-    Ok((Ring::need(size as usize, copies, revokes), plain))
+    let layout = LogLayout::narrow(size as usize);
+    Ok((Ring::need(layout, copies, revokes), plain))
 }
 
 /// The most copies, by the layout and by the plain program.
@@ -126,7 +127,8 @@ fn capacity(size: u64, ring: u64) -> Result<(u64, usize), RowError> {
         return Err(RowError::Unread);
     }
     let plain = room::capacity(size as usize, 4, ring as usize);
-    Ok((Layout::capacity(size as usize, ring), plain))
+    let layout = LogLayout::narrow(size as usize);
+    Ok((Layout::capacity(layout, ring), plain))
 }
 
 /// Room of transactions. Given: `block=N copies=N revokes=N`. Found: how many log blocks a transaction with these needs, by the

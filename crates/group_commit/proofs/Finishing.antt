@@ -5,7 +5,7 @@ use Rattle.std.proofs.lemmas.Bool.{true≢false}
 use Rattle.std.proofs.lemmas.Option.{none-some}
 use Rattle.journal_model.specs.declared.refusal.JournalError.{JournalError}
 use Rattle.journal_model.specs.declared.refusal.JournalError.TheVariants.{Device}
-use Rattle.journal_model.specs.Layout.{narrow}
+use Rattle.journal_model.specs.Layout.{Layout}
 use Rattle.journal_model.specs.Room.{need}
 use Rattle.journal_model.specs.Superblock.{Shape}
 use Rattle.journal_model.specs.Chain.{Ring}
@@ -42,17 +42,18 @@ use Rattle.group_commit.proofs.Leading.{comes-behind, comes-nowhere, comes-same,
 -- what a step of a commit or of a round leaves of the log
 record KeepsLog (old new : Engine) : Type 0 where
   measures : new.shape ≡ old.shape
+  layout : new.layout ≡ old.layout
   ring : new.ring ≡ old.ring
   aborted : new.aborted ≡ old.aborted
   committed : old.committed ≤ new.committed
 
 stepped-log : (e : Engine) (stage : Stage) → KeepsLog e (stepped_from e stage)
-stepped-log e Idle = record { measures = refl; ring = refl; aborted = refl; committed = omega arith }
-stepped-log e SuperblockWrite = record { measures = refl; ring = refl; aborted = refl; committed = omega arith }
-stepped-log e SuperblockFlush = record { measures = refl; ring = refl; aborted = refl; committed = omega arith }
-stepped-log e (Blocks k) = record { measures = refl; ring = refl; aborted = refl; committed = omega arith }
-stepped-log e CommitWrite = record { measures = refl; ring = refl; aborted = refl; committed = omega arith }
-stepped-log e CommitFlush = record { measures = refl; ring = refl; aborted = refl; committed = omega arith }
+stepped-log e Idle = record { measures = refl; layout = refl; ring = refl; aborted = refl; committed = omega arith }
+stepped-log e SuperblockWrite = record { measures = refl; layout = refl; ring = refl; aborted = refl; committed = omega arith }
+stepped-log e SuperblockFlush = record { measures = refl; layout = refl; ring = refl; aborted = refl; committed = omega arith }
+stepped-log e (Blocks k) = record { measures = refl; layout = refl; ring = refl; aborted = refl; committed = omega arith }
+stepped-log e CommitWrite = record { measures = refl; layout = refl; ring = refl; aborted = refl; committed = omega arith }
+stepped-log e CommitFlush = record { measures = refl; layout = refl; ring = refl; aborted = refl; committed = omega arith }
 
 commit-log : (old new : Engine) (disk after : Disk) → CommitSteps old disk new after → KeepsLog old new
 commit-log old new disk after step = subst (KeepsLog old) (sym step.engine) (stepped-log old old.stage)
@@ -63,18 +64,18 @@ record KeepsStage (old new : Engine) : Type 0 where
   stage : new.stage ≡ old.stage
 
 begun-stage : (e : Engine) (round : Round) → KeepsStage e (begun_from e round)
-begun-stage e NoRound = record { log = record { measures = refl; ring = refl; aborted = refl; committed = omega arith }; stage = refl }
-begun-stage e (Copies transaction block) = record { log = record { measures = refl; ring = refl; aborted = refl; committed = omega arith }; stage = refl }
-begun-stage e TailWrite = record { log = record { measures = refl; ring = refl; aborted = refl; committed = omega arith }; stage = refl }
-begun-stage e TailFlush = record { log = record { measures = refl; ring = refl; aborted = refl; committed = omega arith }; stage = refl }
+begun-stage e NoRound = record { log = record { measures = refl; layout = refl; ring = refl; aborted = refl; committed = omega arith }; stage = refl }
+begun-stage e (Copies transaction block) = record { log = record { measures = refl; layout = refl; ring = refl; aborted = refl; committed = omega arith }; stage = refl }
+begun-stage e TailWrite = record { log = record { measures = refl; layout = refl; ring = refl; aborted = refl; committed = omega arith }; stage = refl }
+begun-stage e TailFlush = record { log = record { measures = refl; layout = refl; ring = refl; aborted = refl; committed = omega arith }; stage = refl }
 
 call-stage : (e : Engine) (round : Round) (call : Call) (new : Engine) → RoundCall e round call new → KeepsStage e new
 call-stage e round call new (CopyHome transaction block i b v next) =
-    record { log = record { measures = refl; ring = refl; aborted = refl; committed = omega arith }; stage = refl }
+    record { log = record { measures = refl; layout = refl; ring = refl; aborted = refl; committed = omega arith }; stage = refl }
 call-stage e round call new (FlushHome transaction block none) =
-    record { log = record { measures = refl; ring = refl; aborted = refl; committed = omega arith }; stage = refl }
-call-stage e round call new WriteTail = record { log = record { measures = refl; ring = refl; aborted = refl; committed = omega arith }; stage = refl }
-call-stage e round call new FlushTail = record { log = record { measures = refl; ring = refl; aborted = refl; committed = omega arith }; stage = refl }
+    record { log = record { measures = refl; layout = refl; ring = refl; aborted = refl; committed = omega arith }; stage = refl }
+call-stage e round call new WriteTail = record { log = record { measures = refl; layout = refl; ring = refl; aborted = refl; committed = omega arith }; stage = refl }
+call-stage e round call new FlushTail = record { log = record { measures = refl; layout = refl; ring = refl; aborted = refl; committed = omega arith }; stage = refl }
 
 round-stage : (old new : Engine) (disk after : Disk) → RoundSteps old disk new after → KeepsStage old new
 round-stage old new disk after step =
@@ -85,6 +86,7 @@ round-stage old new disk after step =
     record {
       log = record {
         measures = two.log.measures ∙ one.log.measures;
+        layout = two.log.layout ∙ one.log.layout;
         ring = two.log.ring ∙ one.log.ring;
         aborted = two.log.aborted ∙ one.log.aborted;
         committed = omega arith;
@@ -121,6 +123,7 @@ module _ {D : Type 0} (state : D → DeviceState) where
         locked = two.locked ∙ one.locked;
         open_handles = two.open_handles ∙ one.open_handles;
         measures = two.measures ∙ one.measures;
+        layout = two.layout ∙ one.layout;
         ring = two.ring ∙ one.ring;
         committed = omega arith;
         shape = two.shape ∙ one.shape;
@@ -136,6 +139,7 @@ module _ {D : Type 0} (state : D → DeviceState) where
       locked = refl;
       open_handles = refl;
       measures = refl;
+      layout = refl;
       ring = refl;
       committed = omega arith;
       shape = refl;
@@ -160,6 +164,7 @@ module _ {D : Type 0} (state : D → DeviceState) where
     locked = ap (λ (f : Front). f.locked) front;
     open_handles = ap (λ (f : Front). f.open_handles) front;
     measures = log.measures;
+    layout = log.layout;
     ring = log.ring;
     committed = log.committed;
     shape = shape;
@@ -194,6 +199,7 @@ module _ {D : Type 0} (state : D → DeviceState) where
           locked = ap (λ (j : Journal). j.front.locked) made ∙ ap (λ (f : Front). f.locked) front;
           open_handles = ap (λ (j : Journal). j.front.open_handles) made ∙ ap (λ (f : Front). f.open_handles) front;
           measures = log.measures;
+          layout = log.layout;
           ring = log.ring;
           committed = log.committed;
           shape = shape;
@@ -222,6 +228,7 @@ module _ {D : Type 0} (state : D → DeviceState) where
             locked = ap (λ (f : Front). f.locked) fails.front;
             open_handles = ap (λ (f : Front). f.open_handles) fails.front;
             measures = ap (λ (x : Engine). x.shape) fault.engine;
+            layout = ap (λ (x : Engine). x.layout) fault.engine;
             ring = ap (λ (x : Engine). x.ring) fault.engine;
             committed = (let same : new.journal.engine.committed ≡ old.journal.engine.committed = ap (λ (x : Engine). x.committed) fault.engine in omega arith);
             shape = shape;
@@ -243,6 +250,7 @@ module _ {D : Type 0} (state : D → DeviceState) where
         locked = ap (λ (j : Journal). j.front.locked) did.1;
         open_handles = ap (λ (j : Journal). j.front.open_handles) did.1;
         measures = ap (λ (j : Journal). j.engine.shape) did.1;
+        layout = ap (λ (j : Journal). j.engine.layout) did.1;
         ring = ap (λ (j : Journal). j.engine.ring) did.1;
         committed = (let same : new.journal.engine.committed ≡ old.journal.engine.committed = ap (λ (j : Journal). j.engine.committed) did.1 in omega arith);
         shape = shape;
@@ -288,6 +296,7 @@ module _ {D : Type 0} (state : D → DeviceState) where
             locked = ap (λ (f : Front). f.locked) fails.front;
             open_handles = ap (λ (f : Front). f.open_handles) fails.front;
             measures = ap (λ (x : Engine). x.shape) fault.engine ∙ begins.log.measures;
+            layout = ap (λ (x : Engine). x.layout) fault.engine ∙ begins.log.layout;
             ring = ap (λ (x : Engine). x.ring) fault.engine ∙ begins.log.ring;
             committed =
                 (let same : new.journal.engine.committed ≡ (begun old.journal.engine).committed = ap (λ (x : Engine). x.committed) fault.engine in
@@ -309,9 +318,9 @@ module _ {D : Type 0} (state : D → DeviceState) where
   fits-on : (old mid : JournalValue D) → Went state old mid → FitsRing old.journal → FitsRing mid.journal
   fits-on old mid went fits =
       let on = went.on in
-      subst (λ (r : Ring). need (narrow mid.journal.engine.shape.block_size) (length (entries mid.journal.front.running.steps)) 0 ≤ r.blocks) (sym on.ring)
-      (subst (λ (s : Shape). need (narrow s.block_size) (length (entries mid.journal.front.running.steps)) 0 ≤ old.journal.engine.ring.blocks) (sym on.measures)
-      (subst (λ (t : Transaction). need (narrow old.journal.engine.shape.block_size) (length (entries t.steps)) 0 ≤ old.journal.engine.ring.blocks)
+      subst (λ (r : Ring). need mid.journal.engine.layout (length (entries mid.journal.front.running.steps)) 0 ≤ r.blocks) (sym on.ring)
+      (subst (λ (l : Layout). need l (length (entries mid.journal.front.running.steps)) 0 ≤ old.journal.engine.ring.blocks) (sym on.layout)
+      (subst (λ (t : Transaction). need old.journal.engine.layout (length (entries t.steps)) 0 ≤ old.journal.engine.ring.blocks)
       (sym on.transaction) fits))
 
   -- then it has room for the running transaction, where a whole ring has

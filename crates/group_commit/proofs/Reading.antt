@@ -71,7 +71,7 @@ module _ (e : Engine) (ts : History) (b : ℕ) (plain : IsPlain e) (are : AreBat
   -- a batch has one entry of a block
   one-entry : (i : ℕ) (c : Batch) (x y : Entry) → slice_get e.accepted i ≡ Some c → Contains c.entries (b, x) → Contains c.entries (b, y) → x ≡ y
   one-entry i c x y stands one other =
-      let batch : IsBatch e.shape c = all-at (IsBatch e.shape) e.accepted i c plain.batches stands in
+      let batch : IsBatch e.layout e.shape c = all-at (IsBatch e.layout e.shape) e.accepted i c plain.batches stands in
       same_Some x y (sym (lookup-from_Contains nat_eq_equiv b x c.entries batch.once one) ∙ lookup-from_Contains nat_eq_equiv b y c.entries batch.once other)
 
   -- where the last entry is a revoke, there is no newest copy
@@ -170,7 +170,7 @@ sealed-whole : (e : Engine) (ts : History) (b : ℕ) (v : List ℕ) → IsPlain 
 sealed-whole e ts b v plain are made =
     let last = last-in b ts e.accepted (Copy v) are made in
     let l = last.1 in
-    let batch : IsBatch e.shape l.batch = all-at (IsBatch e.shape) e.accepted last.0 l.batch plain.batches l.stands in
+    let batch : IsBatch e.layout e.shape l.batch = all-at (IsBatch e.layout e.shape) e.accepted last.0 l.batch plain.batches l.stands in
     All-contains (λ c. length c.1 ≡ e.shape.block_size) (copied l.batch.entries) (b, v) batch.whole (copied-there l.batch.entries b v l.entry)
 
 -- so is one that the front keeps
@@ -188,7 +188,7 @@ kept-whole j b v agrees plain made =
           sealed-whole j.engine f.sealed b v plain agrees.batches
           (sym (ap (later (last_effect b f.sealed)) none) ∙ sym split ∙ whole)
       | inr (e, some) ↦
-          copy-good j.engine.shape b f.running.steps v agrees.steps
+          copy-good j.engine.layout j.engine.shape b f.running.steps v agrees.steps
           (some ∙ sym (ap (later (last_effect b f.sealed)) some) ∙ sym split ∙ whole)
     ]
 

@@ -15,7 +15,7 @@ use Rattle.journal_model.specs.declared.transaction.Op.{Op}
 use Rattle.journal_model.specs.declared.transaction.Op.TheVariants.{Write, Revoke as RevokeOp, Read}
 use Rattle.journal_model.specs.declared.transaction.Step.{Step}
 use Rattle.journal_model.specs.Block.{IsAllowedBlock}
-use Rattle.journal_model.specs.Layout.{narrow}
+use Rattle.journal_model.specs.Layout.{Layout}
 use Rattle.journal_model.specs.OwnText.{copied, revoked}
 use Rattle.journal_model.specs.Room.{need}
 use Rattle.journal_model.specs.Superblock.{Shape}
@@ -34,7 +34,7 @@ use Rattle.journal_world.specs.Journal.{batch_of}
 use Rattle.journal_world.proofs.Batches.{batches-last}
 use Rattle.journal_world.specs.Sound.{IsPlain, StageAgrees}
 use Rattle.journal_world.proofs.Positions.{tail-start}
-use Rattle.journal_world.proofs.Superblocks.{accepted-layout, names-superblock}
+use Rattle.journal_model.proofs.Taken.{taken-layout}
 use Rattle.log_engine.specs.Engine.{AcceptRefused, MayHandOver, StepRefused}
 use Rattle.log_engine.specs.Engine.AcceptRefused.{AfterFailure, MemoryIsShort, RingIsShort}
 use Rattle.log_engine.specs.Engine.StepRefused.{WasAborted, DeviceFailed}
@@ -44,37 +44,42 @@ use Rattle.group_commit.specs.Journal.{Agrees, FinishesCommit, HasRoomFor, IsGoo
 use Rattle.group_commit.specs.Values.{JournalValue}
 use Rattle.group_commit.proofs.Turning.{Keeps, fault-keeps, step-keeps}
 
+-- a block that may be touched may be, by the same layout and count
+pub allowed-here : {l m : Layout} {count n b : ℕ} → l ≡ m → count ≡ n → IsAllowedBlock l count b → IsAllowedBlock m n b
+allowed-here {l} {m} {count} {n} {b} layout same allowed =
+    subst (λ (x : Layout). IsAllowedBlock x n b) layout (subst (λ (k : ℕ). IsAllowedBlock l k b) same allowed)
+
 -- an entry that a transaction of good steps may have
-record IsGoodEntry (shape : Shape) (p : ℕ × Entry) : Type 0 where
+record IsGoodEntry (l : Layout) (shape : Shape) (p : ℕ × Entry) : Type 0 where
   whole : IsWholeCopy shape.block_size p.1
-  allowed : IsAllowedBlock (narrow shape.block_size) shape.home_blocks p.0
+  allowed : IsAllowedBlock l shape.home_blocks p.0
 
 -- what one good step leaves
-op-good : (shape : Shape) (b : ℕ) (op : Op) (e : Entry) → IsWholeWrite shape.block_size op → IsAllowedBlock (narrow shape.block_size) shape.home_blocks b →
-    entry_of op ≡ Some e → IsGoodEntry shape (b, e)
-op-good shape b (Write v) e whole allowed leaves =
-    subst (λ x. IsGoodEntry shape (b, x)) (same_Some (Copy v) e leaves) (record { whole = whole; allowed = allowed })
-op-good shape b RevokeOp e whole allowed leaves = absurd whole
-op-good shape b (Read v) e whole allowed leaves = absurd whole
+op-good : (l : Layout) (shape : Shape) (b : ℕ) (op : Op) (e : Entry) → IsWholeWrite shape.block_size op → IsAllowedBlock l shape.home_blocks b →
+    entry_of op ≡ Some e → IsGoodEntry l shape (b, e)
+op-good l shape b (Write v) e whole allowed leaves =
+    subst (λ x. IsGoodEntry l shape (b, x)) (same_Some (Copy v) e leaves) (record { whole = whole; allowed = allowed })
+op-good l shape b RevokeOp e whole allowed leaves = absurd whole
+op-good l shape b (Read v) e whole allowed leaves = absurd whole
 
 -- of its own block
-step-good : (shape : Shape) (b : ℕ) (s : Step) (e : Entry) (here : Bool) → IsGoodStep shape s → (s.block == b) ≡ here →
-    (if here then entry_of s.op else None) ≡ Some e → IsGoodEntry shape (b, e)
-step-good shape b s e true good is leaves =
+step-good : (l : Layout) (shape : Shape) (b : ℕ) (s : Step) (e : Entry) (here : Bool) → IsGoodStep l shape s → (s.block == b) ≡ here →
+    (if here then entry_of s.op else None) ≡ Some e → IsGoodEntry l shape (b, e)
+step-good l shape b s e true good is leaves =
     let same : s.block ≡ b = grind (arith, nat_tests) in
-    subst (λ (n : ℕ). IsGoodEntry shape (n, e)) same (op-good shape s.block s.op e good.whole good.allowed leaves)
-step-good shape b s e false good is leaves = absurd (none-some e leaves)
+    subst (λ (n : ℕ). IsGoodEntry l shape (n, e)) same (op-good l shape s.block s.op e good.whole good.allowed leaves)
+step-good l shape b s e false good is leaves = absurd (none-some e leaves)
 
 -- of the steps behind it, or of the first one
-effect-by : (shape : Shape) (b : ℕ) (s : Step) (e : Entry) (o : Option Entry) → IsGoodStep shape s → (o ≡ Some e → IsGoodEntry shape (b, e)) →
-    later (if s.block == b then entry_of s.op else None) o ≡ Some e → IsGoodEntry shape (b, e)
-effect-by shape b s e None good rest leaves = step-good shape b s e (s.block == b) good refl leaves
-effect-by shape b s e (Some x) good rest leaves = rest leaves
+effect-by : (l : Layout) (shape : Shape) (b : ℕ) (s : Step) (e : Entry) (o : Option Entry) → IsGoodStep l shape s → (o ≡ Some e → IsGoodEntry l shape (b, e)) →
+    later (if s.block == b then entry_of s.op else None) o ≡ Some e → IsGoodEntry l shape (b, e)
+effect-by l shape b s e None good rest leaves = step-good l shape b s e (s.block == b) good refl leaves
+effect-by l shape b s e (Some x) good rest leaves = rest leaves
 
 -- what good steps leave of a block
-effect-good : (shape : Shape) (b : ℕ) (ss : List Step) (e : Entry) → AllByRecursion (IsGoodStep shape) ss → effect b ss ≡ Some e → IsGoodEntry shape (b, e)
-effect-good shape b [] e all leaves = absurd (none-some e leaves)
-effect-good shape b (s ∷ ss) e all leaves = effect-by shape b s e (effect b ss) all.0 (λ rest. effect-good shape b ss e all.1 rest) leaves
+effect-good : (l : Layout) (shape : Shape) (b : ℕ) (ss : List Step) (e : Entry) → AllByRecursion (IsGoodStep l shape) ss → effect b ss ≡ Some e → IsGoodEntry l shape (b, e)
+effect-good l shape b [] e all leaves = absurd (none-some e leaves)
+effect-good l shape b (s ∷ ss) e all leaves = effect-by l shape b s e (effect b ss) all.0 (λ rest. effect-good l shape b ss e all.1 rest) leaves
 
 -- the first value that is found, or none, before those that are found behind it
 found-by : {Y : Type 0} (P : Y → Type 0) (o : Option Y) (ys : List Y) → ((y : Y) → o ≡ Some y → P y) → AllByRecursion P ys →
@@ -99,15 +104,15 @@ entry-found b None y is = absurd (none-some y is)
 entry-found b (Some e) y is = (e, refl, sym (same_Some (b, e) y is))
 
 -- each entry of good steps is a good one
-entries-good : (shape : Shape) (ss : List Step) → AllByRecursion (IsGoodStep shape) ss → AllByRecursion (IsGoodEntry shape) (entries ss)
-entries-good shape ss all = each-found (IsGoodEntry shape) (λ b. option_map (λ e. (b, e)) (effect b ss)) (touched ss)
-    (λ b y is. let found = entry-found b (effect b ss) y is in subst (IsGoodEntry shape) (sym found.2) (effect-good shape b ss found.0 all found.1))
+entries-good : (l : Layout) (shape : Shape) (ss : List Step) → AllByRecursion (IsGoodStep l shape) ss → AllByRecursion (IsGoodEntry l shape) (entries ss)
+entries-good l shape ss all = each-found (IsGoodEntry l shape) (λ b. option_map (λ e. (b, e)) (effect b ss)) (touched ss)
+    (λ b y is. let found = entry-found b (effect b ss) y is in subst (IsGoodEntry l shape) (sym found.2) (effect-good l shape b ss found.0 all found.1))
 
 -- so its copies are whole blocks
-copies-good : (shape : Shape) (es : List (ℕ × Entry)) → AllByRecursion (IsGoodEntry shape) es → AllByRecursion (λ c. length c.1 ≡ shape.block_size) (copied es)
-copies-good shape [] all = tt
-copies-good shape ((b, Copy v) ∷ es) all = (all.0.whole, copies-good shape es all.1)
-copies-good shape ((b, Revoke) ∷ es) all = absurd all.0.whole
+copies-good : (l : Layout) (shape : Shape) (es : List (ℕ × Entry)) → AllByRecursion (IsGoodEntry l shape) es → AllByRecursion (λ c. length c.1 ≡ shape.block_size) (copied es)
+copies-good l shape [] all = tt
+copies-good l shape ((b, Copy v) ∷ es) all = (all.0.whole, copies-good l shape es all.1)
+copies-good l shape ((b, Revoke) ∷ es) all = absurd all.0.whole
 
 -- a weaker fact of each element
 each-weaker : {X : Type 0} (P Q : X → Type 0) → ((x : X) → P x → Q x) → (xs : List X) → AllByRecursion P xs → AllByRecursion Q xs
@@ -115,50 +120,51 @@ each-weaker P Q weaker [] all = tt
 each-weaker P Q weaker (x ∷ xs) all = (weaker x all.0, each-weaker P Q weaker xs all.1)
 
 -- the batch of a transaction of good steps is one that the engine takes
-pub batch-good : (shape : Shape) (t : Transaction) → AllByRecursion (IsGoodStep shape) t.steps → IsBatch shape (batch_of t)
-batch-good shape t all =
-    let good = entries-good shape t.steps all in
+pub batch-good : (l : Layout) (shape : Shape) (t : Transaction) → AllByRecursion (IsGoodStep l shape) t.steps → IsBatch l shape (batch_of t)
+batch-good l shape t all =
+    let good = entries-good l shape t.steps all in
     record {
       once = subst (IsDistinct nat_eq) (sym (entries-blocks t.steps)) (touched-distinct t.steps);
-      allowed = All-from_recursion _ (entries t.steps) (each-weaker (IsGoodEntry shape) _ (λ p is. is.allowed) (entries t.steps) good);
-      whole = All-from_recursion _ (copied (entries t.steps)) (copies-good shape (entries t.steps) good);
+      allowed = All-from_recursion _ (entries t.steps) (each-weaker (IsGoodEntry l shape) _ (λ p is. is.allowed) (entries t.steps) good);
+      whole = All-from_recursion _ (copied (entries t.steps)) (copies-good l shape (entries t.steps) good);
     }
 
 -- and it has copies alone
-pub batch-copies : (shape : Shape) (t : Transaction) → AllByRecursion (IsGoodStep shape) t.steps → AreCopies shape.block_size (entries t.steps)
-batch-copies shape t all =
-    let good = entries-good shape t.steps all in
+pub batch-copies : (l : Layout) (shape : Shape) (t : Transaction) → l.block_size ≡ shape.block_size → AllByRecursion (IsGoodStep l shape) t.steps →
+    AreCopies l (entries t.steps)
+batch-copies l shape t same all =
+    let good = entries-good l shape t.steps all in
     record {
-      whole = All-from_recursion _ (entries t.steps) (each-weaker (IsGoodEntry shape) _ (λ p is. is.whole) (entries t.steps) good);
-      spelled = All-from_recursion _ (entries t.steps) (each-weaker (IsGoodEntry shape) _ (λ p is. is.allowed.spelled) (entries t.steps) good);
+      whole = All-from_recursion _ (entries t.steps) (each-weaker (IsGoodEntry l shape) _ (λ p is. subst (λ (n : ℕ). IsWholeCopy n p.1) (sym same) is.whole) (entries t.steps) good);
+      spelled = All-from_recursion _ (entries t.steps) (each-weaker (IsGoodEntry l shape) _ (λ p is. is.allowed.spelled) (entries t.steps) good);
     }
 
 -- the copy that good steps leave of a block is a whole one
-pub copy-good : (shape : Shape) (b : ℕ) (ss : List Step) (v : List ℕ) → AllByRecursion (IsGoodStep shape) ss → effect b ss ≡ Some (Copy v) → length v ≡ shape.block_size
-copy-good shape b ss v all leaves = (effect-good shape b ss (Copy v) all leaves).whole
+pub copy-good : (l : Layout) (shape : Shape) (b : ℕ) (ss : List Step) (v : List ℕ) → AllByRecursion (IsGoodStep l shape) ss → effect b ss ≡ Some (Copy v) → length v ≡ shape.block_size
+copy-good l shape b ss v all leaves = (effect-good l shape b ss (Copy v) all leaves).whole
 
 -- good entries have as many copies as there are
-length-copied : (shape : Shape) (es : List (ℕ × Entry)) → AllByRecursion (IsGoodEntry shape) es → length (copied es) ≡ length es
-length-copied shape [] all = refl
-length-copied shape ((b, Copy v) ∷ es) all = ap (λ (n : ℕ). suc n) (length-copied shape es all.1)
-length-copied shape ((b, Revoke) ∷ es) all = absurd all.0.whole
+length-copied : (l : Layout) (shape : Shape) (es : List (ℕ × Entry)) → AllByRecursion (IsGoodEntry l shape) es → length (copied es) ≡ length es
+length-copied l shape [] all = refl
+length-copied l shape ((b, Copy v) ∷ es) all = ap (λ (n : ℕ). suc n) (length-copied l shape es all.1)
+length-copied l shape ((b, Revoke) ∷ es) all = absurd all.0.whole
 
 -- and revoke nothing
-nothing-revoked : (shape : Shape) (es : List (ℕ × Entry)) → AllByRecursion (IsGoodEntry shape) es → revoked es ≡ []
-nothing-revoked shape [] all = refl
-nothing-revoked shape ((b, Copy v) ∷ es) all = nothing-revoked shape es all.1
-nothing-revoked shape ((b, Revoke) ∷ es) all = absurd all.0.whole
+nothing-revoked : (l : Layout) (shape : Shape) (es : List (ℕ × Entry)) → AllByRecursion (IsGoodEntry l shape) es → revoked es ≡ []
+nothing-revoked l shape [] all = refl
+nothing-revoked l shape ((b, Copy v) ∷ es) all = nothing-revoked l shape es all.1
+nothing-revoked l shape ((b, Revoke) ∷ es) all = absurd all.0.whole
 
 -- so the ring has room for their batch where it has the blocks that so many copies need
-pub room-good : (e : Engine) (t : Transaction) → IsPlain e → AllByRecursion (IsGoodStep e.shape) t.steps →
-    e.start + need (narrow e.shape.block_size) (length (entries t.steps)) 0 ≤ e.tail + e.ring.blocks → HasRoom e (batch_of t)
+pub room-good : (e : Engine) (t : Transaction) → IsPlain e → AllByRecursion (IsGoodStep e.layout e.shape) t.steps →
+    e.start + need e.layout (length (entries t.steps)) 0 ≤ e.tail + e.ring.blocks → HasRoom e (batch_of t)
 room-good e t plain all room =
-    let good = entries-good e.shape t.steps all in
-    let layout = accepted-layout e.shape e.superblock (names-superblock e e.started e.superblock plain.names).accepted in
-    let blocks : length (text_blocks (text_of e (batch_of t))) ≡ need (narrow e.shape.block_size) (length (entries t.steps)) 0 =
-    length_own_text (narrow e.shape.block_size) e.uuid t.tid (entries t.steps) layout
-    ∙ ap₂ (λ (c r : ℕ). need (narrow e.shape.block_size) c r)
-    (length-copied e.shape (entries t.steps) good) (ap length (nothing-revoked e.shape (entries t.steps) good)) in
+    let good = entries-good e.layout e.shape t.steps all in
+    let layout = taken-layout plain.layout.0 in
+    let blocks : length (text_blocks (text_of e (batch_of t))) ≡ need e.layout (length (entries t.steps)) 0 =
+    length_own_text e.layout e.uuid t.tid (entries t.steps) layout
+    ∙ ap₂ (λ (c r : ℕ). need e.layout c r)
+    (length-copied e.layout e.shape (entries t.steps) good) (ap length (nothing-revoked e.layout e.shape (entries t.steps) good)) in
     omega arith
 
 -- where a call is due, a transaction is being committed
@@ -208,8 +214,9 @@ module _ (f : Front) (old new : Engine) (agrees : Agrees (record { front = f; en
   number-kept : f.running.tid ≡ new.first + length new.accepted
   number-kept = agrees.number ∙ ap₂ (λ (n : ℕ) (bs : List Batch). n + length bs) (sym keeps.first) (sym keeps.accepted)
 
-  steps-kept : AllByRecursion (IsGoodStep new.shape) f.running.steps
-  steps-kept = subst (λ (s : Shape). AllByRecursion (IsGoodStep s) f.running.steps) (sym keeps.shape) agrees.steps
+  steps-kept : AllByRecursion (IsGoodStep new.layout new.shape) f.running.steps
+  steps-kept = subst (λ (l : Layout). AllByRecursion (IsGoodStep l new.shape) f.running.steps) (sym keeps.layout)
+      (subst (λ (s : Shape). AllByRecursion (IsGoodStep old.layout s) f.running.steps) (sym keeps.shape) agrees.steps)
 
   -- front and engine agree after a step that commits nothing
   pub agrees-moved : new.committed ≡ old.committed → Agrees (record { front = f; engine = new })
@@ -255,8 +262,8 @@ may-hand_over f e agrees plain due room = record {
   idle = due.idle;
   number = agrees.number ∙ ap (λ (n : ℕ). e.first + n) (idle-all e plain due.idle);
   left = agrees.joined (agrees.locked due.locked);
-  batch = batch-good e.shape f.running agrees.steps;
-  copies = batch-copies e.shape f.running agrees.steps;
+  batch = batch-good e.layout e.shape f.running agrees.steps;
+  copies = batch-copies e.layout e.shape f.running plain.layout.1 agrees.steps;
   few = let order : e.tail ≤ e.start = tail-start e plain in omega arith;
 }
 
@@ -342,14 +349,14 @@ mark-below f e agrees plain going =
 
 -- front and engine agree after a good step of a handle
 pub agrees-written : (f front : Front) (e : Engine) (h b : ℕ) (v : List ℕ) → Agrees (record { front = f; engine = e }) →
-    IsAllowedBlock (narrow e.shape.block_size) e.shape.home_blocks b → length v ≡ e.shape.block_size → front ≡ writing f h b v →
+    IsAllowedBlock e.layout e.shape.home_blocks b → length v ≡ e.shape.block_size → front ≡ writing f h b v →
     Agrees (record { front = front; engine = e })
 agrees-written f front e h b v agrees allowed whole wrote =
     let written : Agrees (record { front = writing f h b v; engine = e }) = record {
       batches = agrees.batches;
       number = agrees.number;
       mark = agrees.mark;
-      steps = each-append (IsGoodStep e.shape) f.running.steps (write_step h b v ∷ []) agrees.steps (record { whole = whole; allowed = allowed }, tt);
+      steps = each-append (IsGoodStep e.layout e.shape) f.running.steps (write_step h b v ∷ []) agrees.steps (record { whole = whole; allowed = allowed }, tt);
       joined = agrees.joined;
       locked = agrees.locked;
     } in

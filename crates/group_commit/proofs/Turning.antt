@@ -4,7 +4,6 @@ use Rattle.std.specs.Prelude.{◌≡◌, ℕ, zero, suc, ◌<◌, ◌≤◌, Lis
 use Rattle.std.specs.List.{AllByRecursion}
 use Rattle.journal_model.specs.declared.entry.Batch.{Batch}
 use Rattle.journal_model.specs.Disk.{Disk}
-use Rattle.journal_model.specs.Layout.{narrow}
 use Rattle.journal_model.specs.Room.{IsCapacity}
 use Rattle.journal_model.specs.Superblock.{Shape}
 use Rattle.journal_model.specs.Transaction.{History}
@@ -85,43 +84,44 @@ each-check j before after agrees each =
 -- what a step of a commit or of a round leaves as it was
 pub record Keeps (old new : Engine) : Type 0 where
   pub shape : new.shape ≡ old.shape
+  pub layout : new.layout ≡ old.layout
   pub accepted : new.accepted ≡ old.accepted
   pub first : new.first ≡ old.first
 
 keeps-at : (e : Engine) (stage : Stage) → Keeps e (stepped_from e stage)
-keeps-at e Idle = record { shape = refl; accepted = refl; first = refl }
-keeps-at e SuperblockWrite = record { shape = refl; accepted = refl; first = refl }
-keeps-at e SuperblockFlush = record { shape = refl; accepted = refl; first = refl }
-keeps-at e (Blocks k) = record { shape = refl; accepted = refl; first = refl }
-keeps-at e CommitWrite = record { shape = refl; accepted = refl; first = refl }
-keeps-at e CommitFlush = record { shape = refl; accepted = refl; first = refl }
+keeps-at e Idle = record { shape = refl; layout = refl; accepted = refl; first = refl }
+keeps-at e SuperblockWrite = record { shape = refl; layout = refl; accepted = refl; first = refl }
+keeps-at e SuperblockFlush = record { shape = refl; layout = refl; accepted = refl; first = refl }
+keeps-at e (Blocks k) = record { shape = refl; layout = refl; accepted = refl; first = refl }
+keeps-at e CommitWrite = record { shape = refl; layout = refl; accepted = refl; first = refl }
+keeps-at e CommitFlush = record { shape = refl; layout = refl; accepted = refl; first = refl }
 
 pub step-keeps : (old new : Engine) (disk after : Disk) → CommitSteps old disk new after → Keeps old new
 step-keeps old new disk after step = subst (Keeps old) (sym step.engine) (keeps-at old old.stage)
 
 pub fault-keeps : (old new : Engine) (disk after : Disk) → CommitFaults old disk new after → Keeps old new
-fault-keeps old new disk after fault = subst (Keeps old) (sym fault.engine) (record { shape = refl; accepted = refl; first = refl })
+fault-keeps old new disk after fault = subst (Keeps old) (sym fault.engine) (record { shape = refl; layout = refl; accepted = refl; first = refl })
 
 -- where a round begins
 begun-keeps : (e : Engine) (round : Round) → Keeps e (begun_from e round) × ((begun_from e round).committed ≡ e.committed)
-begun-keeps e NoRound = (record { shape = refl; accepted = refl; first = refl }, refl)
-begun-keeps e (Copies transaction block) = (record { shape = refl; accepted = refl; first = refl }, refl)
-begun-keeps e TailWrite = (record { shape = refl; accepted = refl; first = refl }, refl)
-begun-keeps e TailFlush = (record { shape = refl; accepted = refl; first = refl }, refl)
+begun-keeps e NoRound = (record { shape = refl; layout = refl; accepted = refl; first = refl }, refl)
+begun-keeps e (Copies transaction block) = (record { shape = refl; layout = refl; accepted = refl; first = refl }, refl)
+begun-keeps e TailWrite = (record { shape = refl; layout = refl; accepted = refl; first = refl }, refl)
+begun-keeps e TailFlush = (record { shape = refl; layout = refl; accepted = refl; first = refl }, refl)
 
 -- by each call of a round
 call-keeps : (e : Engine) (round : Round) (call : Call) (new : Engine) → RoundCall e round call new → Keeps e new × (new.committed ≡ e.committed)
-call-keeps e round call new (CopyHome transaction block i b v next) = (record { shape = refl; accepted = refl; first = refl }, refl)
-call-keeps e round call new (FlushHome transaction block none) = (record { shape = refl; accepted = refl; first = refl }, refl)
-call-keeps e round call new WriteTail = (record { shape = refl; accepted = refl; first = refl }, refl)
-call-keeps e round call new FlushTail = (record { shape = refl; accepted = refl; first = refl }, refl)
+call-keeps e round call new (CopyHome transaction block i b v next) = (record { shape = refl; layout = refl; accepted = refl; first = refl }, refl)
+call-keeps e round call new (FlushHome transaction block none) = (record { shape = refl; layout = refl; accepted = refl; first = refl }, refl)
+call-keeps e round call new WriteTail = (record { shape = refl; layout = refl; accepted = refl; first = refl }, refl)
+call-keeps e round call new FlushTail = (record { shape = refl; layout = refl; accepted = refl; first = refl }, refl)
 
 -- a step of a round commits nothing
 pub round-keeps : (old new : Engine) (disk after : Disk) → RoundSteps old disk new after → Keeps old new × (new.committed ≡ old.committed)
 round-keeps old new disk after step =
     let begins = begun-keeps old old.round in
     let calls = call-keeps (begun old) (begun old).round step.call new step.due in (
-      record { shape = calls.0.shape ∙ begins.0.shape; accepted = calls.0.accepted ∙ begins.0.accepted; first = calls.0.first ∙ begins.0.first },
+      record { shape = calls.0.shape ∙ begins.0.shape; layout = calls.0.layout ∙ begins.0.layout; accepted = calls.0.accepted ∙ begins.0.accepted; first = calls.0.first ∙ begins.0.first },
       calls.1 ∙ begins.1,
     )
 
@@ -130,7 +130,7 @@ pub round-fault-keeps : (old new : Engine) (disk after : Disk) → RoundFaults o
 round-fault-keeps old new disk after fault =
     let begins = begun-keeps old old.round in
     subst (λ (e : Engine). Keeps old e × (e.committed ≡ old.committed)) (sym fault.engine)
-    (record { shape = begins.0.shape; accepted = begins.0.accepted; first = begins.0.first }, begins.1)
+    (record { shape = begins.0.shape; layout = begins.0.layout; accepted = begins.0.accepted; first = begins.0.first }, begins.1)
 
 -- front and engine of a journal that was just made agree
 pub fresh-agrees : (shape : Shape) (superblock : List ℕ) (next capacity : ℕ) (j : Journal) → j.engine ≡ fresh_engine shape superblock next →
@@ -149,11 +149,11 @@ fresh-agrees shape superblock next capacity j engine front some =
 
 -- and it is as an opening leaves it
 pub fresh-journal : (shape : Shape) (superblock : List ℕ) (next capacity : ℕ) (j : Journal) → j.engine ≡ fresh_engine shape superblock next →
-    j.front ≡ fresh_front capacity next → IsCapacity (narrow shape.block_size) j.engine.ring.blocks capacity → IsFresh shape superblock next j
+    j.front ≡ fresh_front capacity next → IsCapacity j.engine.layout j.engine.ring.blocks capacity → IsFresh shape superblock next j
 fresh-journal shape superblock next capacity j engine front is =
     let credits : j.front.capacity ≡ capacity = ap (λ (f : Front). f.capacity) front in
     record {
       engine = engine;
       front = front ∙ ap (λ (n : ℕ). fresh_front n next) (sym credits);
-      capacity = subst (IsCapacity (narrow shape.block_size) j.engine.ring.blocks) (sym credits) is;
+      capacity = subst (IsCapacity j.engine.layout j.engine.ring.blocks) (sym credits) is;
     }

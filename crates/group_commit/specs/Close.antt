@@ -3,7 +3,6 @@ use Rattle.std.specs.Prelude.{◌≡◌, ◌⊎◌, ⊤, ℕ, ◌<◌, ◌≤◌
 use Rattle.journal_model.specs.declared.refusal.JournalError.{JournalError}
 use Rattle.journal_model.specs.declared.refusal.JournalError.TheVariants.{Aborted, Device, Memory, NeedSpace}
 use Rattle.journal_model.specs.Disk.{Disk}
-use Rattle.journal_model.specs.Layout.{narrow}
 use Rattle.journal_model.specs.Room.{need}
 use Rattle.journal_model.specs.Transaction.{History, Transaction, entries}
 use Rattle.block_device.specs.State.{DeviceState, one_more_fault}
@@ -36,7 +35,7 @@ IsSealedInClose f ts = (ts ≡ f.sealed) ⊎ (ts ≡ closing f)
 
 -- a whole ring has as many blocks as the running transaction needs
 abbrev pub FitsRing : Journal → Type 0
-FitsRing j = need (narrow j.engine.shape.block_size) (length (entries j.front.running.steps)) 0 ≤ j.engine.ring.blocks
+FitsRing j = need j.engine.layout (length (entries j.front.running.steps)) 0 ≤ j.engine.ring.blocks
 
 -- the world in which this journal, in this epoch, works on this disk
 abbrev pub world_with : JournalWorld → Epoch → Journal → Disk → Phase → JournalWorld
@@ -70,6 +69,7 @@ pub record GoesOn {D : Type 0} (state : D → DeviceState) (old new : JournalVal
   pub locked : new.journal.front.locked ≡ old.journal.front.locked
   pub open_handles : new.journal.front.open_handles ≡ old.journal.front.open_handles
   pub measures : new.journal.engine.shape ≡ old.journal.engine.shape
+  pub layout : new.journal.engine.layout ≡ old.journal.engine.layout
   pub ring : new.journal.engine.ring ≡ old.journal.engine.ring
   pub committed : old.journal.engine.committed ≤ new.journal.engine.committed
   pub shape : (state new.device).shape ≡ (state old.device).shape

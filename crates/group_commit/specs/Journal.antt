@@ -10,7 +10,7 @@ use Rattle.journal_model.specs.declared.transaction.Op.TheVariants.{Write, Revok
 use Rattle.journal_model.specs.declared.transaction.Step.{Step as HandleStep}
 use Rattle.journal_model.specs.Block.{IsAllowedBlock}
 use Rattle.journal_model.specs.Disk.{Disk, Image, Leaves}
-use Rattle.journal_model.specs.Layout.{narrow}
+use Rattle.journal_model.specs.Layout.{Layout}
 use Rattle.journal_model.specs.Opening.{Opens, IsCountOf, greatest_number}
 use Rattle.journal_model.specs.Reading.{seen}
 use Rattle.journal_model.specs.Room.{need}
@@ -44,16 +44,16 @@ IsWholeWrite size (Write v) = length v ≡ size
 IsWholeWrite size Revoke = ⊥
 IsWholeWrite size (Read v) = ⊥
 
-pub record IsGoodStep (shape : Shape) (s : HandleStep) : Type 0 where
+pub record IsGoodStep (l : Layout) (shape : Shape) (s : HandleStep) : Type 0 where
   pub whole : IsWholeWrite shape.block_size s.op
-  pub allowed : IsAllowedBlock (narrow shape.block_size) shape.home_blocks s.block
+  pub allowed : IsAllowedBlock l shape.home_blocks s.block
 
 -- front and engine agree: what is sealed is what is accepted, and what is told to be committed is what is committed
 pub record Agrees (j : Journal) : Type 0 where
   pub batches : AreBatchesOf j.front.sealed j.engine.accepted
   pub number : j.front.running.tid ≡ j.engine.first + length j.engine.accepted
   pub mark : j.front.mark + 1 ≡ j.engine.first + j.engine.committed
-  pub steps : AllByRecursion (IsGoodStep j.engine.shape) j.front.running.steps
+  pub steps : AllByRecursion (IsGoodStep j.engine.layout j.engine.shape) j.front.running.steps
   pub joined : 0 < length j.front.running.handles → j.front.running.tid ≤ greatest_number
   pub locked : j.front.locked ≡ true → 0 < length j.front.running.handles
 
@@ -64,7 +64,7 @@ pub data TryJoinRefused (j : Journal) (e : JournalError) : Type 0 where
 
 -- the block is one that may be touched
 abbrev pub MayTouch : Journal → ℕ → Type 0
-MayTouch j b = IsAllowedBlock (narrow j.engine.shape.block_size) j.engine.shape.home_blocks b
+MayTouch j b = IsAllowedBlock j.engine.layout j.engine.shape.home_blocks b
 
 -- why a write is refused
 pub data WriteRefused (j : Journal) (left b : ℕ) : JournalError → Type 0 where
@@ -114,7 +114,7 @@ StatusIs Open tid f = f.mark < tid
 -- the ring has as many free blocks as the running transaction needs
 abbrev pub HasRoomFor : Journal → Type 0
 HasRoomFor j =
-    j.engine.start + need (narrow j.engine.shape.block_size) (length (entries j.front.running.steps)) 0 ≤ j.engine.tail + j.engine.ring.blocks
+    j.engine.start + need j.engine.layout (length (entries j.front.running.steps)) 0 ≤ j.engine.tail + j.engine.ring.blocks
 
 -- nothing is being committed, and the running transaction takes no further handles and has no open one
 pub record SealIsDue (j : Journal) : Type 0 where

@@ -105,7 +105,7 @@ impl<D: Device> Journal<D> {
     {
         let next = opened.next();
         let engine = Engine::new(alloc, opened)?;
-        let credits = Layout::capacity(engine.block_size(), engine.ring_blocks());
+        let credits = Layout::capacity(engine.layout(), engine.ring_blocks());
         let front = Front::new(alloc, credits, next);
         Ok((Journal { front, engine }, Seat::new()))
     }
@@ -191,7 +191,7 @@ impl<D: Device> Journal<D> {
         if self.engine.is_aborted() {
             return Err(JournalError::Aborted);
         }
-        if !block.is_allowed(self.engine.home_blocks()) {
+        if !block.is_allowed(self.engine.layout(), self.engine.home_blocks()) {
             return Err(JournalError::BadBlock);
         }
         let first = self.front.is_first_touch(block);
@@ -239,7 +239,7 @@ impl<D: Device> Journal<D> {
             return Err(JournalError::Aborted);
         }
         let home_blocks = self.engine.home_blocks();
-        if !block.is_allowed(home_blocks) {
+        if !block.is_allowed(self.engine.layout(), home_blocks) {
             return Err(JournalError::BadBlock);
         }
         if let Some(copy) = self.front.copy_of(block) {

@@ -20,3 +20,4 @@ pub mod ReadingNumbers
 pub mod ReadingPieces
 pub mod ReadingTags
 pub mod ReadingTexts
+pub mod Taken

@@ -11,9 +11,9 @@ use Rattle.journal_model.specs.declared.refusal.JournalError.{JournalError}
 use Rattle.journal_model.specs.declared.refusal.JournalError.TheVariants.{Damage}
 use Rattle.journal_model.specs.Superblock.{Shape, Super, super_refusal}
 use Rattle.journal_model.specs.Disk.{Image}
-use Rattle.journal_model.specs.Layout.{narrow, every_number}
+use Rattle.journal_model.specs.Layout.{every_number}
 use Rattle.journal_model.specs.Chain.{place_from}
-use Rattle.journal_model.specs.Opening.{ring_of, super_of, lap_place, IsClean, HasChain, IsDamagedImage}
+use Rattle.journal_model.specs.Opening.{layout_of, ring_of, super_of, lap_place, IsClean, HasChain, IsDamagedImage}
 
 -- the bytes of a blank, a comma and a newline
 abbrev pub blank : ℕ
@@ -74,9 +74,10 @@ lines_of s texts =
 unfoldable pub dump_text : Super → List Text → List ℕ
 dump_text s texts = flat_map (λ line. line ++ newline ∷ []) (lines_of s texts)
 
--- the shape that a dump tests a log of these blocks with: the home area is not known, so each number is taken
-abbrev pub dump_shape : ℕ → ℕ → Shape
-dump_shape size blocks = record { block_size = size; log_blocks = blocks; home_blocks = every_number (narrow size) }
+-- the shape that a dump tests a log with, in so many blocks of this size: the home area is not known, so each number is
+-- taken that the log's layout can spell
+abbrev pub dump_shape : Super → ℕ → ℕ → Shape
+dump_shape s size blocks = record { block_size = size; log_blocks = blocks; home_blocks = every_number (layout_of s) }
 
 -- the text is the dump of an accepted log, which a malformed block of the transaction that is due next leaves without one
 pub data IsDump (shape : Shape) (image : Image) : List ℕ → Type 0 where

@@ -3,6 +3,7 @@
 use Rattle.std.specs.Prelude.{◌≡◌, ◌⊎◌, ℕ, zero, suc, ◌+◌, ◌-◌, ◌*◌, ◌/◌, ◌^◌, nat_eq, Bool, true, List, [], ◌∷◌, ◌++◌, length, replicate, slice_index}
 use Rattle.std.specs.List.{starts_with}
 use Rattle.std.specs.Int.{bytes_high_first}
+use Rattle.journal_model.specs.declared.log_layout.LogLayout.{LogLayout}
 
 -- the lowest `count` bytes of n, the highest of them first
 abbrev pub big_endian : ℕ → ℕ → List ℕ
@@ -13,11 +14,9 @@ abbrev pub number_at : ℕ → ℕ → List ℕ → ℕ
 number_at at zero bytes = 0
 number_at at (suc count) bytes = slice_index bytes at * 256 ^ count + number_at (suc at) count bytes
 
--- The measures that differ from log to log. In the layout of a log without 64-bit numbers a block number has
--- 4 bytes.
-pub record Layout : Type 0 where
-  pub block_size : ℕ  -- bytes in a block
-  pub number_bytes : ℕ  -- bytes in a block number
+-- the measures that differ from log to log: the bytes of a block, and those of a block number
+abbrev pub Layout : Type 0
+Layout = LogLayout
 
 -- the layout of a log whose block numbers have 32 bits
 abbrev pub narrow : ℕ → Layout
@@ -96,3 +95,9 @@ abbrev pub IsLayout : Layout → Type 0
 IsLayout l =
     ((l.block_size ≡ 1024) ⊎ ((l.block_size ≡ 2048) ⊎ (l.block_size ≡ 4096)))
     × ((l.number_bytes ≡ 4) ⊎ (l.number_bytes ≡ 8))
+
+-- those that logs may have which are taken: block numbers of 4 bytes
+abbrev pub IsTaken : Layout → Type 0
+IsTaken l =
+    ((l.block_size ≡ 1024) ⊎ ((l.block_size ≡ 2048) ⊎ (l.block_size ≡ 4096)))
+    × (l.number_bytes ≡ 4)

@@ -1,8 +1,9 @@
 //! The numbers of blocks, transactions and handles.
-ghost use Rattle.std.specs.Prelude.{◌↔◌, ℕ, IsTrue};
+ghost use Rattle.std.specs.Prelude.{◌↔◌, IsTrue};
 ghost use Rattle.journal_model.specs.Block.{IsAllowedBlock};
-ghost use Rattle.journal_model.specs.Layout.{narrow};
+ghost use Rattle.journal_model.specs.Layout.{IsTaken};
 
+use crate::log_layout::LogLayout;
 use std::marker::Model;
 
 /// One of the two parts of the disk that a journal works on.
@@ -30,11 +31,12 @@ impl Model for BlockNo {
 
 impl BlockNo {
     /// Whether a transaction may touch the block: a home area of so many blocks has it, and a tag can spell it.
-    /// Source: journal.rst, "Descriptor Block" (a block number of 32 bits).
-    pub fn is_allowed(self, home_blocks: u64) -> bool
-        ensures { (size : ℕ) → IsTrue result ↔ IsAllowedBlock (narrow size) home_blocks self }
+    /// Source: journal.rst, "Descriptor Block" (the width of a block number).
+    pub fn is_allowed(self, layout: LogLayout, home_blocks: u64) -> bool
+        requires { IsTaken layout }
+        ensures { IsTrue result ↔ IsAllowedBlock layout home_blocks self }
     {
-        self.0 < home_blocks && self.0 <= u64::from(u32::MAX)
+        self.0 < home_blocks && self.0 < layout.every_number()
     }
 }
 

@@ -29,7 +29,7 @@ numbered-last first (x ∷ bs) b numbered number = (numbered.0, numbered-last (s
 pub record MayTake (e : Engine) (b : Batch) : Type 0 where
   pub number : b.tid ≡ e.first + e.committed
   pub left : b.tid ≤ greatest_number
-  pub batch : IsBatch e.shape b
+  pub batch : IsBatch e.layout e.shape b
   pub room : HasRoom e b
 
 -- the engine with the batch, at this stage
@@ -70,8 +70,9 @@ taken-plain e b stage plain may agrees =
     let above : e.bound ≤ e.committed = plain.order.1 in
     record {
       names = names-kept (record e { stage = Idle }) (e.accepted ++ b ∷ []) e.committed e.start stage e.aborted e.started e.superblock plain.names;
+      layout = plain.layout;
       uuid = plain.uuid;
-      batches = each-append (IsBatch e.shape) e.accepted (b ∷ []) plain.batches (may.batch, tt);
+      batches = each-append (IsBatch e.layout e.shape) e.accepted (b ∷ []) plain.batches (may.batch, tt);
       numbered = numbered-last e.first e.accepted b plain.numbered (may.number ∙ ap (λ n. e.first + n) (sym all));
       numbers =
           let one : length (e.accepted ++ b ∷ []) ≡ e.committed + 1 = taken-one e b all in

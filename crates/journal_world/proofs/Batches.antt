@@ -7,7 +7,7 @@ use Rattle.std.proofs.lemmas.List.Sums.{sum_by-cons}
 use Rattle.std.proofs.lemmas.Option.{none-some, same_Some}
 use Rattle.journal_model.specs.declared.entry.Batch.{Batch}
 use Rattle.journal_model.specs.declared.log.Text.{Text}
-use Rattle.journal_model.specs.Layout.{IsLayout, narrow, uuid_bytes}
+use Rattle.journal_model.specs.Layout.{IsLayout, Layout, uuid_bytes}
 use Rattle.journal_model.specs.Opening.{greatest_number, numbered_below}
 use Rattle.journal_model.specs.OwnText.{own_text}
 use Rattle.journal_model.specs.Superblock.{Shape}
@@ -18,25 +18,25 @@ use Rattle.journal_world.specs.Sound.{AreNumberedFrom}
 use Rattle.journal_world.proofs.OwnBlocks.{AreOwn, IsOwn, own-is}
 
 -- the texts of batches
-abbrev pub texts_of : Shape → List ℕ → List Batch → List Text
-texts_of shape uuid bs = map (λ b. own_text (narrow shape.block_size) uuid b.tid b.entries) bs
+abbrev pub texts_of : Layout → List ℕ → List Batch → List Text
+texts_of l uuid bs = map (λ b. own_text l uuid b.tid b.entries) bs
 
 -- the text of a batch of this number is an own text of that number
-pub batch-own : (shape : Shape) (uuid : List ℕ) (sequence : ℕ) (b : Batch) → IsLayout (narrow shape.block_size) → length uuid ≡ uuid_bytes →
-    IsBatch shape b → b.tid ≡ sequence → sequence ≤ greatest_number →
-    IsOwn (narrow shape.block_size) shape.home_blocks sequence (own_text (narrow shape.block_size) uuid b.tid b.entries)
-batch-own shape uuid sequence b layout size is number least =
-    subst (λ s. IsOwn (narrow shape.block_size) shape.home_blocks s (own_text (narrow shape.block_size) uuid b.tid b.entries)) number
-    (own-is (narrow shape.block_size) uuid shape.home_blocks b.tid b.entries layout size (omega arith) is.allowed)
+pub batch-own : (l : Layout) (shape : Shape) (uuid : List ℕ) (sequence : ℕ) (b : Batch) → IsLayout l → length uuid ≡ uuid_bytes →
+    IsBatch l shape b → b.tid ≡ sequence → sequence ≤ greatest_number →
+    IsOwn l shape.home_blocks sequence (own_text l uuid b.tid b.entries)
+batch-own l shape uuid sequence b layout size is number least =
+    subst (λ s. IsOwn l shape.home_blocks s (own_text l uuid b.tid b.entries)) number
+    (own-is l uuid shape.home_blocks b.tid b.entries layout size (omega arith) is.allowed)
 
 -- so are the texts of batches that are numbered from the sequence on
-pub batches-own : (shape : Shape) (uuid : List ℕ) (sequence : ℕ) (bs : List Batch) → IsLayout (narrow shape.block_size) → length uuid ≡ uuid_bytes →
-    AllByRecursion (IsBatch shape) bs → AreNumberedFrom sequence bs → sequence + length bs ≤ greatest_number + 1 →
-    AreOwn (narrow shape.block_size) shape.home_blocks sequence (texts_of shape uuid bs)
-batches-own shape uuid sequence [] layout size are numbered least = tt
-batches-own shape uuid sequence (b ∷ bs) layout size are numbered least = (
-  batch-own shape uuid sequence b layout size are.0 numbered.0 (omega arith),
-  batches-own shape uuid (suc sequence) bs layout size are.1 numbered.1 (omega arith),
+pub batches-own : (l : Layout) (shape : Shape) (uuid : List ℕ) (sequence : ℕ) (bs : List Batch) → IsLayout l → length uuid ≡ uuid_bytes →
+    AllByRecursion (IsBatch l shape) bs → AreNumberedFrom sequence bs → sequence + length bs ≤ greatest_number + 1 →
+    AreOwn l shape.home_blocks sequence (texts_of l uuid bs)
+batches-own l shape uuid sequence [] layout size are numbered least = tt
+batches-own l shape uuid sequence (b ∷ bs) layout size are numbered least = (
+  batch-own l shape uuid sequence b layout size are.0 numbered.0 (omega arith),
+  batches-own l shape uuid (suc sequence) bs layout size are.1 numbered.1 (omega arith),
 )
 
 -- the first batches are numbered as all are

@@ -27,6 +27,7 @@ ring-first e plain = first-above e.shape e.ring e.superblock (names-superblock e
 pub plain-at : (e : Engine) (old new : Stage) (a b : Bool) → IsPlain (at e old a) → StageAgrees (at e new b) new → IsPlain (at e new b)
 plain-at e old new a b plain agrees = record {
   names = names-kept (at e old a) e.accepted e.committed e.start new b e.started e.superblock plain.names;
+  layout = plain.layout;
   uuid = plain.uuid;
   batches = plain.batches;
   numbered = plain.numbered;

@@ -35,6 +35,7 @@ done-plain e a plain =
     record {
       names =
           names-kept (at e CommitFlush a) e.accepted (e.committed + 1) (e.start + length (due_blocks e)) Idle a e.started e.superblock plain.names;
+      layout = plain.layout;
       uuid = plain.uuid;
       batches = plain.batches;
       numbered = plain.numbered;

@@ -5,7 +5,7 @@ use Rattle.std.proofs.lemmas.List.{length-map}
 use Rattle.std.proofs.lemmas.Option.{none-some, slice_get_within}
 use Rattle.journal_model.specs.declared.entry.Batch.{Batch}
 use Rattle.journal_model.specs.Chain.{texts_blocks}
-use Rattle.journal_model.specs.Layout.{IsLayout, narrow}
+use Rattle.journal_model.specs.Layout.{IsLayout}
 use Rattle.journal_model.specs.Text.{text_blocks}
 use Rattle.journal_world.specs.Engine.{Engine, IsBatch, blocks_if, committed_texts, due_blocks, text_of}
 use Rattle.journal_world.specs.Opening.{IsBehind}
@@ -15,15 +15,15 @@ use Rattle.journal_world.proofs.Chains.{IsNotDue}
 use Rattle.journal_world.proofs.Elements.{all-at, all-take}
 use Rattle.journal_world.proofs.OwnBlocks.{AreOwn, IsInner, IsNumbered, IsOwn, own-behind, own-inner, own-numbered}
 
-module _ (e : Engine) (plain : IsPlain e) (layout : IsLayout (narrow e.shape.block_size)) where
+module _ (e : Engine) (plain : IsPlain e) (layout : IsLayout e.layout) where
   -- the text that is due is one with the number that is due
   due-own : (b : Batch) → slice_get e.accepted e.committed ≡ Some b →
-      IsOwn (narrow e.shape.block_size) e.shape.home_blocks (e.first + e.committed) (text_of e b)
+      IsOwn e.layout e.shape.home_blocks (e.first + e.committed) (text_of e b)
   due-own b stands =
       let within : e.committed < length e.accepted = slice_get_within e.accepted e.committed b stands in
       let numbers = plain.numbers in
-      batch-own e.shape e.uuid (e.first + e.committed) b layout plain.uuid
-      (all-at (IsBatch e.shape) e.accepted e.committed b plain.batches stands)
+      batch-own e.layout e.shape e.uuid (e.first + e.committed) b layout plain.uuid
+      (all-at (IsBatch e.layout e.shape) e.accepted e.committed b plain.batches stands)
       (number-at e.first e.committed e.accepted b plain.numbered stands) (omega arith)
 
   -- each block of it has the number that is due, where a batch is due at all
@@ -32,7 +32,7 @@ module _ (e : Engine) (plain : IsPlain e) (layout : IsLayout (narrow e.shape.blo
   numbered-if None i v is stands = absurd (none-some v stands)
   numbered-if (Some b) i v is stands =
       all-at (IsNumbered (e.first + e.committed)) (text_blocks (text_of e b)) i v
-      (own-numbered (narrow e.shape.block_size) e.shape.home_blocks (e.first + e.committed) (text_of e b) (due-own b is)) stands
+      (own-numbered e.layout e.shape.home_blocks (e.first + e.committed) (text_of e b) (due-own b is)) stands
 
   -- each block that is due has the number that is due
   pub due-numbered : (i : ℕ) (v : List ℕ) → slice_get (due_blocks e) i ≡ Some v → IsNumbered (e.first + e.committed) v
@@ -40,14 +40,14 @@ module _ (e : Engine) (plain : IsPlain e) (layout : IsLayout (narrow e.shape.blo
 
   -- each block of it before the last ends nothing, where a batch is due at all
   inner-if : (o : Option Batch) (i : ℕ) (v : List ℕ) → slice_get e.accepted e.committed ≡ o → slice_get (blocks_if e o) i ≡ Some v →
-      i + 1 < length (blocks_if e o) → IsInner (narrow e.shape.block_size) e.shape.home_blocks (e.first + e.committed) v
+      i + 1 < length (blocks_if e o) → IsInner e.layout e.shape.home_blocks (e.first + e.committed) v
   inner-if None i v is stands before = absurd (none-some v stands)
   inner-if (Some b) i v is stands before =
-      own-inner (narrow e.shape.block_size) e.shape.home_blocks (e.first + e.committed) (text_of e b) i v (due-own b is) stands before
+      own-inner e.layout e.shape.home_blocks (e.first + e.committed) (text_of e b) i v (due-own b is) stands before
 
   -- each block that is due before the last ends nothing
   pub due-inner : (i : ℕ) (v : List ℕ) → slice_get (due_blocks e) i ≡ Some v → i + 1 < length (due_blocks e) →
-      IsInner (narrow e.shape.block_size) e.shape.home_blocks (e.first + e.committed) v
+      IsInner e.layout e.shape.home_blocks (e.first + e.committed) v
   due-inner i v stands before = inner-if (slice_get e.accepted e.committed) i v refl stands before
 
   -- the blocks of the committed transactions are behind the number that is due
@@ -56,13 +56,13 @@ module _ (e : Engine) (plain : IsPlain e) (layout : IsLayout (narrow e.shape.blo
       let numbers = plain.numbers in
       let taken : length (take e.committed e.accepted) ≡ e.committed = length-take e.committed e.accepted ∙ omega arith in
       let count : length (committed_texts e) ≡ e.committed = length-map (take e.committed e.accepted) (text_of e) ∙ taken in
-      let own : AreOwn (narrow e.shape.block_size) e.shape.home_blocks e.first (committed_texts e) =
-      batches-own e.shape e.uuid e.first (take e.committed e.accepted) layout plain.uuid (all-take (IsBatch e.shape) e.committed e.accepted plain.batches)
+      let own : AreOwn e.layout e.shape.home_blocks e.first (committed_texts e) =
+      batches-own e.layout e.shape e.uuid e.first (take e.committed e.accepted) layout plain.uuid (all-take (IsBatch e.layout e.shape) e.committed e.accepted plain.batches)
       (numbered-take e.first e.committed e.accepted plain.numbered) (omega arith) in
-      own-behind (narrow e.shape.block_size) e.shape.home_blocks e.first (e.first + e.committed) (committed_texts e) (omega arith) own
+      own-behind e.layout e.shape.home_blocks e.first (e.first + e.committed) (committed_texts e) (omega arith) own
 
 -- a block behind a number is not due
-pub behind-not_due : (e : Engine) (next : ℕ) (v : List ℕ) → IsBehind next v → IsNotDue (narrow e.shape.block_size) e.shape.home_blocks next v
+pub behind-not_due : (e : Engine) (next : ℕ) (v : List ℕ) → IsBehind next v → IsNotDue e.layout e.shape.home_blocks next v
 behind-not_due e next v b =
     record {
       no_commit = λ h. let below = b.below h.magic in let same = h.sequence_is in omega arith;

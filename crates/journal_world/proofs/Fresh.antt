@@ -13,7 +13,7 @@ use Rattle.journal_world.specs.Opening.{IsBehind, IsOpenedLog, NamesNothing}
 use Rattle.journal_world.specs.Sound.{IsPlain, Sound}
 use Rattle.journal_world.specs.Sound.MayBeSuperblock.{Clean}
 use Rattle.journal_world.proofs.Places.{held-durable}
-use Rattle.journal_world.proofs.Superblocks.{accepted-ring, accepted-size}
+use Rattle.journal_world.proofs.Superblocks.{accepted-layout, accepted-ring, accepted-size}
 
 -- an accepted superblock has a whole UUID
 uuid-whole : (shape : Shape) (block : List ℕ) → super_refusal shape block ≡ None → length block ≡ shape.block_size →
@@ -36,6 +36,7 @@ fresh-behind shape disk superblock next k v log one =
 pub fresh-plain : (shape : Shape) (superblock : List ℕ) (next : ℕ) → NamesNothing shape (ring_of (super_in superblock)) next superblock →
     next ≤ greatest_number → IsPlain (fresh_engine shape superblock next)
 fresh-plain shape superblock next named number = record {
+  layout = accepted-layout shape superblock named.is_superblock.accepted;
   names = named;
   uuid = uuid-whole shape superblock named.is_superblock.accepted named.is_superblock.size;
   batches = tt;

@@ -4,7 +4,7 @@ use Rattle.std.proofs.lemmas.Bool.{cases_eq, cases_lt}
 use Rattle.journal_model.specs.declared.number.Area.TheVariants.{Log, Home}
 use Rattle.journal_model.specs.Chain.{texts_blocks, ring_place}
 use Rattle.journal_model.specs.Disk.{Disk, Image, Leaves}
-use Rattle.journal_model.specs.Layout.{IsLayout, narrow}
+use Rattle.journal_model.specs.Layout.{IsLayout}
 use Rattle.journal_model.specs.Opening.{numbered_below}
 use Rattle.journal_model.specs.Opening.HasLimit.{OfChain}
 use Rattle.journal_model.specs.Transaction.{bytes_of, content_of, last_effect}
@@ -23,7 +23,8 @@ use Rattle.journal_world.proofs.Left.Progress.{Before, Ending}
 use Rattle.journal_world.proofs.Openings.{ChainOpens, HoldsTexts, chain-opens, clean-opens}
 use Rattle.journal_world.proofs.Positions.{between_blocks, committed-few, first-split, first_blocks, position-more, position-grows, position-split}
 use Rattle.journal_world.proofs.Suffixes.{all-drop, batches-drop, numbered-drop}
-use Rattle.journal_world.proofs.Superblocks.{accepted-layout}
+use Rattle.journal_model.proofs.Taken.{taken-layout}
+use Rattle.journal_world.proofs.Superblocks.{layout-agrees}
 use Rattle.journal_world.proofs.Texts.{block-behind, committed-more, due-more}
 
 -- what block 0 of an image says: that the log is clean, and then nothing was handed over; or where it begins, and then
@@ -78,12 +79,12 @@ record HoldsFirst (e : Engine) (image : Image) (r n : ℕ) : Type 0 where
   fits : position e n ≤ e.tail + e.ring.blocks
   front : (k : ℕ) → position e r ≤ k → k < position e n → image Log (ring_place e.ring k) ≡ block_at (first_blocks e n) k
   rest : (k : ℕ) → position e n ≤ k → k < e.tail + e.ring.blocks →
-      IsNotDue (narrow e.shape.block_size) e.shape.home_blocks (e.first + n) (image Log (ring_place e.ring k))
+      IsNotDue e.layout e.shape.home_blocks (e.first + n) (image Log (ring_place e.ring k))
 
 module _ (e : Engine) (disk : Disk) (image : Image) (sound : Sound e disk) (leaves : Leaves disk image) (r : ℕ) (low : e.released ≤ r) (high : r ≤ e.committed) (names : BeginsAt e.shape e.ring (e.first + r) (position e r) (image Log 0)) (home : HomeHas e disk r) where
   -- the layout is one that texts are made in
-  layout-left : IsLayout (narrow e.shape.block_size)
-  layout-left = accepted-layout e.shape (image Log 0) names.is_superblock.accepted
+  layout-left : IsLayout e.layout
+  layout-left = taken-layout sound.plain.layout.0
 
   -- the log begins behind what is released
   tail-below : e.tail ≤ position e r
@@ -110,7 +111,7 @@ module _ (e : Engine) (disk : Disk) (image : Image) (sound : Sound e disk) (leav
 
   -- behind them nothing is due, as far as the lap goes
   rest-left : (m : ℕ) → HoldsFirst e image r (r + m) → (k : ℕ) → length (between_blocks e r m) ≤ k → k < e.ring.blocks →
-      IsNotDue (narrow e.shape.block_size) e.shape.home_blocks (e.first + (r + m)) (image Log (ring_place e.ring (position e r + k)))
+      IsNotDue e.layout e.shape.home_blocks (e.first + (r + m)) (image Log (ring_place e.ring (position e r + k)))
   rest-left m holds k behind within =
       let size : position e (r + m) ≡ position e r + length (between_blocks e r m) = position-split e r m in
       let most : e.committed ≤ r + m = holds.committed in
@@ -125,7 +126,7 @@ module _ (e : Engine) (disk : Disk) (image : Image) (sound : Sound e disk) (leav
 
   -- so the log has the texts of the batches behind the first r of them
   texts-left : (m : ℕ) → HoldsFirst e image r (r + m) →
-      HoldsTexts e.shape e.ring image (position e r) (texts_of e.shape e.uuid (take m (drop r e.accepted))) (e.first + r + m)
+      HoldsTexts e.layout e.shape e.ring image (position e r) (texts_of e.layout e.uuid (take m (drop r e.accepted))) (e.first + r + m)
   texts-left m holds =
       let size : position e (r + m) ≡ position e r + length (between_blocks e r m) = position-split e r m in
       let fits : position e (r + m) ≤ e.tail + e.ring.blocks = holds.fits in
@@ -136,7 +137,7 @@ module _ (e : Engine) (disk : Disk) (image : Image) (sound : Sound e disk) (leav
         fits = omega arith;
         front = front-left m holds;
         rest = λ k behind within.
-            subst (λ s. IsNotDue (narrow e.shape.block_size) e.shape.home_blocks s (image Log (ring_place e.ring (position e r + k)))) number
+            subst (λ s. IsNotDue e.layout e.shape.home_blocks s (image Log (ring_place e.ring (position e r + k)))) number
             (rest-left m holds k behind within);
         each = λ k h. let b = each-left e disk image sound leaves layout-left k h in record { below = λ magic. let least = b.below magic in omega arith };
       }
@@ -147,8 +148,9 @@ module _ (e : Engine) (disk : Disk) (image : Image) (sound : Sound e disk) (leav
       let few : r + m ≤ length e.accepted = holds.few in
       let size : length (drop r e.accepted) ≡ length e.accepted - r = length-drop r e.accepted in
       let numbers = sound.plain.numbers in
-      chain-opens e.shape e.ring e.uuid (e.first + r) (position e r) m (drop r e.accepted) image names sound.plain.uuid
-      (all-drop (IsBatch e.shape) r e.accepted sound.plain.batches) (numbered-drop e.first r e.accepted sound.plain.numbered)
+      chain-opens e.layout e.shape e.ring e.uuid (e.first + r) (position e r) m (drop r e.accepted) image layout-left
+      (layout-agrees e.layout e.shape (image Log 0) sound.plain.layout.0 sound.plain.layout.1 names.is_superblock.accepted) names sound.plain.uuid
+      (all-drop (IsBatch e.layout e.shape) r e.accepted sound.plain.batches) (numbered-drop e.first r e.accepted sound.plain.numbered)
       (omega arith) (omega arith) (texts-left m holds)
 
   -- so it opens to these and the r before, which are home

@@ -7,7 +7,7 @@ use Rattle.std.proofs.lemmas.Option.{slice_get_within}
 use Rattle.journal_model.specs.declared.number.Area.TheVariants.{Log}
 use Rattle.journal_model.specs.Chain.{texts_blocks, ring_place}
 use Rattle.journal_model.specs.Disk.{Disk, Image, Leaves}
-use Rattle.journal_model.specs.Layout.{IsLayout, narrow}
+use Rattle.journal_model.specs.Layout.{IsLayout}
 use Rattle.journal_world.specs.declared.stage.Stage.{Stage}
 use Rattle.journal_world.specs.declared.stage.Stage.TheVariants.{Idle, SuperblockWrite, SuperblockFlush, Blocks, CommitWrite, CommitFlush}
 use Rattle.journal_world.specs.Engine.{Engine, block_at, committed_texts, due_blocks}
@@ -71,7 +71,7 @@ module _ (e : Engine) (disk : Disk) (image : Image) (sound : Sound e disk) (leav
   committed-left k low below = durable-left e disk image k (block_at (texts_blocks (committed_texts e)) k) leaves (sound.durable k low below)
 
   -- so each block of them is behind the number that is due
-  past-left : IsLayout (narrow e.shape.block_size) → (k : ℕ) → e.tail ≤ k → k < e.start →
+  past-left : IsLayout e.layout → (k : ℕ) → e.tail ≤ k → k < e.start →
       IsBehind (e.first + e.committed) (image Log (ring_place e.ring k))
   past-left layout k low below =
       let start : e.start ≡ length (texts_blocks (committed_texts e)) = sound.plain.start in
@@ -82,14 +82,14 @@ module _ (e : Engine) (disk : Disk) (image : Image) (sound : Sound e disk) (leav
       subst (IsBehind (e.first + e.committed)) (sym (committed-left k low below)) b
 
   -- those between the tail and a position behind it stand once more behind the lap from the tail on
-  pub around-left : IsLayout (narrow e.shape.block_size) → (k : ℕ) → e.tail + e.ring.blocks ≤ k → k < e.start + e.ring.blocks →
+  pub around-left : IsLayout e.layout → (k : ℕ) → e.tail + e.ring.blocks ≤ k → k < e.start + e.ring.blocks →
       IsBehind (e.first + e.committed) (image Log (ring_place e.ring k))
   around-left layout k low high =
       subst (λ (p : ℕ). IsBehind (e.first + e.committed) (image Log p)) (sym (place-around e.ring k (omega arith)))
       (past-left layout (k - e.ring.blocks) (omega arith) (omega arith))
 
   -- no block of the lap from the tail on is numbered above the transaction that is due
-  lap-left : IsLayout (narrow e.shape.block_size) → (k : ℕ) → e.tail ≤ k → k < e.tail + e.ring.blocks →
+  lap-left : IsLayout e.layout → (k : ℕ) → e.tail ≤ k → k < e.tail + e.ring.blocks →
       IsBehind (e.first + e.committed + 1) (image Log (ring_place e.ring k))
   lap-left layout k low high =
       let plain : IsPlain e = sound.plain in
@@ -105,7 +105,7 @@ module _ (e : Engine) (disk : Disk) (image : Image) (sound : Sound e disk) (leav
       ]
 
   -- so no ring block is
-  pub each-left : IsLayout (narrow e.shape.block_size) → (j : ℕ) → j < e.ring.blocks →
+  pub each-left : IsLayout e.layout → (j : ℕ) → j < e.ring.blocks →
       IsBehind (e.first + e.committed + 1) (image Log (ring_place e.ring j))
   each-left layout j within =
       each-around e.ring (λ p. IsBehind (e.first + e.committed + 1) (image Log p)) e.tail (lap-left layout) j within

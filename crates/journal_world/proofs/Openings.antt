@@ -7,7 +7,7 @@ use Rattle.journal_model.specs.declared.log.Text.{Text}
 use Rattle.journal_model.specs.declared.number.Area.TheVariants.{Log, Home}
 use Rattle.journal_model.specs.Chain.{AreTexts, IsAhead, IsChain, IsDamaged, Ring, lap, place_from, texts_blocks, ring_place}
 use Rattle.journal_model.specs.Disk.{Image}
-use Rattle.journal_model.specs.Layout.{IsLayout, Layout, narrow, uuid_bytes}
+use Rattle.journal_model.specs.Layout.{IsLayout, Layout, uuid_bytes}
 use Rattle.journal_model.specs.Opening.{HasChain, IsClean, IsStarted, NothingAhead, OpensAs, greatest_number, layout_of, log_lap, super_of}
 use Rattle.journal_model.specs.Opening.HasLimit.{OfClean}
 use Rattle.journal_model.specs.Opening.OpensAs.{Clean, Replayed}
@@ -17,7 +17,7 @@ use Rattle.journal_model.specs.Transaction.{History, bytes_of, content_of, last_
 use Rattle.journal_world.specs.Engine.{AreBatchesOf, IsBatch, block_at}
 use Rattle.journal_world.specs.Opening.{IsBehind, IsSuperblock, NamesNothing}
 use Rattle.journal_world.specs.Sound.{AreNumberedFrom, BeginsAt, OpensTo}
-use Rattle.journal_world.proofs.Superblocks.{accepted-block_size, accepted-layout, first-above}
+use Rattle.journal_world.proofs.Superblocks.{first-above}
 use Rattle.journal_world.proofs.Around.{place-lap}
 use Rattle.journal_world.proofs.Batches.{batches-own, batches-take, none-below, numbered-take, texts_of}
 use Rattle.journal_world.proofs.Chains.{IsNotDue, chain-of, no-damage}
@@ -73,11 +73,11 @@ clean-opens shape r first bs image names each numbered =
     }
 
 -- the log of the image has these texts from a position on; behind them no block is due, and none is above the number next
-pub record HoldsTexts (shape : Shape) (r : Ring) (image : Image) (from : ℕ) (texts : List Text) (next : ℕ) : Type 0 where
+pub record HoldsTexts (l : Layout) (shape : Shape) (r : Ring) (image : Image) (from : ℕ) (texts : List Text) (next : ℕ) : Type 0 where
   pub fits : length (texts_blocks texts) ≤ r.blocks
   pub front : (k : ℕ) → k < length (texts_blocks texts) → image Log (ring_place r (from + k)) ≡ block_at (texts_blocks texts) k
   pub rest : (k : ℕ) → length (texts_blocks texts) ≤ k → k < r.blocks →
-      IsNotDue (narrow shape.block_size) shape.home_blocks next (image Log (ring_place r (from + k)))
+      IsNotDue l shape.home_blocks next (image Log (ring_place r (from + k)))
   pub each : (k : ℕ) → k < r.blocks → IsBehind (suc next) (image Log (ring_place r k))
 
 -- the ring block at a number, counted from a position
@@ -102,14 +102,14 @@ lap-split r image from blocks fits front =
     (λ k h. ap (ring_block r image from) (omega arith) ∙ ring-block r image from k ∙ front k h)
 
 -- none of the blocks behind the texts is due
-rest-not_due : (shape : Shape) (r : Ring) (image : Image) (from : ℕ) (texts : List Text) (next : ℕ) → HoldsTexts shape r image from texts next →
-    AllByRecursion (IsNotDue (narrow shape.block_size) shape.home_blocks next) (rest_of r image from (length (texts_blocks texts)))
-rest-not_due shape r image from texts next holds =
+rest-not_due : (l : Layout) (shape : Shape) (r : Ring) (image : Image) (from : ℕ) (texts : List Text) (next : ℕ) → HoldsTexts l shape r image from texts next →
+    AllByRecursion (IsNotDue l shape.home_blocks next) (rest_of r image from (length (texts_blocks texts)))
+rest-not_due l shape r image from texts next holds =
     let fits : length (texts_blocks texts) ≤ r.blocks = holds.fits in
-    all-range (IsNotDue (narrow shape.block_size) shape.home_blocks next) (ring_block r image from)
+    all-range (IsNotDue l shape.home_blocks next) (ring_block r image from)
     (0 + length (texts_blocks texts)) (r.blocks - length (texts_blocks texts))
     (λ k low high.
-    subst (IsNotDue (narrow shape.block_size) shape.home_blocks next) (sym (ring-block r image from k)) (holds.rest k (omega arith) (omega arith)))
+    subst (IsNotDue l shape.home_blocks next) (sym (ring-block r image from k)) (holds.rest k (omega arith) (omega arith)))
 
 -- the lap of a log that begins at a position
 lap-tail : (shape : Shape) (r : Ring) (first from : ℕ) (image : Image) → BeginsAt shape r first from (image Log 0) →
@@ -123,31 +123,28 @@ started-tail shape r first from image names =
     let start : (super_of image).s_start ≡ ring_place r from = names.start in
     record { accepted = names.is_superblock.accepted; started = λ none. omega arith }
 
--- its layout is that of the device's blocks
-layout-tail : (shape : Shape) (r : Ring) (first from : ℕ) (image : Image) → BeginsAt shape r first from (image Log 0) →
-    layout_of (super_of image) ≡ narrow shape.block_size
-layout-tail shape r first from image names = ap narrow (accepted-block_size shape (image Log 0) names.is_superblock.accepted)
+-- numbers have some bytes
+some-bytes : (l : Layout) → IsLayout l → 0 < l.number_bytes
+some-bytes l is = let bytes = is.1 in grind arith
 
 -- the texts that it holds are its chain, and there is no damage
-holds-chain : (shape : Shape) (r : Ring) (first from : ℕ) (image : Image) (texts : List Text) → BeginsAt shape r first from (image Log 0) →
-    AreTexts (narrow shape.block_size) shape.home_blocks first texts → HoldsTexts shape r image from texts (first + length texts) →
+holds-chain : (l : Layout) (shape : Shape) (r : Ring) (first from : ℕ) (image : Image) (texts : List Text) → IsLayout l → layout_of (super_of image) ≡ l →
+    BeginsAt shape r first from (image Log 0) → AreTexts l shape.home_blocks first texts → HoldsTexts l shape r image from texts (first + length texts) →
     HasChain shape image texts
-holds-chain shape r first from image texts names are holds =
-    let l : Layout = narrow shape.block_size in
+holds-chain l shape r first from image texts is layout names are holds =
     let blocks : List (List ℕ) = log_lap image in
     let rest : List (List ℕ) = rest_of r image from (length (texts_blocks texts)) in
     let split : blocks ≡ texts_blocks texts ++ rest =
     lap-tail shape r first from image names ∙ lap-split r image from (texts_blocks texts) holds.fits holds.front in
-    let none = rest-not_due shape r image from texts (first + length texts) holds in
-    let layout : layout_of (super_of image) ≡ l = layout-tail shape r first from image names in
-    let chain : IsChain l shape.home_blocks first blocks texts = chain-of l shape.home_blocks first blocks texts rest (omega arith) split are none in
+    let none = rest-not_due l shape r image from texts (first + length texts) holds in
+    let chain : IsChain l shape.home_blocks first blocks texts = chain-of l shape.home_blocks first blocks texts rest (some-bytes l is) split are none in
     record {
       started = started-tail shape r first from image names;
       chain =
           subst (λ s. IsChain (layout_of (super_of image)) shape.home_blocks s blocks texts) (sym names.sequence)
           (subst (λ x. IsChain x shape.home_blocks first blocks texts) (sym layout) chain);
       undamaged = λ k d.
-          no-damage l shape.home_blocks first blocks texts rest (omega arith) split are none k
+          no-damage l shape.home_blocks first blocks texts rest (some-bytes l is) split are none k
           (subst (λ x. IsDamaged x shape.home_blocks first blocks k) layout
           (subst (λ s. IsDamaged (layout_of (super_of image)) shape.home_blocks s blocks k) names.sequence d.damaged));
     }
@@ -160,19 +157,18 @@ pub record ChainOpens (shape : Shape) (image : Image) (bs : List Batch) (n next 
   pub opens : (ts : History) → AreBatchesOf ts bs → OpensAs shape image (λ b. bytes_of (content_of (last_effect b (take n ts))) (image Home b))
 
 -- so it is with a started log that holds the texts of the first n batches, the first of which it names
-pub chain-opens : (shape : Shape) (r : Ring) (uuid : List ℕ) (first from n : ℕ) (bs : List Batch) (image : Image) →
-    BeginsAt shape r first from (image Log 0) → length uuid ≡ uuid_bytes → AllByRecursion (IsBatch shape) bs → AreNumberedFrom first bs →
-    first + length bs ≤ greatest_number + 1 → n ≤ length bs → HoldsTexts shape r image from (texts_of shape uuid (take n bs)) (first + n) →
+pub chain-opens : (l : Layout) (shape : Shape) (r : Ring) (uuid : List ℕ) (first from n : ℕ) (bs : List Batch) (image : Image) →
+    IsLayout l → layout_of (super_of image) ≡ l → BeginsAt shape r first from (image Log 0) → length uuid ≡ uuid_bytes → AllByRecursion (IsBatch l shape) bs → AreNumberedFrom first bs →
+    first + length bs ≤ greatest_number + 1 → n ≤ length bs → HoldsTexts l shape r image from (texts_of l uuid (take n bs)) (first + n) →
     ChainOpens shape image bs n (first + n)
-chain-opens shape r uuid first from n bs image names size each numbered least few holds =
-    let layout : IsLayout (narrow shape.block_size) = accepted-layout shape (image Log 0) names.is_superblock.accepted in
-    let texts : List Text = texts_of shape uuid (take n bs) in
+chain-opens l shape r uuid first from n bs image layout same names size each numbered least few holds =
+    let texts : List Text = texts_of l uuid (take n bs) in
     let taken : length (take n bs) ≡ n = length-take n bs ∙ omega arith in
-    let count : length texts ≡ n = length-map (take n bs) (λ b. own_text (narrow shape.block_size) uuid b.tid b.entries) ∙ taken in
-    let own = batches-own shape uuid first (take n bs) layout size (all-take (IsBatch shape) n bs each) (numbered-take first n bs numbered) (omega arith) in
-    let are : AreTexts (narrow shape.block_size) shape.home_blocks first texts = own-texts (narrow shape.block_size) shape.home_blocks first texts own in
+    let count : length texts ≡ n = length-map (take n bs) (λ b. own_text l uuid b.tid b.entries) ∙ taken in
+    let own = batches-own l shape uuid first (take n bs) layout size (all-take (IsBatch l shape) n bs each) (numbered-take first n bs numbered) (omega arith) in
+    let are : AreTexts l shape.home_blocks first texts = own-texts l shape.home_blocks first texts own in
     let has : HasChain shape image texts =
-    holds-chain shape r first from image texts names are (subst (λ m. HoldsTexts shape r image from texts (first + m)) (sym count) holds) in
+    holds-chain l shape r first from image texts layout same names are (subst (λ m. HoldsTexts l shape r image from texts (first + m)) (sym count) holds) in
     let sequence : (super_of image).s_sequence ≡ first = names.sequence in
     let limit : (super_of image).s_sequence + length texts ≡ first + n = omega arith in
     record {
@@ -183,5 +179,5 @@ chain-opens shape r uuid first from n bs image names size each numbered least fe
           Replayed texts has
           (nothing-ahead shape r image ((super_of image).s_sequence + length texts) names.is_superblock
           (λ k h. subst (λ m. IsBehind (suc m) (image Log (ring_place r k))) (sym limit) (holds.each k h)))
-          (own-replayed shape.home_blocks (narrow shape.block_size) uuid (take n ts) (take n bs) (image Home) layout (batches-take n ts bs are_of));
+          (own-replayed shape.home_blocks l uuid (take n ts) (take n bs) (image Home) layout (batches-take n ts bs are_of));
     }

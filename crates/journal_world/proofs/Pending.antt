@@ -57,7 +57,7 @@ newest-one e i j b v w one other =
 copy-one : (e : Engine) (i b : ℕ) (v w : List ℕ) → IsPlain e → HasCommittedCopy e i b v → HasCommittedCopy e i b w → v ≡ w
 copy-one e i b v w plain one other =
     let same : other.batch ≡ one.batch = same_Some other.batch one.batch (sym other.stands ∙ one.stands) in
-    let batch : IsBatch e.shape one.batch = all-at (IsBatch e.shape) e.accepted i one.batch plain.batches one.stands in
+    let batch : IsBatch e.layout e.shape one.batch = all-at (IsBatch e.layout e.shape) e.accepted i one.batch plain.batches one.stands in
     one-copy one.batch.entries b v w batch.once one.copy (subst (λ (c : Batch). Contains c.entries (b, Copy w)) same other.copy)
 
 -- and its bytes are these

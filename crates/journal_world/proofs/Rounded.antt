@@ -107,6 +107,7 @@ pub rounded-plain : (e f : Engine) → IsPlain e → 0 < e.committed → IsRound
 rounded-plain e f plain some change = record {
   names =
       subst (λ (b : Bool). Names (rounded e f) b f.superblock) (sym (started-once e e.stage plain.stage some)) change.names;
+  layout = plain.layout;
   uuid = plain.uuid;
   batches = plain.batches;
   numbered = plain.numbered;

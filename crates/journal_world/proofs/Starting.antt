@@ -102,6 +102,7 @@ start-plain e a plain =
     let none : e.round ≡ NoRound = (none-released (at e SuperblockWrite a) plain plain.stage.2).1 in
     record {
       names = subst (λ (round : Round). NamesStarted (started_engine e a) round (started_superblock e)) (sym none) (started-names e a plain);
+      layout = plain.layout;
       uuid = plain.uuid;
       batches = plain.batches;
       numbered = plain.numbered;

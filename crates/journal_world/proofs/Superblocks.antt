@@ -1,5 +1,5 @@
 -- What an accepted superblock says of the log.
-use Rattle.std.proofs.Common.{◌≡◌, ◌⊎◌, inl, ℕ, ◌-◌, ◌<◌, ◌≤◌, ◌==◌, ◌&&◌, Bool, true, false, List, [], ◌∷◌, Some, None, arith, refl, sym, ap}
+use Rattle.std.proofs.Common.{◌≡◌, ◌⊎◌, inl, ℕ, ◌-◌, ◌<◌, ◌≤◌, ◌==◌, ◌&&◌, Bool, true, false, List, [], ◌∷◌, Some, None, arith, refl, sym, ap, ◌∙◌}
 use Rattle.std.specs.Prelude.{nat_lt, nat_le, if◌then◌else◌}
 use Rattle.std.specs.List.{AllByRecursion}
 use Rattle.std.proofs.lemmas.Bool.Decides.{nat_tests}
@@ -7,8 +7,10 @@ use Rattle.std.proofs.lemmas.Option.{none-some}
 use Rattle.journal_model.specs.declared.refusal.JournalError.{JournalError}
 use Rattle.journal_model.specs.declared.refusal.JournalError.TheVariants.{BadLength}
 use Rattle.journal_model.specs.Chain.{Ring}
-use Rattle.journal_model.specs.Layout.{IsLayout, narrow}
+use Rattle.journal_model.specs.Layout.{IsTaken, Layout, narrow}
+use Rattle.journal_model.specs.Opening.{layout_of}
 use Rattle.journal_model.specs.Superblock.{Shape, first_failed, greatest_length, is_block_size, least_length, least_ring, super_in, super_refusal, super_tests}
+use Rattle.journal_model.proofs.Taken.{taken-narrow}
 use Rattle.journal_world.specs.declared.round.Round.{Round}
 use Rattle.journal_world.specs.declared.round.Round.TheVariants.{Idle as NoRound, Copies, TailWrite, TailFlush}
 use Rattle.journal_world.specs.Engine.{Engine}
@@ -47,14 +49,22 @@ pub accepted-block_size : (shape : Shape) (block : List ℕ) → super_refusal s
 accepted-block_size shape block accepted =
     (size-passes (super_in block).s_blocksize shape.block_size (accepted-tests shape block accepted).1.1.0).0
 
--- so the layout is one that the writer's text is made in
-pub accepted-layout : (shape : Shape) (block : List ℕ) → super_refusal shape block ≡ None → IsLayout (narrow shape.block_size)
+-- so the layout is one that is taken, in blocks of the device
+pub accepted-layout : (shape : Shape) (block : List ℕ) → super_refusal shape block ≡ None →
+    IsTaken (layout_of (super_in block)) × ((layout_of (super_in block)).block_size ≡ shape.block_size)
 accepted-layout shape block accepted =
-    ((size-passes (super_in block).s_blocksize shape.block_size (accepted-tests shape block accepted).1.1.0).1, inl refl)
+    let passes = size-passes (super_in block).s_blocksize shape.block_size (accepted-tests shape block accepted).1.1.0 in
+    let sizes = passes.1 in
+    (((grind arith), refl), passes.0)
+
+-- there is one such layout alone
+pub layout-agrees : (l : Layout) (shape : Shape) (block : List ℕ) → IsTaken l → l.block_size ≡ shape.block_size → super_refusal shape block ≡ None →
+    layout_of (super_in block) ≡ l
+layout-agrees l shape block taken size accepted = ap narrow (accepted-block_size shape block accepted ∙ sym size) ∙ sym (taken-narrow taken)
 
 -- and a block has room for all fields of a superblock
 pub accepted-size : (shape : Shape) (block : List ℕ) → super_refusal shape block ≡ None → 1024 ≤ shape.block_size
-accepted-size shape block accepted = let sizes = (accepted-layout shape block accepted).0 in grind arith
+accepted-size shape block accepted = let sizes = (size-passes (super_in block).s_blocksize shape.block_size (accepted-tests shape block accepted).1.1.0).1 in grind arith
 
 -- the ring of an accepted log begins behind block 0
 pub accepted-first : (shape : Shape) (block : List ℕ) → super_refusal shape block ≡ None → 0 < (super_in block).s_first

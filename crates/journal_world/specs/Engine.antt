@@ -8,7 +8,7 @@ use Rattle.journal_model.specs.declared.number.Area.TheVariants.{Log}
 use Rattle.journal_model.specs.Block.{IsAllowedBlock}
 use Rattle.journal_model.specs.Chain.{Ring, ring_place}
 use Rattle.journal_model.specs.Disk.{Disk}
-use Rattle.journal_model.specs.Layout.{Layout, narrow}
+use Rattle.journal_model.specs.Layout.{Layout}
 use Rattle.journal_model.specs.Opening.{greatest_number}
 use Rattle.journal_model.specs.OwnText.{copied, own_text}
 use Rattle.journal_model.specs.Superblock.{Shape, with_tail}
@@ -22,6 +22,7 @@ use Rattle.journal_world.specs.Call.Call.{Write, Flush}
 
 pub record Engine : Type 0 where
   pub shape : Shape  -- of the device
+  pub layout : Layout  -- of the log, as the opening found it
   pub ring : Ring
   pub uuid : List ℕ  -- the journal's, which stands behind the first tag of each descriptor
   pub superblock : List ℕ  -- block 0 of the log, as its last write that succeeded left it
@@ -38,12 +39,9 @@ pub record Engine : Type 0 where
   pub round : Round  -- how far the checkpoint round is
   pub aborted : Bool  -- the device has failed
 
-abbrev pub layout_of : Engine → Layout
-layout_of e = narrow e.shape.block_size
-
 -- what stands in the log for a transaction
 abbrev pub text_of : Engine → Batch → Text
-text_of e b = own_text (layout_of e) e.uuid b.tid b.entries
+text_of e b = own_text e.layout e.uuid b.tid b.entries
 
 -- the texts of the committed transactions
 abbrev pub committed_texts : Engine → List Text
@@ -93,9 +91,9 @@ abbrev pub stepped : Engine → Engine
 stepped e = stepped_from e e.stage
 
 -- what the engine may be handed: entries of different blocks that may be touched, with copies of one block each
-pub record IsBatch (shape : Shape) (b : Batch) : Type 0 where
+pub record IsBatch (l : Layout) (shape : Shape) (b : Batch) : Type 0 where
   pub once : IsDistinct nat_eq (map (λ p. p.0) b.entries)
-  pub allowed : All (λ p. IsAllowedBlock (narrow shape.block_size) shape.home_blocks p.0) b.entries
+  pub allowed : All (λ p. IsAllowedBlock l shape.home_blocks p.0) b.entries
   pub whole : All (λ c. length c.1 ≡ shape.block_size) (copied b.entries)
 
 -- the ring has as many free blocks as the transaction needs: all but those of the transactions that are not released
@@ -112,7 +110,7 @@ pub record Accepts (old : Engine) (b : Batch) (new : Engine) : Type 0 where
   pub idle : old.stage ≡ Idle
   pub number : b.tid ≡ old.first + old.committed
   pub left : b.tid ≤ greatest_number
-  pub batch : IsBatch old.shape b
+  pub batch : IsBatch old.layout old.shape b
   pub room : HasRoom old b
   pub after : new ≡ accepting old b
 

@@ -3,8 +3,7 @@ use Rattle.std.specs.Prelude.{◌≡◌, ℕ, ◌+◌, ◌<◌, ◌≤◌, true,
 use Rattle.journal_model.specs.declared.entry.Batch.{Batch}
 use Rattle.journal_model.specs.Block.{IsAllowedBlock}
 use Rattle.journal_model.specs.Disk.{Disk}
-use Rattle.journal_model.specs.Layout.{narrow}
-use Rattle.journal_model.specs.Opening.{ring_of}
+use Rattle.journal_model.specs.Opening.{layout_of, ring_of}
 use Rattle.journal_model.specs.Room.{IsCapacity}
 use Rattle.journal_model.specs.Superblock.{Shape, Super, super_in}
 use Rattle.journal_model.specs.Transaction.{Transaction, entries}
@@ -57,7 +56,7 @@ pub record Joins (old : Journal) (disk : Disk) (new : Journal) (after : Disk) : 
 pub record WritesBlock (old : Journal) (disk : Disk) (h b : ℕ) (v : List ℕ) (new : Journal) (after : Disk) : Type 0 where
   pub running : old.engine.aborted ≡ false
   pub joined : Contains old.front.running.handles h
-  pub allowed : IsAllowedBlock (narrow old.engine.shape.block_size) old.engine.shape.home_blocks b
+  pub allowed : IsAllowedBlock old.engine.layout old.engine.shape.home_blocks b
   pub whole : length v ≡ old.engine.shape.block_size
   pub change : ChangesFront old disk (writing old.front h b v) new after
 
@@ -124,6 +123,7 @@ fresh_engine shape superblock next =
     let s : Super = super_in superblock in
     record {
       shape = shape;
+      layout = layout_of s;
       ring = ring_of s;
       uuid = s.s_uuid;
       superblock = superblock;
@@ -145,4 +145,4 @@ fresh_engine shape superblock next =
 pub record IsFresh (shape : Shape) (superblock : List ℕ) (next : ℕ) (journal : Journal) : Type 0 where
   pub engine : journal.engine ≡ fresh_engine shape superblock next
   pub front : journal.front ≡ fresh_front journal.front.capacity next
-  pub capacity : IsCapacity (narrow shape.block_size) journal.engine.ring.blocks journal.front.capacity
+  pub capacity : IsCapacity journal.engine.layout journal.engine.ring.blocks journal.front.capacity

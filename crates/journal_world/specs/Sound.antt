@@ -7,7 +7,7 @@ use Rattle.journal_model.specs.declared.number.Area.TheVariants.{Log, Home}
 use Rattle.journal_model.specs.Chain.{Ring, texts_blocks, ring_place}
 use Rattle.journal_model.specs.Disk.{Disk, Cell, Image, IsOneOf, Leaves, held}
 use Rattle.journal_model.specs.HomeChange.{HomeAddsOnly, IsCommittedCopy}
-use Rattle.journal_model.specs.Layout.{uuid_bytes}
+use Rattle.journal_model.specs.Layout.{IsTaken, uuid_bytes}
 use Rattle.journal_model.specs.Opening.{Opens, IsCountOf, greatest_number}
 use Rattle.journal_model.specs.Superblock.{Shape, super_in}
 use Rattle.journal_model.specs.Transaction.{History}
@@ -72,9 +72,10 @@ position e n = length (texts_blocks (map (text_of e) (take n e.accepted)))
 
 -- what the engine keeps true of itself alone
 pub record IsPlain (e : Engine) : Type 0 where
+  pub layout : IsTaken e.layout × (e.layout.block_size ≡ e.shape.block_size)
   pub names : Names e e.started e.superblock
   pub uuid : length e.uuid ≡ uuid_bytes
-  pub batches : AllByRecursion (IsBatch e.shape) e.accepted
+  pub batches : AllByRecursion (IsBatch e.layout e.shape) e.accepted
   pub numbered : AreNumberedFrom e.first e.accepted
   pub numbers : e.first + length e.accepted ≤ greatest_number + 1
   pub start : e.start ≡ position e e.committed

@@ -83,13 +83,13 @@ pub refused-other : (shape : Shape) (block : List ℕ) (e : JournalError) → su
 refused-other shape block e refused = either-other shape block e (shape.log_blocks == 0) refused
 
 -- what the tests say of a block says so of the device's measures
-pub tested-for : (size blocks length_is count : ℕ) (block other : List ℕ) (answer : Option JournalError) → length_is ≡ size → count ≡ blocks → block ≡ other →
-    (let s : Shape = record { block_size = length_is; log_blocks = count; home_blocks = every_block } in super_refusal s block ≡ answer) →
-    super_refusal (dump_shape size blocks) other ≡ answer
-tested-for size blocks length_is count block other answer long many same tested =
-    subst (λ (b : List ℕ). super_refusal (dump_shape size blocks) b ≡ answer) same
+pub tested-for : (fields : Super) (size blocks length_is count : ℕ) (block other : List ℕ) (answer : Option JournalError) → length_is ≡ size → count ≡ blocks → block ≡ other →
+    (let s : Shape = record { block_size = length_is; log_blocks = count; home_blocks = every_block fields } in super_refusal s block ≡ answer) →
+    super_refusal (dump_shape fields size blocks) other ≡ answer
+tested-for fields size blocks length_is count block other answer long many same tested =
+    subst (λ (b : List ℕ). super_refusal (dump_shape fields size blocks) b ≡ answer) same
     (subst (λ (s : Shape). super_refusal s block ≡ answer)
-    (ap₂ (λ (a b : ℕ). let s : Shape = record { block_size = a; log_blocks = b; home_blocks = every_block } in s) long many) tested)
+    (ap₂ (λ (a b : ℕ). let s : Shape = record { block_size = a; log_blocks = b; home_blocks = every_block fields } in s) long many) tested)
 
 -- why the superblock is refused is why the log is
 pub log-refused : (honest unwritten : Type 0) (old new : DeviceState) (e : JournalError) → unwritten → IsLogRefused honest old new e → DumpRefused honest unwritten old new e
@@ -112,40 +112,40 @@ log-refused honest unwritten old new e nothing (inr refused) = record {
   content = λ other more h. (BySuperblock e (refused.2 h), nothing);
 }
 
-module _ (size blocks : ℕ) (image : Image) (s : Super) (read : IsReadLog (dump_shape size blocks) image s) where
+module _ (size blocks : ℕ) (image : Image) (s : Super) (read : IsReadLog (dump_shape (super_of image) size blocks) image s) where
   -- a clean log has a dump
-  pub clean-dump : s.s_start ≡ 0 → IsDump (dump_shape size blocks) image (dump_text s [])
+  pub clean-dump : s.s_start ≡ 0 → IsDump (dump_shape (super_of image) size blocks) image (dump_text s [])
   clean-dump clean =
-      subst (λ (t : Super). IsDump (dump_shape size blocks) image (dump_text t [])) (sym read.same)
+      subst (λ (t : Super). IsDump (dump_shape (super_of image) size blocks) image (dump_text t [])) (sym read.same)
       (OfClean (record { accepted = read.accepted; clean = ap (λ (t : Super). t.s_start) (sym read.same) ∙ clean }))
 
   module _ (started : s.s_start ≢ 0) where
     -- the image is accepted, and not clean
-    image-started : IsStarted (dump_shape size blocks) image
+    image-started : IsStarted (dump_shape (super_of image) size blocks) image
     image-started = record { accepted = read.accepted; started = λ clean. started (ap (λ (t : Super). t.s_start) read.same ∙ clean) }
 
     -- its texts are its chain
-    chain-of : (texts : List Text) → AreTextsOf (super_of image) every_block image texts → HasChain (dump_shape size blocks) image texts
+    chain-of : (texts : List Text) → AreTextsOf (super_of image) (every_block (super_of image)) image texts → HasChain (dump_shape (super_of image) size blocks) image texts
     chain-of texts are = record { started = image-started; chain = are.chain; undamaged = λ k damaged. are.undamaged k damaged.damaged }
 
     -- so it has a dump
-    pub chain-dump : (texts : List Text) → AreTextsOf s every_block image texts → IsDump (dump_shape size blocks) image (dump_text s texts)
+    pub chain-dump : (texts : List Text) → AreTextsOf s (every_block s) image texts → IsDump (dump_shape (super_of image) size blocks) image (dump_text s texts)
     chain-dump texts are =
-        subst (λ (t : Super). IsDump (dump_shape size blocks) image (dump_text t texts)) (sym read.same)
-        (OfChain texts (chain-of texts (subst (λ (t : Super). AreTextsOf t every_block image texts) read.same are)))
+        subst (λ (t : Super). IsDump (dump_shape (super_of image) size blocks) image (dump_text t texts)) (sym read.same)
+        (OfChain texts (chain-of texts (subst (λ (t : Super). AreTextsOf t (every_block t) image texts) read.same are)))
 
     -- a damaged block is why it has none
-    pub damage-refused : (e : JournalError) → IsDamageOf s every_block image e → IsDumpRefused (dump_shape size blocks) image e
-    damage-refused e damage = by (subst (λ (t : Super). IsDamageOf t every_block image e) read.same damage)
+    pub damage-refused : (e : JournalError) → IsDamageOf s (every_block s) image e → IsDumpRefused (dump_shape (super_of image) size blocks) image e
+    damage-refused e damage = by (subst (λ (t : Super). IsDamageOf t (every_block t) image e) read.same damage)
       where
-        by : IsDamageOf (super_of image) every_block image e → IsDumpRefused (dump_shape size blocks) image e
+        by : IsDamageOf (super_of image) (every_block (super_of image)) image e → IsDumpRefused (dump_shape (super_of image) size blocks) image e
         by d =
-            subst (IsDumpRefused (dump_shape size blocks) image) (sym d.refusal)
+            subst (IsDumpRefused (dump_shape (super_of image) size blocks) image) (sym d.refusal)
             (ByDamage d.k (record { started = image-started; damaged = d.damaged }))
 
 -- why the transactions are not counted is why the log is refused
 pub count-refused : (honest unwritten : Type 0) (s : Super) (old mid new : DeviceState) (e : JournalError) → unwritten → s.s_start ≢ 0 → mid.faults ≡ old.faults → mid.disk ≡ old.disk →
-    (honest → IsReadLog (shape_of old) (reading old.disk) s) → IsScanRefused honest s every_block mid new e → DumpRefused honest unwritten old new e
+    (honest → IsReadLog (shape_of old) (reading old.disk) s) → IsScanRefused honest s (every_block s) mid new e → DumpRefused honest unwritten old new e
 count-refused honest unwritten s old mid new e nothing started faults disk read (inl failed) = record {
   device = λ is. failed.1 ∙ ap one_more_fault faults;
   no_fault = λ other. absurd (other failed.0);
@@ -159,7 +159,7 @@ count-refused honest unwritten s old mid new e nothing started faults disk read 
   content =
       λ other more h. (
         damage-refused old.shape.block_size old.shape.log_blocks (reading old.disk) s (read h) started e
-            (subst (λ (d : Disk). IsDamageOf s every_block (reading d) e) disk (refused.3 h)),
+            (subst (λ (d : Disk). IsDamageOf s (every_block s) (reading d) e) disk (refused.3 h)),
         nothing,
       );
 }
@@ -194,5 +194,5 @@ pub test-started : (start : ℕ) → false ≡ (start == 0) → start ≢ 0
 test-started start test = λ clean. grind (arith, nat_tests)
 
 -- a log whose texts were counted has a dump
-pub counted-dump : (size blocks : ℕ) (image : Image) (s : Super) (count : ℕ) → IsReadLog (dump_shape size blocks) image s → s.s_start ≢ 0 → IsScanned s every_block image count → HasDump (dump_shape size blocks) image
+pub counted-dump : (size blocks : ℕ) (image : Image) (s : Super) (count : ℕ) → IsReadLog (dump_shape (super_of image) size blocks) image s → s.s_start ≢ 0 → IsScanned s (every_block s) image count → HasDump (dump_shape (super_of image) size blocks) image
 counted-dump size blocks image s count read started counted = (dump_text s counted.texts, chain-dump size blocks image s read started counted.texts counted.are)

@@ -88,7 +88,7 @@ lines-more s k n position old mid new before next all size place whole first sec
 pub record PrintedPieces (s : Super) (image : Image) (sequence : ℕ) (old new : Option (List ℕ)) (start position : ℕ) : Type 0 where
   pub pieces : List Piece
   pub inside : ℕ
-  pub begun : PiecesBegin (layout_of s) every_block sequence (blocks_from s image start) pieces inside
+  pub begun : PiecesBegin (layout_of s) (every_block s) sequence (blocks_from s image start) pieces inside
   pub place : position ≡ start + inside
   pub written : Appends old new (placed_lines s start (flat_map (piece_captions sequence) pieces))
 
@@ -97,7 +97,7 @@ pub printed-none : (s : Super) (image : Image) (sequence : ℕ) (old : Option (L
 printed-none s image sequence old start = record {
   pieces = [];
   inside = 0;
-  begun = pieces-none (layout_of s) every_block sequence (blocks_from s image start);
+  begun = pieces-none (layout_of s) (every_block s) sequence (blocks_from s image start);
   place = omega arith;
   written = appends-nothing old;
 }
@@ -109,17 +109,17 @@ module _ (s : Super) (image : Image) (sequence : ℕ) (old mid : Option (List �
 
   -- there are as many lines as blocks
   lines : so.inside ≡ length (flat_map (piece_captions sequence) so.pieces)
-  lines = so.begun.front.size ∙ sym (pieces-lines (layout_of s) every_block sequence so.pieces so.begun.well_formed)
+  lines = so.begun.front.size ∙ sym (pieces-lines (layout_of s) (every_block s) sequence so.pieces so.begun.well_formed)
 
   -- one more piece
-  pub printed-piece : (new : Option (List ℕ)) (p : Piece) (n end : ℕ) → end ≡ position + n → PieceBegins (layout_of s) every_block sequence (blocks_from s image position) p n →
+  pub printed-piece : (new : Option (List ℕ)) (p : Piece) (n end : ℕ) → end ≡ position + n → PieceBegins (layout_of s) (every_block s) sequence (blocks_from s image position) p n →
       Appends mid new (placed_lines s position (piece_captions sequence p)) → PrintedPieces s image sequence old new start end
   printed-piece new p n end is next line = record {
     pieces = so.pieces ++ p ∷ [];
     inside = so.inside + n;
     begun =
-        pieces-more (layout_of s) every_block sequence (blocks_from s image start) so.pieces so.inside p n so.begun
-        (subst (λ (xs : List (List ℕ)). PieceBegins (layout_of s) every_block sequence xs p n) (sym here) next);
+        pieces-more (layout_of s) (every_block s) sequence (blocks_from s image start) so.pieces so.inside p n so.begun
+        (subst (λ (xs : List (List ℕ)). PieceBegins (layout_of s) (every_block s) sequence xs p n) (sym here) next);
     place = let place = so.place in omega arith;
     written =
         lines-more s start so.inside position old mid new (flat_map (piece_captions sequence) so.pieces) (piece_captions sequence p) _ lines so.place
@@ -132,7 +132,7 @@ module _ (s : Super) (image : Image) (sequence : ℕ) (old mid : Option (List �
   printed-text new commit line = record {
     text = record { pieces = so.pieces; commit = there.block };
     taken = so.inside + 1;
-    begins = text-ends (layout_of s) every_block sequence (blocks_from s image start) so.pieces so.inside so.begun there;
+    begins = text-ends (layout_of s) (every_block s) sequence (blocks_from s image start) so.pieces so.inside so.begun there;
     behind = let place = so.place in omega arith;
     written =
         lines-more s start so.inside position old mid new (flat_map (piece_captions sequence) so.pieces) ((codes "commit " ++ decimal sequence) ∷ []) _ lines so.place
@@ -142,23 +142,23 @@ module _ (s : Super) (image : Image) (sequence : ℕ) (old mid : Option (List �
     there = subst (BlockBegins (IsCommitBlock sequence)) (sym here) commit
 
   -- no text begins where a malformed block stands behind the pieces
-  pub unprinted-malformed : BlockBegins (IsMalformed (layout_of s) every_block sequence) (blocks_from s image position) →
-      NoTextBegins (layout_of s) every_block sequence (blocks_from s image start)
+  pub unprinted-malformed : BlockBegins (IsMalformed (layout_of s) (every_block s) sequence) (blocks_from s image position) →
+      NoTextBegins (layout_of s) (every_block s) sequence (blocks_from s image start)
   unprinted-malformed bad =
-      no-text-malformed (layout_of s) every_block sequence (omega arith) (blocks_from s image start) so.pieces so.inside so.begun
-      (subst (BlockBegins (IsMalformed (layout_of s) every_block sequence)) (sym here) bad)
+      no-text-malformed (layout_of s) (every_block s) sequence (omega arith) (blocks_from s image start) so.pieces so.inside so.begun
+      (subst (BlockBegins (IsMalformed (layout_of s) (every_block s) sequence)) (sym here) bad)
 
   -- nor where nothing does
-  pub unprinted-nothing : NothingBegins (layout_of s) every_block sequence (blocks_from s image position) →
-      NoTextBegins (layout_of s) every_block sequence (blocks_from s image start)
+  pub unprinted-nothing : NothingBegins (layout_of s) (every_block s) sequence (blocks_from s image position) →
+      NoTextBegins (layout_of s) (every_block s) sequence (blocks_from s image start)
   unprinted-nothing nothing =
-      no-text-nothing (layout_of s) every_block sequence (omega arith) (blocks_from s image start) so.pieces so.inside so.begun
-      (subst (NothingBegins (layout_of s) every_block sequence) (sym here) nothing)
+      no-text-nothing (layout_of s) (every_block s) sequence (omega arith) (blocks_from s image start) so.pieces so.inside so.begun
+      (subst (NothingBegins (layout_of s) (every_block s) sequence) (sym here) nothing)
 
 -- so many texts were printed, up to a position
 pub record PrintedTexts (s : Super) (image : Image) (old new : Option (List ℕ)) (count position : ℕ) : Type 0 where
   pub texts : List Text
-  pub whole : TextsBegin (layout_of s) every_block s.s_sequence (lap (ring_of s) image s.s_start) texts (s.s_sequence + count) position
+  pub whole : TextsBegin (layout_of s) (every_block s) s.s_sequence (lap (ring_of s) image s.s_start) texts (s.s_sequence + count) position
   pub written : Appends old new (placed_lines s 0 (texts_captions s.s_sequence texts))
 
 -- none
@@ -175,32 +175,32 @@ module _ (s : Super) (image : Image) (old mid : Option (List ℕ)) (count positi
   texts-printed number end new is next = record {
     texts = so.texts ++ next.text ∷ [];
     whole =
-        subst (TextsBegin (layout_of s) every_block s.s_sequence (lap (ring_of s) image s.s_start) (so.texts ++ next.text ∷ []) (s.s_sequence + (count + 1))) (sym next.behind)
-        (subst (λ (n : ℕ). TextsBegin (layout_of s) every_block s.s_sequence (lap (ring_of s) image s.s_start) (so.texts ++ next.text ∷ []) n (position + next.taken)) (omega arith)
-        (texts_more (layout_of s) every_block s.s_sequence (lap (ring_of s) image s.s_start) so.texts (s.s_sequence + count) position so.whole (blocks_from s image position) refl
-        next.text next.taken (subst (λ (n : ℕ). TextBegins (layout_of s) every_block n (blocks_from s image position) next.text next.taken) is next.begins)));
+        subst (TextsBegin (layout_of s) (every_block s) s.s_sequence (lap (ring_of s) image s.s_start) (so.texts ++ next.text ∷ []) (s.s_sequence + (count + 1))) (sym next.behind)
+        (subst (λ (n : ℕ). TextsBegin (layout_of s) (every_block s) s.s_sequence (lap (ring_of s) image s.s_start) (so.texts ++ next.text ∷ []) n (position + next.taken)) (omega arith)
+        (texts_more (layout_of s) (every_block s) s.s_sequence (lap (ring_of s) image s.s_start) so.texts (s.s_sequence + count) position so.whole (blocks_from s image position) refl
+        next.text next.taken (subst (λ (n : ℕ). TextBegins (layout_of s) (every_block s) n (blocks_from s image position) next.text next.taken) is next.begins)));
     written =
         lines-more s 0 position position old mid new (texts_captions s.s_sequence so.texts) (text_captions number next.text) _
-        (so.whole.front.size ∙ sym (texts-lines (layout_of s) every_block s.s_sequence so.texts so.whole.numbered)) (omega arith)
+        (so.whole.front.size ∙ sym (texts-lines (layout_of s) (every_block s) s.s_sequence so.texts so.whole.numbered)) (omega arith)
         (texts-push s.s_sequence number so.texts next.text (is ∙ so.whole.due)) so.written next.written;
   }
 
   -- where no further text begins, there are no more
   pub texts-no-more : (number : ℕ) (texts : List Text) → number ≡ s.s_sequence + count → count < length texts →
-      NoTextBegins (layout_of s) every_block number (blocks_from s image position) → AreTextsOf s every_block image texts → ⊥
+      NoTextBegins (layout_of s) (every_block s) number (blocks_from s image position) → AreTextsOf s (every_block s) image texts → ⊥
   texts-no-more number texts is more none are =
       let begins = are.chain.begins in
       let due = so.whole.due in
-      let few = most_texts (layout_of s) every_block (omega arith) s.s_sequence number so.texts texts (blocks_from s image position) begins.rest
+      let few = most_texts (layout_of s) (every_block s) (omega arith) s.s_sequence number so.texts texts (blocks_from s image position) begins.rest
       so.whole.numbered begins.numbered (is ∙ so.whole.due) none (sym so.whole.front.split ∙ begins.split) in
       omega arith
 
   -- as many as the log has are those that it has
-  pub texts-all : (texts : List Text) → count ≡ length texts → AreTextsOf s every_block image texts → Appends old mid (placed_lines s 0 (texts_captions s.s_sequence texts))
+  pub texts-all : (texts : List Text) → count ≡ length texts → AreTextsOf s (every_block s) image texts → Appends old mid (placed_lines s 0 (texts_captions s.s_sequence texts))
   texts-all texts all are =
       let begins = are.chain.begins in
       let due = so.whole.due in
-      let same = one_list_of_texts (layout_of s) every_block (omega arith) s.s_sequence so.texts texts (blocks_from s image position) begins.rest
+      let same = one_list_of_texts (layout_of s) (every_block s) (omega arith) s.s_sequence so.texts texts (blocks_from s image position) begins.rest
       so.whole.numbered begins.numbered (omega arith) (sym so.whole.front.split ∙ begins.split) in
       appends-same old mid (placed_lines s 0 (texts_captions s.s_sequence so.texts)) (placed_lines s 0 (texts_captions s.s_sequence texts))
       (ap (λ (ts : List Text). placed_lines s 0 (texts_captions s.s_sequence ts)) same.0) so.written

@@ -20,7 +20,7 @@ use Rattle.log_dump.specs.declared.fault.Fault.TheVariants.{Refused, Output}
 pub record IsPrinted (s : Super) (image : Image) (sequence : ℕ) (old new : Option (List ℕ)) (start end : ℕ) : Type 0 where
   pub text : Text
   pub taken : ℕ
-  pub begins : TextBegins (layout_of s) every_block sequence (blocks_from s image start) text taken
+  pub begins : TextBegins (layout_of s) (every_block s) sequence (blocks_from s image start) text taken
   pub behind : end ≡ start + taken
   pub written : Appends old new (placed_lines s start (text_captions sequence text))
 
@@ -34,7 +34,7 @@ IsPrintRefused honest impossible old new (Output e) = new.faults ≡ old.faults
 
 -- the shape that a dump tests the log of a device with: its home area is not known
 abbrev pub shape_of : DeviceState → Shape
-shape_of d = dump_shape d.shape.block_size d.shape.log_blocks
+shape_of d = dump_shape (super_of (reading d.disk)) d.shape.block_size d.shape.log_blocks
 
 -- the image has a dump
 abbrev pub HasDump : Shape → Image → Type 0

@@ -5,10 +5,10 @@ ghost use Rattle.journal_model.specs.declared.log.Text.{Text};
 ghost use Rattle.journal_model.specs.declared.refusal.JournalError.TheVariants.{Memory};
 ghost use Rattle.journal_model.specs.Disk.{reading};
 ghost use Rattle.journal_model.specs.Dump.{dump_text};
-ghost use Rattle.journal_model.specs.Opening.{ring_of};
+ghost use Rattle.journal_model.specs.Layout.{IsTaken};
+ghost use Rattle.journal_model.specs.Opening.{layout_of, ring_of};
 ghost use Rattle.block_device.specs.State.{Stays};
 ghost use Rattle.log_format.specs.Accepted.{IsAccepted};
-ghost use Rattle.log_format.specs.Size.{IsBlockSize};
 ghost use Rattle.log_scan.specs.Finding.{every_block};
 ghost use Rattle.log_scan.specs.Scanning.{AreTextsOf};
 ghost use Rattle.log_dump.specs.Dumping.{HasDump, IsDumpFault, IsLogRefused, IsPrintRefused, IsReadLog, PrintsDump, shape_of};
@@ -54,18 +54,18 @@ pub fn dump<D: Device, W: Write>(alloc: Global, device: &mut D, out: &mut W) -> 
         write_clean(out, log.fields())?;
         return Ok(());
     }
-    let mut finder = make_finder(alloc, device)?;
+    let mut finder = make_finder(alloc, &log)?;
     let transactions = scan(device, &log, None, &mut finder)?;
     write_log(device, &log, &mut finder, transactions, out)
 }
 
-/// A finder for the blocks of this device.
-fn make_finder<D: Device>(alloc: Global, device: &D) -> Result<Finder, JournalError>
-    requires { IsBlockSize (D.state device.now).shape.block_size }
-    ensures size { IfOk result (λ finder. length finder.block ≡ (D.state device.now).shape.block_size) }
+/// A finder for the blocks of this log.
+fn make_finder(alloc: Global, log: &Log) -> Result<Finder, JournalError>
+    requires { IsTaken (layout_of log.now) }
+    ensures layout { IfOk result (λ finder. finder.layout ≡ layout_of log.now) }
     ensures memory { IfErr result (λ e. e ≡ Memory) }
 {
-    Ok(Finder::new(alloc, device.block_size())?)
+    Ok(Finder::new(alloc, log.layout())?)
 }
 
 /// Reads and tests the superblock.
@@ -101,11 +101,11 @@ fn write_log<D: Device, W: Write>(
     transactions: u64,
     out: &mut W,
 ) -> Result<(), Fault>
-    requires size { length finder.old.block ≡ (D.state device.old).shape.block_size }
+    requires layout { finder.old.layout ≡ layout_of log.now }
     requires accepted { IsAccepted (D.state device.old).shape.block_size (D.state device.old).shape.log_blocks log.now }
     requires few { transactions ≤ (ring_of log.now).blocks }
-    ensures printed { OnOk result (D.honest device.new → (texts : List Text) → log.now.s_start ≢ 0 → AreTextsOf log.now every_block (reading (D.state device.old).disk) texts → transactions ≡ length texts → Appends (W.contents out.old) (W.contents out.new) (dump_text log.now texts)) }
-    ensures refused { IfErr result (IsPrintRefused (D.honest device.new) ((texts : List Text) → AreTextsOf log.now every_block (reading (D.state device.old).disk) texts → transactions ≡ length texts → ⊥) (D.state device.old) (D.state device.new)) }
+    ensures printed { OnOk result (D.honest device.new → (texts : List Text) → log.now.s_start ≢ 0 → AreTextsOf log.now (every_block log.now) (reading (D.state device.old).disk) texts → transactions ≡ length texts → Appends (W.contents out.old) (W.contents out.new) (dump_text log.now texts)) }
+    ensures refused { IfErr result (IsPrintRefused (D.honest device.new) ((texts : List Text) → AreTextsOf log.now (every_block log.now) (reading (D.state device.old).disk) texts → transactions ≡ length texts → ⊥) (D.state device.old) (D.state device.new)) }
     ensures faults { OnOk result ((D.state device.new).faults ≡ (D.state device.old).faults) }
     ensures stays { Stays (D.state device.old) (D.state device.new) }
     ensures honest { D.honest device.new → D.honest device.old }

@@ -3,7 +3,7 @@ use Rattle.std.proofs.Common.{refl, sym, ap, ap₂, subst, ◌∙◌}
 use Rattle.std.specs.Prelude.{◌≡◌, ◌≢◌, ◌↔◌, ℕ, ◌+◌, ◌≤◌, false, true, length, Some, slice_get}
 use Rattle.journal_model.specs.declared.entry.Batch.{Batch}
 use Rattle.journal_model.specs.declared.number.Area.TheVariants.{Log}
-use Rattle.journal_model.specs.Layout.{narrow}
+use Rattle.journal_model.specs.Layout.{Layout}
 use Rattle.journal_model.specs.Room.{need}
 use Rattle.journal_model.specs.Superblock.{Shape}
 use Rattle.checkpoint.specs.Pending.{ArePending, IsCommitted, PendingValue}
@@ -33,6 +33,7 @@ call-at e CommitFlush busy = (_, refl)
 
 -- what is being committed stays, and where it stands
 record Stands (old new : Engine) : Type 0 where
+  layout : new.layout ≡ old.layout
   start : new.start ≡ old.start
   uuid : new.uuid ≡ old.uuid
   accepted : new.accepted ≡ old.accepted
@@ -40,11 +41,11 @@ record Stands (old new : Engine) : Type 0 where
 
 -- up to the last step
 stands-at : (e : Engine) (stage : Stage) → stage ≢ CommitFlush → Stands e (stepped_from e stage)
-stands-at e Idle before = record { start = refl; uuid = refl; accepted = refl; committed = refl }
-stands-at e SuperblockWrite before = record { start = refl; uuid = refl; accepted = refl; committed = refl }
-stands-at e SuperblockFlush before = record { start = refl; uuid = refl; accepted = refl; committed = refl }
-stands-at e (Blocks k) before = record { start = refl; uuid = refl; accepted = refl; committed = refl }
-stands-at e CommitWrite before = record { start = refl; uuid = refl; accepted = refl; committed = refl }
+stands-at e Idle before = record { layout = refl; start = refl; uuid = refl; accepted = refl; committed = refl }
+stands-at e SuperblockWrite before = record { layout = refl; start = refl; uuid = refl; accepted = refl; committed = refl }
+stands-at e SuperblockFlush before = record { layout = refl; start = refl; uuid = refl; accepted = refl; committed = refl }
+stands-at e (Blocks k) before = record { layout = refl; start = refl; uuid = refl; accepted = refl; committed = refl }
+stands-at e CommitWrite before = record { layout = refl; start = refl; uuid = refl; accepted = refl; committed = refl }
 stands-at e CommitFlush before = absurd (before refl)
 
 -- a step before the last
@@ -56,7 +57,7 @@ steps-on shape l new busy before is ring pending runs =
     let stands : Stands e (engine_of shape new) = subst (Stands e) (sym is) (stands-at e l.stage before) in
     record {
       can_run = step-runs e (engine_of shape new) call.0 runs.can_run call.1 is;
-      taken = taken-alike shape l new ring stands.start stands.uuid stands.accepted stands.committed runs.taken;
+      taken = taken-alike shape l new ring stands.layout stands.start stands.uuid stands.accepted stands.committed runs.taken;
       pending =
           subst (λ (p : PendingValue). KeepsPending (engine_of shape new) p) (sym pending)
           (subst (λ (x : Engine). KeepsPending x l.pending) (sym is) (steps-keeps e l.pending before runs.pending));
@@ -81,7 +82,7 @@ finishes shape l new b last stands is ring start commits kept runs =
 
 -- a batch that is taken
 pub takes-on : (shape : Shape) (l new : Ledger) (b : Batch) → l.aborted ≡ false → MayHandOver (engine_of shape l) b → HasRoom (engine_of shape l) b →
-    engine_of shape new ≡ accepting (engine_of shape l) b → new.ring.head ≡ l.ring.head + need (narrow shape.block_size) (length b.entries) 0 →
+    engine_of shape new ≡ accepting (engine_of shape l) b → new.ring.head ≡ l.ring.head + need l.layout (length b.entries) 0 →
     new.pending ≡ l.pending → Runs shape l → Runs shape new
 takes-on shape l new b running may room is head pending runs =
     let e = engine_of shape l in
@@ -93,7 +94,7 @@ takes-on shape l new b running may room is head pending runs =
     let start : l.ring.head ≡ new.start = idle-head shape l runs may.idle ∙ sym (ap (λ (x : Engine). x.start) is) in
     record {
       can_run = can;
-      taken = batch-taken shape new b can stands (head ∙ ap (λ (n : ℕ). n + need (narrow shape.block_size) (length b.entries) 0) start);
+      taken = batch-taken shape new b can stands (head ∙ ap (λ (n : ℕ). n + need l.layout (length b.entries) 0) start ∙ ap (λ (x : Layout). new.start + need x (length b.entries) 0) (sym (ap (λ (x : Engine). x.layout) is)));
       pending =
           subst (λ (p : PendingValue). KeepsPending (engine_of shape new) p) (sym pending)
           (subst (λ (x : Engine). KeepsPending x l.pending) (sym is) (takes-keeps e b l.pending agrees.0 runs.pending));
@@ -105,7 +106,7 @@ pub same-runs : (shape : Shape) (l new : Ledger) → engine_of shape new ≡ eng
 same-runs shape l new is ring pending runs = record {
   can_run = subst CanRun (sym is) runs.can_run;
   taken =
-      taken-alike shape l new ring (ap (λ (x : Engine). x.start) is) (ap (λ (x : Engine). x.uuid) is) (ap (λ (x : Engine). x.accepted) is)
+      taken-alike shape l new ring (ap (λ (x : Engine). x.layout) is) (ap (λ (x : Engine). x.start) is) (ap (λ (x : Engine). x.uuid) is) (ap (λ (x : Engine). x.accepted) is)
       (ap (λ (x : Engine). x.committed) is) runs.taken;
   pending =
       subst (λ (p : PendingValue). KeepsPending (engine_of shape new) p) (sym pending)
@@ -114,13 +115,11 @@ same-runs shape l new is ring pending runs = record {
 
 -- the test of the room is one of what the batch needs
 pub room-told : (shape : Shape) (l : Ledger) (b : Batch) (copies : ℕ) (A : Type 0) → copies ≡ length b.entries → Runs shape l →
-    AreCopies shape.block_size b.entries →
-    A ↔ (l.start + need (narrow (length l.superblock.items)) copies 0 ≤ l.ring.tail + l.ring.ring.blocks) → A ↔ HasRoom (engine_of shape l) b
+    AreCopies l.layout b.entries →
+    A ↔ (l.start + need l.layout copies 0 ≤ l.ring.tail + l.ring.ring.blocks) → A ↔ HasRoom (engine_of shape l) b
 room-told shape l b copies A count runs are told =
     let e = engine_of shape l in
-    let size = (superblock-of e runs.can_run.plain).size in
-    let same : need (narrow (length l.superblock.items)) copies 0 ≡ need (narrow shape.block_size) (length b.entries) 0 =
-    ap₂ (λ (size n : ℕ). need (narrow size) n 0) size count in (
+    let same : need l.layout copies 0 ≡ need l.layout (length b.entries) 0 = ap (λ (n : ℕ). need l.layout n 0) count in (
       λ a. room-of e b runs.can_run.plain are (subst (λ (n : ℕ). l.start + n ≤ l.ring.tail + l.ring.ring.blocks) same (told.0 a)),
       λ room. told.1 (subst (λ (n : ℕ). l.start + n ≤ l.ring.tail + l.ring.ring.blocks) (sym same) (need-of e b runs.can_run.plain are room)),
     )

@@ -5,6 +5,7 @@ use Rattle.std.specs.List.{AllByRecursion}
 use Rattle.std.proofs.lemmas.List.Elements.{recursion_from_All}
 use Rattle.journal_model.specs.declared.entry.Entry.{Entry}
 use Rattle.journal_model.specs.declared.entry.Entry.TheVariants.{Copy, Revoke}
+use Rattle.journal_model.specs.Layout.{Layout}
 use Rattle.journal_model.specs.OwnText.{copied, revoked}
 use Rattle.log_engine.specs.Text.{AreCopies, IsWholeCopy}
 
@@ -17,8 +18,8 @@ bytes_in Revoke = []
 abbrev pub AreWhole : ℕ → List (ℕ × Entry) → Type 0
 AreWhole size entries = AllByRecursion (λ p. IsWholeCopy size p.1) entries
 
-pub each-whole : (size : ℕ) (entries : List (ℕ × Entry)) → AreCopies size entries → AreWhole size entries
-each-whole size entries are = recursion_from_All (λ p. IsWholeCopy size p.1) entries are.whole
+pub each-whole : (l : Layout) (entries : List (ℕ × Entry)) → AreCopies l entries → AreWhole l.block_size entries
+each-whole l entries are = recursion_from_All (λ p. IsWholeCopy l.block_size p.1) entries are.whole
 
 -- there are as many copies as entries
 pub length-copied : (size : ℕ) (entries : List (ℕ × Entry)) → AreWhole size entries → length (copied entries) ≡ length entries

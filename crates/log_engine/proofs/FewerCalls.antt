@@ -9,7 +9,6 @@ use Rattle.journal_model.specs.declared.entry.Entry.{Entry}
 use Rattle.journal_model.specs.declared.entry.Entry.TheVariants.{Copy}
 use Rattle.journal_model.specs.Block.{IsAllowedBlock}
 use Rattle.journal_model.specs.Disk.{Disk}
-use Rattle.journal_model.specs.Layout.{narrow}
 use Rattle.journal_model.proofs.ListElements.{contains-cases, contains-none}
 use Rattle.journal_world.specs.declared.round.Round.{Round}
 use Rattle.journal_world.specs.declared.round.Round.TheVariants.{Idle as NoRound, Copies, TailWrite, TailFlush}
@@ -44,11 +43,11 @@ stage-fewer : (e : Engine) (stage : Stage) → StageAgrees e stage → stage ≢
     commit_calls (stepped_from e stage) < calls_from (length (due_blocks e)) stage
 stage-fewer e Idle agrees busy = absurd (busy refl)
 stage-fewer e SuperblockWrite agrees busy =
-    let same = same-due e (stepped_from e SuperblockWrite) (record { shape = refl; uuid = refl; accepted = refl; committed = refl; start = refl }) in omega arith
+    let same = same-due e (stepped_from e SuperblockWrite) (record { shape = refl; layout = refl; uuid = refl; accepted = refl; committed = refl; start = refl }) in omega arith
 stage-fewer e SuperblockFlush agrees busy =
-    let same = same-due e (stepped_from e SuperblockFlush) (record { shape = refl; uuid = refl; accepted = refl; committed = refl; start = refl }) in omega arith
+    let same = same-due e (stepped_from e SuperblockFlush) (record { shape = refl; layout = refl; uuid = refl; accepted = refl; committed = refl; start = refl }) in omega arith
 stage-fewer e (Blocks k) agrees busy =
-    let same = same-due e (stepped_from e (Blocks k)) (record { shape = refl; uuid = refl; accepted = refl; committed = refl; start = refl }) in
+    let same = same-due e (stepped_from e (Blocks k)) (record { shape = refl; layout = refl; uuid = refl; accepted = refl; committed = refl; start = refl }) in
     after-block (length (due_blocks e)) _ k (nat_lt (k + 1) (length (due_blocks e))) refl same agrees.2
 stage-fewer e CommitWrite agrees busy = omega arith
 stage-fewer e CommitFlush agrees busy = omega arith
@@ -72,9 +71,9 @@ contained P (y ∷ ys) x all has = ⊎_elim (λ same. subst P same all.0) (λ be
 -- a newest copy is one of a block of home
 copy-home : (e : Engine) (i b : ℕ) (v : List ℕ) → IsPlain e → IsNewestCopy e i b v → b < e.shape.home_blocks
 copy-home e i b v plain newest =
-    let batch = all-at (IsBatch e.shape) e.accepted i newest.copy.batch plain.batches newest.copy.stands in
-    let allowed = recursion_from_All (λ p. IsAllowedBlock (narrow e.shape.block_size) e.shape.home_blocks p.0) newest.copy.batch.entries batch.allowed in
-    (contained (λ (p : ℕ × Entry). IsAllowedBlock (narrow e.shape.block_size) e.shape.home_blocks p.0) newest.copy.batch.entries (b, Copy v) allowed newest.copy.copy).in_home
+    let batch = all-at (IsBatch e.layout e.shape) e.accepted i newest.copy.batch plain.batches newest.copy.stands in
+    let allowed = recursion_from_All (λ p. IsAllowedBlock e.layout e.shape.home_blocks p.0) newest.copy.batch.entries batch.allowed in
+    (contained (λ (p : ℕ × Entry). IsAllowedBlock e.layout e.shape.home_blocks p.0) newest.copy.batch.entries (b, Copy v) allowed newest.copy.copy).in_home
 
 -- behind a copy there are fewer
 copy-fewer : (bound transaction block i b home rest : ℕ) → IsFrom transaction block i b → i < bound → b < home →

@@ -7,7 +7,7 @@ use Rattle.journal_model.specs.declared.entry.Batch.{Batch}
 use Rattle.journal_model.specs.declared.refusal.JournalError.{JournalError}
 use Rattle.journal_model.specs.declared.refusal.JournalError.TheVariants.{NeedSpace}
 use Rattle.journal_model.specs.Chain.{ring_place}
-use Rattle.journal_model.specs.Layout.{narrow}
+use Rattle.journal_model.specs.Layout.{IsTaken, Layout}
 use Rattle.journal_model.specs.Opening.{greatest_number}
 use Rattle.journal_model.specs.OwnText.{copied, own_text}
 use Rattle.journal_model.specs.Room.{need}
@@ -36,7 +36,7 @@ use Rattle.log_engine.proofs.Running.{HasRing, due-one, head-small, need-of, run
 same-if : (l : Ledger) (shape other : Shape) (o : Option Batch) → shape.block_size ≡ other.block_size →
     blocks_if (engine_of shape l) o ≡ blocks_if (engine_of other l) o
 same-if l shape other None same = refl
-same-if l shape other (Some b) same = ap (λ (size : ℕ). text_blocks (own_text (narrow size) l.uuid b.tid b.entries)) same
+same-if l shape other (Some b) same = refl
 
 pub same-due : (l : Ledger) (shape other : Shape) → shape.block_size ≡ other.block_size →
     due_blocks (engine_of shape l) ≡ due_blocks (engine_of other l)
@@ -54,9 +54,9 @@ pub room-test : (needed free sum all : ℕ) → (needed ≤ free → sum ≤ all
 room-test needed free sum all there back = grind (arith, nat_tests)
 
 -- what is taken does not depend on how far the commit is, nor on what the superblock says
-pub taken-alike : (shape : Shape) (l new : Ledger) → new.ring ≡ l.ring → new.start ≡ l.start → new.uuid ≡ l.uuid → new.accepted.items ≡ l.accepted.items →
+pub taken-alike : (shape : Shape) (l new : Ledger) → new.ring ≡ l.ring → new.layout ≡ l.layout → new.start ≡ l.start → new.uuid ≡ l.uuid → new.accepted.items ≡ l.accepted.items →
     new.committed ≡ l.committed → HasTaken shape l → HasTaken shape new
-taken-alike shape l new ring start uuid accepted committed taken =
+taken-alike shape l new ring layout start uuid accepted committed taken =
     let due : due_blocks (engine_of shape new) ≡ due_blocks (engine_of shape l) =
     ap₂ (λ (bs : List Batch) (n : ℕ). blocks_if (engine_of shape new) (slice_get bs n)) accepted committed
     ∙ alike (slice_get l.accepted.items l.committed) in
@@ -64,12 +64,12 @@ taken-alike shape l new ring start uuid accepted committed taken =
   where
     alike : (o : Option Batch) → blocks_if (engine_of shape new) o ≡ blocks_if (engine_of shape l) o
     alike None = refl
-    alike (Some b) = ap (λ (u : List ℕ). text_blocks (own_text (narrow shape.block_size) u b.tid b.entries)) uuid
+    alike (Some b) = ap₂ (λ (x : Layout) (u : List ℕ). text_blocks (own_text x u b.tid b.entries)) layout uuid
 
 -- nor on a fault, on a device whose shape stays
 pub fault-taken : (shape after : Shape) (l : Ledger) → after ≡ shape → HasTaken shape l → HasTaken after (record l { aborted = true })
 fault-taken shape after l same taken =
-    subst (λ (s : Shape). HasTaken s (record l { aborted = true })) (sym same) (taken-alike shape l (record l { aborted = true }) refl refl refl refl refl taken)
+    subst (λ (s : Shape). HasTaken s (record l { aborted = true })) (sym same) (taken-alike shape l (record l { aborted = true }) refl refl refl refl refl refl taken)
 
 -- where no transaction was handed over, nothing is taken
 pub fresh-taken : (shape : Shape) (l : Ledger) → l.accepted.items ≡ [] → l.ring.head ≡ 0 → l.start ≡ 0 → HasTaken shape l
@@ -87,7 +87,7 @@ idle-head shape l runs idle =
 
 -- the ring has the blocks that a batch needs which may be taken
 pub room-there : (shape : Shape) (l : Ledger) (b : Batch) (count : ℕ) → Runs shape l → MayHandOver (engine_of shape l) b →
-    HasRoom (engine_of shape l) b → count ≡ need (narrow shape.block_size) (length b.entries) 0 → free l.ring < count → ⊥
+    HasRoom (engine_of shape l) b → count ≡ need l.layout (length b.entries) 0 → free l.ring < count → ⊥
 room-there shape l b count runs may room needed less =
     let head = idle-head shape l runs may.idle in
     let fits = need-of (engine_of shape l) b runs.can_run.plain may.copies room in
@@ -110,7 +110,7 @@ batch-there shape l b accepted runs may taken =
 
 -- the ring blocks that a batch needs are taken for it
 pub batch-taken : (shape : Shape) (new : Ledger) (b : Batch) → CanRun (engine_of shape new) → slice_get new.accepted.items new.committed ≡ Some b →
-    new.ring.head ≡ new.start + need (narrow shape.block_size) (length b.entries) 0 → HasTaken shape new
+    new.ring.head ≡ new.start + need new.layout (length b.entries) 0 → HasTaken shape new
 batch-taken shape new b can stands head = record {
   head = head ∙ ap (λ (n : ℕ). new.start + n) (sym (runs-blocks (engine_of shape new) b can stands));
 }
@@ -148,6 +148,13 @@ module _ (l : Ledger) (size : ℕ) (on : CanRunOn l size) where
   pub on-size : IsBlockSize size
   on-size = subst IsBlockSize (sym on.size_is) (runs-size (engine_of on.shape l) on.runs.can_run.plain)
 
+  -- and its layout is one of such blocks
+  pub on-taken : IsTaken l.layout
+  on-taken = on.runs.can_run.plain.layout.0
+
+  pub on-layout : size ≡ l.layout.block_size
+  on-layout = on.size_is ∙ sym on.runs.can_run.plain.layout.1
+
   -- its ring lies behind the superblock, and has not too many blocks
   pub on-ring : HasRing (engine_of on.shape l)
   on-ring = runs-ring (engine_of on.shape l) on.runs.can_run.plain
@@ -177,10 +184,9 @@ module _ (l : Ledger) (size : ℕ) (on : CanRunOn l size) where
   on-some shape busy = due-some (engine_of shape l) (due-one (engine_of on.shape l) l.stage on.runs.can_run.plain.stage busy)
 
   -- it has copies alone
-  pub on-copies : (b : Batch) → slice_get l.accepted.items l.committed ≡ Some b → AreCopies size b.entries
+  pub on-copies : (b : Batch) → slice_get l.accepted.items l.committed ≡ Some b → AreCopies l.layout b.entries
   on-copies b stands =
-      subst (λ (n : ℕ). AreCopies n b.entries) (sym on.size_is)
-      (all-at (λ (x : Batch). AreCopies on.shape.block_size x.entries) l.accepted.items l.committed b on.runs.can_run.copies stands)
+      all-at (λ (x : Batch). AreCopies l.layout x.entries) l.accepted.items l.committed b on.runs.can_run.copies stands
 
   -- no more of them than the ring has blocks
   pub on-few : (b : Batch) → slice_get l.accepted.items l.committed ≡ Some b → length b.entries ≤ 1048576
@@ -195,10 +201,9 @@ module _ (l : Ledger) (size : ℕ) (on : CanRunOn l size) where
 
   -- the blocks that are due are as many as it needs
   pub on-blocks : (b : Batch) (shape : Shape) → slice_get l.accepted.items l.committed ≡ Some b → shape.block_size ≡ size →
-      need (narrow size) (length b.entries) 0 ≡ length (due_blocks (engine_of shape l))
+      need l.layout (length b.entries) 0 ≡ length (due_blocks (engine_of shape l))
   on-blocks b shape stands same =
-      ap (λ (n : ℕ). need (narrow n) (length b.entries) 0) on.size_is
-      ∙ sym (runs-blocks (engine_of on.shape l) b on.runs.can_run stands)
+      sym (runs-blocks (engine_of on.shape l) b on.runs.can_run stands)
       ∙ ap length (same-due l on.shape shape (sym on.size_is ∙ sym same))
 
   -- their positions are far from the end of the numbers of 64 bits
@@ -227,7 +232,7 @@ module _ (l : Ledger) (size : ℕ) (on : CanRunOn l size) where
 
   -- the entries of the transaction that is being committed are of different blocks
   pub on-distinct : (b : Batch) → slice_get l.accepted.items l.committed ≡ Some b → IsDistinct nat_eq (map (λ e. e.0) b.entries)
-  on-distinct b stands = (all-at (IsBatch on.shape) l.accepted.items l.committed b on.runs.can_run.plain.batches stands).once
+  on-distinct b stands = (all-at (IsBatch l.layout on.shape) l.accepted.items l.committed b on.runs.can_run.plain.batches stands).once
 
   -- and may be committed
   pub on-commit : (b : Batch) → l.stage ≡ CommitFlush → slice_get l.accepted.items l.committed ≡ Some b →

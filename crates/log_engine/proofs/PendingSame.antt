@@ -23,6 +23,7 @@ abbrev pub as_far : Engine → Engine → Engine
 as_far e f =
     record f {
       shape = e.shape;
+      layout = e.layout;
       ring = e.ring;
       uuid = e.uuid;
       first = e.first;

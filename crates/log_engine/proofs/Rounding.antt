@@ -42,14 +42,15 @@ each-still e state sound =
 
 -- the beginning of a round changes nothing but the round
 begun-commit : (e : Engine) (round : Round) → KeepsCommit e (begun_from e round)
-begun-commit e NoRound = record { shape = refl; uuid = refl; accepted = refl; committed = refl; start = refl }
-begun-commit e (Copies transaction block) = record { shape = refl; uuid = refl; accepted = refl; committed = refl; start = refl }
-begun-commit e TailWrite = record { shape = refl; uuid = refl; accepted = refl; committed = refl; start = refl }
-begun-commit e TailFlush = record { shape = refl; uuid = refl; accepted = refl; committed = refl; start = refl }
+begun-commit e NoRound = record { shape = refl; layout = refl; uuid = refl; accepted = refl; committed = refl; start = refl }
+begun-commit e (Copies transaction block) = record { shape = refl; layout = refl; uuid = refl; accepted = refl; committed = refl; start = refl }
+begun-commit e TailWrite = record { shape = refl; layout = refl; uuid = refl; accepted = refl; committed = refl; start = refl }
+begun-commit e TailFlush = record { shape = refl; layout = refl; uuid = refl; accepted = refl; committed = refl; start = refl }
 
 both-keep : (e m new : Engine) → KeepsCommit e m → KeepsCommit m new → KeepsCommit e new
 both-keep e m new one other = record {
   shape = other.shape ∙ one.shape;
+  layout = other.layout ∙ one.layout;
   uuid = other.uuid ∙ one.uuid;
   accepted = other.accepted ∙ one.accepted;
   committed = other.committed ∙ one.committed;
@@ -81,7 +82,7 @@ pub each-round-fault : (old new : Engine) (before after : DeviceState) → IsOne
     RoundFaults old before.disk new after.disk → EachMoment (IsDuringRound old before.disk) before after
 each-round-fault old new before after moment sound fault =
     let aborts : KeepsCommit (begun old) (record (begun old) { aborted = true }) =
-    record { shape = refl; uuid = refl; accepted = refl; committed = refl; start = refl } in
+    record { shape = refl; layout = refl; uuid = refl; accepted = refl; committed = refl; start = refl } in
     let keeps = both-keep old (begun old) new (begun-commit old old.round) (subst (KeepsCommit (begun old)) (sym fault.engine) aborts) in
     each-one (IsDuringRound old before.disk) before after moment (during-round old before.disk sound)
     (record {

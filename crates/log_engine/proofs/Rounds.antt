@@ -10,7 +10,7 @@ use Rattle.journal_model.specs.declared.entry.Entry.TheVariants.{Copy}
 use Rattle.journal_model.specs.declared.number.Area.TheVariants.{Log, Home}
 use Rattle.journal_model.specs.Block.{IsAllowedBlock}
 use Rattle.journal_model.specs.Chain.{ring_place}
-use Rattle.journal_model.specs.Layout.{narrow}
+use Rattle.journal_model.specs.Layout.{Layout}
 use Rattle.journal_model.specs.OwnText.{own_text}
 use Rattle.journal_model.specs.Superblock.{Shape, super_in, with_tail}
 use Rattle.journal_model.specs.Text.{text_blocks}
@@ -30,7 +30,7 @@ use Rattle.journal_world.proofs.Elements.{all-at}
 use Rattle.journal_world.proofs.Pending.{newest-bytes}
 use Rattle.journal_world.proofs.RoundPlain.{round-plain}
 use Rattle.journal_world.proofs.Rounds.{begun-plain}
-use Rattle.journal_world.proofs.Superblocks.{accepted-first, accepted-layout, accepted-ring, accepted-size, accepted-within, names-superblock}
+use Rattle.journal_world.proofs.Superblocks.{accepted-first, accepted-ring, accepted-size, accepted-within, names-superblock}
 use Rattle.log_engine.specs.declared.ledger.Ledger.{Ledger}
 use Rattle.log_engine.specs.Ledger.{CanRun, CanRunOn, HasTaken, IsPlaced, KeepsPending, Runs, engine_of}
 use Rattle.log_engine.specs.declared.call.Due.{Due}
@@ -52,8 +52,7 @@ module _ (l : Ledger) (size : ℕ) (on : CanRunOn l size) where
   -- a block has a size that a block may have
   pub round-size : IsBlockSize size
   round-size =
-      subst IsBlockSize (sym on.size_is)
-      (accepted-layout on.shape l.superblock.items (superblock-here (engine_of on.shape l) on.runs.can_run.plain).accepted).0
+      subst IsBlockSize (on.runs.can_run.plain.layout.1 ∙ sym on.size_is) on.runs.can_run.plain.layout.0.0
 
   -- the superblock is long enough for all its fields
   pub round-long : 32 ≤ length l.superblock.items
@@ -121,16 +120,17 @@ one-call e round call other new next plain FlushTail FlushTail = (refl, refl)
 -- what a call of a round leaves of the engine as it was
 pub record KeepsCommit (e new : Engine) : Type 0 where
   pub shape : new.shape ≡ e.shape
+  pub layout : new.layout ≡ e.layout
   pub uuid : new.uuid ≡ e.uuid
   pub accepted : new.accepted ≡ e.accepted
   pub committed : new.committed ≡ e.committed
   pub start : new.start ≡ e.start
 
 pub call-keeps : (e : Engine) (round : Round) (call : Call) (new : Engine) → RoundCall e round call new → KeepsCommit e new
-call-keeps e round call new (CopyHome t k i b v next) = record { shape = refl; uuid = refl; accepted = refl; committed = refl; start = refl }
-call-keeps e round call new (FlushHome t k none) = record { shape = refl; uuid = refl; accepted = refl; committed = refl; start = refl }
-call-keeps e round call new WriteTail = record { shape = refl; uuid = refl; accepted = refl; committed = refl; start = refl }
-call-keeps e round call new FlushTail = record { shape = refl; uuid = refl; accepted = refl; committed = refl; start = refl }
+call-keeps e round call new (CopyHome t k i b v next) = record { shape = refl; layout = refl; uuid = refl; accepted = refl; committed = refl; start = refl }
+call-keeps e round call new (FlushHome t k none) = record { shape = refl; layout = refl; uuid = refl; accepted = refl; committed = refl; start = refl }
+call-keeps e round call new WriteTail = record { shape = refl; layout = refl; uuid = refl; accepted = refl; committed = refl; start = refl }
+call-keeps e round call new FlushTail = record { shape = refl; layout = refl; uuid = refl; accepted = refl; committed = refl; start = refl }
 
 -- the blocks of the transaction that is being committed do not depend on the round
 pub due-alike : (e new : Engine) → KeepsCommit e new → due_blocks new ≡ due_blocks e
@@ -140,7 +140,7 @@ due-alike e new keeps =
     alike : (o : Option Batch) → blocks_if new o ≡ blocks_if e o
     alike None = refl
     alike (Some b) =
-        ap₂ (λ (s : Shape) (u : List ℕ). text_blocks (own_text (narrow s.block_size) u b.tid b.entries)) keeps.shape keeps.uuid
+        ap₂ (λ (l : Layout) (u : List ℕ). text_blocks (own_text l u b.tid b.entries)) keeps.layout keeps.uuid
 
 -- nor does what is taken of the ring
 round-taken : (shape : Shape) (l new : Ledger) → KeepsCommit (engine_of shape l) (engine_of shape new) → new.ring.head ≡ l.ring.head →
@@ -158,11 +158,11 @@ gone-runs e call new can busy due =
     let more : e.released < e.bound = under-way e e.round plain.round busy in
     let least : e.bound ≤ e.committed = plain.order.1 in
     let keeps = call-keeps e e.round call new due in
-    let taken : AllByRecursion (λ b. AreCopies new.shape.block_size b.entries) e.accepted =
-    subst (λ (s : Shape). AllByRecursion (λ b. AreCopies s.block_size b.entries) e.accepted) (sym keeps.shape) can.copies in
+    let taken : AllByRecursion (λ b. AreCopies new.layout b.entries) e.accepted =
+    subst (λ (l : Layout). AllByRecursion (λ b. AreCopies l b.entries) e.accepted) (sym keeps.layout) can.copies in
     record {
       plain = round-plain e call new plain (omega arith) (subst (λ (x : Engine). RoundCall x x.round call new) (sym same) due);
-      copies = subst (λ (bs : List Batch). AllByRecursion (λ b. AreCopies new.shape.block_size b.entries) bs) (sym keeps.accepted) taken;
+      copies = subst (λ (bs : List Batch). AllByRecursion (λ b. AreCopies new.layout b.entries) bs) (sym keeps.accepted) taken;
     }
 
 -- a ledger has gone on by the call that was due
@@ -203,7 +203,7 @@ begins shape l new runs at more is head pending =
     let has : HasRound e = below l.released l.bound l.committed low high more in
     let under : begun_from e NoRound ≡ begun e = ap (begun_from e) (sym at) in
     let can : CanRun (begun_from e NoRound) = record { plain = subst IsPlain (sym under) (begun-plain e plain has); copies = runs.can_run.copies } in
-    let keeps : KeepsCommit e (begun_from e NoRound) = record { shape = refl; uuid = refl; accepted = refl; committed = refl; start = refl } in
+    let keeps : KeepsCommit e (begun_from e NoRound) = record { shape = refl; layout = refl; uuid = refl; accepted = refl; committed = refl; start = refl } in
     let kept : KeepsPending (begun_from e NoRound) new.pending =
     subst (KeepsPending (begun_from e NoRound)) (sym pending) (begun-keeps e l.pending at runs.pending) in (
       has,
@@ -253,16 +253,16 @@ next-home shape l copy runs due =
 -- a copy that stands in a transaction is one block
 pub placed-size : (e : Engine) (i b k : ℕ) → CanRun e → (placed : IsPlaced e i b k) → length placed.bytes ≡ e.shape.block_size
 placed-size e i b k can placed =
-    let are = all-at (λ (x : Batch). AreCopies e.shape.block_size x.entries) e.accepted i placed.batch can.copies placed.stands in
-    let whole = recursion_from_All (λ p. IsWholeCopy e.shape.block_size p.1) placed.batch.entries are.whole in
-    all-at (λ (p : ℕ × Entry). IsWholeCopy e.shape.block_size p.1) placed.batch.entries k (b, Copy placed.bytes) whole placed.entry
+    let are = all-at (λ (x : Batch). AreCopies e.layout x.entries) e.accepted i placed.batch can.copies placed.stands in
+    let whole = recursion_from_All (λ p. IsWholeCopy e.layout.block_size p.1) placed.batch.entries are.whole in
+    all-at (λ (p : ℕ × Entry). IsWholeCopy e.layout.block_size p.1) placed.batch.entries k (b, Copy placed.bytes) whole placed.entry ∙ can.plain.layout.1
 
 -- of a block that may be touched
-pub placed-allowed : (e : Engine) (i b k : ℕ) → IsPlain e → IsPlaced e i b k → IsAllowedBlock (narrow e.shape.block_size) e.shape.home_blocks b
+pub placed-allowed : (e : Engine) (i b k : ℕ) → IsPlain e → IsPlaced e i b k → IsAllowedBlock e.layout e.shape.home_blocks b
 placed-allowed e i b k plain placed =
-    let batch = all-at (IsBatch e.shape) e.accepted i placed.batch plain.batches placed.stands in
-    let allowed = recursion_from_All (λ p. IsAllowedBlock (narrow e.shape.block_size) e.shape.home_blocks p.0) placed.batch.entries batch.allowed in
-    all-at (λ (p : ℕ × Entry). IsAllowedBlock (narrow e.shape.block_size) e.shape.home_blocks p.0) placed.batch.entries k (b, Copy placed.bytes) allowed placed.entry
+    let batch = all-at (IsBatch e.layout e.shape) e.accepted i placed.batch plain.batches placed.stands in
+    let allowed = recursion_from_All (λ p. IsAllowedBlock e.layout e.shape.home_blocks p.0) placed.batch.entries batch.allowed in
+    all-at (λ (p : ℕ × Entry). IsAllowedBlock e.layout e.shape.home_blocks p.0) placed.batch.entries k (b, Copy placed.bytes) allowed placed.entry
 
 -- the write of that copy is the due call
 pub due-copy : (e : Engine) (p : PendingValue) (t k : ℕ) (copy : HomeCopy) (block : ℕ) (bytes : List ℕ) → e.round ≡ Copies t k →

@@ -3,7 +3,6 @@ use Rattle.std.proofs.Common.{arith, refl, sym, ap, ap₂, subst, ◌∙◌}
 use Rattle.std.specs.Prelude.{◌≡◌, ◌≢◌, ℕ, ◌+◌, ◌-◌, ◌*◌, ◌^◌, ◌<◌, ◌≤◌, false, List, [], ◌∷◌, length, Some, slice_get}
 use Rattle.journal_model.specs.declared.entry.Batch.{Batch}
 use Rattle.journal_model.specs.Chain.{Ring}
-use Rattle.journal_model.specs.Layout.{narrow}
 use Rattle.journal_model.specs.Room.{need}
 use Rattle.journal_model.specs.Superblock.{Shape, least_ring, super_in}
 use Rattle.journal_model.specs.Text.{text_blocks}
@@ -22,7 +21,8 @@ use Rattle.journal_world.proofs.Positions.{tail-start}
 use Rattle.std.proofs.lemmas.Nat.{mul-le}
 use Rattle.journal_world.specs.Journal.{fresh_engine}
 use Rattle.recovery.specs.Values.{IsNextNamed}
-use Rattle.journal_world.proofs.Superblocks.{accepted-first, accepted-layout, accepted-length, accepted-ring, accepted-size, accepted-within, names-superblock}
+use Rattle.journal_model.proofs.Taken.{taken-layout}
+use Rattle.journal_world.proofs.Superblocks.{accepted-first, accepted-length, accepted-ring, accepted-size, accepted-within, names-superblock}
 use Rattle.journal_world.proofs.Elements.{all-at}
 use Rattle.journal_world.proofs.Texts.{due-of}
 use Rattle.log_engine.specs.Engine.{MayHandOver}
@@ -36,7 +36,7 @@ superblock-of e plain = names-superblock e e.started e.superblock plain.names
 
 -- the block size is one that a block may have
 pub runs-size : (e : Engine) → IsPlain e → IsBlockSize e.shape.block_size
-runs-size e plain = (accepted-layout e.shape e.superblock (superblock-of e plain).accepted).0
+runs-size e plain = subst IsBlockSize plain.layout.1 plain.layout.0.0
 
 -- the ring has blocks behind the superblock, not too many, and lies within the log area
 pub record HasRing (e : Engine) : Type 0 where
@@ -66,21 +66,21 @@ due-one e CommitWrite agrees busy = agrees.0
 due-one e CommitFlush agrees busy = agrees.0
 
 -- the text of copies alone takes as many blocks as they need
-length-text : (e : Engine) (b : Batch) → IsPlain e → AreCopies e.shape.block_size b.entries →
-    length (text_blocks (text_of e b)) ≡ need (narrow e.shape.block_size) (length b.entries) 0
+length-text : (e : Engine) (b : Batch) → IsPlain e → AreCopies e.layout b.entries →
+    length (text_blocks (text_of e b)) ≡ need e.layout (length b.entries) 0
 length-text e b plain are =
-    let whole = each-whole e.shape.block_size b.entries are in
-    let layout = accepted-layout e.shape e.superblock (superblock-of e plain).accepted in
-    length_own_text (narrow e.shape.block_size) e.uuid b.tid b.entries layout
-    ∙ ap₂ (λ (c r : ℕ). need (narrow e.shape.block_size) c r)
-    (length-copied e.shape.block_size b.entries whole) (ap length (nothing-revoked e.shape.block_size b.entries whole))
+    let whole = each-whole e.layout b.entries are in
+    let layout = taken-layout plain.layout.0 in
+    length_own_text e.layout e.uuid b.tid b.entries layout
+    ∙ ap₂ (λ (c r : ℕ). need e.layout c r)
+    (length-copied e.layout.block_size b.entries whole) (ap length (nothing-revoked e.layout.block_size b.entries whole))
 
 -- the blocks that are due are as many as the transaction needs
 pub runs-blocks : (e : Engine) (b : Batch) → CanRun e → slice_get e.accepted e.committed ≡ Some b →
-    length (due_blocks e) ≡ need (narrow e.shape.block_size) (length b.entries) 0
+    length (due_blocks e) ≡ need e.layout (length b.entries) 0
 runs-blocks e b can stands =
     ap length (due-of e b stands)
-    ∙ length-text e b can.plain (all-at (λ (x : Batch). AreCopies e.shape.block_size x.entries) e.accepted e.committed b can.copies stands)
+    ∙ length-text e b can.plain (all-at (λ (x : Batch). AreCopies e.layout x.entries) e.accepted e.committed b can.copies stands)
 
 -- they fit the ring, so the transaction has no more copies than the ring has blocks
 pub runs-few : (e : Engine) (b : Batch) → CanRun e → slice_get e.accepted e.committed ≡ Some b → length b.entries ≤ e.ring.blocks
@@ -95,13 +95,13 @@ pub runs-number : (e : Engine) (b : Batch) → CanRun e → slice_get e.accepted
 runs-number e b can stands = number-at e.first e.committed e.accepted b can.plain.numbered stands
 
 -- what it needs is what its text takes
-pub room-of : (e : Engine) (b : Batch) → IsPlain e → AreCopies e.shape.block_size b.entries →
-    e.start + need (narrow e.shape.block_size) (length b.entries) 0 ≤ e.tail + e.ring.blocks → HasRoom e b
+pub room-of : (e : Engine) (b : Batch) → IsPlain e → AreCopies e.layout b.entries →
+    e.start + need e.layout (length b.entries) 0 ≤ e.tail + e.ring.blocks → HasRoom e b
 room-of e b plain are room = subst (λ (n : ℕ). e.start + n ≤ e.tail + e.ring.blocks) (sym (length-text e b plain are)) room
 
 -- what its text takes is what it needs
-pub need-of : (e : Engine) (b : Batch) → IsPlain e → AreCopies e.shape.block_size b.entries → HasRoom e b →
-    e.start + need (narrow e.shape.block_size) (length b.entries) 0 ≤ e.tail + e.ring.blocks
+pub need-of : (e : Engine) (b : Batch) → IsPlain e → AreCopies e.layout b.entries → HasRoom e b →
+    e.start + need e.layout (length b.entries) 0 ≤ e.tail + e.ring.blocks
 need-of e b plain are room = subst (λ (n : ℕ). e.start + n ≤ e.tail + e.ring.blocks) (length-text e b plain are) room
 
 -- an engine that may be handed a batch that there is room for takes it
@@ -120,7 +120,7 @@ takes e new b running may room after = record {
 pub takes-runs : (e new : Engine) (b : Batch) → CanRun e → MayHandOver e b → Accepts e b new → CanRun new
 takes-runs e new b can may accepts = subst CanRun (sym accepts.after) (record {
   plain = subst IsPlain accepts.after (accepts-plain e b new can.plain accepts);
-  copies = each-append (λ (x : Batch). AreCopies e.shape.block_size x.entries) e.accepted (b ∷ []) can.copies (may.copies, tt);
+  copies = each-append (λ (x : Batch). AreCopies e.layout x.entries) e.accepted (b ∷ []) can.copies (may.copies, tt);
 })
 
 -- the head of the ring is far from the end of the numbers of 64 bits

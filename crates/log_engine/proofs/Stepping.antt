@@ -5,6 +5,7 @@ use Rattle.std.proofs.lemmas.Option.{none-some}
 use Rattle.std.specs.List.{AllByRecursion}
 use Rattle.journal_model.specs.declared.entry.Batch.{Batch}
 use Rattle.journal_model.specs.Disk.{Disk}
+use Rattle.journal_model.specs.Layout.{Layout}
 use Rattle.journal_model.specs.Superblock.{Shape}
 use Rattle.block_device.specs.State.{DeviceState, EachMoment}
 use Rattle.journal_world.specs.declared.stage.Stage.{Stage}
@@ -67,16 +68,17 @@ opens-wider shape accepted low lower high disk less opens = record {
 -- the engine keeps its shape and what it accepted, and commits no fewer
 record Advances (old new : Engine) : Type 0 where
   shape : new.shape ≡ old.shape
+  layout : new.layout ≡ old.layout
   accepted : new.accepted ≡ old.accepted
   committed : old.committed ≤ new.committed
 
 advances-at : (e : Engine) (stage : Stage) → Advances e (stepped_from e stage)
-advances-at e Idle = record { shape = refl; accepted = refl; committed = omega arith }
-advances-at e SuperblockWrite = record { shape = refl; accepted = refl; committed = omega arith }
-advances-at e SuperblockFlush = record { shape = refl; accepted = refl; committed = omega arith }
-advances-at e (Blocks k) = record { shape = refl; accepted = refl; committed = omega arith }
-advances-at e CommitWrite = record { shape = refl; accepted = refl; committed = omega arith }
-advances-at e CommitFlush = record { shape = refl; accepted = refl; committed = omega arith }
+advances-at e Idle = record { shape = refl; layout = refl; accepted = refl; committed = omega arith }
+advances-at e SuperblockWrite = record { shape = refl; layout = refl; accepted = refl; committed = omega arith }
+advances-at e SuperblockFlush = record { shape = refl; layout = refl; accepted = refl; committed = omega arith }
+advances-at e (Blocks k) = record { shape = refl; layout = refl; accepted = refl; committed = omega arith }
+advances-at e CommitWrite = record { shape = refl; layout = refl; accepted = refl; committed = omega arith }
+advances-at e CommitFlush = record { shape = refl; layout = refl; accepted = refl; committed = omega arith }
 
 -- so what a later engine's images open to lies between the old bounds
 opens-before : (old new : Engine) (disk : Disk) → Advances old new → Sound new disk →
@@ -99,7 +101,7 @@ each-step old new before after moment sound step =
 pub each-fault : (old new : Engine) (before after : DeviceState) → IsOneMoment before after → Sound old before.disk → CommitFaults old before.disk new after.disk →
     EachMoment (IsDuringCommit old before.disk) before after
 each-fault old new before after moment sound fault =
-    let same : Advances old (record old { aborted = true }) = record { shape = refl; accepted = refl; committed = omega arith } in
+    let same : Advances old (record old { aborted = true }) = record { shape = refl; layout = refl; accepted = refl; committed = omega arith } in
     let advances : Advances old new = subst (Advances old) (sym fault.engine) same in
     each-one (IsDuringCommit old before.disk) before after moment (during-now old before.disk sound)
     (record { home = fault-home old new before.disk after.disk fault; opens = opens-before old new after.disk advances (fault-sound old new before.disk after.disk sound fault) })
@@ -154,18 +156,18 @@ pub steps-here : (e new : Engine) (call : Call) (disk after : Disk) → e.aborte
 steps-here e new call disk after running due engine is = record { running = running; call = call; due = due; engine = engine; disk_is = is }
 
 -- what the engine took has copies alone, before and after a step
-step-copies : (e : Engine) (stage : Stage) (size : ℕ) → AllByRecursion (λ b. AreCopies size b.entries) e.accepted →
-    AllByRecursion (λ b. AreCopies size b.entries) (stepped_from e stage).accepted
-step-copies e stage size are =
-    subst (λ (bs : List Batch). AllByRecursion (λ b. AreCopies size b.entries) bs) (sym (advances-at e stage).accepted) are
+step-copies : (e : Engine) (stage : Stage) (l : Layout) → AllByRecursion (λ b. AreCopies l b.entries) e.accepted →
+    AllByRecursion (λ b. AreCopies l b.entries) (stepped_from e stage).accepted
+step-copies e stage l are =
+    subst (λ (bs : List Batch). AllByRecursion (λ b. AreCopies l b.entries) bs) (sym (advances-at e stage).accepted) are
 
 -- an engine that can run can run after a step
 pub step-runs : (e new : Engine) (call : Call) → CanRun e → call_due e ≡ Some call → new ≡ stepped e → CanRun new
 step-runs e new call can due is =
-    let shape : (stepped e).shape ≡ e.shape = (advances-at e e.stage).shape in
+    let layout : (stepped e).layout ≡ e.layout = (advances-at e e.stage).layout in
     let here : CanRun (stepped e) = record {
       plain = step-plain e call can.plain due;
-      copies = subst (λ (s : Shape). AllByRecursion (λ b. AreCopies s.block_size b.entries) (stepped e).accepted) (sym shape)
-          (step-copies e e.stage e.shape.block_size can.copies);
+      copies = subst (λ (l : Layout). AllByRecursion (λ b. AreCopies l b.entries) (stepped e).accepted) (sym layout)
+          (step-copies e e.stage e.layout can.copies);
     } in
     subst CanRun (sym is) here

@@ -6,7 +6,7 @@ use Rattle.journal_model.specs.declared.entry.Entry.{Entry}
 use Rattle.journal_model.specs.declared.entry.Entry.TheVariants.{Copy, Revoke}
 use Rattle.journal_model.specs.Descriptor.{descriptor_block}
 use Rattle.journal_model.specs.Escape.{escaped}
-use Rattle.journal_model.specs.Layout.{IsLayout, narrow}
+use Rattle.journal_model.specs.Layout.{IsLayout, Layout}
 use Rattle.journal_model.specs.OwnText.{copied, own_text, revoked, tags_from}
 use Rattle.journal_model.specs.Room.{need}
 use Rattle.journal_model.specs.Text.{text_blocks}
@@ -56,33 +56,33 @@ stored-is : (e : Entry) (block : List ℕ) → IsStored e block → block ≡ es
 stored-is (Copy v) block stored = stored
 stored-is Revoke block stored = absurd stored
 
-module _ (size : ℕ) (uuid : List ℕ) (sequence : ℕ) (entries : List (ℕ × Entry)) (are : AreCopies size entries) where
+module _ (l : Layout) (uuid : List ℕ) (sequence : ℕ) (entries : List (ℕ × Entry)) (are : AreCopies l entries) where
   -- each entry is a copy of one block
-  whole : AreWhole size entries
-  whole = each-whole size entries are
+  whole : AreWhole l.block_size entries
+  whole = each-whole l entries are
 
   -- there are as many blocks as the copies need
-  pub length-blocks : IsLayout (narrow size) → length (text_blocks (own_text (narrow size) uuid sequence entries)) ≡ need (narrow size) (length entries) 0
+  pub length-blocks : IsLayout l → length (text_blocks (own_text l uuid sequence entries)) ≡ need l (length entries) 0
   length-blocks layout =
-      length_own_text (narrow size) uuid sequence entries layout
-      ∙ ap₂ (need (narrow size)) (length-copied size entries whole) (ap length (nothing-revoked size entries whole))
+      length_own_text l uuid sequence entries layout
+      ∙ ap₂ (need l) (length-copied l.block_size entries whole) (ap length (nothing-revoked l.block_size entries whole))
 
   -- as many copies as entries, and no revokes
   pub counts : (length (copied entries) ≡ length entries) × (length (revoked entries) ≡ 0)
-  counts = (length-copied size entries whole, ap length (nothing-revoked size entries whole))
+  counts = (length-copied l.block_size entries whole, ap length (nothing-revoked l.block_size entries whole))
 
   -- the block at a place of the text
-  pub block-here : (k : ℕ) (block : List ℕ) → slice_get (text_blocks (own_text (narrow size) uuid sequence entries)) k ≡ Some block →
-      block_at (text_blocks (own_text (narrow size) uuid sequence entries)) k ≡ block
+  pub block-here : (k : ℕ) (block : List ℕ) → slice_get (text_blocks (own_text l uuid sequence entries)) k ≡ Some block →
+      block_at (text_blocks (own_text l uuid sequence entries)) k ≡ block
   block-here k block stands = ap (λ (o : Option (List ℕ)). unwrap_or o []) stands
 
   -- the descriptor of some entries
   pub descriptor-of : (first tags to : ℕ) → to ≡ first + tags →
-      descriptor_block (narrow size) uuid sequence (tags_from true (copied (take (to - first) (drop first entries))))
-      ≡ descriptor_block (narrow size) uuid sequence (tags_from true (take tags (drop first (copied entries))))
+      descriptor_block l uuid sequence (tags_from true (copied (take (to - first) (drop first entries))))
+      ≡ descriptor_block l uuid sequence (tags_from true (take tags (drop first (copied entries))))
   descriptor-of first tags to bound_position =
-      ap (λ (cs : List (ℕ × List ℕ)). descriptor_block (narrow size) uuid sequence (tags_from true cs))
-      (ap (λ (n : ℕ). copied (take n (drop first entries))) {x = to - first} {y = tags} (omega arith) ∙ copied-part size tags first entries whole)
+      ap (λ (cs : List (ℕ × List ℕ)). descriptor_block l uuid sequence (tags_from true cs))
+      (ap (λ (n : ℕ). copied (take n (drop first entries))) {x = to - first} {y = tags} (omega arith) ∙ copied-part l.block_size tags first entries whole)
 
   -- what stands for an entry is its copy, escaped
   pub copy-of : (k : ℕ) (d : ℕ × Entry) (block : List ℕ) → k < length entries → IsStored (get_or entries k d).1 block →
@@ -90,4 +90,4 @@ module _ (size : ℕ) (uuid : List ℕ) (sequence : ℕ) (entries : List (ℕ ×
   copy-of k d block there stored =
       let p : ℕ × Entry = get_or entries k d in
       stored-is p.1 block stored
-      ∙ ap (λ (o : Option (ℕ × List ℕ)). escaped (unwrap_or o (0, [])).1) (sym (copied-at size k entries p whole (slice_get-get_or entries k d there)))
+      ∙ ap (λ (o : Option (ℕ × List ℕ)). escaped (unwrap_or o (0, [])).1) (sym (copied-at l.block_size k entries p whole (slice_get-get_or entries k d there)))

@@ -5,7 +5,6 @@ use Rattle.journal_model.specs.declared.refusal.JournalError.{JournalError}
 use Rattle.journal_model.specs.declared.refusal.JournalError.TheVariants.{Aborted, BadBlock, Device, Memory, NeedSpace}
 use Rattle.journal_model.specs.Block.{IsAllowedBlock}
 use Rattle.journal_model.specs.Disk.{Disk}
-use Rattle.journal_model.specs.Layout.{narrow}
 use Rattle.journal_model.specs.Opening.{greatest_number}
 use Rattle.block_device.specs.State.{DeviceState, Stays, one_more_fault}
 use Rattle.journal_world.specs.declared.round.Round.TheVariants.{Idle as NoRound}
@@ -28,8 +27,8 @@ pub record MayHandOver (e : Engine) (b : Batch) : Type 0 where
   pub idle : e.stage ≡ Idle
   pub number : b.tid ≡ e.first + e.committed
   pub left : b.tid ≤ greatest_number
-  pub batch : IsBatch e.shape b
-  pub copies : AreCopies e.shape.block_size b.entries
+  pub batch : IsBatch e.layout e.shape b
+  pub copies : AreCopies e.layout b.entries
   pub few : length b.entries ≤ e.ring.blocks
 
 -- why a batch is refused: the device failed before, the ring is too short, or memory runs out
@@ -75,7 +74,7 @@ pub data RoundRefused (old : Engine) (before : DeviceState) (new : Engine) (afte
 
 -- the block is one that may be touched
 abbrev pub MayTouch : Engine → ℕ → Type 0
-MayTouch e b = IsAllowedBlock (narrow e.shape.block_size) e.shape.home_blocks b
+MayTouch e b = IsAllowedBlock e.layout e.shape.home_blocks b
 
 -- why a read is refused: the device failed before, the block is none that may be touched, or no copy of it is pending and the
 -- device failed in the read

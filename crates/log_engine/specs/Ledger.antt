@@ -18,6 +18,7 @@ use Rattle.log_engine.specs.Text.{AreCopies}
 abbrev pub engine_of : Shape → Ledger → Engine
 engine_of shape l = record {
   shape = shape;
+  layout = l.layout;
   ring = l.ring.ring;
   uuid = l.uuid;
   superblock = l.superblock.items;
@@ -38,7 +39,7 @@ engine_of shape l = record {
 -- the engine can run: what it knows agrees, and each transaction that it took has copies alone
 pub record CanRun (e : Engine) : Type 0 where
   pub plain : IsPlain e
-  pub copies : AllByRecursion (λ b. AreCopies e.shape.block_size b.entries) e.accepted
+  pub copies : AllByRecursion (λ b. AreCopies e.layout b.entries) e.accepted
 
 -- the ring is taken up to the end of the transaction that is being committed
 pub record HasTaken (shape : Shape) (l : Ledger) : Type 0 where

@@ -75,7 +75,7 @@ impl Ledger {
         ensures fits { (shape : Shape) → CanRun (engine_of shape self.now) → shape.block_size ≡ length writer.old → Fits shape result writer.new }
         ensures size { length writer.new ≡ length writer.old }
     {
-        writer.write_block(&self.uuid, self.batch_due(), k);
+        writer.write_block(self.layout, &self.uuid, self.batch_due(), k);
         Due::Write(Area::Log, self.ring.place(self.start + k))
     }
 

@@ -1,7 +1,7 @@
 //! The engine that a journal stands on: one contract for each step, of the machine's own steps.
 ghost use Rattle.std.specs.Prelude.{◌≡◌, ◌≢◌, ◌+◌, ◌≤◌, ◌↔◌, ℕ, List, IsTrue, false, length, IfOk, IfErr, MatchResult, OnOk};
 ghost use Rattle.journal_model.specs.declared.refusal.JournalError.TheVariants.{Device as DeviceFailed, Memory};
-ghost use Rattle.journal_model.specs.Layout.{narrow};
+ghost use Rattle.journal_model.specs.Layout.{IsTaken};
 ghost use Rattle.journal_model.specs.Opening.{ring_of};
 ghost use Rattle.journal_model.specs.Room.{need};
 ghost use Rattle.journal_model.specs.Superblock.{super_in};
@@ -23,7 +23,7 @@ use crate::ledger::Ledger;
 use crate::text::TextWriter;
 use block_device::Device;
 use checkpoint::Pending;
-use journal_model::{Area, Batch, BlockNo, JournalError, Tid};
+use journal_model::{Area, Batch, BlockNo, JournalError, LogLayout, Tid};
 use journal_world::Stage;
 use log_format::Super;
 use recovery::Opened;
@@ -79,7 +79,7 @@ impl<D: Device> Engine<D> {
             IsOpenedLog (D.state opened.device).shape (D.state opened.device).disk opened.superblock opened.next) }
         ensures err { IfErr result (λ e. (e.0 ≡ opened) × (e.1 ≡ Memory)) }
     {
-        let Ok(writer) = TextWriter::new(alloc, opened.block_size()) else {
+        let Ok(writer) = TextWriter::new(alloc, opened.layout()) else {
             return Err((opened, JournalError::Memory));
         };
         let Ok(pending) = Pending::new(alloc, ring_blocks(opened.superblock())) else {
@@ -133,6 +133,14 @@ impl<D: Device> Engine<D> {
         self.device.block_size()
     }
 
+    /// The layout of the log.
+    pub fn layout(&self) -> LogLayout
+        ensures layout { result ≡ self.now.engine.layout }
+        ensures taken { IsTaken result }
+    {
+        self.ledger.layout
+    }
+
     /// How many blocks the ring has.
     pub fn ring_blocks(&self) -> u64
         ensures { result ≡ self.now.engine.ring.blocks }
@@ -145,7 +153,7 @@ impl<D: Device> Engine<D> {
     pub fn has_room(&self, copies: usize) -> bool
         requires { self.now.engine.stage ≡ Idle }
         ensures { IsTrue result ↔
-            (self.now.engine.start + need (narrow self.now.engine.shape.block_size) copies 0 ≤ self.now.engine.tail + self.now.engine.ring.blocks) }
+            (self.now.engine.start + need self.now.engine.layout copies 0 ≤ self.now.engine.tail + self.now.engine.ring.blocks) }
     {
         self.ledger.has_room(copies)
     }
@@ -243,7 +251,7 @@ impl<D: Device> Engine<D> {
     ///
     /// # Errors
     ///
-    /// `Aborted` after a device failure; `BadBlock` where home has no such block, or its number is not below 2^32: nothing
+    /// `Aborted` after a device failure; `BadBlock` where home has no such block, or no tag of the log can spell its number: nothing
     /// changes. `Device` where the device fails: the journal is aborted, and the buffer's bytes are unspecified.
     pub fn read(&mut self, block: BlockNo, into: &mut [u8]) -> Result<(), JournalError>
         requires { length into.old ≡ (D.state self.old.device).shape.block_size }
@@ -260,7 +268,7 @@ impl<D: Device> Engine<D> {
         if self.ledger.aborted {
             return Err(JournalError::Aborted);
         }
-        if !block.is_allowed(self.device.blocks(Area::Home)) {
+        if !block.is_allowed(self.ledger.layout, self.device.blocks(Area::Home)) {
             return Err(JournalError::BadBlock);
         }
         if let Some(version) = self.ledger.pending.lookup(block) {

@@ -1,9 +1,8 @@
 //! What an engine knows beside its device.
 ghost use Rattle.std.specs.Prelude.{◌≡◌, ◌+◌, ◌<◌, ◌≤◌, ◌↔◌, ◌^◌, IsTrue, if◌then◌else◌, length, IfErr, OnErr, OnOk};
-ghost use Rattle.journal_model.specs.Layout.{narrow};
+ghost use Rattle.journal_model.specs.Layout.{IsTaken};
 ghost use Rattle.journal_model.specs.Room.{need};
 ghost use Rattle.journal_model.specs.Superblock.{Shape, least_ring, super_in};
-ghost use Rattle.log_format.specs.Size.{IsBlockSize};
 ghost use Rattle.journal_world.specs.declared.stage.Stage.TheVariants.{Idle, Blocks, SuperblockWrite};
 ghost use Rattle.journal_world.specs.Engine.{HasRoom, accepting};
 ghost use Rattle.journal_world.specs.Journal.{fresh_engine};
@@ -11,7 +10,7 @@ ghost use Rattle.log_engine.specs.Engine.{MayHandOver};
 ghost use Rattle.log_engine.specs.Ledger.{CanRunOn, Runs, engine_of};
 
 use checkpoint::Pending;
-use journal_model::Batch;
+use journal_model::{Batch, LogLayout};
 use journal_world::{Round, Stage};
 use log_format::Super;
 use log_ring::Ring;
@@ -24,6 +23,8 @@ pub(crate) struct Ledger {
     pub(crate) ring: Ring,
     /// The position in it where the next transaction begins, or the one that is being committed.
     pub(crate) start: u64,
+    /// The layout of the log.
+    pub(crate) layout: LogLayout,
     /// The journal's UUID.
     pub(crate) uuid: [u8; 16],
     /// Block 0 of the log, as it was last written.
@@ -67,6 +68,7 @@ impl Ledger {
         Ledger {
             ring: Ring::new(fields.s_first, fields.s_maxlen),
             start: 0,
+            layout: fields.layout(),
             uuid,
             superblock,
             started: false,
@@ -85,18 +87,18 @@ impl Ledger {
 
     /// How many log blocks a transaction of so many copies takes.
     pub(crate) fn need(&self, copies: usize) -> u64
-        requires size { IsBlockSize (length self.now.superblock.items) }
+        requires taken { IsTaken self.now.layout }
         requires few { copies ≤ 2 ^ 32 }
-        ensures { result ≡ need (narrow (length self.now.superblock.items)) copies 0 }
+        ensures { result ≡ need self.now.layout copies 0 }
     {
-        Ring::need(self.superblock.len(), copies as u64, 0)
+        Ring::need(self.layout, copies as u64, 0)
     }
 
     /// Whether the ring has as many free blocks.
     pub(crate) fn has_room(&self, copies: usize) -> bool
         requires can_run { CanRunOn self.now (length self.now.superblock.items) }
         requires idle { self.now.stage ≡ Idle }
-        ensures { IsTrue result ↔ (self.now.start + need (narrow (length self.now.superblock.items)) copies 0 ≤ self.now.ring.tail + self.now.ring.ring.blocks) }
+        ensures { IsTrue result ↔ (self.now.start + need self.now.layout copies 0 ≤ self.now.ring.tail + self.now.ring.ring.blocks) }
     {
         copies as u64 <= self.ring.blocks() && self.need(copies) <= self.ring.free()
     }
@@ -106,7 +108,7 @@ impl Ledger {
     pub(crate) fn take(&mut self, batch: Batch) -> Result<(), Batch>
         requires { (shape : Shape) × Runs shape self.old × MayHandOver (engine_of shape self.old) batch × HasRoom (engine_of shape self.old) batch }
         ensures ok { OnOk result ((shape : Shape) → engine_of shape self.new ≡ accepting (engine_of shape self.old) batch) }
-        ensures head { OnOk result (self.new.ring.head ≡ self.old.ring.head + need (narrow (length self.old.superblock.items)) (length batch.entries) 0) }
+        ensures head { OnOk result (self.new.ring.head ≡ self.old.ring.head + need self.old.layout (length batch.entries) 0) }
         ensures pending { self.new.pending ≡ self.old.pending }
         ensures err { IfErr result (λ b. b ≡ batch) }
         ensures same { OnErr result (((shape : Shape) → engine_of shape self.new ≡ engine_of shape self.old) × (self.new.ring ≡ self.old.ring)) }

@@ -1,7 +1,7 @@
 //! The log blocks of a transaction, built one at a time.
 ghost use Rattle.std.specs.Prelude.{◌≡◌, ◌+◌, ◌^◌, ◌<◌, ◌≤◌, true, length, IfOk, All};
 ghost use Rattle.journal_model.specs.Descriptor.{descriptor_block};
-ghost use Rattle.journal_model.specs.Layout.{narrow, tags_of};
+ghost use Rattle.journal_model.specs.Layout.{IsTaken, tags_of};
 ghost use Rattle.journal_model.specs.OwnText.{copied, own_text, tags_from};
 ghost use Rattle.journal_model.specs.Room.{need};
 ghost use Rattle.journal_model.specs.Superblock.{with_tail};
@@ -11,7 +11,7 @@ ghost use Rattle.journal_world.specs.Engine.{block_at};
 ghost use Rattle.log_ring.specs.Parts.{FitsPart, part_block};
 ghost use Rattle.log_engine.specs.Text.{AreCopies, IsLong, IsStored, IsWholeCopy, is_escaped};
 
-use journal_model::{Batch, BlockNo, Entry, Tag};
+use journal_model::{Batch, BlockNo, Entry, LogLayout, Tag};
 use log_format::{CommitBlock, Descriptor, Header, Super, escape};
 use log_ring::{Layout, Part};
 use std::alloc::{AllocError, Global};
@@ -25,26 +25,25 @@ pub(crate) struct TextWriter {
 }
 
 impl Model for TextWriter {
-    ghost use Rattle.std.specs.Prelude.{◌≡◌, List, ℕ, length};
-    ghost use Rattle.journal_model.specs.Layout.{narrow, tags_of};
-    ghost use Rattle.log_format.specs.Size.{IsBlockSize};
+    ghost use Rattle.std.specs.Prelude.{List, ℕ, length};
+    ghost use Rattle.log_engine.specs.Text.{HasRoomFor};
 
     ghost Value = { List ℕ };
 
     ghost view = { λ w. w.block.items };
 
-    ghost invariant = { λ w. IsBlockSize (length w.block.items) × (length w.tags.items ≡ tags_of (narrow (length w.block.items))) };
+    ghost invariant = { λ w. HasRoomFor (length w.block.items) (length w.tags.items) };
 }
 
 impl TextWriter {
-    /// A writer of blocks of 1024, 2048 or 4096 bytes. It fails where memory runs out.
-    pub(crate) fn new(alloc: Global, block_size: usize) -> Result<Self, AllocError>
-        requires { IsBlockSize block_size }
-        ensures { IfOk result (λ w. length w ≡ block_size) }
+    /// A writer for logs of this layout. It fails where memory runs out.
+    pub(crate) fn new(alloc: Global, layout: LogLayout) -> Result<Self, AllocError>
+        requires { IsTaken layout }
+        ensures { IfOk result (λ w. length w ≡ layout.block_size) }
     {
         Ok(TextWriter {
-            block: vec![in alloc; 0; block_size]?,
-            tags: vec![in alloc; Tag::UNUSED; Layout::tags_of(block_size) as usize]?,
+            block: vec![in alloc; 0; layout.block_size]?,
+            tags: vec![in alloc; Tag::UNUSED; Layout::tags_of(layout) as usize]?,
         })
     }
 
@@ -56,14 +55,17 @@ impl TextWriter {
     }
 
     /// Builds block `k` of a transaction that revokes nothing, counted from 0: a descriptor, a copy, or the commit block.
-    pub(crate) fn write_block(&mut self, uuid: &[u8; 16], batch: &Batch, k: u64)
-        requires copies { AreCopies (length self.old) batch.now.entries }
+    pub(crate) fn write_block(&mut self, layout: LogLayout, uuid: &[u8; 16], batch: &Batch, k: u64)
+        requires taken { IsTaken layout }
+        requires size { length self.old ≡ layout.block_size }
+        requires copies { AreCopies layout batch.now.entries }
         requires few { length batch.now.entries ≤ 2 ^ 32 }
-        requires there { k < length (text_blocks (own_text (narrow (length self.old)) uuid.now batch.now.tid batch.now.entries)) }
-        ensures block { self.new ≡ block_at (text_blocks (own_text (narrow (length self.old)) uuid.now batch.now.tid batch.now.entries)) k }
+        requires there { k < length (text_blocks (own_text layout uuid.now batch.now.tid batch.now.entries)) }
+        ensures block { self.new ≡ block_at (text_blocks (own_text layout uuid.now batch.now.tid batch.now.entries)) k }
         ensures size { length self.new ≡ length self.old }
     {
         write_log_block(
+            layout,
             &mut self.block,
             &mut self.tags,
             uuid,
@@ -95,6 +97,7 @@ impl TextWriter {
 
 /// Writes block `k` of the transaction with these entries, which are copies.
 fn write_log_block(
+    layout: LogLayout,
     block: &mut [u8],
     tags: &mut [Tag],
     uuid: &[u8; 16],
@@ -102,19 +105,21 @@ fn write_log_block(
     entries: &[(BlockNo, Entry)],
     k: u64,
 )
-    requires size { IsBlockSize (length block.old) }
-    requires room { length tags.old ≡ tags_of (narrow (length block.old)) }
-    requires copies { AreCopies (length block.old) entries.now }
+    requires taken { IsTaken layout }
+    requires size { length block.old ≡ layout.block_size }
+    requires room { tags_of layout ≤ length tags.old }
+    requires copies { AreCopies layout entries.now }
     requires few { length entries.now ≤ 2 ^ 32 }
-    requires there { k < length (text_blocks (own_text (narrow (length block.old)) uuid.now sequence entries.now)) }
-    ensures { block.new ≡ block_at (text_blocks (own_text (narrow (length block.old)) uuid.now sequence entries.now)) k }
+    requires there { k < length (text_blocks (own_text layout uuid.now sequence entries.now)) }
+    ensures { block.new ≡ block_at (text_blocks (own_text layout uuid.now sequence entries.now)) k }
 {
-    let layout = Layout::new(block.len(), entries.len() as u64, 0);
-    write_part(block, tags, uuid, sequence, entries, layout.part(k));
+    let text = Layout::new(layout, entries.len() as u64, 0);
+    write_part(layout, block, tags, uuid, sequence, entries, text.part(k));
 }
 
 /// Writes the part of the transaction with these entries, which are copies.
 fn write_part(
+    layout: LogLayout,
     block: &mut [u8],
     tags: &mut [Tag],
     uuid: &[u8; 16],
@@ -122,18 +127,19 @@ fn write_part(
     entries: &[(BlockNo, Entry)],
     part: Part,
 )
-    requires size { IsBlockSize (length block.old) }
-    requires room { length tags.old ≡ tags_of (narrow (length block.old)) }
-    requires copies { AreCopies (length block.old) entries.now }
-    requires part { FitsPart (narrow (length block.old)) (length entries.now) 0 part }
-    ensures { block.new ≡ part_block (narrow (length block.old)) uuid.now sequence entries.now part }
+    requires taken { IsTaken layout }
+    requires size { length block.old ≡ layout.block_size }
+    requires room { tags_of layout ≤ length tags.old }
+    requires copies { AreCopies layout entries.now }
+    requires part { FitsPart layout (length entries.now) 0 part }
+    ensures { block.new ≡ part_block layout uuid.now sequence entries.now part }
 {
     match part {
         Part::Revokes { .. } => {}
         Part::Descriptor { first, tags: count } => {
             let first = first as usize;
             let group = &entries[first..first + count as usize];
-            write_descriptor(block, tags, uuid, sequence, group);
+            write_descriptor(layout, block, tags, uuid, sequence, group);
         }
         Part::Copy(k) => write_copy(block, &entries[k as usize].1),
         Part::Commit => CommitBlock::write(block, sequence),
@@ -142,21 +148,23 @@ fn write_part(
 
 /// Writes the descriptor of these entries, which are copies.
 fn write_descriptor(
+    layout: LogLayout,
     block: &mut [u8],
     tags: &mut [Tag],
     uuid: &[u8; 16],
     sequence: u32,
     entries: &[(BlockNo, Entry)],
 )
-    requires size { IsBlockSize (length block.old) }
-    requires room { length tags.old ≡ tags_of (narrow (length block.old)) }
-    requires copies { AreCopies (length block.old) entries.now }
-    requires few { length entries.now ≤ tags_of (narrow (length block.old)) }
-    ensures { block.new ≡ descriptor_block (narrow (length block.old)) uuid.now sequence (tags_from true (copied entries.now)) }
+    requires taken { IsTaken layout }
+    requires size { length block.old ≡ layout.block_size }
+    requires room { tags_of layout ≤ length tags.old }
+    requires copies { AreCopies layout entries.now }
+    requires few { length entries.now ≤ tags_of layout }
+    ensures { block.new ≡ descriptor_block layout uuid.now sequence (tags_from true (copied entries.now)) }
 {
     let tags = &mut tags[..entries.len()];
     make_tags(tags, entries);
-    Descriptor::write(block, uuid, sequence, tags);
+    Descriptor::write(layout, block, uuid, sequence, tags);
 }
 
 /// Makes the tags of one descriptor, one for each of these entries, which are copies.

@@ -3,6 +3,7 @@ pub mod Accepting
 pub mod Flags
 pub mod Formatted
 pub mod Formatting
+pub mod Layouts
 pub mod Numbers
 pub mod Reading
 pub mod Revokes

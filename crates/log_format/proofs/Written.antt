@@ -1,22 +1,18 @@
 -- What the writer makes of some copies and some numbers.
-use Rattle.std.proofs.Common.{refl, ap, arith, inl}
-use Rattle.std.specs.Prelude.{◌≡◌, ℕ, suc, ◌^◌, ◌<◌, ◌≤◌, Bool, true, false, List, [], ◌∷◌, length, drop, min, All}
+use Rattle.std.proofs.Common.{refl, ap, sym, ◌∙◌, arith}
+use Rattle.std.specs.Prelude.{◌≡◌, ℕ, suc, ◌+◌, ◌*◌, ◌^◌, ◌<◌, ◌≤◌, Bool, true, false, List, [], ◌∷◌, ◌++◌, length, drop, min, All}
 use Rattle.std.proofs.lemmas.List.Elements.{All-cons, All-head, All-nil, All-tail, All-weaker}
 use Rattle.std.proofs.Math.Nat.{le-min, min-le_left, min-le_right}
 use Rattle.journal_model.specs.declared.log.Tag.{Tag}
 use Rattle.journal_model.specs.Block.{IsAllowedBlock}
 use Rattle.journal_model.specs.Descriptor.{IsDescriptor, descriptor_block}
-use Rattle.journal_model.specs.Layout.{IsLayout, Layout, narrow, every_number, numbers_of, padded, revoke_type, tags_of, uuid_bytes}
+use Rattle.journal_model.specs.Layout.{IsLayout, Layout, big_endian, every_number, header, number_at, numbers_of, padded, revoke_header_bytes, revoke_type, tags_of, uuid_bytes}
 use Rattle.journal_model.specs.OwnText.{tags_from}
 use Rattle.journal_model.specs.RevokeBlock.{IsRevokeBlock, revoke_block}
 use Rattle.journal_model.proofs.OwnTextBlocks.{copies_are}
 use Rattle.journal_model.proofs.OwnTextHeader.{header_read}
 use Rattle.journal_model.proofs.OwnTextRevokes.{revoke_block_is}
-use Rattle.log_format.specs.Size.{FitDescriptor, IsBlockSize}
-
--- the layout of blocks of each size
-pub narrow_layout : (size : ℕ) → IsBlockSize size → IsLayout (narrow size)
-narrow_layout size is = (is, inl refl)
+use Rattle.log_format.specs.Size.{FitDescriptor}
 
 -- there is a tag for each copy
 length-tags_from : (first : Bool) (copies : List (ℕ × List ℕ)) → length (tags_from first copies) ≡ length copies
@@ -43,24 +39,26 @@ tags_below count first (c ∷ cs) below =
     (tags_below count false cs (All-tail (λ d. d.0 < count) c cs below))
 
 -- the tags of a few copies fit one descriptor
-pub tags_from-fit : (size : ℕ) (copies : List (ℕ × List ℕ)) →
-    IsBlockSize size → length copies ≤ tags_of (narrow size) → All (λ c. c.0 < every_number (narrow size)) copies →
-    FitDescriptor (narrow size) (tags_from true copies)
-tags_from-fit size copies is few below =
+pub tags_from-fit : (l : Layout) (copies : List (ℕ × List ℕ)) →
+    length copies ≤ tags_of l → All (λ c. c.0 < every_number l) copies →
+    FitDescriptor l (tags_from true copies)
+tags_from-fit l copies few below =
     record {
       few = omega (arith, length-tags_from true copies);
       one_uuid = one_uuid copies;
-      spelled = tags_below (every_number (narrow size)) true copies below;
+      spelled = tags_below (every_number l) true copies below;
     }
 
 -- a revoke block without numbers
-none_revoked : (size count sequence : ℕ) → IsBlockSize size → sequence < 2 ^ 32 → IsRevokeBlock (narrow size) count sequence (revoke_block (narrow size) sequence []) []
+none_revoked : (l : Layout) (count sequence : ℕ) → IsLayout l → sequence < 2 ^ 32 → IsRevokeBlock l count sequence (revoke_block l sequence []) []
 unfolding revoke_block padded
-none_revoked size count sequence is small =
+none_revoked l count sequence is small =
+    let used_is : ℕ → ℕ = λ n. number_at 12 4 (padded l.block_size (header revoke_type sequence ++ big_endian 4 n ++ [])) in
+    let none : revoke_header_bytes + l.number_bytes * 0 ≡ 16 = omega arith in
     record {
       has_header = header_read revoke_type sequence _ (omega arith) small;
-      used = refl;
-      fits = omega arith;
+      used = ap used_is none ∙ sym none;
+      fits = omega (arith, none, is.0);
       spelled = refl;
       below = All-nil (λ b. b < count);
     }
@@ -70,13 +68,13 @@ below_lesser : (l : Layout) (count b : ℕ) → IsAllowedBlock l count b → b <
 below_lesser l count b allowed = le-min allowed.in_home allowed.spelled
 
 -- a revoke block of a few numbers below a count that the layout can spell is one of them
-few_revoked : (size count sequence : ℕ) (numbers : List ℕ) →
-    IsBlockSize size → count ≤ every_number (narrow size) → sequence < 2 ^ 32 →
-    length numbers ≤ numbers_of (narrow size) → All (λ b. b < count) numbers →
-    IsRevokeBlock (narrow size) count sequence (revoke_block (narrow size) sequence numbers) numbers
-few_revoked size count sequence [] is spelled small few below = none_revoked size count sequence is small
-few_revoked size count sequence (n ∷ ns) is spelled small few below =
-    revoke_block_is (narrow size) count sequence (n ∷ ns) (narrow_layout size is) spelled small (record { some = omega arith; most = few; each = below })
+few_revoked : (l : Layout) (count sequence : ℕ) (numbers : List ℕ) →
+    IsLayout l → count ≤ every_number l → sequence < 2 ^ 32 →
+    length numbers ≤ numbers_of l → All (λ b. b < count) numbers →
+    IsRevokeBlock l count sequence (revoke_block l sequence numbers) numbers
+few_revoked l count sequence [] is spelled small few below = none_revoked l count sequence is small
+few_revoked l count sequence (n ∷ ns) is spelled small few below =
+    revoke_block_is l count sequence (n ∷ ns) is spelled small (record { some = omega arith; most = few; each = below })
 
 -- a revoke block for a home area is one for a greater home area
 more_home_revoked : (l : Layout) (count less sequence : ℕ) (block numbers : List ℕ) →
@@ -91,15 +89,15 @@ more_home_revoked l count less sequence block numbers le is =
     }
 
 -- a revoke block of a few numbers is one of them
-pub numbers_revoked : (size count sequence : ℕ) (numbers : List ℕ) →
-    IsBlockSize size → sequence < 2 ^ 32 →
-    length numbers ≤ numbers_of (narrow size) → All (IsAllowedBlock (narrow size) count) numbers →
-    IsRevokeBlock (narrow size) count sequence (revoke_block (narrow size) sequence numbers) numbers
-numbers_revoked size count sequence numbers is small few allowed =
-    let lesser : ℕ = min count (every_number (narrow size)) in
-    let below = All-weaker (IsAllowedBlock (narrow size) count) (λ b. b < lesser) (below_lesser (narrow size) count) numbers allowed in
-    more_home_revoked (narrow size) count lesser sequence _ numbers (min-le_left count (every_number (narrow size)))
-    (few_revoked size lesser sequence numbers is (min-le_right count (every_number (narrow size))) small few below)
+pub numbers_revoked : (l : Layout) (count sequence : ℕ) (numbers : List ℕ) →
+    IsLayout l → sequence < 2 ^ 32 →
+    length numbers ≤ numbers_of l → All (IsAllowedBlock l count) numbers →
+    IsRevokeBlock l count sequence (revoke_block l sequence numbers) numbers
+numbers_revoked l count sequence numbers is small few allowed =
+    let lesser : ℕ = min count (every_number l) in
+    let below = All-weaker (IsAllowedBlock l count) (λ b. b < lesser) (below_lesser l count) numbers allowed in
+    more_home_revoked l count lesser sequence _ numbers (min-le_left count (every_number l))
+    (few_revoked l lesser sequence numbers is (min-le_right count (every_number l)) small few below)
 
 -- a descriptor for a home area is one for a greater home area
 more_home_described : (l : Layout) (count less sequence : ℕ) (block : List ℕ) (tags : List Tag) →
@@ -112,13 +110,12 @@ more_home_described l count less sequence block tags le is =
     }
 
 -- the descriptor of a few copies is one with their tags
-pub copies_described : (size count sequence : ℕ) (uuid : List ℕ) (copies : List (ℕ × List ℕ)) →
-    IsBlockSize size → length uuid ≡ uuid_bytes → sequence < 2 ^ 32 →
-    0 < length copies → length copies ≤ tags_of (narrow size) → All (λ c. IsAllowedBlock (narrow size) count c.0) copies →
-    IsDescriptor (narrow size) count sequence (descriptor_block (narrow size) uuid sequence (tags_from true copies)) (tags_from true copies)
-copies_described size count sequence uuid copies is long small some few allowed =
-    let l : Layout = narrow size in
+pub copies_described : (l : Layout) (count sequence : ℕ) (uuid : List ℕ) (copies : List (ℕ × List ℕ)) →
+    IsLayout l → length uuid ≡ uuid_bytes → sequence < 2 ^ 32 →
+    0 < length copies → length copies ≤ tags_of l → All (λ c. IsAllowedBlock l count c.0) copies →
+    IsDescriptor l count sequence (descriptor_block l uuid sequence (tags_from true copies)) (tags_from true copies)
+copies_described l count sequence uuid copies is long small some few allowed =
     let lesser : ℕ = min count (every_number l) in
     let below = All-weaker (λ c. IsAllowedBlock l count c.0) (λ c. c.0 < lesser) (λ c. below_lesser l count c.0) copies allowed in
-    let group = copies_are l uuid lesser sequence copies (narrow_layout size is) long (min-le_right count (every_number l)) small (record { some = some; most = few; each = below }) in
+    let group = copies_are l uuid lesser sequence copies is long (min-le_right count (every_number l)) small (record { some = some; most = few; each = below }) in
     more_home_described l count lesser sequence _ (tags_from true copies) (min-le_left count (every_number l)) group.descriptor

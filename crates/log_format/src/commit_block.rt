@@ -1,6 +1,6 @@
 //! The commit block.
 ghost use Rattle.std.specs.Prelude.{◌≡◌, length};
-ghost use Rattle.journal_model.specs.Layout.{narrow};
+ghost use Rattle.journal_model.specs.Layout.{Layout};
 ghost use Rattle.journal_model.specs.OwnText.{commit_block};
 ghost use Rattle.log_format.specs.Size.{IsBlockSize};
 
@@ -13,11 +13,11 @@ pub struct CommitBlock;
 
 impl CommitBlock {
     /// Writes a commit block over all of `block`, which has 1024, 2048 or 4096 bytes: the header, with the number
-    /// `sequence` of the transaction, and zeros behind it.
+    /// `sequence` of the transaction, and zeros behind it, in each layout of such blocks.
     /// Source: journal.rst, "Commit Block".
     pub fn write(block: &mut [u8], sequence: u32)
         requires { IsBlockSize (length block.old) }
-        ensures { block.new ≡ commit_block (narrow (length block.old)) sequence }
+        ensures { (l : Layout) → l.block_size ≡ length block.old → block.new ≡ commit_block l sequence }
     {
         let header = Header {
             block_type: COMMIT_TYPE,

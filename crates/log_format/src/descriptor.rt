@@ -1,14 +1,14 @@
 //! The descriptor block: its tags, written and read.
 ghost use Rattle.std.specs.Prelude.{ℕ, ◌≡◌, ◌<◌, ◌≤◌, ◌+◌, ◌++◌, length, take, drop, List, MatchResult};
 ghost use Rattle.journal_model.specs.declared.log.Tag.{Tag};
-ghost use Rattle.journal_model.specs.Layout.{narrow, descriptor_type, every_number, sequence_in, tag_bytes, HasHeader};
+ghost use Rattle.journal_model.specs.Layout.{descriptor_type, every_number, sequence_in, tag_bytes, HasHeader, IsTaken};
 ghost use Rattle.journal_model.specs.Descriptor.{BeginsWithTag, IsDescriptor, descriptor_block, flag_word, tag_spelling, uuid_behind};
-ghost use Rattle.log_format.specs.Size.{FitDescriptor, IsBlockSize, most_tags};
+ghost use Rattle.log_format.specs.Size.{FitDescriptor, most_tags};
 
 use crate::{Header, Malformed};
 use byteorder::{BigEndian, ByteOrder};
-use journal_model::layout::{DESCRIPTOR_TYPE, HEADER_BYTES, TAG_BYTES, UUID_BYTES};
-use journal_model::{BlockNo, Tag};
+use journal_model::layout::{DESCRIPTOR_TYPE, HEADER_BYTES, UUID_BYTES};
+use journal_model::{BlockNo, LogLayout, Tag};
 
 /// Flag: the copy is escaped.
 const ESCAPED: u16 = 1;
@@ -24,15 +24,16 @@ const LAST: u16 = 8;
 pub struct Descriptor;
 
 impl Descriptor {
-    /// Writes a descriptor over all of `block`, which has 1024, 2048 or 4096 bytes: the header, with the number
-    /// `sequence` of the transaction, the tags `tags` in their order, and zeros behind them. The journal's UUID `uuid`
-    /// stands behind each tag without the same-UUID flag. There are at most as many tags as the writer puts into one
-    /// descriptor (122, 250 or 506), all behind the first have that flag, and each home block is below 2^32.
+    /// Writes a descriptor over all of `block`, a block of this layout: the header, with the number `sequence` of the
+    /// transaction, the tags `tags` in their order, and zeros behind them. The journal's UUID `uuid` stands behind each tag
+    /// without the same-UUID flag. There are at most as many tags as the writer puts into one descriptor (with numbers of 32
+    /// bits 122, 250 or 506), all behind the first have that flag, and the layout can spell each home block.
     /// Source: journal.rst, "Descriptor Block".
-    pub fn write(block: &mut [u8], uuid: &[u8; 16], sequence: u32, tags: &[Tag])
-        requires size { IsBlockSize (length block.old) }
-        requires fit { FitDescriptor (narrow (length block.old)) tags.now }
-        ensures { block.new ≡ descriptor_block (narrow (length block.old)) uuid.now sequence tags.now }
+    pub fn write(layout: LogLayout, block: &mut [u8], uuid: &[u8; 16], sequence: u32, tags: &[Tag])
+        requires taken { IsTaken layout }
+        requires size { length block.old ≡ layout.block_size }
+        requires fit { FitDescriptor layout tags.now }
+        ensures { block.new ≡ descriptor_block layout uuid.now sequence tags.now }
     {
         let header = Header {
             block_type: DESCRIPTOR_TYPE,
@@ -41,37 +42,43 @@ impl Descriptor {
         header.write(block);
         let mut at = HEADER_BYTES;
         for tag in tags {
-            at += write_tag(&mut block[at..], uuid, tag);
+            at += write_tag(layout, &mut block[at..], uuid, tag);
         }
         block[at..].fill(0);
     }
 
-    /// Reads the tags of a descriptor of 1024, 2048 or 4096 bytes, whose header is that of one, into the first places
-    /// of `tags`, which has room for as many as a descriptor can have (126, 254 or 510). The answer is how many there
-    /// are, of which the last alone has the last flag.
+    /// Reads the tags of a descriptor of this layout, whose header is that of one, into the first places of `tags`, which
+    /// has room for as many as a descriptor can have (with numbers of 32 bits 126, 254 or 510). The answer is how many
+    /// there are, of which the last alone has the last flag.
     ///
     /// The block is malformed where a tag, or the UUID behind one that is not the last, does not fit into it, where a
     /// tag has a flag other than 1, 2 and 8, and where a home block is not below `home_blocks`, the blocks of the home
-    /// area: 2^32 there refuses none. A tag's checksum field is not read, the UUID's value is not compared, and nothing
+    /// area: the layout's `every_number` there refuses none. A tag's checksum field is not read, the UUID's value is not compared, and nothing
     /// behind the last tag is read. What `tags` holds behind the tags that were read, and where the block is malformed,
     /// is not said.
     /// Source: journal.rst, "Descriptor Block"; all these tests are this project's own.
-    pub fn read(block: &[u8], home_blocks: u64, tags: &mut [Tag]) -> Result<usize, Malformed>
-        requires size { IsBlockSize (length block.now) }
+    pub fn read(
+        layout: LogLayout,
+        block: &[u8],
+        home_blocks: u64,
+        tags: &mut [Tag],
+    ) -> Result<usize, Malformed>
+        requires taken { IsTaken layout }
+        requires size { length block.now ≡ layout.block_size }
         requires has_header { HasHeader descriptor_type (sequence_in block.now) block.now }
-        requires room { most_tags (narrow (length block.now)) ≤ length tags.old }
+        requires room { most_tags layout ≤ length tags.old }
         ensures { MatchResult result
-            (λ n. (n ≤ length tags.new) × IsDescriptor (narrow (length block.now)) home_blocks (sequence_in block.now) block.now (take n tags.new))
-            (λ _. (ts : List Tag) → IsDescriptor (narrow (length block.now)) home_blocks (sequence_in block.now) block.now ts → ⊥) }
+            (λ n. (n ≤ length tags.new) × IsDescriptor layout home_blocks (sequence_in block.now) block.now (take n tags.new))
+            (λ _. (ts : List Tag) → IsDescriptor layout home_blocks (sequence_in block.now) block.now ts → ⊥) }
     {
         let mut at = HEADER_BYTES;
         for count in 0..tags.len() {
-            tags[count] = read_tag(&block[at..], home_blocks)?;
+            tags[count] = read_tag(layout, &block[at..], home_blocks)?;
             let tag = &tags[count];
             if tag.last {
                 return Ok(count + 1);
             }
-            at += spelled_bytes(tag);
+            at += spelled_bytes(layout, tag);
             if at > block.len() {
                 return Err(Malformed);
             }
@@ -81,21 +88,23 @@ impl Descriptor {
 }
 
 /// Writes a tag over the first bytes, with the UUID behind it unless its flag says that it is the same, and answers
-/// how many bytes it takes. The block size plays no part in that.
-fn write_tag(bytes: &mut [u8], uuid: &[u8; 16], tag: &Tag) -> usize
-    requires room { tag_bytes (narrow 0) + uuid_behind tag.now ≤ length bytes.old }
-    requires spelled { tag.now.block < every_number (narrow 0) }
-    ensures taken { result ≡ tag_bytes (narrow 0) + uuid_behind tag.now }
-    ensures bytes { bytes.new ≡ tag_spelling (narrow 0) uuid.now tag.now ++ drop (tag_bytes (narrow 0) + uuid_behind tag.now) bytes.old }
+/// how many bytes it takes.
+fn write_tag(layout: LogLayout, bytes: &mut [u8], uuid: &[u8; 16], tag: &Tag) -> usize
+    requires taken { IsTaken layout }
+    requires room { tag_bytes layout + uuid_behind tag.now ≤ length bytes.old }
+    requires spelled { tag.now.block < every_number layout }
+    ensures taken { result ≡ tag_bytes layout + uuid_behind tag.now }
+    ensures bytes { bytes.new ≡ tag_spelling layout uuid.now tag.now ++ drop (tag_bytes layout + uuid_behind tag.now) bytes.old }
 {
+    let end = layout.tag_bytes();
     BigEndian::write_u32(bytes, tag.block.0 as u32);
     BigEndian::write_u16(&mut bytes[4..], 0);
     BigEndian::write_u16(&mut bytes[6..], flags_of(tag));
     if tag.same_uuid {
-        return TAG_BYTES;
+        return end;
     }
-    bytes[TAG_BYTES..TAG_BYTES + UUID_BYTES].copy_from_slice(uuid);
-    TAG_BYTES + UUID_BYTES
+    bytes[end..end + UUID_BYTES].copy_from_slice(uuid);
+    end + UUID_BYTES
 }
 
 /// The flags of a tag as a number.
@@ -108,25 +117,28 @@ fn flags_of(tag: &Tag) -> u16
     escaped | same_uuid | last
 }
 
-/// How many bytes a tag takes, with the UUID that may follow it, whatever the block size.
-fn spelled_bytes(tag: &Tag) -> usize
-    ensures { result ≡ tag_bytes (narrow 0) + uuid_behind tag.now }
+/// How many bytes a tag takes, with the UUID that may follow it.
+fn spelled_bytes(layout: LogLayout, tag: &Tag) -> usize
+    requires { IsTaken layout }
+    ensures { result ≡ tag_bytes layout + uuid_behind tag.now }
 {
+    let bytes = layout.tag_bytes();
     if tag.same_uuid {
-        TAG_BYTES
+        bytes
     } else {
-        TAG_BYTES + UUID_BYTES
+        bytes + UUID_BYTES
     }
 }
 
-/// The tag that bytes begin with. It is malformed where its 8 bytes are not there, where it has a flag other
-/// than 1, 2 and 8, and where its home block is not below `home_blocks`. Its checksum field is not read.
-fn read_tag(bytes: &[u8], home_blocks: u64) -> Result<Tag, Malformed>
+/// The tag that bytes begin with. It is malformed where its bytes are not there, where it has a flag other than 1, 2
+/// and 8, and where its home block is not below `home_blocks`. Its checksum field is not read.
+fn read_tag(layout: LogLayout, bytes: &[u8], home_blocks: u64) -> Result<Tag, Malformed>
+    requires { IsTaken layout }
     ensures { MatchResult result
-        (λ t. ((size : ℕ) → BeginsWithTag (narrow size) bytes.now t) × (t.block < home_blocks))
-        (λ _. (size : ℕ) (t : Tag) → BeginsWithTag (narrow size) bytes.now t → t.block < home_blocks → ⊥) }
+        (λ t. BeginsWithTag layout bytes.now t × (t.block < home_blocks))
+        (λ _. (t : Tag) → BeginsWithTag layout bytes.now t → t.block < home_blocks → ⊥) }
 {
-    if bytes.len() < TAG_BYTES {
+    if bytes.len() < layout.tag_bytes() {
         return Err(Malformed);
     }
     let block = u64::from(BigEndian::read_u32(bytes));

@@ -3,7 +3,7 @@ ghost use Rattle.std.specs.Prelude.{◌≡◌, ◌⊎◌, ℕ, ◌^◌, ◌<◌,
 ghost use Rattle.journal_model.specs.declared.log.Tag.{Tag};
 ghost use Rattle.journal_model.specs.Block.{IsAllowedBlock};
 ghost use Rattle.journal_model.specs.Descriptor.{IsDescriptor, descriptor_block};
-ghost use Rattle.journal_model.specs.Layout.{Layout, narrow, every_number, numbers_of, tags_of, uuid_bytes};
+ghost use Rattle.journal_model.specs.Layout.{IsLayout, Layout, every_number, numbers_of, tags_of, uuid_bytes};
 ghost use Rattle.journal_model.specs.OwnText.{commit_block, tags_from};
 ghost use Rattle.journal_model.specs.RevokeBlock.{IsRevokeBlock, revoke_block};
 ghost use Rattle.journal_model.specs.Superblock.{Shape, Super, formatted_super, greatest_length, least_length, revoke_feature, super_in, super_refusal, with_tail};
@@ -12,30 +12,30 @@ ghost use Rattle.log_format.specs.Size.{FitDescriptor, FitRevokeBlock, IsBlockSi
 
 /// The tags that the writer makes of some copies, of which there are not too many, fit one descriptor.
 pub fn the_writers_tags_fit()
-    ensures { (size : ℕ) (copies : List (ℕ × List ℕ)) →
-        IsBlockSize size → length copies ≤ tags_of (narrow size) → All (λ c. c.0 < every_number (narrow size)) copies →
-        FitDescriptor (narrow size) (tags_from true copies) }
+    ensures { (l : Layout) (copies : List (ℕ × List ℕ)) →
+        length copies ≤ tags_of l → All (λ c. c.0 < every_number l) copies →
+        FitDescriptor l (tags_from true copies) }
 {}
 
 /// The descriptor that is written of them is a well-formed one, with these tags.
 pub fn a_written_descriptor_is_one()
-    ensures { (size count sequence : ℕ) (uuid : List ℕ) (copies : List (ℕ × List ℕ)) →
-        IsBlockSize size → length uuid ≡ uuid_bytes → sequence < 2 ^ 32 →
-        0 < length copies → length copies ≤ tags_of (narrow size) → All (λ c. IsAllowedBlock (narrow size) count c.0) copies →
-        IsDescriptor (narrow size) count sequence (descriptor_block (narrow size) uuid sequence (tags_from true copies)) (tags_from true copies) }
+    ensures { (l : Layout) (count sequence : ℕ) (uuid : List ℕ) (copies : List (ℕ × List ℕ)) →
+        IsLayout l → length uuid ≡ uuid_bytes → sequence < 2 ^ 32 →
+        0 < length copies → length copies ≤ tags_of l → All (λ c. IsAllowedBlock l count c.0) copies →
+        IsDescriptor l count sequence (descriptor_block l uuid sequence (tags_from true copies)) (tags_from true copies) }
 {}
 
 /// The revoke block that is written of some numbers is a well-formed one, with these numbers.
 pub fn a_written_revoke_block_is_one()
-    ensures { (size count sequence : ℕ) (numbers : List ℕ) →
-        IsBlockSize size → sequence < 2 ^ 32 →
-        length numbers ≤ numbers_of (narrow size) → All (IsAllowedBlock (narrow size) count) numbers →
-        IsRevokeBlock (narrow size) count sequence (revoke_block (narrow size) sequence numbers) numbers }
+    ensures { (l : Layout) (count sequence : ℕ) (numbers : List ℕ) →
+        IsLayout l → sequence < 2 ^ 32 →
+        length numbers ≤ numbers_of l → All (IsAllowedBlock l count) numbers →
+        IsRevokeBlock l count sequence (revoke_block l sequence numbers) numbers }
 {}
 
 /// The commit block that is written has its header.
 pub fn a_written_commit_block_is_one()
-    ensures { (size sequence : ℕ) → sequence < 2 ^ 32 → IsCommitBlock sequence (commit_block (narrow size) sequence) }
+    ensures { (l : Layout) (sequence : ℕ) → sequence < 2 ^ 32 → IsCommitBlock sequence (commit_block l sequence) }
 {}
 
 /// A block can be read in one way only: as a descriptor with one list of tags, and as a revoke block with one list of

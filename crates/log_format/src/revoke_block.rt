@@ -1,13 +1,13 @@
 //! The revoke block: its numbers, written and read.
 ghost use Rattle.std.specs.Prelude.{ℕ, ◌≡◌, ◌<◌, ◌≤◌, ◌+◌, length, take, List, MatchResult};
-ghost use Rattle.journal_model.specs.Layout.{narrow, numbers_of, revoke_type, sequence_in, HasHeader};
+ghost use Rattle.journal_model.specs.Layout.{numbers_of, revoke_type, sequence_in, HasHeader, IsTaken};
 ghost use Rattle.journal_model.specs.RevokeBlock.{IsRevokeBlock, revoke_block};
-ghost use Rattle.log_format.specs.Size.{FitRevokeBlock, IsBlockSize};
+ghost use Rattle.log_format.specs.Size.{FitRevokeBlock};
 
 use crate::{Header, Malformed};
 use byteorder::{BigEndian, ByteOrder};
-use journal_model::BlockNo;
-use journal_model::layout::{HEADER_BYTES, NUMBER_BYTES, REVOKE_HEADER_BYTES, REVOKE_TYPE};
+use journal_model::layout::{HEADER_BYTES, REVOKE_HEADER_BYTES, REVOKE_TYPE};
+use journal_model::{BlockNo, LogLayout};
 
 /// A revoke block: it names home blocks of which no copy is to be replayed that stands in its own transaction or in an
 /// earlier one. Copies in later transactions are not touched by it.
@@ -15,54 +15,61 @@ use journal_model::layout::{HEADER_BYTES, NUMBER_BYTES, REVOKE_HEADER_BYTES, REV
 pub struct RevokeBlock;
 
 impl RevokeBlock {
-    /// Writes a revoke block over all of `block`, which has 1024, 2048 or 4096 bytes: the header, with the number
-    /// `sequence` of the transaction, the count of bytes in use, the numbers of the home blocks `numbers` in their
-    /// order, and zeros behind them. There are at most as many numbers as fit (252, 508 or 1020), each below 2^32.
+    /// Writes a revoke block over all of `block`, a block of this layout: the header, with the number `sequence` of the
+    /// transaction, the count of bytes in use, the numbers of the home blocks `numbers` in their order, and zeros behind
+    /// them. There are at most as many numbers as fit (of 32 bits 252, 508 or 1020), and the layout can spell each.
     /// Source: journal.rst, "Revocation Block".
-    pub fn write(block: &mut [u8], sequence: u32, numbers: &[BlockNo])
-        requires size { IsBlockSize (length block.old) }
-        requires fit { FitRevokeBlock (narrow (length block.old)) numbers.now }
-        ensures { block.new ≡ revoke_block (narrow (length block.old)) sequence numbers.now }
+    pub fn write(layout: LogLayout, block: &mut [u8], sequence: u32, numbers: &[BlockNo])
+        requires taken { IsTaken layout }
+        requires size { length block.old ≡ layout.block_size }
+        requires fit { FitRevokeBlock layout numbers.now }
+        ensures { block.new ≡ revoke_block layout sequence numbers.now }
     {
         let header = Header {
             block_type: REVOKE_TYPE,
             sequence,
         };
         header.write(block);
-        let used = REVOKE_HEADER_BYTES + NUMBER_BYTES * numbers.len();
+        let used = REVOKE_HEADER_BYTES + layout.number_bytes * numbers.len();
         BigEndian::write_u32(&mut block[HEADER_BYTES..], used as u32);
         let mut at = REVOKE_HEADER_BYTES;
         for number in numbers {
             BigEndian::write_u32(&mut block[at..], number.0 as u32);
-            at += NUMBER_BYTES;
+            at += layout.number_bytes;
         }
         block[at..].fill(0);
     }
 
-    /// Reads the numbers of a revoke block of 1024, 2048 or 4096 bytes, whose header is that of one, into the first
-    /// places of `numbers`, which has room for as many as a block can hold (252, 508 or 1020). The answer is how many
+    /// Reads the numbers of a revoke block of this layout, whose header is that of one, into the first places of
+    /// `numbers`, which has room for as many as a block can hold (of 32 bits 252, 508 or 1020). The answer is how many
     /// there are, which may be none.
     ///
     /// The block is malformed where its count of bytes in use is below 16, above the block size, or not 16 and a
-    /// multiple of 4, and where a number is not below `home_blocks`, the blocks of the home area: 2^32 there refuses
-    /// none. What `numbers` holds behind the numbers that were read, and where the block is malformed, is not said.
+    /// multiple of a number's bytes, and where a number is not below `home_blocks`, the blocks of the home area: the
+    /// layout's `every_number` there refuses none. What `numbers` holds behind the numbers that were read, and where the block is malformed, is not said.
     /// Source: journal.rst, "Revocation Block"; all these tests are this project's own.
-    pub fn read(block: &[u8], home_blocks: u64, numbers: &mut [BlockNo]) -> Result<usize, Malformed>
-        requires size { IsBlockSize (length block.now) }
+    pub fn read(
+        layout: LogLayout,
+        block: &[u8],
+        home_blocks: u64,
+        numbers: &mut [BlockNo],
+    ) -> Result<usize, Malformed>
+        requires taken { IsTaken layout }
+        requires size { length block.now ≡ layout.block_size }
         requires has_header { HasHeader revoke_type (sequence_in block.now) block.now }
-        requires room { numbers_of (narrow (length block.now)) ≤ length numbers.old }
+        requires room { numbers_of layout ≤ length numbers.old }
         ensures { MatchResult result
-            (λ n. (n ≤ length numbers.new) × IsRevokeBlock (narrow (length block.now)) home_blocks (sequence_in block.now) block.now (take n numbers.new))
-            (λ _. (bs : List ℕ) → IsRevokeBlock (narrow (length block.now)) home_blocks (sequence_in block.now) block.now bs → ⊥) }
+            (λ n. (n ≤ length numbers.new) × IsRevokeBlock layout home_blocks (sequence_in block.now) block.now (take n numbers.new))
+            (λ _. (bs : List ℕ) → IsRevokeBlock layout home_blocks (sequence_in block.now) block.now bs → ⊥) }
     {
         let used = BigEndian::read_u32(&block[HEADER_BYTES..]) as usize;
-        if used < REVOKE_HEADER_BYTES || used > block.len() || used % NUMBER_BYTES != 0 {
+        if used < REVOKE_HEADER_BYTES || used > block.len() || used % layout.number_bytes != 0 {
             return Err(Malformed);
         }
-        let count = (used - REVOKE_HEADER_BYTES) / NUMBER_BYTES;
+        let count = (used - REVOKE_HEADER_BYTES) / layout.number_bytes;
         for i in 0..count {
             let number = u64::from(BigEndian::read_u32(
-                &block[REVOKE_HEADER_BYTES + NUMBER_BYTES * i..],
+                &block[REVOKE_HEADER_BYTES + layout.number_bytes * i..],
             ));
             if number >= home_blocks {
                 return Err(Malformed);

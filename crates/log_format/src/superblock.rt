@@ -1,14 +1,15 @@
 //! The superblock: its fields, the tests of an opening, and what is written of it.
 ghost use Rattle.std.specs.Prelude.{ℕ, ◌≡◌, ◌≤◌, ◌-◌, ◌==◌, ◌&&◌, ◌||◌, nat_le, nat_lt, length, IfOk, MatchResult, Some, None};
 ghost use Rattle.journal_model.specs.Layout.{super_type, type_in};
+ghost use Rattle.journal_model.specs.Opening.{layout_of};
 ghost use Rattle.journal_model.specs.Superblock.{Shape, formatted_super, greatest_length, is_block_size, least_length, least_ring, revoke_feature, super_in, super_refusal, with_tail};
 ghost use Rattle.log_format.specs.Accepted.{IsAccepted};
 ghost use Rattle.log_format.specs.Size.{IsBlockSize};
 
 use crate::Header;
 use byteorder::{BigEndian, ByteOrder};
-use journal_model::JournalError;
 use journal_model::layout::{GREATEST_LENGTH, LEAST_LENGTH, MAGIC, SUPER_TYPE};
+use journal_model::{JournalError, LogLayout};
 use std::marker::Model;
 
 /// The one incompatible feature that is taken: revoke blocks.
@@ -166,6 +167,14 @@ impl Super {
             s_uuid,
             s_nr_users: BigEndian::read_u32(&block[0x40..]),
         }
+    }
+
+    /// The layout of the log.
+    /// Source: journal.rst, "Super Block" (the features).
+    pub fn layout(&self) -> LogLayout
+        ensures { result ≡ layout_of self.now }
+    {
+        LogLayout::narrow(self.s_blocksize as usize)
     }
 
     /// The block size is one that is taken, and the device's.

@@ -11,9 +11,9 @@ use Rattle.journal_model.specs.RevokeBlock.{revoke_block}
 use Rattle.log_ring.specs.declared.layout.Part.{Part}
 use Rattle.log_ring.specs.declared.layout.Part.TheVariants.{Revokes, Descriptor, Copy, Commit}
 
--- a transaction as its layout sees it: the bytes of a block, and how many copies and revokes it has
+-- a transaction as its layout sees it: the layout of the log, and how many copies and revokes it has
 pub record LayoutValue : Type 0 where
-  pub block_size : ℕ
+  pub layout : Measures
   pub copies : ℕ
   pub revokes : ℕ
 

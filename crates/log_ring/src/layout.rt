@@ -2,7 +2,7 @@
 ghost use Rattle.std.specs.Prelude.{◌≡◌, ℕ, ◌+◌, ◌<◌, ◌≤◌, ◌^◌, List, length, Some, slice_get};
 ghost use Rattle.journal_model.specs.declared.entry.Entry.{Entry};
 ghost use Rattle.journal_model.specs.Chain.{ring_place};
-ghost use Rattle.journal_model.specs.Layout.{IsLayout, narrow, numbers_of, tags_of};
+ghost use Rattle.journal_model.specs.Layout.{IsTaken, numbers_of, tags_of};
 ghost use Rattle.journal_model.specs.OwnText.{ceil_div, copied, own_text, revoked};
 ghost use Rattle.journal_model.specs.Room.{IsCapacity, need};
 ghost use Rattle.journal_model.specs.Superblock.{least_ring};
@@ -10,9 +10,8 @@ ghost use Rattle.journal_model.specs.Text.{text_blocks};
 ghost use Rattle.log_ring.specs.Parts.{FitsPart, copy_parts, part_block, parts, revoke_parts};
 
 use crate::ring::Ring;
-use journal_model::layout::{
-    HEADER_BYTES, NUMBER_BYTES, REVOKE_HEADER_BYTES, TAG_BYTES, UUID_BYTES,
-};
+use journal_model::LogLayout;
+use journal_model::layout::{HEADER_BYTES, REVOKE_HEADER_BYTES, UUID_BYTES};
 use std::marker::Model;
 
 /// Bytes of a descriptor that no tag takes: its header, the first tag's UUID, and room for a UUID behind the last tag.
@@ -35,104 +34,104 @@ pub enum Part {
 /// Source: journal.rst, "Layout"; which blocks come first is this project's own.
 #[derive(Debug, Drop)]
 pub struct Layout {
-    block_size: usize,
+    layout: LogLayout,
     copies: u64,
     revokes: u64,
 }
 
 impl Model for Layout {
     ghost use Rattle.std.specs.Prelude.{◌≤◌, ◌^◌};
-    ghost use Rattle.journal_model.specs.Layout.{IsLayout, narrow};
+    ghost use Rattle.journal_model.specs.Layout.{IsTaken};
     ghost use Rattle.log_ring.specs.Parts.{LayoutValue};
 
     ghost Value = { LayoutValue };
 
-    ghost view = { λ l. record { block_size = l.block_size; copies = l.copies; revokes = l.revokes } };
+    ghost view = { λ l. record { layout = l.layout; copies = l.copies; revokes = l.revokes } };
 
-    ghost invariant = { λ l. IsLayout (narrow l.block_size) × (l.copies ≤ 2 ^ 32) × (l.revokes ≤ 2 ^ 32) };
+    ghost invariant = { λ l. IsTaken l.layout × (l.copies ≤ 2 ^ 32) × (l.revokes ≤ 2 ^ 32) };
 }
 
 /// How many numbers one revoke block holds.
-fn numbers_of(block_size: usize) -> u64
-    requires { IsLayout (narrow block_size) }
-    ensures numbers { result ≡ numbers_of (narrow block_size) }
+fn numbers_of(layout: LogLayout) -> u64
+    requires { IsTaken layout }
+    ensures numbers { result ≡ numbers_of layout }
     ensures some { 0 < result }
     ensures few { result ≤ 1020 }
 {
-    ((block_size - REVOKE_HEADER_BYTES) / NUMBER_BYTES) as u64
+    ((layout.block_size - REVOKE_HEADER_BYTES) / layout.number_bytes) as u64
 }
 
 impl Layout {
-    /// The layout of a transaction of so many copies and revokes, in blocks of 1024, 2048 or 4096 bytes.
-    pub fn new(block_size: usize, copies: u64, revokes: u64) -> Self
-        requires size { IsLayout (narrow block_size) }
+    /// The layout of a transaction of so many copies and revokes, in a log of this layout.
+    pub fn new(layout: LogLayout, copies: u64, revokes: u64) -> Self
+        requires taken { IsTaken layout }
         requires copies { copies ≤ 2 ^ 32 }
         requires revokes { revokes ≤ 2 ^ 32 }
-        ensures { result ≡ record { block_size = block_size; copies = copies; revokes = revokes } }
+        ensures { result ≡ record { layout = layout; copies = copies; revokes = revokes } }
     {
         Layout {
-            block_size,
+            layout,
             copies,
             revokes,
         }
     }
 
-    /// How many tags the writer puts into one descriptor: 122, 250 or 506, by the bytes of a block.
+    /// How many tags the writer puts into one descriptor: with numbers of 32 bits 122, 250 or 506, by the bytes of a block.
     /// Source: journal.rst, "Descriptor Block"; fs/jbd2/commit.c by behaviour (room for one more UUID is left).
-    pub fn tags_of(block_size: usize) -> u64
-        requires { IsLayout (narrow block_size) }
-        ensures tags { result ≡ tags_of (narrow block_size) }
+    pub fn tags_of(layout: LogLayout) -> u64
+        requires { IsTaken layout }
+        ensures tags { result ≡ tags_of layout }
         ensures some { 0 < result }
         ensures few { result ≤ 506 }
     {
-        ((block_size - DESCRIPTOR_BYTES) / TAG_BYTES) as u64
+        ((layout.block_size - DESCRIPTOR_BYTES) / layout.tag_bytes()) as u64
     }
 
     /// The most copies that one transaction may have in a ring of so many blocks: with its descriptors and its commit
     /// block it takes at most a quarter of the ring.
     /// Source: fs/jbd2 by behaviour (`j_max_transaction_buffers` is a quarter of the log); that descriptors and the commit
     /// block count is this project's own.
-    pub fn capacity(block_size: usize, ring_blocks: u64) -> u64
-        requires size { IsLayout (narrow block_size) }
+    pub fn capacity(layout: LogLayout, ring_blocks: u64) -> u64
+        requires taken { IsTaken layout }
         requires least { least_ring ≤ ring_blocks }
-        ensures { IsCapacity (narrow block_size) ring_blocks result }
+        ensures { IsCapacity layout ring_blocks result }
     {
-        let tags = Self::tags_of(block_size);
+        let tags = Self::tags_of(layout);
         let left = ring_blocks / 4 - 1;
         left / (tags + 1) * tags + (left % (tags + 1)).saturating_sub(1)
     }
 
     /// How many log blocks it takes.
     pub fn blocks(&self) -> u64
-        ensures { result ≡ need (narrow self.now.block_size) self.now.copies self.now.revokes }
+        ensures { result ≡ need self.now.layout self.now.copies self.now.revokes }
     {
         self.copies + self.descriptors() + self.revoke_blocks() + 1
     }
 
     /// How many descriptors it has.
     fn descriptors(&self) -> u64
-        ensures { result ≡ ceil_div self.now.copies (tags_of (narrow self.now.block_size)) }
+        ensures { result ≡ ceil_div self.now.copies (tags_of self.now.layout) }
     {
-        self.copies.div_ceil(Self::tags_of(self.block_size))
+        self.copies.div_ceil(Self::tags_of(self.layout))
     }
 
     /// How many revoke blocks it has.
     fn revoke_blocks(&self) -> u64
-        ensures { result ≡ ceil_div self.now.revokes (numbers_of (narrow self.now.block_size)) }
+        ensures { result ≡ ceil_div self.now.revokes (numbers_of self.now.layout) }
     {
-        self.revokes.div_ceil(numbers_of(self.block_size))
+        self.revokes.div_ceil(numbers_of(self.layout))
     }
 
     /// What block `k` of the transaction is, counted from 0: the block there of the own text of each transaction with so many
     /// copies and revokes.
     pub fn part(&self, k: u64) -> Part
-        requires { k < need (narrow self.now.block_size) self.now.copies self.now.revokes }
-        ensures part { slice_get (parts (narrow self.now.block_size) self.now.copies self.now.revokes) k ≡ Some result }
-        ensures fits { FitsPart (narrow self.now.block_size) self.now.copies self.now.revokes result }
+        requires { k < need self.now.layout self.now.copies self.now.revokes }
+        ensures part { slice_get (parts self.now.layout self.now.copies self.now.revokes) k ≡ Some result }
+        ensures fits { FitsPart self.now.layout self.now.copies self.now.revokes result }
         ensures text { (uuid : List ℕ) (sequence : ℕ) (entries : List (ℕ × Entry)) →
             length (copied entries) ≡ self.now.copies → length (revoked entries) ≡ self.now.revokes →
-            slice_get (text_blocks (own_text (narrow self.now.block_size) uuid sequence entries)) k
-            ≡ Some (part_block (narrow self.now.block_size) uuid sequence entries result) }
+            slice_get (text_blocks (own_text self.now.layout uuid sequence entries)) k
+            ≡ Some (part_block self.now.layout uuid sequence entries result) }
     {
         let part = self.part_at(k);
         part
@@ -140,9 +139,9 @@ impl Layout {
 
     /// What block `k` of the transaction is, without its bytes.
     fn part_at(&self, k: u64) -> Part
-        requires { k < need (narrow self.now.block_size) self.now.copies self.now.revokes }
-        ensures part { slice_get (parts (narrow self.now.block_size) self.now.copies self.now.revokes) k ≡ Some result }
-        ensures fits { FitsPart (narrow self.now.block_size) self.now.copies self.now.revokes result }
+        requires { k < need self.now.layout self.now.copies self.now.revokes }
+        ensures part { slice_get (parts self.now.layout self.now.copies self.now.revokes) k ≡ Some result }
+        ensures fits { FitsPart self.now.layout self.now.copies self.now.revokes result }
     {
         let revoke_blocks = self.revoke_blocks();
         if k < revoke_blocks {
@@ -158,11 +157,11 @@ impl Layout {
 
     /// What revoke block `k` is.
     fn revoke_part(&self, k: u64) -> Part
-        requires { k < ceil_div self.now.revokes (numbers_of (narrow self.now.block_size)) }
-        ensures part { slice_get (revoke_parts (narrow self.now.block_size) self.now.revokes) k ≡ Some result }
-        ensures fits { FitsPart (narrow self.now.block_size) self.now.copies self.now.revokes result }
+        requires { k < ceil_div self.now.revokes (numbers_of self.now.layout) }
+        ensures part { slice_get (revoke_parts self.now.layout self.now.revokes) k ≡ Some result }
+        ensures fits { FitsPart self.now.layout self.now.copies self.now.revokes result }
     {
-        let most = numbers_of(self.block_size);
+        let most = numbers_of(self.layout);
         let first = k * most;
         Part::Revokes {
             first,
@@ -172,11 +171,11 @@ impl Layout {
 
     /// What block `k` of the descriptors and their copies is.
     fn copy_part(&self, k: u64) -> Part
-        requires { k < self.now.copies + ceil_div self.now.copies (tags_of (narrow self.now.block_size)) }
-        ensures part { slice_get (copy_parts (narrow self.now.block_size) self.now.copies) k ≡ Some result }
-        ensures fits { FitsPart (narrow self.now.block_size) self.now.copies self.now.revokes result }
+        requires { k < self.now.copies + ceil_div self.now.copies (tags_of self.now.layout) }
+        ensures part { slice_get (copy_parts self.now.layout self.now.copies) k ≡ Some result }
+        ensures fits { FitsPart self.now.layout self.now.copies self.now.revokes result }
     {
-        let most = Self::tags_of(self.block_size);
+        let most = Self::tags_of(self.layout);
         let first = k / (most + 1) * most;
         let place = k % (most + 1);
         if place > 0 {
@@ -191,7 +190,7 @@ impl Layout {
 
     /// The log block at which block `k` of the transaction stands, whose first block has position `start`.
     pub fn place(&self, ring: &Ring, start: u64, k: u64) -> u64
-        requires there { k < need (narrow self.now.block_size) self.now.copies self.now.revokes }
+        requires there { k < need self.now.layout self.now.copies self.now.revokes }
         requires few { start + k ≤ u64.MAX }
         ensures place { result ≡ ring_place ring.now.ring (start + k) }
         ensures low { ring.now.ring.first ≤ result }

@@ -2,13 +2,13 @@
 ghost use Rattle.std.specs.Prelude.{◌≡◌, ◌+◌, ◌-◌, ◌<◌, ◌≤◌, ◌^◌, OnOk, IfOk, IfErr};
 ghost use Rattle.journal_model.specs.declared.refusal.JournalError.TheVariants.{NeedSpace};
 ghost use Rattle.journal_model.specs.Chain.{place_from, ring_place};
-ghost use Rattle.journal_model.specs.Layout.{IsLayout, narrow};
+ghost use Rattle.journal_model.specs.Layout.{IsTaken};
 ghost use Rattle.journal_model.specs.Room.{need};
 ghost use Rattle.journal_model.specs.Superblock.{least_ring};
 ghost use Rattle.log_ring.specs.Ring.{IsRing, free, taken};
 
 use crate::layout::Layout;
-use journal_model::JournalError;
+use journal_model::{JournalError, LogLayout};
 use std::marker::Model;
 
 /// The ring of a log, and how many of its blocks are taken, from the tail to the head. Both are positions: they count
@@ -79,16 +79,16 @@ impl Ring {
         self.first + (behind + count % self.blocks) % self.blocks
     }
 
-    /// How many log blocks a transaction of so many copies and revokes needs, in blocks of 1024, 2048 or 4096 bytes. No
-    /// transaction has more than 2^32 of either: a block number in a log has 32 bits.
+    /// How many log blocks a transaction of so many copies and revokes needs, in a log of this layout. No transaction has
+    /// more than 2^32 of either.
     /// Source: journal.rst, "Layout".
-    pub fn need(block_size: usize, copies: u64, revokes: u64) -> u64
-        requires size { IsLayout (narrow block_size) }
+    pub fn need(layout: LogLayout, copies: u64, revokes: u64) -> u64
+        requires taken { IsTaken layout }
         requires copies { copies ≤ 2 ^ 32 }
         requires revokes { revokes ≤ 2 ^ 32 }
-        ensures { result ≡ need (narrow block_size) copies revokes }
+        ensures { result ≡ need layout copies revokes }
     {
-        Layout::new(block_size, copies, revokes).blocks()
+        Layout::new(layout, copies, revokes).blocks()
     }
 
     /// How many blocks are free.

@@ -3,19 +3,27 @@ use Rattle.std.proofs.Common.{◌≡◌, ℕ, suc, ◌-◌, ◌<◌, ◌≤◌, 
 use Rattle.journal_model.specs.declared.number.Area.TheVariants.{Log}
 use Rattle.journal_model.specs.Chain.{place_from}
 use Rattle.journal_model.specs.Disk.{Image}
-use Rattle.journal_model.specs.Layout.{Layout, narrow, numbers_of}
+use Rattle.journal_model.specs.Layout.{IsTaken, Layout, numbers_of}
 use Rattle.journal_model.specs.Opening.{layout_of, ring_of}
 use Rattle.journal_model.specs.Superblock.{Super}
-use Rattle.log_format.specs.Size.{IsBlockSize, most_tags}
+use Rattle.log_format.specs.Size.{most_tags}
 use Rattle.log_scan.specs.declared.finding.Found.{Found}
 use Rattle.log_scan.specs.declared.finding.Found.TheVariants.{RevokeBlock, Descriptor, CommitBlock, Malformed, Nothing}
 use Rattle.log_scan.specs.Finding.{FinderValue, Fits, IsFound, Says, blocks_from}
 use Rattle.log_scan.proofs.Fronts.{found-says}
 use Rattle.log_scan.proofs.Laps.{from-within, length-from}
 
--- what a finder has room for, whose block, tags and numbers are so many
-abbrev pub HasRoom : ℕ → ℕ → ℕ → Type 0
-HasRoom block tags numbers = IsBlockSize block × (most_tags (narrow block) ≤ tags) × (numbers_of (narrow block) ≤ numbers)
+-- what a finder of this layout has room for, whose block, tags and numbers are so many
+abbrev pub HasRoom : Layout → ℕ → ℕ → ℕ → Type 0
+HasRoom l block tags numbers = IsTaken l × (block ≡ l.block_size) × (most_tags l ≤ tags) × (numbers_of l ≤ numbers)
+
+-- the same block says the same by the same layout and limit
+pub says-same : (sequence behind : ℕ) (f : FinderValue) (found : Found) {l m : Layout} {limit count : ℕ} {read block : List ℕ} → l ≡ m → limit ≡ count → read ≡ block →
+    Says l limit sequence behind read f found → Says m count sequence behind block f found
+says-same sequence behind f found {l} {m} {limit} {count} {read} {block} layout number same says =
+    subst (λ (b : List ℕ). Says m count sequence behind b f found) same
+    (subst (λ (n : ℕ). Says m n sequence behind read f found) number
+    (subst (λ (x : Layout). Says x limit sequence behind read f found) layout says))
 
 -- what a block says of itself stands within the ring
 pub fits-says : (l : Layout) (count sequence behind blocks position : ℕ) (block : List ℕ) (f : FinderValue) (found : Found) → position < blocks →
@@ -28,11 +36,10 @@ fits-says l count sequence behind blocks position block f Nothing below rest say
 
 -- what the block at a position says of itself
 pub found-at : (s : Super) (limit : ℕ) (image : Image) (sequence position behind : ℕ) (block : List ℕ) (f : FinderValue) (found : Found) → position < (ring_of s).blocks →
-    behind ≡ (ring_of s).blocks - position - 1 → length block ≡ s.s_blocksize → block ≡ image Log (place_from (ring_of s) s.s_start position) →
-    Says (narrow (length block)) limit sequence behind block f found → IsFound (layout_of s) limit sequence (blocks_from s image position) f found
-found-at s limit image sequence position behind block f found below rest size is says =
+    behind ≡ (ring_of s).blocks - position - 1 → block ≡ image Log (place_from (ring_of s) s.s_start position) →
+    Says (layout_of s) limit sequence behind block f found → IsFound (layout_of s) limit sequence (blocks_from s image position) f found
+found-at s limit image sequence position behind block f found below rest is says =
     let left : behind ≡ length (blocks_from s image (suc position)) = let all = length-from s image (suc position) in omega arith in
     found-says (layout_of s) limit sequence (blocks_from s image position) block (blocks_from s image (suc position))
     (from-within s image position below ∙ ap (λ (b : List ℕ). b ∷ blocks_from s image (suc position)) (sym is)) f found
-    (subst (λ (n : ℕ). Says (layout_of s) limit sequence n block f found) left
-    (subst (λ (n : ℕ). Says (narrow n) limit sequence behind block f found) size says))
+    (subst (λ (n : ℕ). Says (layout_of s) limit sequence n block f found) left says)

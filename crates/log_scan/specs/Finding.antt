@@ -6,8 +6,8 @@ use Rattle.journal_model.specs.declared.number.Area.TheVariants.{Log}
 use Rattle.journal_model.specs.Chain.{IsMalformed, lap}
 use Rattle.journal_model.specs.Descriptor.{IsDescriptor}
 use Rattle.journal_model.specs.Disk.{Image}
-use Rattle.journal_model.specs.Layout.{Layout, begins_with_magic, every_number, narrow, sequence_in}
-use Rattle.journal_model.specs.Opening.{ring_of}
+use Rattle.journal_model.specs.Layout.{Layout, begins_with_magic, every_number, sequence_in}
+use Rattle.journal_model.specs.Opening.{layout_of, ring_of}
 use Rattle.journal_model.specs.ReadingLog.{NoPieceBegins, PieceBegins}
 use Rattle.journal_model.specs.RevokeBlock.{IsRevokeBlock}
 use Rattle.journal_model.specs.Superblock.{Super}
@@ -15,19 +15,21 @@ use Rattle.journal_model.specs.Text.{IsCommitBlock}
 use Rattle.log_scan.specs.declared.finding.Found.{Found}
 use Rattle.log_scan.specs.declared.finding.Found.TheVariants.{RevokeBlock, Descriptor, CommitBlock, Malformed, Nothing}
 
--- a block that was read, and the tags and numbers that were read of the last descriptor and revoke block
+-- the layout by which blocks are read, the block that was read last, and the tags and numbers that were read of the last
+-- descriptor and revoke block
 pub record FinderValue : Type 0 where
+  pub layout : Layout
   pub block : List ℕ
   pub tags : List Tag
   pub numbers : List ℕ
 
--- where home is not known, each number that a tag can spell is taken
-abbrev pub every_block : ℕ
-every_block = every_number (narrow 0)
+-- where home is not known, each number is taken that a tag of the log can spell
+abbrev pub every_block : Super → ℕ
+every_block s = every_number (layout_of s)
 
 -- the numbers of home blocks are below this one, by the count of home's blocks, where that is known
-abbrev pub limit_of : Option ℕ → ℕ
-limit_of home_blocks = unwrap_or home_blocks every_block
+abbrev pub limit_of : Super → Option ℕ → ℕ
+limit_of s home_blocks = unwrap_or home_blocks (every_block s)
 
 -- a block of the log area
 abbrev pub log_block : Image → ℕ → List ℕ

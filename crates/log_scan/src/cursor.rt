@@ -3,7 +3,7 @@ ghost use Rattle.std.specs.Prelude.{◌≡◌, ◌<◌, ◌≤◌, ◌^◌, List
 ghost use Rattle.journal_model.specs.declared.log.Piece.{Piece};
 ghost use Rattle.journal_model.specs.declared.log.Text.{Text};
 ghost use Rattle.journal_model.specs.Disk.{reading};
-ghost use Rattle.journal_model.specs.Opening.{ring_of};
+ghost use Rattle.journal_model.specs.Opening.{layout_of, ring_of};
 ghost use Rattle.block_device.specs.State.{IsDeviceFailure, Stays};
 ghost use Rattle.log_format.specs.Accepted.{IsAccepted};
 ghost use Rattle.log_scan.specs.Finding.{Fits, limit_of};
@@ -49,18 +49,18 @@ impl Cursor {
         home_blocks: Option<u64>,
         finder: &mut Finder,
     ) -> Result<Found, JournalError>
-        requires size { length finder.old.block ≡ (D.state device.old).shape.block_size }
+        requires layout { finder.old.layout ≡ layout_of log.now }
         requires accepted { IsAccepted (D.state device.old).shape.block_size (D.state device.old).shape.log_blocks log.now }
         requires within { self.old.position ≤ (ring_of log.now).blocks }
         requires few { self.old.transactions ≤ self.old.position }
-        ensures size { length finder.new.block ≡ length finder.old.block }
-        ensures fits { IfOk result (Fits (limit_of home_blocks) (ring_of log.now).blocks self.old.position finder.new) }
+        ensures layout { finder.new.layout ≡ finder.old.layout }
+        ensures fits { IfOk result (Fits (limit_of log.now home_blocks) (ring_of log.now).blocks self.old.position finder.new) }
         ensures behind { IfOk result (λ found. self.new ≡ cursor_behind self.old found) }
         ensures within { self.new.position ≤ (ring_of log.now).blocks }
         ensures few { self.new.transactions ≤ self.new.position }
         ensures leads { IfOk result (λ found. D.honest device.new → (texts : List Text) (pieces : List Piece) →
-            IsPassed log.now (limit_of home_blocks) (reading (D.state device.old).disk) texts pieces self.old →
-            LeadsTo log.now (limit_of home_blocks) (reading (D.state device.old).disk) texts pieces finder.new self.old self.new found) }
+            IsPassed log.now (limit_of log.now home_blocks) (reading (D.state device.old).disk) texts pieces self.old →
+            LeadsTo log.now (limit_of log.now home_blocks) (reading (D.state device.old).disk) texts pieces finder.new self.old self.new found) }
         ensures faults { MatchResult result (λ _. (D.state device.new).faults ≡ (D.state device.old).faults) (IsDeviceFailure (D.state device.old) (D.state device.new)) }
         ensures stays { Stays (D.state device.old) (D.state device.new) }
         ensures honest { D.honest device.new → D.honest device.old }

@@ -3,26 +3,21 @@ ghost use Rattle.std.specs.Prelude.{◌≡◌, ℕ, ◌<◌, ◌≤◌, length, 
 ghost use Rattle.journal_model.specs.Chain.{place_from};
 ghost use Rattle.journal_model.specs.Disk.{reading};
 ghost use Rattle.journal_model.specs.Escape.{unescaped};
-ghost use Rattle.journal_model.specs.Layout.{narrow, HasHeader, descriptor_type, revoke_type, sequence_in};
+ghost use Rattle.journal_model.specs.Layout.{HasHeader, IsTaken, descriptor_type, revoke_type, sequence_in};
 ghost use Rattle.journal_model.specs.Opening.{layout_of, ring_of};
 ghost use Rattle.block_device.specs.State.{IsDeviceFailure, Stays};
 ghost use Rattle.log_format.specs.Accepted.{IsAccepted};
-ghost use Rattle.log_format.specs.Size.{IsBlockSize};
 ghost use Rattle.log_scan.specs.Finding.{Fits, IsFound, IsSequenceOf, Says, blocks_from, limit_of, log_block};
 
 use crate::log::Log;
 use block_device::Device;
 use journal_model::layout::{
-    COMMIT_TYPE, DESCRIPTOR_TYPE, HEADER_BYTES, NUMBER_BYTES, REVOKE_HEADER_BYTES, REVOKE_TYPE,
-    TAG_BYTES,
+    COMMIT_TYPE, DESCRIPTOR_TYPE, HEADER_BYTES, REVOKE_HEADER_BYTES, REVOKE_TYPE,
 };
-use journal_model::{Area, BlockNo, JournalError, Tag};
+use journal_model::{Area, BlockNo, JournalError, LogLayout, Tag};
 use log_format::{Descriptor, Header, RevokeBlock, unescape};
 use std::alloc::{AllocError, Global};
 use std::marker::Model;
-
-/// Where home is not known, each number of four bytes may be that of a home block.
-const EVERY_BLOCK: u64 = 0x1_0000_0000;
 
 /// What stands at a place of the log, where a block of one transaction is due.
 #[derive(Clone, Copy)]
@@ -43,36 +38,40 @@ pub enum Found {
 /// descriptor and the numbers of the last revoke block, too.
 #[derive(Drop)]
 pub struct Finder {
+    layout: LogLayout,
     block: Vec<u8>,
     tags: Vec<Tag>,
     numbers: Vec<BlockNo>,
 }
 
 impl Model for Finder {
-    ghost use Rattle.std.specs.Prelude.{◌≤◌, length};
-    ghost use Rattle.journal_model.specs.Layout.{narrow, numbers_of};
-    ghost use Rattle.log_format.specs.Size.{IsBlockSize, most_tags};
+    ghost use Rattle.std.specs.Prelude.{◌≡◌, ◌≤◌, length};
+    ghost use Rattle.journal_model.specs.Layout.{IsTaken, numbers_of};
+    ghost use Rattle.log_format.specs.Size.{most_tags};
     ghost use Rattle.log_scan.specs.Finding.{FinderValue};
 
     ghost Value = { FinderValue };
 
-    ghost view = { λ f. record { block = f.block.items; tags = f.tags.items; numbers = f.numbers.items } };
+    ghost view = { λ f. record { layout = f.layout; block = f.block.items; tags = f.tags.items; numbers = f.numbers.items } };
 
-    ghost invariant = { λ f. IsBlockSize (length f.block.items)
-        × (most_tags (narrow (length f.block.items)) ≤ length f.tags.items)
-        × (numbers_of (narrow (length f.block.items)) ≤ length f.numbers.items) };
+    ghost invariant = { λ f. IsTaken f.layout × (length f.block.items ≡ f.layout.block_size)
+        × (most_tags f.layout ≤ length f.tags.items)
+        × (numbers_of f.layout ≤ length f.numbers.items) };
 }
 
 impl Finder {
-    /// A finder in blocks of 1024, 2048 or 4096 bytes. It fails where memory runs out, and takes none later.
-    pub fn new(alloc: Global, block_size: usize) -> Result<Self, AllocError>
-        requires { IsBlockSize block_size }
-        ensures { IfOk result (λ f. length f.block ≡ block_size) }
+    /// A finder for logs of this layout. It fails where memory runs out, and takes none later.
+    pub fn new(alloc: Global, layout: LogLayout) -> Result<Self, AllocError>
+        requires { IsTaken layout }
+        ensures { IfOk result (λ f. f.layout ≡ layout) }
     {
+        let size = layout.block_size;
         Ok(Finder {
-            block: vec![in alloc; 0; block_size]?,
-            tags: vec![in alloc; Tag::UNUSED; (block_size - HEADER_BYTES) / TAG_BYTES]?,
-            numbers: vec![in alloc; BlockNo(0); (block_size - REVOKE_HEADER_BYTES) / NUMBER_BYTES]?,
+            layout,
+            block: vec![in alloc; 0; size]?,
+            tags: vec![in alloc; Tag::UNUSED; (size - HEADER_BYTES) / layout.tag_bytes()]?,
+            numbers: vec![in alloc; BlockNo(0); (size - REVOKE_HEADER_BYTES)
+                / layout.number_bytes]?,
         })
     }
 
@@ -102,7 +101,8 @@ impl Finder {
 
     /// The block that was read last.
     pub fn block(&self) -> &[u8]
-        ensures { result.now ≡ self.now.block }
+        ensures block { result.now ≡ self.now.block }
+        ensures size { length result.now ≡ self.now.layout.block_size }
     {
         &self.block
     }
@@ -120,9 +120,9 @@ impl Finder {
         position: u64,
         escaped: bool,
     ) -> Result<(), JournalError>
-        requires size { length self.old.block ≡ (D.state device.old).shape.block_size }
+        requires layout { self.old.layout ≡ layout_of log.now }
         requires accepted { IsAccepted (D.state device.old).shape.block_size (D.state device.old).shape.log_blocks log.now }
-        ensures size { length self.new.block ≡ length self.old.block }
+        ensures layout { self.new.layout ≡ self.old.layout }
         ensures copy { OnOk result (D.honest device.new → self.new.block ≡ unescaped escaped (log_block (reading (D.state device.old).disk) (place_from (ring_of log.now) log.now.s_start position))) }
         ensures tags { self.new.tags ≡ self.old.tags }
         ensures numbers { self.new.numbers ≡ self.old.numbers }
@@ -146,9 +146,9 @@ impl Finder {
         device: &mut D,
         place: u64,
     ) -> Result<Option<u32>, JournalError>
-        requires size { length self.old.block ≡ (D.state device.old).shape.block_size }
+        requires size { self.old.layout.block_size ≡ (D.state device.old).shape.block_size }
         requires there { place < (D.state device.old).shape.log_blocks }
-        ensures size { length self.new.block ≡ length self.old.block }
+        ensures layout { self.new.layout ≡ self.old.layout }
         ensures sequence { IfOk result (λ found. D.honest device.new → IsSequenceOf (log_block (reading (D.state device.old).disk) place) found) }
         ensures tags { self.new.tags ≡ self.old.tags }
         ensures numbers { self.new.numbers ≡ self.old.numbers }
@@ -174,11 +174,11 @@ impl Finder {
         position: u64,
         sequence: u64,
     ) -> Result<Found, JournalError>
-        requires size { length self.old.block ≡ (D.state device.old).shape.block_size }
+        requires layout { self.old.layout ≡ layout_of log.now }
         requires accepted { IsAccepted (D.state device.old).shape.block_size (D.state device.old).shape.log_blocks log.now }
-        ensures size { length self.new.block ≡ length self.old.block }
-        ensures fits { IfOk result (Fits (limit_of home_blocks) (ring_of log.now).blocks position self.new) }
-        ensures found { IfOk result (λ found. D.honest device.new → IsFound (layout_of log.now) (limit_of home_blocks) sequence (blocks_from log.now (reading (D.state device.old).disk) position) self.new found) }
+        ensures layout { self.new.layout ≡ self.old.layout }
+        ensures fits { IfOk result (Fits (limit_of log.now home_blocks) (ring_of log.now).blocks position self.new) }
+        ensures found { IfOk result (λ found. D.honest device.new → IsFound (layout_of log.now) (limit_of log.now home_blocks) sequence (blocks_from log.now (reading (D.state device.old).disk) position) self.new found) }
         ensures faults { MatchResult result (λ _. (D.state device.new).faults ≡ (D.state device.old).faults) (IsDeviceFailure (D.state device.old) (D.state device.new)) }
         ensures stays { Stays (D.state device.old) (D.state device.new) }
         ensures honest { D.honest device.new → D.honest device.old }
@@ -187,15 +187,16 @@ impl Finder {
             return Ok(Found::Nothing);
         }
         device.read(Area::Log, log.place(position), &mut self.block)?;
-        let limit = home_blocks.unwrap_or(EVERY_BLOCK);
+        let limit = home_blocks.unwrap_or(self.layout.every_number());
         Ok(self.parse(limit, sequence, log.blocks() - position - 1))
     }
 
     /// What the block is to the transaction `sequence`, where so many blocks stand behind it in the ring, and the numbers of
     /// home blocks are below this limit.
     fn parse(&mut self, limit: u64, sequence: u64, behind: u64) -> Found
-        ensures says { Says (narrow (length self.old.block)) limit sequence behind self.old.block self.new result }
+        ensures says { Says self.old.layout limit sequence behind self.old.block self.new result }
         ensures block { self.new.block ≡ self.old.block }
+        ensures layout { self.new.layout ≡ self.old.layout }
     {
         let Some(header) = Header::read(&self.block) else {
             return Found::Nothing;
@@ -214,10 +215,11 @@ impl Finder {
     /// What the block is, which has the header of a descriptor.
     fn parse_descriptor(&mut self, limit: u64, behind: u64) -> Found
         requires { HasHeader descriptor_type (sequence_in self.old.block) self.old.block }
-        ensures says { Says (narrow (length self.old.block)) limit (sequence_in self.old.block) behind self.old.block self.new result }
+        ensures says { Says self.old.layout limit (sequence_in self.old.block) behind self.old.block self.new result }
         ensures block { self.new.block ≡ self.old.block }
+        ensures layout { self.new.layout ≡ self.old.layout }
     {
-        match Descriptor::read(&self.block, limit, &mut self.tags) {
+        match Descriptor::read(self.layout, &self.block, limit, &mut self.tags) {
             Ok(tags) if tags as u64 <= behind => Found::Descriptor(tags),
             Ok(_) => Found::Nothing,
             Err(_) => Found::Malformed,
@@ -227,10 +229,11 @@ impl Finder {
     /// What the block is, which has the header of a revoke block.
     fn parse_revokes(&mut self, limit: u64) -> Found
         requires { HasHeader revoke_type (sequence_in self.old.block) self.old.block }
-        ensures says { (behind : ℕ) → Says (narrow (length self.old.block)) limit (sequence_in self.old.block) behind self.old.block self.new result }
+        ensures says { (behind : ℕ) → Says self.old.layout limit (sequence_in self.old.block) behind self.old.block self.new result }
         ensures block { self.new.block ≡ self.old.block }
+        ensures layout { self.new.layout ≡ self.old.layout }
     {
-        match RevokeBlock::read(&self.block, limit, &mut self.numbers) {
+        match RevokeBlock::read(self.layout, &self.block, limit, &mut self.numbers) {
             Ok(numbers) => Found::RevokeBlock(numbers),
             Err(_) => Found::Malformed,
         }

@@ -1,9 +1,10 @@
 //! A log whose superblock was accepted.
 ghost use Rattle.std.specs.Prelude.{◌≡◌, ◌<◌, ◌+◌, ◌^◌, ◌≤◌, ◌==◌};
 ghost use Rattle.journal_model.specs.Chain.{place_from};
-ghost use Rattle.journal_model.specs.Opening.{ring_of};
+ghost use Rattle.journal_model.specs.Opening.{layout_of, ring_of};
 ghost use Rattle.journal_model.specs.Superblock.{least_ring};
 
+use journal_model::LogLayout;
 use log_format::Super;
 use log_ring::Ring;
 use std::marker::Model;
@@ -45,6 +46,13 @@ impl Log {
         ensures { result.now ≡ self.now }
     {
         &self.fields
+    }
+
+    /// The layout of its blocks.
+    pub fn layout(&self) -> LogLayout
+        ensures { result ≡ layout_of self.now }
+    {
+        self.fields.layout()
     }
 
     /// Whether the log is clean: it holds no transaction.

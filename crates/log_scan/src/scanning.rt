@@ -1,7 +1,7 @@
 //! The way over a log from where it begins to the end of its chain.
 ghost use Rattle.std.specs.Prelude.{◌≡◌, ◌≤◌, length, IfOk, IfErr, OnOk};
 ghost use Rattle.journal_model.specs.Disk.{reading};
-ghost use Rattle.journal_model.specs.Opening.{ring_of};
+ghost use Rattle.journal_model.specs.Opening.{layout_of, ring_of};
 ghost use Rattle.block_device.specs.State.{Stays};
 ghost use Rattle.log_format.specs.Accepted.{IsAccepted};
 ghost use Rattle.log_scan.specs.Finding.{limit_of};
@@ -30,12 +30,12 @@ pub fn scan<D: Device>(
     home_blocks: Option<u64>,
     finder: &mut Finder,
 ) -> Result<u64, JournalError>
-    requires size { length finder.old.block ≡ (D.state device.old).shape.block_size }
+    requires layout { finder.old.layout ≡ layout_of log.now }
     requires accepted { IsAccepted (D.state device.old).shape.block_size (D.state device.old).shape.log_blocks log.now }
-    ensures size { length finder.new.block ≡ length finder.old.block }
+    ensures layout { finder.new.layout ≡ finder.old.layout }
     ensures few { IfOk result (λ count. count ≤ (ring_of log.now).blocks) }
-    ensures scanned { IfOk result (λ count. D.honest device.new → IsScanned log.now (limit_of home_blocks) (reading (D.state device.old).disk) count) }
-    ensures refused { IfErr result (IsScanRefused (D.honest device.new) log.now (limit_of home_blocks) (D.state device.old) (D.state device.new)) }
+    ensures scanned { IfOk result (λ count. D.honest device.new → IsScanned log.now (limit_of log.now home_blocks) (reading (D.state device.old).disk) count) }
+    ensures refused { IfErr result (IsScanRefused (D.honest device.new) log.now (limit_of log.now home_blocks) (D.state device.old) (D.state device.new)) }
     ensures faults { OnOk result ((D.state device.new).faults ≡ (D.state device.old).faults) }
     ensures stays { Stays (D.state device.old) (D.state device.new) }
     ensures honest { D.honest device.new → D.honest device.old }

@@ -3,10 +3,10 @@ ghost use Rattle.std.specs.Prelude.{◌≡◌, ◌↔◌, ◌+◌, ◌<◌, ◌�
 ghost use Rattle.journal_model.specs.declared.number.Area.TheVariants.{Log as LogArea};
 ghost use Rattle.journal_model.specs.Disk.{reading};
 ghost use Rattle.journal_model.specs.declared.refusal.JournalError.TheVariants.{Memory};
-ghost use Rattle.journal_model.specs.Opening.{greatest_number, ring_of};
+ghost use Rattle.journal_model.specs.Layout.{IsTaken};
+ghost use Rattle.journal_model.specs.Opening.{greatest_number, layout_of, ring_of};
 ghost use Rattle.block_device.specs.State.{IsDeviceFailure, IsFailure, Stays};
 ghost use Rattle.log_format.specs.Accepted.{IsAccepted};
-ghost use Rattle.log_format.specs.Size.{IsBlockSize};
 ghost use Rattle.log_epochs.specs.OpeningSteps.{Found};
 ghost use Rattle.recovery.specs.Opening.{HasTransactions, IsExamined, IsExaminedOn, IsLowestAhead, IsReadingRefused, IsTestRefused, IsTested, IsWellRead, NoneAhead, OpeningRefused};
 
@@ -33,7 +33,7 @@ pub(crate) struct Examined {
 /// opening needs is taken.
 pub(crate) fn examine<D: Device>(alloc: Global, device: &mut D) -> Result<Examined, JournalError>
     ensures examined { IfOk result (λ e. IsExamined (D.state device.old).shape e.superblock.items e.log e.transactions) }
-    ensures size { IfOk result (λ e. length e.finder.block ≡ (D.state device.old).shape.block_size) }
+    ensures layout { IfOk result (λ e. e.finder.layout ≡ layout_of e.log) }
     ensures on { IfOk result (λ e. D.honest device.new → (found : Found) × IsExaminedOn (D.state device.old).shape (D.state device.old).disk e.superblock.items e.log e.transactions e.tables found) }
     ensures faults { OnOk result ((D.state device.new).faults ≡ (D.state device.old).faults) }
     ensures refused { IfErr result (OpeningRefused (D.honest device.new) (D.state device.old) (D.state device.new)) }
@@ -41,7 +41,7 @@ pub(crate) fn examine<D: Device>(alloc: Global, device: &mut D) -> Result<Examin
     ensures honest { D.honest device.new → D.honest device.old }
 {
     let (superblock, log) = read_super(alloc, device)?;
-    let mut finder = make_finder(alloc, device)?;
+    let mut finder = make_finder(alloc, &log)?;
     let transactions = test_log(device, &log, &mut finder)?;
     let tables = gather(alloc, device, &log, transactions, &mut finder)?;
     Ok(Examined {
@@ -80,20 +80,20 @@ fn read_superblock<D: Device>(alloc: Global, device: &mut D) -> Result<Vec<u8>, 
     Ok(read_block(alloc, device, Area::Log, 0)?.into_bytes())
 }
 
-/// A finder for the blocks of this device.
-fn make_finder<D: Device>(alloc: Global, device: &D) -> Result<Finder, JournalError>
-    requires { IsBlockSize (D.state device.now).shape.block_size }
-    ensures size { IfOk result (λ finder. length finder.block ≡ (D.state device.now).shape.block_size) }
+/// A finder for the blocks of this log.
+fn make_finder(alloc: Global, log: &Log) -> Result<Finder, JournalError>
+    requires { IsTaken (layout_of log.now) }
+    ensures layout { IfOk result (λ finder. finder.layout ≡ layout_of log.now) }
     ensures refused { IfErr result (λ e. e ≡ Memory) }
 {
-    Ok(Finder::new(alloc, device.block_size())?)
+    Ok(Finder::new(alloc, log.layout())?)
 }
 
 /// How many complete transactions a log has, where nothing that stands in its ring is refused. It takes no memory.
 fn test_log<D: Device>(device: &mut D, log: &Log, finder: &mut Finder) -> Result<u64, JournalError>
-    requires size { length finder.old.block ≡ (D.state device.old).shape.block_size }
+    requires layout { finder.old.layout ≡ layout_of log.now }
     requires accepted { IsAccepted (D.state device.old).shape.block_size (D.state device.old).shape.log_blocks log.now }
-    ensures size { length finder.new.block ≡ length finder.old.block }
+    ensures layout { finder.new.layout ≡ finder.old.layout }
     ensures number { IfOk result (λ transactions. log.now.s_sequence + transactions < greatest_number) }
     ensures clean { IfOk result (λ transactions. log.now.s_start ≡ 0 → transactions ≡ 0) }
     ensures tested { IfOk result (λ transactions. D.honest device.new → IsTested log.now (D.state device.old).shape.home_blocks (reading (D.state device.old).disk) transactions) }
@@ -119,9 +119,9 @@ fn count_transactions<D: Device>(
     log: &Log,
     finder: &mut Finder,
 ) -> Result<u64, JournalError>
-    requires size { length finder.old.block ≡ (D.state device.old).shape.block_size }
+    requires layout { finder.old.layout ≡ layout_of log.now }
     requires accepted { IsAccepted (D.state device.old).shape.block_size (D.state device.old).shape.log_blocks log.now }
-    ensures size { length finder.new.block ≡ length finder.old.block }
+    ensures layout { finder.new.layout ≡ finder.old.layout }
     ensures few { IfOk result (λ transactions. transactions ≤ (ring_of log.now).blocks) }
     ensures clean { IfOk result (λ transactions. log.now.s_start ≡ 0 → transactions ≡ 0) }
     ensures has { IfOk result (λ transactions. D.honest device.new → HasTransactions log.now (D.state device.old).shape.home_blocks (reading (D.state device.old).disk) transactions) }
@@ -144,9 +144,9 @@ fn lowest_ahead<D: Device>(
     limit: u64,
     finder: &mut Finder,
 ) -> Result<Option<u64>, JournalError>
-    requires size { length finder.old.block ≡ (D.state device.old).shape.block_size }
+    requires layout { finder.old.layout ≡ layout_of log.now }
     requires accepted { IsAccepted (D.state device.old).shape.block_size (D.state device.old).shape.log_blocks log.now }
-    ensures size { length finder.new.block ≡ length finder.old.block }
+    ensures layout { finder.new.layout ≡ finder.old.layout }
     ensures ahead { IfOk result (λ found. D.honest device.new → MatchOption found (NoneAhead log.now (reading (D.state device.old).disk) limit) (IsLowestAhead log.now (reading (D.state device.old).disk) limit)) }
     ensures faults { MatchResult result (λ _. (D.state device.new).faults ≡ (D.state device.old).faults) (IsDeviceFailure (D.state device.old) (D.state device.new)) }
     ensures stays { Stays (D.state device.old) (D.state device.new) }

@@ -3,7 +3,7 @@ ghost use Rattle.std.specs.Prelude.{◌≡◌, ◌≢◌, ◌⊎◌, ◌+◌, �
 ghost use Rattle.journal_model.specs.declared.log.Text.{Text};
 ghost use Rattle.journal_model.specs.declared.refusal.JournalError.TheVariants.{Memory};
 ghost use Rattle.journal_model.specs.Disk.{reading};
-ghost use Rattle.journal_model.specs.Opening.{greatest_number};
+ghost use Rattle.journal_model.specs.Opening.{greatest_number, layout_of};
 ghost use Rattle.block_device.specs.State.{Stays};
 ghost use Rattle.log_format.specs.Accepted.{IsAccepted};
 ghost use Rattle.log_scan.specs.Scanning.{AreTextsOf};
@@ -103,10 +103,10 @@ pub fn gather<D: Device>(
     transactions: u64,
     finder: &mut Finder,
 ) -> Result<Tables, JournalError>
-    requires size { length finder.old.block ≡ (D.state device.old).shape.block_size }
+    requires layout { finder.old.layout ≡ layout_of log.now }
     requires accepted { IsAccepted (D.state device.old).shape.block_size (D.state device.old).shape.log_blocks log.now }
     requires numbers { log.now.s_sequence + transactions ≤ greatest_number }
-    ensures size { length finder.new.block ≡ length finder.old.block }
+    ensures layout { finder.new.layout ≡ finder.old.layout }
     ensures tables { IfOk result (λ tables. D.honest device.new → (texts : List Text) → AreTextsOf log.now (D.state device.old).shape.home_blocks (reading (D.state device.old).disk) texts →
         transactions ≡ length texts → tables ≡ tables_of log.now.s_sequence texts) }
     ensures refused { IfErr result (IsGatherRefused (D.honest device.new) log.now transactions (D.state device.old) (D.state device.new)) }

@@ -1,7 +1,9 @@
 //! Opening a log: what a stop left is replayed to home, and the log is left clean.
 ghost use Rattle.std.specs.Prelude.{◌<◌, ◌≡◌, ◌+◌, OnOk, IfOk, IfErr, MatchResult};
 ghost use Rattle.journal_model.specs.Disk.{reading};
-ghost use Rattle.journal_model.specs.Opening.{greatest_number};
+ghost use Rattle.journal_model.specs.Layout.{IsTaken};
+ghost use Rattle.journal_model.specs.Opening.{greatest_number, layout_of};
+ghost use Rattle.journal_model.specs.Superblock.{super_in};
 ghost use Rattle.block_device.specs.State.{EachMoment};
 ghost use Rattle.journal_world.specs.Opening.{IsOpenedLog, IsOpening};
 ghost use Rattle.log_epochs.specs.OpeningRun.{IsMoment};
@@ -11,7 +13,8 @@ ghost use Rattle.recovery.specs.Opening.{IsBroken, IsDone, IsDoneWith, OpeningRe
 use crate::examine::{Examined, examine};
 use crate::replaying::{clean_log, replay};
 use block_device::Device;
-use journal_model::{Area, JournalError, Tid};
+use journal_model::{Area, JournalError, LogLayout, Tid};
+use log_format::Super;
 use std::alloc::Global;
 use std::marker::Model;
 
@@ -110,6 +113,15 @@ impl<D: Device> Opened<D> {
         ensures some { 0 < result }
     {
         self.next
+    }
+
+    /// The layout of its log.
+    pub fn layout(&self) -> LogLayout
+        ensures layout { result ≡ layout_of (super_in self.now.superblock) }
+        ensures taken { IsTaken result }
+        ensures size { result.block_size ≡ (D.state self.now.device).shape.block_size }
+    {
+        Super::fields(&self.superblock).layout()
     }
 
     /// How many bytes a block of the device has.

@@ -2,7 +2,7 @@
 ghost use Rattle.std.specs.Prelude.{◌≡◌, ℕ, ◌+◌, ◌<◌, ◌≤◌, ◌^◌, [], ◌∷◌, List, All, length, take, OnOk, OnErr, MatchResult};
 ghost use Rattle.journal_model.specs.declared.log.Text.{Text};
 ghost use Rattle.journal_model.specs.Disk.{reading};
-ghost use Rattle.journal_model.specs.Opening.{greatest_number, ring_of};
+ghost use Rattle.journal_model.specs.Opening.{greatest_number, layout_of, ring_of};
 ghost use Rattle.journal_model.specs.Superblock.{with_tail};
 ghost use Rattle.block_device.specs.State.{IsDeviceFailure};
 ghost use Rattle.log_format.specs.Accepted.{IsAccepted};
@@ -47,7 +47,7 @@ pub fn replay<D: Device>(
     tables: &Tables,
     finder: &mut Finder,
 ) -> Result<(), JournalError>
-    requires size { length finder.old.block ≡ (D.state device.old).shape.block_size }
+    requires layout { finder.old.layout ≡ layout_of log.now }
     requires accepted { IsAccepted (D.state device.old).shape.block_size (D.state device.old).shape.log_blocks log.now }
     requires numbers { log.now.s_sequence + transactions ≤ greatest_number }
     ensures made { OnOk result (D.honest device.new → (texts : List Text) → AreTextsOf log.now (D.state device.old).shape.home_blocks (reading (D.state device.old).disk) texts →
@@ -90,13 +90,13 @@ fn write_copies<D: Device>(
     copies: Copies,
     finder: &mut Finder,
 ) -> Result<(), JournalError>
-    requires size { length finder.old.block ≡ (D.state device.old).shape.block_size }
+    requires layout { finder.old.layout ≡ layout_of log.now }
     requires accepted { IsAccepted (D.state device.old).shape.block_size (D.state device.old).shape.log_blocks log.now }
     requires tags { copies.count ≤ length finder.old.tags }
     requires there { All (λ t. t.block < (D.state device.old).shape.home_blocks) (take copies.count finder.old.tags) }
     requires within { copies.position + copies.count ≤ (ring_of log.now).blocks }
     requires room { copies.place + copies.count < 2 ^ 64 }
-    ensures size { length finder.new.block ≡ length finder.old.block }
+    ensures layout { finder.new.layout ≡ finder.old.layout }
     ensures made { OnOk result (D.honest device.new → (blocks : List (List ℕ)) → StandAt log.now (reading (D.state device.old).disk) copies.position copies.count blocks →
         HasMade (writes_home (chosen_behind tables.now copies.tid copies.place (take copies.count finder.old.tags) blocks)) (D.state device.old) (D.state device.new)) }
     ensures begun { OnErr result (D.honest device.new → (blocks : List (List ℕ)) → StandAt log.now (reading (D.state device.old).disk) copies.position copies.count blocks →
@@ -122,10 +122,10 @@ fn copy_home<D: Device>(
     tag: Tag,
     finder: &mut Finder,
 ) -> Result<(), JournalError>
-    requires size { length finder.old.block ≡ (D.state device.old).shape.block_size }
+    requires layout { finder.old.layout ≡ layout_of log.now }
     requires accepted { IsAccepted (D.state device.old).shape.block_size (D.state device.old).shape.log_blocks log.now }
     requires there { tag.block < (D.state device.old).shape.home_blocks }
-    ensures size { length finder.new.block ≡ length finder.old.block }
+    ensures layout { finder.new.layout ≡ finder.old.layout }
     ensures tags { finder.new.tags ≡ finder.old.tags }
     ensures made { OnOk result (D.honest device.new → HasMade (copy_calls log.now (reading (D.state device.old).disk) position tag) (D.state device.old) (D.state device.new)) }
     ensures begun { OnErr result (D.honest device.new → HasBegun (copy_calls log.now (reading (D.state device.old).disk) position tag) (D.state device.old) (D.state device.new)) }

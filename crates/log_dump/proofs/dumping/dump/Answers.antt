@@ -8,6 +8,7 @@ use Rattle.log_scan.specs.Finding.{every_block}
 use Rattle.log_scan.specs.Scanning.{AreTextsOf, IsScanned}
 use Rattle.log_dump.specs.Dumping.{HasDump, IsReadLog, shape_of}
 use Rattle.log_scan.proofs.ScanSteps.{accepted-stays, stays-joins}
+use Rattle.log_format.proofs.Layouts.{accepted-taken}
 use Rattle.log_dump.proofs.Dumps.{chain-dump, clean-dump, count-refused, counted-dump, log-refused, on-err, print-refused, test-clean, test-started}
 use Rattle.log_dump.proofs.dumping.dump.Given.{Over}
 use Rattle.log_dump.proofs.dumping.dump.Goals as goal
@@ -64,9 +65,9 @@ returns-in_err-transactions-clause-refused g c =
 
 -- the texts that were counted
 counted : (g : Over) (c : After-drop-finder-inside-4 g) → g.D.Device.honest c.write_log.new.device →
-    IsScanned c.in_ok-log.log every_block (reading (g.D.Device.state c.args.device.now).disk) c.in_ok-transactions.transactions
+    IsScanned c.in_ok-log.log (every_block c.in_ok-log.log) (reading (g.D.Device.state c.args.device.now).disk) c.in_ok-transactions.transactions
 counted g c h =
-    subst (λ (d : Disk). IsScanned c.in_ok-log.log every_block (reading d) c.in_ok-transactions.transactions) c.read_log.ensures.stays.disk
+    subst (λ (d : Disk). IsScanned c.in_ok-log.log (every_block c.in_ok-log.log) (reading d) c.in_ok-transactions.transactions) c.read_log.ensures.stays.disk
     (c.in_ok-transactions.ensures.scanned (c.write_log.ensures.honest h))
 
 -- the superblock that was read
@@ -96,7 +97,7 @@ returns-clause-printed g c =
       is_dump =
           chain-dump (g.D.Device.state c.args.device.now).shape.block_size (g.D.Device.state c.args.device.now).shape.log_blocks (reading (g.D.Device.state c.args.device.now).disk)
           c.in_ok-log.log (read g c h) started these.texts these.are;
-      written = printed h these.texts started (subst (λ (d : Disk). AreTextsOf c.in_ok-log.log every_block (reading d) these.texts) (same g c) these.are) these.number;
+      written = printed h these.texts started (subst (λ (d : Disk). AreTextsOf c.in_ok-log.log (every_block c.in_ok-log.log) (reading d) these.texts) (same g c) these.are) these.number;
     })
     c.write_log.ensures.printed
 
@@ -108,7 +109,7 @@ returns-clause-refused g c =
     print-refused (g.D.Device.honest c.write_log.new.device) (c.write_log.new.out ≡ c.args.out.now) _
     (g.D.Device.state c.args.device.now) (g.D.Device.state c.scan.new.device) (g.D.Device.state c.write_log.new.device) e
     (c.in_ok-transactions.ensures.faults ∙ c.in_ok-log.ensures.faults) (λ h. has-chain g c h)
-    (λ h never. let these = counted g c h in never these.texts (subst (λ (d : Disk). AreTextsOf c.in_ok-log.log every_block (reading d) these.texts) (same g c) these.are) these.number)
+    (λ h never. let these = counted g c h in never these.texts (subst (λ (d : Disk). AreTextsOf c.in_ok-log.log (every_block c.in_ok-log.log) (reading d) these.texts) (same g c) these.are) these.number)
     refused)
     c.write_log.ensures.refused
 
@@ -127,12 +128,10 @@ write_log-requires-clause-accepted g c =
 
 pub make_finder-requires : goal.make_finder-requires
 make_finder-requires g c =
-    let accepted = accepted-stays c.in_ok-log.log (g.D.Device.state c.args.device.now) (g.D.Device.state c.read_log.new.device) c.read_log.ensures.stays c.in_ok-log.ensures.accepted in
-    accepted.allowed
+    accepted-taken c.in_ok-log.ensures.accepted
 
-pub write_log-requires-clause-size : goal.write_log-requires-clause-size
-write_log-requires-clause-size g c =
-    c.in_ok-transactions.ensures.size ∙ c.in_ok-finder.ensures.size ∙ ap (λ (s : Shape). s.block_size) (sym c.scan.ensures.stays.shape)
+pub write_log-requires-clause-layout : goal.write_log-requires-clause-layout
+write_log-requires-clause-layout g c = c.in_ok-transactions.ensures.layout ∙ c.in_ok-finder.ensures.layout
 
 pub write_log-requires-clause-few : goal.write_log-requires-clause-few
 write_log-requires-clause-few g c = c.in_ok-transactions.ensures.few

@@ -1,6 +1,8 @@
 use Rattle.std.proofs.Common.{length, ap, ◌∙◌, inr}
 use Rattle.std.specs.Prelude.{None, Some}
 use Rattle.std.proofs.lemmas.Result.{err_from_is_err_and}
+use Rattle.journal_model.specs.Disk.{reading}
+use Rattle.journal_model.specs.Opening.{super_of}
 use Rattle.journal_model.specs.Superblock.{super_in}
 use Rattle.log_scan.specs.Finding.{every_block}
 use Rattle.log_dump.proofs.Dumps.{accepted-for, refused-other, tested-for}
@@ -12,20 +14,20 @@ returns-in_err-fields-clause-faults g c =
     let p = err_from_is_err_and c.from_residual-in_err-fields.result c.from_residual-in_err-fields.ensures.1 in
     rw (p.1, p.2)
     (inr (
-      refused-other (record { block_size = length c.bytes.result.now; log_blocks = c.blocks-log_blocks.result; home_blocks = every_block }) c.bytes.result.now c.in_err-fields.field-0.0 (c.in_err-fields.ensures.tests every_block),
+      refused-other (record { block_size = length c.bytes.result.now; log_blocks = c.blocks-log_blocks.result; home_blocks = every_block (super_of (reading (g.D.Device.state c.args.device.now).disk)) }) c.bytes.result.now c.in_err-fields.field-0.0 (c.in_err-fields.ensures.tests (every_block (super_of (reading (g.D.Device.state c.args.device.now).disk)))),
       c.in_ok-superblock.ensures.faults,
-      λ h. tested-for (g.D.Device.state c.args.device.now).shape.block_size (g.D.Device.state c.args.device.now).shape.log_blocks (length c.bytes.result.now) c.blocks-log_blocks.result
+      λ h. tested-for (super_of (reading (g.D.Device.state c.args.device.now).disk)) (g.D.Device.state c.args.device.now).shape.block_size (g.D.Device.state c.args.device.now).shape.log_blocks (length c.bytes.result.now) c.blocks-log_blocks.result
           c.bytes.result.now _ (Some c.in_err-fields.field-0.0) (ap length c.bytes.ensures ∙ c.in_ok-superblock.ensures.size) c.blocks-log_blocks.ensures
-          (c.bytes.ensures ∙ c.in_ok-superblock.ensures.bytes h) (c.in_err-fields.ensures.tests every_block),
+          (c.bytes.ensures ∙ c.in_ok-superblock.ensures.bytes h) (c.in_err-fields.ensures.tests (every_block (super_of (reading (g.D.Device.state c.args.device.now).disk)))),
     ))
 
 -- it is accepted
 pub returns-clause-read : goal.returns-clause-read
 returns-clause-read g c = λ h. record {
   accepted =
-      tested-for (g.D.Device.state c.args.device.now).shape.block_size (g.D.Device.state c.args.device.now).shape.log_blocks (length c.bytes.result.now) c.blocks-log_blocks.result
+      tested-for (super_of (reading (g.D.Device.state c.args.device.now).disk)) (g.D.Device.state c.args.device.now).shape.block_size (g.D.Device.state c.args.device.now).shape.log_blocks (length c.bytes.result.now) c.blocks-log_blocks.result
       c.bytes.result.now _ None (ap length c.bytes.ensures ∙ c.in_ok-superblock.ensures.size) c.blocks-log_blocks.ensures
-      (c.bytes.ensures ∙ c.in_ok-superblock.ensures.bytes h) (c.in_ok-fields.ensures.tests every_block);
+      (c.bytes.ensures ∙ c.in_ok-superblock.ensures.bytes h) (c.in_ok-fields.ensures.tests (every_block (super_of (reading (g.D.Device.state c.args.device.now).disk))));
   same = c.new.ensures ∙ c.in_ok-fields.ensures.fields ∙ ap super_in (c.bytes.ensures ∙ c.in_ok-superblock.ensures.bytes h);
 }
 

@@ -20,7 +20,7 @@ pub loop-numbers-init : goal.loop-numbers-init
 loop-numbers-init g c = record {
   low = omega arith;
   within = c.requires.within;
-  size = refl;
+  layout = refl;
   stays = record { shape = refl; disk = refl; past = refl };
   faults = refl;
   honest = λ h. h;
@@ -40,12 +40,12 @@ loop-numbers-preserved-in-RevokeBlock g c =
     (g.W.Write.contents c.loop-numbers.out) (g.W.Write.contents c.write_revokes.new.out) c.place-place.ensures.place c.in_ok-write_revokes-in-RevokeBlock.ensures) in record {
       low = let low = before.low in omega arith;
       within = fits.1;
-      size = c.look.ensures.size ∙ before.size;
+      layout = c.look.ensures.layout ∙ before.layout;
       stays = stays-joins _ _ _ before.stays c.look.ensures.stays;
       faults = c.in_ok-numbers.ensures.faults ∙ before.faults;
       honest = λ h. before.honest (c.look.ensures.honest h);
       printed =
-          λ h. let is = found-there c.args.log.now every_block (g.D.Device.state c.args.device.now) (g.D.Device.state c.loop-numbers.device) c.args.sequence c.args.sequence c.loop-numbers.position c.look.new.self
+          λ h. let is = found-there c.args.log.now (every_block c.args.log.now) (g.D.Device.state c.args.device.now) (g.D.Device.state c.loop-numbers.device) c.args.sequence c.args.sequence c.loop-numbers.position c.look.new.self
           (RevokeBlock c.in-RevokeBlock.numbers) refl before.stays (rw c.in-RevokeBlock.is at (c.in_ok-numbers.ensures.found h)) in
           printed-piece c.args.log.now (reading (g.D.Device.state c.args.device.now).disk) c.args.sequence (g.W.Write.contents c.args.out.now) (g.W.Write.contents c.loop-numbers.out)
           c.args.start c.loop-numbers.position (before.printed (c.look.ensures.honest h)) (g.W.Write.contents c.write_revokes.new.out) _ 1 (c.loop-numbers.position + 1) refl is.begins line;
@@ -61,12 +61,12 @@ loop-numbers-preserved g c =
     c.tags.ensures c.in_ok-write_copies-in-Descriptor.ensures in record {
       low = let low = before.low in omega arith;
       within = let low = fits.1 in omega arith;
-      size = c.look.ensures.size ∙ before.size;
+      layout = c.look.ensures.layout ∙ before.layout;
       stays = stays-joins _ _ _ before.stays c.look.ensures.stays;
       faults = c.in_ok-numbers.ensures.faults ∙ before.faults;
       honest = λ h. before.honest (c.look.ensures.honest h);
       printed =
-          λ h. let is = found-there c.args.log.now every_block (g.D.Device.state c.args.device.now) (g.D.Device.state c.loop-numbers.device) c.args.sequence c.args.sequence c.loop-numbers.position c.look.new.self
+          λ h. let is = found-there c.args.log.now (every_block c.args.log.now) (g.D.Device.state c.args.device.now) (g.D.Device.state c.loop-numbers.device) c.args.sequence c.args.sequence c.loop-numbers.position c.look.new.self
           (Descriptor c.in-Descriptor.tags) refl before.stays (rw c.in-Descriptor.is at (c.in_ok-numbers.ensures.found h)) in
           printed-piece c.args.log.now (reading (g.D.Device.state c.args.device.now).disk) c.args.sequence (g.W.Write.contents c.args.out.now) (g.W.Write.contents c.loop-numbers.out)
           c.args.start c.loop-numbers.position (before.printed (c.look.ensures.honest h)) (g.W.Write.contents c.write_copies.new.out) _ (1 + c.in-Descriptor.tags)
@@ -79,7 +79,7 @@ returns-in-CommitBlock-clause-printed g c = λ h.
     let before = c.loop-numbers.invariant in
     printed-text c.args.log.now (reading (g.D.Device.state c.args.device.now).disk) c.args.sequence (g.W.Write.contents c.args.out.now) (g.W.Write.contents c.loop-numbers.out)
     c.args.start c.loop-numbers.position (before.printed (c.look.ensures.honest h)) (g.W.Write.contents c.write_commit.new.out)
-    (found-there c.args.log.now every_block (g.D.Device.state c.args.device.now) (g.D.Device.state c.loop-numbers.device) c.args.sequence c.args.sequence c.loop-numbers.position c.look.new.self
+    (found-there c.args.log.now (every_block c.args.log.now) (g.D.Device.state c.args.device.now) (g.D.Device.state c.loop-numbers.device) c.args.sequence c.args.sequence c.loop-numbers.position c.look.new.self
     CommitBlock refl before.stays (rw c.in-CommitBlock.is at (c.in_ok-numbers.ensures.found h)))
     (line-placed c.args.log.now c.loop-numbers.position c.place-place.result (codes "commit " ++ decimal c.args.sequence)
     (g.W.Write.contents c.loop-numbers.out) (g.W.Write.contents c.write_commit.new.out) c.place-place.ensures.place c.in_ok-write_commit-in-CommitBlock.ensures)
@@ -96,12 +96,12 @@ returns-in-Malformed-clause-refused g c =
         | inl bad ↦
             unprinted-malformed c.args.log.now (reading (g.D.Device.state c.args.device.now).disk) c.args.sequence (g.W.Write.contents c.args.out.now) (g.W.Write.contents c.loop-numbers.out)
             c.args.start c.loop-numbers.position (before.printed (c.look.ensures.honest h))
-            (found-there c.args.log.now every_block (g.D.Device.state c.args.device.now) (g.D.Device.state c.loop-numbers.device) c.args.sequence c.args.sequence c.loop-numbers.position c.look.new.self
+            (found-there c.args.log.now (every_block c.args.log.now) (g.D.Device.state c.args.device.now) (g.D.Device.state c.loop-numbers.device) c.args.sequence c.args.sequence c.loop-numbers.position c.look.new.self
             Malformed refl before.stays (rw bad at (c.in_ok-numbers.ensures.found h)))
         | inr nothing ↦
             unprinted-nothing c.args.log.now (reading (g.D.Device.state c.args.device.now).disk) c.args.sequence (g.W.Write.contents c.args.out.now) (g.W.Write.contents c.loop-numbers.out)
             c.args.start c.loop-numbers.position (before.printed (c.look.ensures.honest h))
-            (found-there c.args.log.now every_block (g.D.Device.state c.args.device.now) (g.D.Device.state c.loop-numbers.device) c.args.sequence c.args.sequence c.loop-numbers.position c.look.new.self
+            (found-there c.args.log.now (every_block c.args.log.now) (g.D.Device.state c.args.device.now) (g.D.Device.state c.loop-numbers.device) c.args.sequence c.args.sequence c.loop-numbers.position c.look.new.self
             Nothing refl before.stays (rw nothing at (c.in_ok-numbers.ensures.found h)))
       ],
     )
@@ -158,23 +158,23 @@ pub returns-in-Malformed-clause-stays : goal.returns-in-Malformed-clause-stays
 returns-in-Malformed-clause-stays g c = stays-joins _ _ _ c.loop-numbers.invariant.stays c.look.ensures.stays
 
 -- the finder keeps its size
-pub returns-in_err-numbers-clause-size : goal.returns-in_err-numbers-clause-size
-returns-in_err-numbers-clause-size g c = c.look.ensures.size ∙ c.loop-numbers.invariant.size
+pub returns-in_err-numbers-clause-layout : goal.returns-in_err-numbers-clause-layout
+returns-in_err-numbers-clause-layout g c = c.look.ensures.layout ∙ c.loop-numbers.invariant.layout
 
-pub returns-in_err-write_revokes-in-RevokeBlock-clause-size : goal.returns-in_err-write_revokes-in-RevokeBlock-clause-size
-returns-in_err-write_revokes-in-RevokeBlock-clause-size g c = c.look.ensures.size ∙ c.loop-numbers.invariant.size
+pub returns-in_err-write_revokes-in-RevokeBlock-clause-layout : goal.returns-in_err-write_revokes-in-RevokeBlock-clause-layout
+returns-in_err-write_revokes-in-RevokeBlock-clause-layout g c = c.look.ensures.layout ∙ c.loop-numbers.invariant.layout
 
-pub returns-in_err-write_copies-in-Descriptor-clause-size : goal.returns-in_err-write_copies-in-Descriptor-clause-size
-returns-in_err-write_copies-in-Descriptor-clause-size g c = c.look.ensures.size ∙ c.loop-numbers.invariant.size
+pub returns-in_err-write_copies-in-Descriptor-clause-layout : goal.returns-in_err-write_copies-in-Descriptor-clause-layout
+returns-in_err-write_copies-in-Descriptor-clause-layout g c = c.look.ensures.layout ∙ c.loop-numbers.invariant.layout
 
-pub returns-in_err-write_commit-in-CommitBlock-clause-size : goal.returns-in_err-write_commit-in-CommitBlock-clause-size
-returns-in_err-write_commit-in-CommitBlock-clause-size g c = c.look.ensures.size ∙ c.loop-numbers.invariant.size
+pub returns-in_err-write_commit-in-CommitBlock-clause-layout : goal.returns-in_err-write_commit-in-CommitBlock-clause-layout
+returns-in_err-write_commit-in-CommitBlock-clause-layout g c = c.look.ensures.layout ∙ c.loop-numbers.invariant.layout
 
-pub returns-in-CommitBlock-clause-size : goal.returns-in-CommitBlock-clause-size
-returns-in-CommitBlock-clause-size g c = c.look.ensures.size ∙ c.loop-numbers.invariant.size
+pub returns-in-CommitBlock-clause-layout : goal.returns-in-CommitBlock-clause-layout
+returns-in-CommitBlock-clause-layout g c = c.look.ensures.layout ∙ c.loop-numbers.invariant.layout
 
-pub returns-in-Malformed-clause-size : goal.returns-in-Malformed-clause-size
-returns-in-Malformed-clause-size g c = c.look.ensures.size ∙ c.loop-numbers.invariant.size
+pub returns-in-Malformed-clause-layout : goal.returns-in-Malformed-clause-layout
+returns-in-Malformed-clause-layout g c = c.look.ensures.layout ∙ c.loop-numbers.invariant.layout
 
 -- and reads that told the truth did so before
 pub returns-in_err-numbers-clause-honest : goal.returns-in_err-numbers-clause-honest

@@ -10,7 +10,7 @@ abbrev pub invariant-loop-numbers : goal.invariant-loop-numbers
 invariant-loop-numbers g l = record {
   low : l.start ≤ l.position;
   within : l.position ≤ (ring_of l.log).blocks;
-  size : length l.finder.block ≡ length l.fn.finder.block;
+  layout : l.finder.layout ≡ l.fn.finder.layout;
   stays : Stays (g.D.Device.state l.fn.device) (g.D.Device.state l.device);
   faults : (g.D.Device.state l.device).faults ≡ (g.D.Device.state l.fn.device).faults;
   honest : g.D.Device.honest l.device → g.D.Device.honest l.fn.device;

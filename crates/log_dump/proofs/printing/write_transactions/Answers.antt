@@ -13,7 +13,7 @@ use Rattle.log_dump.proofs.printing.write_transactions.Goals as goal
 pub loop-k-init : goal.loop-k-init
 loop-k-init g c = record {
   within = omega arith;
-  size = refl;
+  layout = refl;
   stays = record { shape = refl; disk = refl; past = refl };
   faults = refl;
   honest = λ h. h;
@@ -25,7 +25,7 @@ pub loop-k-preserved : goal.loop-k-preserved
 loop-k-preserved g c =
     let before = c.loop-k.invariant in record {
       within = c.in_ok-position.ensures.within.1;
-      size = c.write_text.ensures.size ∙ before.size;
+      layout = c.write_text.ensures.layout ∙ before.layout;
       stays = stays-joins _ _ _ before.stays c.write_text.ensures.stays;
       faults = c.in_ok-position.ensures.faults ∙ before.faults;
       honest = λ h. before.honest (c.write_text.ensures.honest h);
@@ -55,7 +55,7 @@ returns-in_err-position-clause-refused g c =
     texts-no-more c.args.log.now (reading (g.D.Device.state c.args.device.now).disk) (g.W.Write.contents c.args.out.now) (g.W.Write.contents c.loop-k.out)
     c.loop-k.k c.loop-k.position (before.printed (c.write_text.ensures.honest h)) (c.first_number.result + c.loop-k.k) texts
     (ap (λ (n : ℕ). n + c.loop-k.k) c.first_number.ensures.value) (omega arith)
-    (subst (λ (d : Disk). NoTextBegins (layout_of c.args.log.now) every_block (c.first_number.result + c.loop-k.k) (blocks_from c.args.log.now (reading d) c.loop-k.position)) before.stays.disk none) are)
+    (subst (λ (d : Disk). NoTextBegins (layout_of c.args.log.now) (every_block c.args.log.now) (c.first_number.result + c.loop-k.k) (blocks_from c.args.log.now (reading d) c.loop-k.position)) before.stays.disk none) are)
     before.faults c.in_err-position.ensures.refused)
 
 -- the device stays, so that the log is accepted on it

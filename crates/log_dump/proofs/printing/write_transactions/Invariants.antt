@@ -9,7 +9,7 @@ use Rattle.log_dump.proofs.printing.write_transactions.Given as goal
 abbrev pub invariant-loop-k : goal.invariant-loop-k
 invariant-loop-k g l = record {
   within : l.position ≤ (ring_of l.log).blocks;
-  size : length l.finder.block ≡ length l.fn.finder.block;
+  layout : l.finder.layout ≡ l.fn.finder.layout;
   stays : Stays (g.D.Device.state l.fn.device) (g.D.Device.state l.device);
   faults : (g.D.Device.state l.device).faults ≡ (g.D.Device.state l.fn.device).faults;
   honest : g.D.Device.honest l.device → g.D.Device.honest l.fn.device;

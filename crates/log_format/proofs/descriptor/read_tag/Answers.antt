@@ -5,9 +5,9 @@ use Rattle.log_format.proofs.Numbers.{number_from}
 
 pub returns : goal.returns
 returns c = (
-  λ size. record {
+  record {
     room = omega arith;
-    block = omega arith;
+    block = rw c.requires.1 (omega arith);
     flags = sym (c.read_u16-flags.ensures ∙ number_from 6 2 c.args.bytes.now) ∙ flags_are c.read_u16-flags.result (omega arith) c.if-flags-ne0.false;
   },
   omega arith,

@@ -9,14 +9,14 @@ pub loop-init : goal.loop-init
 loop-init g c = rw c.new-cursor.ensures (record {
   within = omega arith;
   few = omega arith;
-  size = refl;
+  layout = refl;
   stays = record { shape = refl; disk = refl; past = refl };
   faults = refl;
   honest = λ h. h;
   passed = λ h. record {
     texts = [];
     pieces = [];
-    passed = passed-none c.args.log.now (limit_of c.args.home_blocks) (reading (g.D.Device.state c.args.device.now).disk);
+    passed = passed-none c.args.log.now (limit_of c.args.log.now c.args.home_blocks) (reading (g.D.Device.state c.args.device.now).disk);
   };
 })
 
@@ -25,14 +25,14 @@ pub loop-preserved : goal.loop-preserved
 loop-preserved g c = let before = c.loop.invariant in record {
   within = c.advance.ensures.within;
   few = c.advance.ensures.few;
-  size = c.advance.ensures.size ∙ before.size;
+  layout = c.advance.ensures.layout ∙ before.layout;
   stays = stays-joins _ _ _ before.stays c.advance.ensures.stays;
   faults = c.in_ok-advance.ensures.faults ∙ before.faults;
   honest = λ h. before.honest (c.advance.ensures.honest h);
   passed =
-      λ h. goes-on c.args.log.now (limit_of c.args.home_blocks) (reading (g.D.Device.state c.args.device.now).disk) c.advance.new.finder c.loop.cursor c.advance.new.self
+      λ h. goes-on c.args.log.now (limit_of c.args.log.now c.args.home_blocks) (reading (g.D.Device.state c.args.device.now).disk) c.advance.new.finder c.loop.cursor c.advance.new.self
       c.in_ok-advance.field-0 c.in-RevokeBlock.is
-      (led-there c.args.log.now (limit_of c.args.home_blocks) (g.D.Device.state c.args.device.now) (g.D.Device.state c.loop.device) c.advance.new.finder c.loop.cursor
+      (led-there c.args.log.now (limit_of c.args.log.now c.args.home_blocks) (g.D.Device.state c.args.device.now) (g.D.Device.state c.loop.device) c.advance.new.finder c.loop.cursor
       c.advance.new.self c.in_ok-advance.field-0 before.stays (before.passed (c.advance.ensures.honest h)) (c.in_ok-advance.ensures.leads h));
 }
 
@@ -52,10 +52,10 @@ returns-in-Malformed-clause-refused g c =
       no-failure c.place.result,
       no-memory c.place.result,
       c.in_ok-advance.ensures.faults ∙ before.faults,
-      λ h. led-damage c.args.log.now (limit_of c.args.home_blocks) (reading (g.D.Device.state c.args.device.now).disk) c.advance.new.finder c.loop.cursor c.advance.new.self
+      λ h. led-damage c.args.log.now (limit_of c.args.log.now c.args.home_blocks) (reading (g.D.Device.state c.args.device.now).disk) c.advance.new.finder c.loop.cursor c.advance.new.self
           _ c.place.result refl (rw stayed at c.place.ensures.place)
-          (subst (HasLed c.args.log.now (limit_of c.args.home_blocks) (reading (g.D.Device.state c.args.device.now).disk) c.advance.new.finder c.loop.cursor c.advance.new.self) c.in-Malformed.is
-          (led-there c.args.log.now (limit_of c.args.home_blocks) (g.D.Device.state c.args.device.now) (g.D.Device.state c.loop.device) c.advance.new.finder c.loop.cursor
+          (subst (HasLed c.args.log.now (limit_of c.args.log.now c.args.home_blocks) (reading (g.D.Device.state c.args.device.now).disk) c.advance.new.finder c.loop.cursor c.advance.new.self) c.in-Malformed.is
+          (led-there c.args.log.now (limit_of c.args.log.now c.args.home_blocks) (g.D.Device.state c.args.device.now) (g.D.Device.state c.loop.device) c.advance.new.finder c.loop.cursor
           c.advance.new.self c.in_ok-advance.field-0 before.stays (before.passed (c.advance.ensures.honest h)) (c.in_ok-advance.ensures.leads h))),
     )
 
@@ -64,7 +64,7 @@ pub returns-in-Nothing-clause-scanned : goal.returns-in-Nothing-clause-scanned
 returns-in-Nothing-clause-scanned g c = λ h.
     let before = c.loop.invariant in
     rw (rw c.in-Nothing.is at c.in_ok-advance.ensures.behind)
-    (led-end c.args.log.now (limit_of c.args.home_blocks) (reading (g.D.Device.state c.args.device.now).disk) c.advance.new.finder c.loop.cursor c.advance.new.self
-    (subst (HasLed c.args.log.now (limit_of c.args.home_blocks) (reading (g.D.Device.state c.args.device.now).disk) c.advance.new.finder c.loop.cursor c.advance.new.self) c.in-Nothing.is
-    (led-there c.args.log.now (limit_of c.args.home_blocks) (g.D.Device.state c.args.device.now) (g.D.Device.state c.loop.device) c.advance.new.finder c.loop.cursor
+    (led-end c.args.log.now (limit_of c.args.log.now c.args.home_blocks) (reading (g.D.Device.state c.args.device.now).disk) c.advance.new.finder c.loop.cursor c.advance.new.self
+    (subst (HasLed c.args.log.now (limit_of c.args.log.now c.args.home_blocks) (reading (g.D.Device.state c.args.device.now).disk) c.advance.new.finder c.loop.cursor c.advance.new.self) c.in-Nothing.is
+    (led-there c.args.log.now (limit_of c.args.log.now c.args.home_blocks) (g.D.Device.state c.args.device.now) (g.D.Device.state c.loop.device) c.advance.new.finder c.loop.cursor
     c.advance.new.self c.in_ok-advance.field-0 before.stays (before.passed (c.advance.ensures.honest h)) (c.in_ok-advance.ensures.leads h))))

@@ -11,11 +11,11 @@ abbrev pub invariant-loop : goal.invariant-loop
 invariant-loop g l = record {
   within : l.cursor.position ≤ (ring_of l.log).blocks;
   few : l.cursor.transactions ≤ l.cursor.position;
-  size : length l.finder.block ≡ length l.fn.finder.block;
+  layout : l.finder.layout ≡ l.fn.finder.layout;
   stays : Stays (g.D.Device.state l.fn.device) (g.D.Device.state l.device);
   faults : (g.D.Device.state l.device).faults ≡ (g.D.Device.state l.fn.device).faults;
   honest : g.D.Device.honest l.device → g.D.Device.honest l.fn.device;
-  passed : g.D.Device.honest l.device → HasPassed l.log (limit_of l.home_blocks) (reading (g.D.Device.state l.fn.device).disk) l.cursor;
+  passed : g.D.Device.honest l.device → HasPassed l.log (limit_of l.log l.home_blocks) (reading (g.D.Device.state l.fn.device).disk) l.cursor;
 }
 
 -- the blocks that are left

@@ -8,7 +8,7 @@ use Rattle.recovery.proofs.examine.lowest_ahead.Given as goal
 -- none of the blocks before the place is ahead
 abbrev pub invariant-loop-place : goal.invariant-loop-place
 invariant-loop-place g l = record {
-  size : length l.finder.block ≡ length l.fn.finder.block;
+  layout : l.finder.layout ≡ l.fn.finder.layout;
   stays : Stays (g.D.Device.state l.fn.device) (g.D.Device.state l.device);
   faults : (g.D.Device.state l.device).faults ≡ (g.D.Device.state l.fn.device).faults;
   honest : g.D.Device.honest l.device → g.D.Device.honest l.fn.device;

@@ -20,7 +20,7 @@ loop-cursor-init g c = rw (c.new-cursor.ensures, c.new-tables.ensures) (record {
   few = omega arith;
   held = omega arith;
   below = omega arith;
-  size = refl;
+  layout = refl;
   stays = record { shape = refl; disk = refl; past = refl };
   faults = refl;
   honest = λ h. h;
@@ -41,7 +41,7 @@ loop-cursor-preserved-in-Continue-branch-3 g c =
       few = c.advance.ensures.few;
       held = let held = before.held in omega arith;
       below = let below = c.loop-cursor-test.true in omega arith;
-      size = c.advance.ensures.size ∙ before.size;
+      layout = c.advance.ensures.layout ∙ before.layout;
       stays = stays-joins _ _ _ before.stays c.advance.ensures.stays;
       faults = c.in_ok-count.ensures.faults ∙ before.faults;
       honest = λ h. before.honest (c.advance.ensures.honest h);
@@ -72,7 +72,7 @@ loop-cursor-preserved-in-Descriptor g c =
       few = c.advance.ensures.few;
       held = let held = before.held in omega arith;
       below = let below = c.loop-cursor-test.true in omega arith;
-      size = c.advance.ensures.size ∙ before.size;
+      layout = c.advance.ensures.layout ∙ before.layout;
       stays = stays-joins _ _ _ before.stays c.advance.ensures.stays;
       faults = c.in_ok-count.ensures.faults ∙ before.faults;
       honest = λ h. before.honest (c.advance.ensures.honest h);
@@ -102,7 +102,7 @@ loop-cursor-preserved g c =
       few = c.advance.ensures.few;
       held = let held = before.held in omega arith;
       below = let below = c.loop-cursor-test.true in omega arith;
-      size = c.advance.ensures.size ∙ before.size;
+      layout = c.advance.ensures.layout ∙ before.layout;
       stays = stays-joins _ _ _ before.stays c.advance.ensures.stays;
       faults = c.in_ok-count.ensures.faults ∙ before.faults;
       honest = λ h. before.honest (c.advance.ensures.honest h);

@@ -13,12 +13,12 @@ invariant-loop-cursor g l = record {
   few : l.cursor.transactions ≤ l.cursor.position;
   held : l.copies ≤ l.cursor.position;
   below : l.cursor.transactions ≤ l.transactions;
-  size : length l.finder.block ≡ length l.fn.finder.block;
+  layout : l.finder.layout ≡ l.fn.finder.layout;
   stays : Stays (g.D.Device.state l.fn.device) (g.D.Device.state l.device);
   faults : (g.D.Device.state l.device).faults ≡ (g.D.Device.state l.fn.device).faults;
   honest : g.D.Device.honest l.device → g.D.Device.honest l.fn.device;
   gathers : g.D.Device.honest l.device →
-      Gathers l.log (limit_of l.home_blocks) (reading (g.D.Device.state l.fn.device).disk) l.cursor l.transactions l.copies l.tables;
+      Gathers l.log (limit_of l.log l.home_blocks) (reading (g.D.Device.state l.fn.device).disk) l.cursor l.transactions l.copies l.tables;
 }
 
 -- the blocks that are left

@@ -32,7 +32,7 @@ returns-in_err-write-clause-begun g c =
     let p = err_from_is_err_and c.from_residual-in_err-write.result c.from_residual-in_err-write.ensures.1 in
     rw p.1
     (λ honest.
-    let bytes = c.block.ensures ∙ c.in_ok-read_copy.ensures.copy (c.write.ensures.honest honest) in
+    let bytes = c.block.ensures.block ∙ c.in_ok-read_copy.ensures.copy (c.write.ensures.honest honest) in
     made-begun [] calls s t u (made-none s t c.read_copy.ensures.stays)
     (begun-interrupted calls t u (write-interrupted Home c.args.tag.block (unescaped c.args.tag.escaped stored) [] t u
     (subst (λ (tag : Tag). Writes t u Home tag.block (unescaped tag.escaped stored)) c.tag.view_is

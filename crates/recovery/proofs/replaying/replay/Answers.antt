@@ -18,7 +18,7 @@ loop-cursor-init g c = rw c.new-cursor.ensures (record {
   few = omega arith;
   held = omega arith;
   below = omega arith;
-  size = refl;
+  layout = refl;
   shape = refl;
   faults = refl;
   honest = λ h. h;
@@ -38,7 +38,7 @@ loop-cursor-preserved-in-RevokeBlock g c =
       few = c.advance.ensures.few;
       held = let held = before.held in omega arith;
       below = on-below c.loop-cursor.cursor c.advance.new.self c.in_ok-advance.field-0 c.args.transactions c.in-RevokeBlock.is c.in_ok-advance.ensures.behind c.loop-cursor-test.true;
-      size = c.advance.ensures.size ∙ before.size;
+      layout = c.advance.ensures.layout ∙ before.layout;
       shape = c.advance.ensures.stays.shape ∙ before.shape;
       faults = c.in_ok-advance.ensures.faults ∙ before.faults;
       honest = λ h. before.honest (c.advance.ensures.honest h);
@@ -67,7 +67,7 @@ loop-cursor-preserved g c =
       few = c.advance.ensures.few;
       held = let held = before.held in omega arith;
       below = let below = c.loop-cursor-test.true in omega arith;
-      size = c.write_copies.ensures.size ∙ c.advance.ensures.size ∙ before.size;
+      layout = c.write_copies.ensures.layout ∙ c.advance.ensures.layout ∙ before.layout;
       shape = c.write_copies.ensures.shape ∙ c.advance.ensures.stays.shape ∙ before.shape;
       faults = c.in_ok-write_copies-in-Descriptor.ensures.faults ∙ c.in_ok-advance.ensures.faults ∙ before.faults;
       honest = λ h. before.honest (c.advance.ensures.honest (c.write_copies.ensures.honest h));

@@ -12,12 +12,12 @@ invariant-loop-cursor g l = record {
   few : l.cursor.transactions ≤ l.cursor.position;
   held : l.place ≤ l.cursor.position;
   below : l.cursor.transactions ≤ l.transactions;
-  size : length l.finder.block ≡ length l.fn.finder.block;
+  layout : l.finder.layout ≡ l.fn.finder.layout;
   shape : (g.D.Device.state l.device).shape ≡ (g.D.Device.state l.fn.device).shape;
   faults : (g.D.Device.state l.device).faults ≡ (g.D.Device.state l.fn.device).faults;
   honest : g.D.Device.honest l.device → g.D.Device.honest l.fn.device;
   replays : g.D.Device.honest l.device →
-      Replays l.log (limit_of l.home_blocks) (reading (g.D.Device.state l.fn.device).disk) l.cursor l.transactions l.place l.tables (g.D.Device.state l.fn.device)
+      Replays l.log (limit_of l.log l.home_blocks) (reading (g.D.Device.state l.fn.device).disk) l.cursor l.transactions l.place l.tables (g.D.Device.state l.fn.device)
       (g.D.Device.state l.device);
 }
 

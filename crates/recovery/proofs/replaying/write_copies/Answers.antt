@@ -14,7 +14,7 @@ loop-k-preserved g c =
     elim c.if-goes_home.branch [
       | then-goes_home+in_ok-copy_home w ↦
           rw (w.device-is, w.finder-is) (record {
-            size = w.copy_home.ensures.size ∙ before.size;
+            layout = w.copy_home.ensures.layout ∙ before.layout;
             tags = w.copy_home.ensures.tags ∙ before.tags;
             shape = w.copy_home.ensures.shape ∙ before.shape;
             faults = w.in_ok-copy_home.ensures.faults ∙ before.faults;
@@ -27,7 +27,7 @@ loop-k-preserved g c =
           })
       | else-goes_home w ↦
           rw (w.device-is, w.finder-is) (record {
-            size = before.size;
+            layout = before.layout;
             tags = before.tags;
             shape = before.shape;
             faults = before.faults;

@@ -8,7 +8,7 @@ use Rattle.recovery.proofs.replaying.write_copies.Given as goal
 -- those of the copies so far that go home are written
 abbrev pub invariant-loop-k : goal.invariant-loop-k
 invariant-loop-k g l = record {
-  size : length l.finder.block ≡ length l.fn.finder.block;
+  layout : l.finder.layout ≡ l.fn.finder.layout;
   tags : l.finder.tags ≡ l.fn.finder.tags;
   shape : (g.D.Device.state l.device).shape ≡ (g.D.Device.state l.fn.device).shape;
   faults : (g.D.Device.state l.device).faults ≡ (g.D.Device.state l.fn.device).faults;

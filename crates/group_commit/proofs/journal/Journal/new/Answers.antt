@@ -1,5 +1,5 @@
 use Rattle.std.proofs.Common.{refl, sym, ap, ◌∙◌, subst, ◌<◌, ℕ}
-use Rattle.journal_model.specs.Layout.{narrow}
+use Rattle.journal_model.specs.Layout.{Layout}
 use Rattle.journal_model.specs.Room.{IsCapacity}
 use Rattle.journal_model.specs.Superblock.{Shape}
 use Rattle.journal_world.specs.Engine.{Engine}
@@ -21,8 +21,9 @@ pub returns-clause-fresh : goal.returns-clause-fresh
 returns-clause-fresh g c =
     let engine = c.in_ok-engine.ensures.ok.1 in
     let front = c.new-front.ensures ∙ ap (fresh_front c.capacity-credits.result) c.next-next.ensures.next in
-    fresh-journal _ _ _ _ _ engine front (subst (λ (size : ℕ). IsCapacity (narrow size) c.in_ok-engine.engine.engine.ring.blocks c.capacity-credits.result) (c.block_size.ensures.device ∙ ap (λ (d : g.row.D.Denot). (g.D.Device.state d).shape.block_size) c.in_ok-engine.ensures.ok.0)
-    (subst (λ (blocks : ℕ). IsCapacity (narrow c.block_size.result) blocks c.capacity-credits.result) c.ring_blocks.ensures c.capacity-credits.ensures))
+    fresh-journal _ _ _ _ _ engine front
+    (subst (λ (l : Layout). IsCapacity l c.in_ok-engine.engine.engine.ring.blocks c.capacity-credits.result) c.layout.ensures.layout
+    (subst (λ (blocks : ℕ). IsCapacity c.layout.result blocks c.capacity-credits.result) c.ring_blocks.ensures c.capacity-credits.ensures))
 
 -- and where reads were honest a run begins there
 pub returns-clause-begins : goal.returns-clause-begins

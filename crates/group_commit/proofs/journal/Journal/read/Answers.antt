@@ -1,7 +1,6 @@
 use Rattle.std.proofs.Common.{refl, sym, ap, subst, ◌∙◌, ◌≡◌, ℕ, length}
 use Rattle.std.proofs.lemmas.Bool.{true≢false}
 use Rattle.journal_model.specs.Block.{IsAllowedBlock}
-use Rattle.journal_model.specs.Layout.{narrow}
 use Rattle.journal_model.specs.Superblock.{Shape}
 use Rattle.journal_world.specs.Journal.{Journal}
 use Rattle.log_engine.specs.Engine.{EngineValue}
@@ -10,6 +9,7 @@ use Rattle.group_commit.specs.Values.{JournalValue}
 use Rattle.group_commit.proofs.Reading.{kept-pending, kept-whole, seen-kept, seen-read}
 use Rattle.group_commit.proofs.Rounding.{agrees-read, refused-read}
 use Rattle.group_commit.proofs.Touches.{err-map, ok-map}
+use Rattle.group_commit.proofs.Sealing.{allowed-here}
 use Rattle.group_commit.proofs.journal.Journal.read.Goals as goal
 
 -- an aborted journal refuses
@@ -24,7 +24,7 @@ returns-then-not-is_allowed-clause-err g c =
     let running = sym c.is_aborted.ensures ∙ c.if-is_aborted.false in
     let no = λ (may : MayTouch (record { front = c.self.inside.front; engine = e }) c.args.block).
     true≢false
-    (sym ((c.is_allowed.ensures e.shape.block_size).1 (subst (λ (n : ℕ). IsAllowedBlock (narrow e.shape.block_size) n c.args.block) (sym c.home_blocks-home_blocks.ensures) may))
+    (sym (c.is_allowed.ensures.1 (allowed-here (sym c.layout.ensures.layout) (sym c.home_blocks-home_blocks.ensures) may))
     ∙ c.if-not-is_allowed.true) in
     rw (← c.self.view_is) (ReadRefused.ReadOutside running no refl)
 
@@ -33,8 +33,8 @@ pub returns-in-Some-clause-may : goal.returns-in-Some-clause-may
 returns-in-Some-clause-may g c =
     let e = c.self.inside.engine.engine in
     let running = sym c.is_aborted.ensures ∙ c.if-is_aborted.false in
-    let may = subst (λ (n : ℕ). IsAllowedBlock (narrow e.shape.block_size) n c.args.block) c.home_blocks-home_blocks.ensures
-    ((c.is_allowed.ensures e.shape.block_size).0 c.if-not-is_allowed.false) in
+    let may = allowed-here c.layout.ensures.layout c.home_blocks-home_blocks.ensures
+    (c.is_allowed.ensures.0 c.if-not-is_allowed.false) in
     rw (← c.self.view_is) (running, may)
 
 -- the copy that is kept fills the buffer
@@ -62,8 +62,8 @@ pub returns-clause-may : goal.returns-clause-may
 returns-clause-may g c =
     let e = c.self.inside.engine.engine in
     let running = sym c.is_aborted.ensures ∙ c.if-is_aborted.false in
-    let may = subst (λ (n : ℕ). IsAllowedBlock (narrow e.shape.block_size) n c.args.block) c.home_blocks-home_blocks.ensures
-    ((c.is_allowed.ensures e.shape.block_size).0 c.if-not-is_allowed.false) in
+    let may = allowed-here c.layout.ensures.layout c.home_blocks-home_blocks.ensures
+    (c.is_allowed.ensures.0 c.if-not-is_allowed.false) in
     rw (← c.self.view_is) (ok-map c.read.result (λ ok. (running, may)) c.read.ensures.ok)
 
 -- where the front keeps no copy, what the engine reads is what the read answers
@@ -92,6 +92,6 @@ pub returns-clause-err : goal.returns-clause-err
 returns-clause-err g c =
     let e = c.self.inside.engine.engine in
     let running = sym c.is_aborted.ensures ∙ c.if-is_aborted.false in
-    let may = subst (λ (n : ℕ). IsAllowedBlock (narrow e.shape.block_size) n c.args.block) c.home_blocks-home_blocks.ensures
-    ((c.is_allowed.ensures e.shape.block_size).0 c.if-not-is_allowed.false) in
+    let may = allowed-here c.layout.ensures.layout c.home_blocks-home_blocks.ensures
+    (c.is_allowed.ensures.0 c.if-not-is_allowed.false) in
     rw (← c.self.view_is) (err-map c.read.result (λ refusal. refused-read g.D.Device.state _ _ _ _ refusal running may c.in_default.ensures.none c.read.ensures.stays) c.read.ensures.err)

@@ -2,7 +2,6 @@ use Rattle.std.proofs.Common.{refl, sym, ap, subst, ◌∙◌, ◌≤◌, ◌+�
 use Rattle.std.proofs.lemmas.Bool.{true≢false}
 use Rattle.std.proofs.lemmas.Result.{err_from_is_err_and}
 use Rattle.journal_model.specs.declared.entry.Batch.{Batch}
-use Rattle.journal_model.specs.Layout.{narrow}
 use Rattle.journal_model.specs.Room.{need}
 use Rattle.journal_world.specs.Engine.{Accepts, Engine}
 use Rattle.journal_world.specs.Front.{Front}
@@ -20,7 +19,7 @@ returns-then-not-has_room-clause-err g c =
     let e = c.self.inside.engine.engine in
     let short = λ (room : HasRoomFor (record { front = c.self.inside.front; engine = e })).
     true≢false
-    (sym (c.has_room.ensures.1 (subst (λ (n : ℕ). e.start + need (narrow e.shape.block_size) n 0 ≤ e.tail + e.ring.blocks) (sym c.touched.ensures) room))
+    (sym (c.has_room.ensures.1 (subst (λ (n : ℕ). e.start + need e.layout n 0 ≤ e.tail + e.ring.blocks) (sym c.touched.ensures) room))
     ∙ c.if-not-has_room.true) in
     rw (← c.self.view_is) (TurnRefused.RingIsShort due short refl)
 
@@ -29,7 +28,7 @@ pub returns-in_err-batch-clause-err : goal.returns-in_err-batch-clause-err
 returns-in_err-batch-clause-err g c =
     let due = subst (λ (v : JournalValue g.row.D.Denot). SealIsDue v.journal) (sym c.self.view_is) c.requires.due in
     let e = c.self.inside.engine.engine in
-    let room = subst (λ (n : ℕ). e.start + need (narrow e.shape.block_size) n 0 ≤ e.tail + e.ring.blocks) c.touched.ensures (c.has_room.ensures.0 c.if-not-has_room.false) in
+    let room = subst (λ (n : ℕ). e.start + need e.layout n 0 ≤ e.tail + e.ring.blocks) c.touched.ensures (c.has_room.ensures.0 c.if-not-has_room.false) in
     let p = err_from_is_err_and c.from_residual.result c.from_residual.ensures.1 in
     rw (p.1, p.2, ← c.self.view_is) (TurnRefused.MemoryIsShort due room refl)
 
@@ -38,7 +37,7 @@ pub accept-requires : goal.accept-requires
 accept-requires g c =
     let due = subst (λ (v : JournalValue g.row.D.Denot). SealIsDue v.journal) (sym c.self.view_is) c.requires.due in
     let e = c.self.inside.engine.engine in
-    let room = subst (λ (n : ℕ). e.start + need (narrow e.shape.block_size) n 0 ≤ e.tail + e.ring.blocks) c.touched.ensures (c.has_room.ensures.0 c.if-not-has_room.false) in
+    let room = subst (λ (n : ℕ). e.start + need e.layout n 0 ≤ e.tail + e.ring.blocks) c.touched.ensures (c.has_room.ensures.0 c.if-not-has_room.false) in
     let plain = subst (λ (v : JournalValue g.row.D.Denot). IsPlain v.journal.engine) (sym c.self.view_is) c.requires.plain in
     subst (MayHandOver e) (sym c.in_ok-batch.ensures) (may-hand_over c.self.inside.front e c.self.invariant plain due room)
 
@@ -49,7 +48,7 @@ returns-in-Err-clause-err g c =
     let plain = subst (λ (v : JournalValue g.row.D.Denot). IsPlain v.journal.engine) (sym c.self.view_is) c.requires.plain in
     let f = c.self.inside.front in
     let e = c.self.inside.engine.engine in
-    let room = subst (λ (n : ℕ). e.start + need (narrow e.shape.block_size) n 0 ≤ e.tail + e.ring.blocks) c.touched.ensures (c.has_room.ensures.0 c.if-not-has_room.false) in
+    let room = subst (λ (n : ℕ). e.start + need e.layout n 0 ≤ e.tail + e.ring.blocks) c.touched.ensures (c.has_room.ensures.0 c.if-not-has_room.false) in
     let refused = c.in-Err.ensures.err in
     let why = subst (λ (b : Batch). AcceptRefused e b c.in-Err.refused.1) c.in_ok-batch.ensures refused.1 in
     let same = ap (λ (v : EngineValue g.row.D.Denot). record { device = v.device; journal = record { front = f; engine = v.engine } }) refused.2 in

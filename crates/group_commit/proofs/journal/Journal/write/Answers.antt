@@ -3,12 +3,11 @@ use Rattle.std.proofs.lemmas.Bool.{true≢false}
 use Rattle.std.proofs.lemmas.Result.{err_from_is_err_and}
 use Rattle.journal_model.specs.declared.refusal.JournalError.TheVariants.{Memory}
 use Rattle.journal_model.specs.Block.{IsAllowedBlock}
-use Rattle.journal_model.specs.Layout.{narrow}
 use Rattle.journal_model.specs.Superblock.{Shape}
 use Rattle.journal_world.specs.Front.{Front, IsFirstTouch, writing}
 use Rattle.group_commit.specs.Journal.{MayTouch, WriteRefused}
 use Rattle.group_commit.specs.Values.{JournalValue}
-use Rattle.group_commit.proofs.Sealing.{agrees-written}
+use Rattle.group_commit.proofs.Sealing.{agrees-written, allowed-here}
 use Rattle.group_commit.proofs.journal.Journal.write.Goals as goal
 use Rattle.group_commit.proofs.journal.Journal.write.Goals.{else-first-2, else-first-via-else-first, else-first-via-then-first+else-left-eq0, then-first-2}
 
@@ -24,7 +23,7 @@ returns-then-not-is_allowed-clause-err g c =
     let running = sym c.is_aborted.ensures ∙ c.if-is_aborted.false in
     let no = λ (may : MayTouch (record { front = c.self.inside.front; engine = e }) c.args.block).
     true≢false
-    (sym ((c.is_allowed.ensures e.shape.block_size).1 (subst (λ (n : ℕ). IsAllowedBlock (narrow e.shape.block_size) n c.args.block) (sym c.home_blocks.ensures) may))
+    (sym (c.is_allowed.ensures.1 (allowed-here (sym c.layout.ensures.layout) (sym c.home_blocks.ensures) may))
     ∙ c.if-not-is_allowed.true) in
     rw (← c.self.view_is) (WriteRefused.OutOfHome running no, refl, refl)
 
@@ -33,8 +32,8 @@ pub returns-then-left-eq0-clause-err : goal.returns-then-left-eq0-clause-err
 returns-then-left-eq0-clause-err g c =
     let e = c.self.inside.engine.engine in
     let running = sym c.is_aborted.ensures ∙ c.if-is_aborted.false in
-    let may = subst (λ (n : ℕ). IsAllowedBlock (narrow e.shape.block_size) n c.args.block) c.home_blocks.ensures
-    ((c.is_allowed.ensures e.shape.block_size).0 c.if-not-is_allowed.false) in
+    let may = allowed-here c.layout.ensures.layout c.home_blocks.ensures
+    (c.is_allowed.ensures.0 c.if-not-is_allowed.false) in
     let first = c.is_first_touch-first.ensures.0 c.if-first.true in
     rw (← c.self.view_is) (WriteRefused.WithoutCredit running may first (sym c.left.ensures ∙ c.if-left-eq0.true), refl, refl)
 
@@ -43,8 +42,8 @@ pub returns-in_err-write-clause-err : goal.returns-in_err-write-clause-err
 returns-in_err-write-clause-err g c =
     let e = c.self.inside.engine.engine in
     let running = sym c.is_aborted.ensures ∙ c.if-is_aborted.false in
-    let may = subst (λ (n : ℕ). IsAllowedBlock (narrow e.shape.block_size) n c.args.block) c.home_blocks.ensures
-    ((c.is_allowed.ensures e.shape.block_size).0 c.if-not-is_allowed.false) in
+    let may = allowed-here c.layout.ensures.layout c.home_blocks.ensures
+    (c.is_allowed.ensures.0 c.if-not-is_allowed.false) in
     let paid : IsFirstTouch c.self.inside.front c.args.block → 0 < c.args.handle.now.left = λ first.
     elim c.else-first.branch [
       | else-first-via-then-first+else-left-eq0 v ↦ let left = v.left.ensures in let none = v.if-left-eq0.false in omega arith
@@ -62,8 +61,8 @@ returns-in_err-write-clause-err g c =
 pub invariant_of-self-2 : goal.invariant_of-self-2
 invariant_of-self-2 g c =
     let e = c.self.inside.engine.engine in
-    let may = subst (λ (n : ℕ). IsAllowedBlock (narrow e.shape.block_size) n c.args.block) c.home_blocks.ensures
-    ((c.is_allowed.ensures e.shape.block_size).0 c.if-not-is_allowed.false) in
+    let may = allowed-here c.layout.ensures.layout c.home_blocks.ensures
+    (c.is_allowed.ensures.0 c.if-not-is_allowed.false) in
     let whole = subst (λ (v : JournalValue g.row.D.Denot). length c.args.bytes.now ≡ (g.D.Device.state v.device).shape.block_size) (sym c.self.view_is) c.requires
     ∙ ap (λ (s : Shape). s.block_size) (sym c.recall_invariant.ensures.shape) in
     agrees-written c.self.inside.front _ e _ _ _ c.self.invariant may whole c.in_ok-write.ensures.ok
@@ -73,8 +72,8 @@ pub returns-clause-ok : goal.returns-clause-ok
 returns-clause-ok g c =
     let e = c.self.inside.engine.engine in
     let running = sym c.is_aborted.ensures ∙ c.if-is_aborted.false in
-    let may = subst (λ (n : ℕ). IsAllowedBlock (narrow e.shape.block_size) n c.args.block) c.home_blocks.ensures
-    ((c.is_allowed.ensures e.shape.block_size).0 c.if-not-is_allowed.false) in
+    let may = allowed-here c.layout.ensures.layout c.home_blocks.ensures
+    (c.is_allowed.ensures.0 c.if-not-is_allowed.false) in
     let whole = subst (λ (v : JournalValue g.row.D.Denot). length c.args.bytes.now ≡ (g.D.Device.state v.device).shape.block_size) (sym c.self.view_is) c.requires
     ∙ ap (λ (s : Shape). s.block_size) (sym c.recall_invariant.ensures.shape) in
     let wrote = c.in_ok-write.ensures.ok ∙ ap (λ (h : ℕ). writing c.self.inside.front h c.args.block c.args.bytes.now) c.number.ensures in

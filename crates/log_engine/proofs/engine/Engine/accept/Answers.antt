@@ -1,5 +1,4 @@
 use Rattle.std.proofs.Common.{refl, sym, ap, subst, ◌∙◌, ◌+◌, ℕ, length}
-use Rattle.journal_model.specs.Layout.{narrow}
 use Rattle.journal_model.specs.Room.{need}
 use Rattle.journal_world.proofs.Accepted.{accepts-sound}
 use Rattle.journal_world.specs.Engine.{Engine, HasRoom}
@@ -72,8 +71,7 @@ invariant_of-self-2 g c =
     let may : MayHandOver e c.args.batch = subst (λ (v : EngineValue g.row.D.Denot). MayHandOver v.engine c.args.batch) (sym c.self.view_is) c.requires in
     let told = room-told state.shape l c.args.batch c.len.result _ c.len.ensures c.self.invariant.0 may.copies c.has_room.ensures in
     let room : HasRoom e c.args.batch = told.0 c.if-not-has_room.false in
-    let size = (superblock-of e c.self.invariant.0.can_run.plain).size in
-    let head = c.in_default.ensures.head ∙ ap (λ (n : ℕ). l.ring.head + need (narrow n) (length c.args.batch.entries) 0) size in
+    let head = c.in_default.ensures.head in
     let is = c.in_default.ensures.ok state.shape in (
       takes-on state.shape l c.take.new.self c.args.batch c.if-self.false may room is head c.take.ensures.pending c.self.invariant.0,
       c.self.invariant.1,

@@ -1,7 +1,6 @@
 use Rattle.std.proofs.Common.{refl, sym, ap, subst, ◌∙◌, ◌≡◌, ◌<◌, ℕ, Bool, true, false, List, length}
 use Rattle.journal_model.specs.declared.number.Area.TheVariants.{Home}
 use Rattle.journal_model.specs.Block.{IsAllowedBlock}
-use Rattle.journal_model.specs.Layout.{narrow}
 use Rattle.journal_model.specs.Superblock.{Shape}
 use Rattle.journal_world.specs.Checkpoint.{IsPending}
 use Rattle.log_engine.specs.Engine.{EngineValue, ReadRefused}
@@ -20,13 +19,17 @@ returns-then-self-clause-err g c = rw (← c.self.view_is) (ReadRefused.ReadAbor
 not-both : (b : Bool) → b ≡ true → b ≡ false → ⊥
 not-both b is not = cc
 
--- so does a block that may not be touched
+-- the layout is one that is taken
+pub is_allowed-requires : goal.is_allowed-requires
+is_allowed-requires g c = c.self.invariant.0.can_run.plain.layout.0
+
+-- a block that may not be touched is refused
 pub returns-then-not-is_allowed-clause-err : goal.returns-then-not-is_allowed-clause-err
 returns-then-not-is_allowed-clause-err g c =
     let shape = (g.D.Device.state c.self.inside.device).shape in
-    let refused : IsAllowedBlock (narrow shape.block_size) shape.home_blocks c.args.block → ⊥ =
+    let refused : IsAllowedBlock c.self.inside.ledger.layout shape.home_blocks c.args.block → ⊥ =
     λ allowed. not-both c.is_allowed.result
-    ((c.is_allowed.ensures shape.block_size).1 (subst (λ (n : ℕ). IsAllowedBlock (narrow shape.block_size) n c.args.block) (sym c.blocks-2.ensures) allowed))
+    (c.is_allowed.ensures.1 (subst (λ (n : ℕ). IsAllowedBlock c.self.inside.ledger.layout n c.args.block) (sym c.blocks-2.ensures) allowed))
     c.if-not-is_allowed.true in
     rw (← c.self.view_is) (ReadRefused.ReadOutside c.if-self.false refused refl)
 
@@ -56,8 +59,8 @@ copy_from_slice-requires g c =
 pub returns-in-Some-clause-may : goal.returns-in-Some-clause-may
 returns-in-Some-clause-may g c =
     let shape = (g.D.Device.state c.self.inside.device).shape in
-    let may = subst (λ (n : ℕ). IsAllowedBlock (narrow shape.block_size) n c.args.block) c.blocks-2.ensures
-    ((c.is_allowed.ensures shape.block_size).0 c.if-not-is_allowed.false) in
+    let may = subst (λ (n : ℕ). IsAllowedBlock c.self.inside.ledger.layout n c.args.block) c.blocks-2.ensures
+    (c.is_allowed.ensures.0 c.if-not-is_allowed.false) in
     rw (← c.self.view_is) (c.if-self.false, may)
 
 -- its bytes are what the block reads
@@ -84,7 +87,7 @@ returns-in-Some-clause-pending g c =
 pub read-requires-clause-there : goal.read-requires-clause-there
 read-requires-clause-there g c =
     let shape = (g.D.Device.state c.self.inside.device).shape in
-    let allowed = (c.is_allowed.ensures shape.block_size).0 c.if-not-is_allowed.false in
+    let allowed = c.is_allowed.ensures.0 c.if-not-is_allowed.false in
     subst (λ (n : ℕ). n < shape.home_blocks) (sym c.block.view_is) (subst (λ (n : ℕ). c.args.block < n) c.blocks-2.ensures allowed.in_home)
 
 -- where the device fails the engine is aborted
@@ -106,8 +109,8 @@ returns-then-is_err-clause-err g c =
     let shape = (g.D.Device.state c.self.inside.device).shape in
     let l = c.self.inside.ledger in
     let failed = sym c.is_err.ensures.value ∙ c.if-is_err.true in
-    let may = subst (λ (n : ℕ). IsAllowedBlock (narrow shape.block_size) n c.args.block) c.blocks-2.ensures
-    ((c.is_allowed.ensures shape.block_size).0 c.if-not-is_allowed.false) in
+    let may = subst (λ (n : ℕ). IsAllowedBlock c.self.inside.ledger.layout n c.args.block) c.blocks-2.ensures
+    (c.is_allowed.ensures.0 c.if-not-is_allowed.false) in
     let none = sym c.lookup.ensures.newest ∙ c.in_default.is in
     let unkept = λ (i : ℕ) (v : List ℕ) (pending : IsPending (engine_of shape l) i c.args.block v).
     none-pending (engine_of shape l) l.pending i c.args.block v c.self.invariant.0.pending none pending in
@@ -118,8 +121,8 @@ returns-then-is_err-clause-err g c =
 pub returns-clause-may : goal.returns-clause-may
 returns-clause-may g c =
     let shape = (g.D.Device.state c.self.inside.device).shape in
-    let may = subst (λ (n : ℕ). IsAllowedBlock (narrow shape.block_size) n c.args.block) c.blocks-2.ensures
-    ((c.is_allowed.ensures shape.block_size).0 c.if-not-is_allowed.false) in
+    let may = subst (λ (n : ℕ). IsAllowedBlock c.self.inside.ledger.layout n c.args.block) c.blocks-2.ensures
+    (c.is_allowed.ensures.0 c.if-not-is_allowed.false) in
     rw (← c.self.view_is) (c.if-self.false, may)
 
 -- where no copy is pending, what home reads is what the block reads

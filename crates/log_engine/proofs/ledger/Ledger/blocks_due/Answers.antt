@@ -1,10 +1,10 @@
 use Rattle.std.proofs.Common.{arith}
-use Rattle.log_engine.proofs.Ledgers.{on-blocks, on-few, on-size}
+use Rattle.log_engine.proofs.Ledgers.{on-blocks, on-few, on-taken}
 use Rattle.log_engine.proofs.ledger.Ledger.blocks_due.Goals as goal
 
--- the superblock is one block
-pub need-requires-clause-size : goal.need-requires-clause-size
-need-requires-clause-size c = on-size c.args.self.now _ c.requires.can_run
+-- the layout is one that is taken
+pub need-requires-clause-taken : goal.need-requires-clause-taken
+need-requires-clause-taken c = on-taken c.args.self.now _ c.requires.can_run
 
 -- a batch that fits the ring is not large
 pub need-requires-clause-few : goal.need-requires-clause-few

@@ -1,7 +1,15 @@
 use Rattle.std.proofs.Common.{arith, sym, ◌∙◌}
-use Rattle.log_engine.proofs.Ledgers.{on-few, on-small}
+use Rattle.log_engine.proofs.Ledgers.{on-few, on-layout, on-small, on-taken}
 use Rattle.log_engine.proofs.Running.{runs-ring}
 use Rattle.log_engine.proofs.ledger.Ledger.due_block.Goals as goal
+
+-- the layout is one that is taken
+pub write_block-requires-clause-taken : goal.write_block-requires-clause-taken
+write_block-requires-clause-taken c = on-taken c.args.self.now _ c.requires.can_run
+
+-- of blocks of the writer's size
+pub write_block-requires-clause-size : goal.write_block-requires-clause-size
+write_block-requires-clause-size c = on-layout c.args.self.now _ c.requires.can_run
 
 -- a batch that fits the ring is not large
 pub write_block-requires-clause-few : goal.write_block-requires-clause-few

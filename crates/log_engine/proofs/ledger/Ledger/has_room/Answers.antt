@@ -1,10 +1,10 @@
 use Rattle.std.proofs.Common.{arith}
-use Rattle.log_engine.proofs.Ledgers.{on-idle, on-ring, on-size, on-tail, room-test}
+use Rattle.log_engine.proofs.Ledgers.{on-idle, on-ring, on-tail, on-taken, room-test}
 use Rattle.log_engine.proofs.ledger.Ledger.has_room.Goals as goal
 
--- the superblock is one block
-pub need-requires-clause-size : goal.need-requires-clause-size
-need-requires-clause-size c = on-size c.args.self.now _ c.requires.can_run
+-- the layout is one that is taken
+pub need-requires-clause-taken : goal.need-requires-clause-taken
+need-requires-clause-taken c = on-taken c.args.self.now _ c.requires.can_run
 
 -- nothing is being committed, so all that is taken is committed
 pub returns-then-copies-blocks : goal.returns-then-copies-blocks

@@ -1,5 +1,4 @@
 use Rattle.std.proofs.Common.{arith, refl, sym, ap, ap₂, subst, ◌∙◌, ◌+◌, ℕ, List, length}
-use Rattle.journal_model.specs.Layout.{narrow}
 use Rattle.journal_model.specs.Room.{need}
 use Rattle.log_format.specs.Size.{IsBlockSize}
 use Rattle.journal_model.specs.declared.entry.Batch.{Batch}
@@ -10,12 +9,9 @@ use Rattle.log_engine.proofs.Ledgers.{room-there, took}
 use Rattle.log_engine.proofs.Running.{head-small, runs-ring, runs-size, superblock-of}
 use Rattle.log_engine.proofs.ledger.Ledger.take.Goals as goal
 
--- the superblock is one block
-pub need-blocks-requires-clause-size : goal.need-blocks-requires-clause-size
-need-blocks-requires-clause-size c =
-    let e = engine_of c.requires.0 c.args.self.now in
-    let plain = c.requires.1.can_run.plain in
-    subst IsBlockSize (sym (superblock-of e plain).size) (runs-size e plain)
+-- the layout is one that is taken
+pub need-blocks-requires-clause-taken : goal.need-blocks-requires-clause-taken
+need-blocks-requires-clause-taken c = c.requires.1.can_run.plain.layout.0
 
 -- a batch has no more copies than the ring has blocks
 pub need-blocks-requires-clause-few : goal.need-blocks-requires-clause-few
@@ -44,8 +40,7 @@ take-never_fails-requires c =
 pub returns-clause-ok : goal.returns-clause-ok
 returns-clause-ok c = λ shape.
     let l = c.args.self.now in
-    let size = (superblock-of (engine_of c.requires.0 l) c.requires.1.can_run.plain).size in
-    let needed = c.need-blocks.ensures ∙ ap₂ (λ (size copies : ℕ). need (narrow size) copies 0) size c.len.ensures in
+    let needed = c.need-blocks.ensures ∙ ap (λ (copies : ℕ). need l.layout copies 0) c.len.ensures in
     let there = room-there c.requires.0 l c.args.batch c.need-blocks.result c.requires.1 c.requires.2 c.requires.3 needed in
     let taken = took c.take-never_fails.result l.ring c.take-never_fails.new.self _ c.take-never_fails.ensures.ok c.take-never_fails.ensures.err there in
     ap (λ (r : RingValue). record (engine_of shape l) { ring = r.ring; tail = r.tail; accepted = c.push.new.self.items; stage = c.first_stage-self.result }) taken
@@ -55,9 +50,8 @@ returns-clause-ok c = λ shape.
 pub returns-clause-head : goal.returns-clause-head
 returns-clause-head c =
     let l = c.args.self.now in
-    let size = (superblock-of (engine_of c.requires.0 l) c.requires.1.can_run.plain).size in
-    let needed = c.need-blocks.ensures ∙ ap₂ (λ (size copies : ℕ). need (narrow size) copies 0) size c.len.ensures in
+    let needed = c.need-blocks.ensures ∙ ap (λ (copies : ℕ). need l.layout copies 0) c.len.ensures in
     let there = room-there c.requires.0 l c.args.batch c.need-blocks.result c.requires.1 c.requires.2 c.requires.3 needed in
     let taken = took c.take-never_fails.result l.ring c.take-never_fails.new.self _ c.take-never_fails.ensures.ok c.take-never_fails.ensures.err there in
     ap (λ (r : RingValue). r.head) taken
-    ∙ ap (λ (n : ℕ). l.ring.head + n) (c.need-blocks.ensures ∙ ap (λ (n : ℕ). need (narrow (length l.superblock.items)) n 0) c.len.ensures)
+    ∙ ap (λ (n : ℕ). l.ring.head + n) (c.need-blocks.ensures ∙ ap (λ (n : ℕ). need l.layout n 0) c.len.ensures)

@@ -1,5 +1,5 @@
 -- The header stands in front, and zeros behind it.
-use Rattle.std.proofs.Common.{◌≡◌, ℕ, length, arith, refl, ap, ◌∙◌}
+use Rattle.std.proofs.Common.{◌≡◌, ℕ, length, arith, refl, ap, sym, ◌∙◌}
 use Rattle.journal_model.specs.Layout.{header, commit_type, padded}
 use Rattle.journal_model.specs.OwnText.{commit_block}
 use Rattle.log_format.proofs.Writing.{filled}
@@ -7,7 +7,7 @@ use Rattle.log_format.proofs.commit_block.CommitBlock.write.Goals as goal
 
 pub returns : goal.returns
 unfolding commit_block
-returns c =
+returns c l is =
     let size : length c.write.new.block ≡ length c.args.block.now = omega arith in
     filled c.write.new.block (header commit_type c.args.sequence) c.fill.new.self 12 (omega arith) (rw c.write.ensures refl) (c.fill.ensures.after (λ y h. h))
-    ∙ ap (λ (n : ℕ). padded n (header commit_type c.args.sequence)) size
+    ∙ ap (λ (n : ℕ). padded n (header commit_type c.args.sequence)) (size ∙ sym is)

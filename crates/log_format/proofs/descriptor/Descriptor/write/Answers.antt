@@ -3,7 +3,7 @@ use Rattle.std.proofs.Common.{◌≡◌, ◌<◌, ◌≤◌, ◌++◌, [], ℕ, 
 use Rattle.std.specs.List.{flat_map}
 use Rattle.std.proofs.lemmas.List.{take_rest, take_all}
 use Rattle.journal_model.specs.declared.log.Tag.{Tag}
-use Rattle.journal_model.specs.Layout.{narrow, header, descriptor_type, padded}
+use Rattle.journal_model.specs.Layout.{header, descriptor_type, padded}
 use Rattle.journal_model.specs.Descriptor.{descriptor_block, tag_spelling}
 use Rattle.journal_model.proofs.OwnTextTags.{length-tag_spelling}
 use Rattle.log_format.proofs.Writing.{filled, spelled_more, tag_fits, written_more}
@@ -11,14 +11,14 @@ use Rattle.log_format.proofs.descriptor.Descriptor.write.Goals as goal
 
 pub write_tag-at-requires-clause-room : goal.write_tag-at-requires-clause-room
 write_tag-at-requires-clause-room c =
-    let fits = tag_fits c.args.uuid.now (length c.args.block.now) c.loop-tag.tag-index c.args.tags.now c.tag-item.result c.told-uuid (omega arith) c.requires.fit (omega arith) c.tag-item.is in
+    let fits = tag_fits c.args.layout c.args.uuid.now c.loop-tag.tag-index c.args.tags.now c.tag-item.result c.requires.taken c.told-uuid c.requires.fit (omega arith) c.tag-item.is in
     rw take_rest (omega (arith, length-drop c.loop-tag.at c.loop-tag.block))
 
 pub loop-tag-preserved : goal.loop-tag-preserved
 loop-tag-preserved c =
-    let spelling : Tag → List ℕ = tag_spelling (narrow 0) c.args.uuid.now in
+    let spelling : Tag → List ℕ = tag_spelling c.args.layout c.args.uuid.now in
     let front : List ℕ = header descriptor_type c.args.sequence in
-    let long = length-tag_spelling (narrow 0) c.args.uuid.now c.tag-item.result (omega arith) c.told-uuid in
+    let long = length-tag_spelling c.args.layout c.args.uuid.now c.tag-item.result (omega arith) c.told-uuid in
     let here : c.loop-tag.tag-index < length c.args.tags.now = omega arith in
     let within : c.loop-tag.at ≤ length c.loop-tag.block = omega (arith, ap length c.loop-tag.invariant.written, length-take c.loop-tag.at c.loop-tag.block) in
     let sum = ap length (spelled_more spelling [] c.args.tags.now c.loop-tag.tag-index c.tag-item.result here c.tag-item.is) in
@@ -34,8 +34,8 @@ loop-tag-preserved c =
 pub returns : goal.returns
 unfolding descriptor_block
 returns c =
-    let spelling : Tag → List ℕ = tag_spelling (narrow 0) c.args.uuid.now in
+    let spelling : Tag → List ℕ = tag_spelling c.args.layout c.args.uuid.now in
     let all : take c.loop-tag.tag-index c.args.tags.now ≡ c.args.tags.now = take_all c.loop-tag.tag-index c.args.tags.now (omega arith) in
     let within : c.loop-tag.at ≤ length c.loop-tag.block = omega (arith, ap length c.loop-tag.invariant.written, length-take c.loop-tag.at c.loop-tag.block) in
     filled c.loop-tag.block _ c.fill.new.self c.loop-tag.at within c.loop-tag.invariant.written (c.fill.ensures.after (λ y h. h))
-    ∙ ap₂ (λ (n : ℕ) (ts : List Tag). padded n (header descriptor_type c.args.sequence ++ flat_map spelling ts)) c.loop-tag.invariant.size all
+    ∙ ap₂ (λ (n : ℕ) (ts : List Tag). padded n (header descriptor_type c.args.sequence ++ flat_map spelling ts)) (c.loop-tag.invariant.size ∙ c.requires.size) all

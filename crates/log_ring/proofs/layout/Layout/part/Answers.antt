@@ -1,4 +1,3 @@
-use Rattle.journal_model.specs.Layout.{narrow}
 use Rattle.log_ring.proofs.PartPlaces.{text-at}
 use Rattle.log_ring.proofs.layout.Layout.part.Goals as goal
 
@@ -6,4 +5,4 @@ use Rattle.log_ring.proofs.layout.Layout.part.Goals as goal
 pub returns-clause-text : goal.returns-clause-text
 returns-clause-text c = λ uuid sequence entries copies revokes.
     let v = c.args.self.now in
-    text-at (narrow v.block_size) uuid sequence entries v.copies v.revokes c.args.k _ copies revokes c.part_at-part.ensures.part
+    text-at v.layout uuid sequence entries v.copies v.revokes c.args.k _ copies revokes c.part_at-part.ensures.part

@@ -1,5 +1,5 @@
 use Rattle.std.proofs.Common.{arith, refl, sym, subst, ap, ◌∙◌, ◌*◌, ◌<◌, Some, ℕ}
-use Rattle.journal_model.specs.Layout.{narrow, numbers_of}
+use Rattle.journal_model.specs.Layout.{numbers_of}
 use Rattle.journal_model.specs.OwnText.{ceil_div}
 use Rattle.log_ring.specs.declared.layout.Part.TheVariants.{Revokes}
 use Rattle.log_ring.specs.Parts.{LayoutValue}
@@ -9,10 +9,10 @@ use Rattle.log_ring.proofs.layout.Layout.revoke_part.Goals as goal
 -- the block is the one at its place, and it has some of the revokes
 pub returns : goal.returns
 returns c =
-    let l = narrow c.self.inside.block_size in
+    let l = c.self.inside.layout in
     let revokes = c.self.inside.revokes in
     let most = c.numbers_of-most.ensures in
-    let there = subst (λ (v : LayoutValue). c.args.k < ceil_div v.revokes (numbers_of (narrow v.block_size))) (sym c.self.view_is) c.requires in
+    let there = subst (λ (v : LayoutValue). c.args.k < ceil_div v.revokes (numbers_of v.layout)) (sym c.self.view_is) c.requires in
     let within = revoke-within l revokes c.args.k _ _ most.numbers most.some refl there in
     let least = c.min.ensures in
     rw (← c.self.view_is) (record {

@@ -11,10 +11,10 @@ use Rattle.log_scan.proofs.cursor.Cursor.advance.Goals as goal
 pub returns-clause-leads : goal.returns-clause-leads
 returns-clause-leads g c = λ honest texts pieces so.
     let is =
-    subst (λ (n : ℕ). IsFound (layout_of c.args.log.now) (limit_of c.args.home_blocks) (n + c.args.self.now.transactions)
+    subst (λ (n : ℕ). IsFound (layout_of c.args.log.now) (limit_of c.args.log.now c.args.home_blocks) (n + c.args.self.now.transactions)
     (blocks_from c.args.log.now (reading (g.D.Device.state c.args.device.now).disk) c.args.self.now.position) c.look.new.self c.in_ok-found.found)
     c.first_number.ensures.value (c.in_ok-found.ensures.found honest) in
-    subst (λ (new : Cursor). LeadsTo c.args.log.now (limit_of c.args.home_blocks) (reading (g.D.Device.state c.args.device.now).disk) texts pieces c.look.new.self
+    subst (λ (new : Cursor). LeadsTo c.args.log.now (limit_of c.args.log.now c.args.home_blocks) (reading (g.D.Device.state c.args.device.now).disk) texts pieces c.look.new.self
     c.args.self.now new c.in_ok-found.found) (sym c.behind.ensures)
-    (leads-found c.args.log.now (limit_of c.args.home_blocks) (reading (g.D.Device.state c.args.device.now).disk) texts pieces c.args.self.now c.look.new.self so
+    (leads-found c.args.log.now (limit_of c.args.log.now c.args.home_blocks) (reading (g.D.Device.state c.args.device.now).disk) texts pieces c.args.self.now c.look.new.self so
     c.in_ok-found.found is)

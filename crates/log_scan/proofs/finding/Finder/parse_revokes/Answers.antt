@@ -1,10 +1,10 @@
-use Rattle.std.proofs.Common.{◌≡◌, List, ℕ, ap, sym, ◌∙◌, subst, arith, inr, length, drop}
-use Rattle.journal_model.specs.Layout.{HasHeader, narrow, revoke_type, sequence_in}
+use Rattle.std.proofs.Common.{◌≡◌, ◌++◌, take, refl, List, ℕ, ap, sym, ◌∙◌, subst, arith, inr, length, drop}
+use Rattle.journal_model.specs.Layout.{HasHeader, revoke_type, sequence_in}
 use Rattle.log_scan.specs.declared.finding.Found.{Found}
 use Rattle.log_scan.specs.declared.finding.Found.TheVariants.{Malformed, RevokeBlock}
 use Rattle.log_scan.specs.Finding.{FinderValue, Says}
 use Rattle.journal_model.proofs.Buffers.{as-long, whole-buffer}
-use Rattle.log_scan.proofs.Looking.{HasRoom}
+use Rattle.log_scan.proofs.Looking.{HasRoom, says-same}
 use Rattle.log_scan.proofs.finding.Finder.parse_revokes.Goals as goal
 use Rattle.log_scan.proofs.finding.Finder.parse_revokes.Goals.{Joined-read, in-Ok, in-Err}
 
@@ -15,8 +15,8 @@ same c = c.deref.ensures.value ∙ ap (λ (f : FinderValue). f.block) c.self.vie
 -- what a block that was read says, the block says
 says : (c : Joined-read) → ℕ → Found → List ℕ → List ℕ → Type 0
 says c behind found numbers x =
-    let f : FinderValue = record { block = c.self.inside.block.items; tags = c.self.inside.tags.items; numbers = numbers } in
-    Says (narrow (length x)) c.args.limit (sequence_in x) behind x f found
+    let f : FinderValue = record { layout = c.self.inside.layout; block = c.self.inside.block.items; tags = c.self.inside.tags.items; numbers = numbers } in
+    Says c.self.inside.layout c.args.limit (sequence_in x) behind x f found
 
 -- its numbers, or that it has none
 numbers-said : (c : Joined-read) (behind : ℕ) → says c behind c.match-read.result c.read.new.numbers c.args.self.now.block
@@ -39,7 +39,10 @@ unfolding says
 returns-clause-says c behind =
     let whole = whole-buffer c.self.inside.numbers.len c.read.new.numbers (drop (length c.read.new.numbers) c.self.inside.numbers.items)
     (let new = c.read.auto.numbers in let old = c.deref_mut.ensures.len in omega arith) in
-    subst (λ (ns : List ℕ). says c behind c.match-read.result ns c.args.self.now.block) (sym whole) (numbers-said c behind)
+    let kept : List ℕ = take c.self.inside.numbers.len (c.read.new.numbers ++ drop (length c.read.new.numbers) c.self.inside.numbers.items) in
+    let f : FinderValue = record { layout = c.self.inside.layout; block = c.self.inside.block.items; tags = c.self.inside.tags.items; numbers = kept } in
+    says-same (sequence_in c.args.self.now.block) behind f c.match-read.result (ap (λ (f : FinderValue). f.layout) c.self.view_is) refl refl
+    (subst (λ (ns : List ℕ). says c behind c.match-read.result ns c.args.self.now.block) (sym whole) (numbers-said c behind))
 
 -- there is room for as many numbers as before
 pub invariant_of-self : goal.invariant_of-self
@@ -47,6 +50,6 @@ invariant_of-self c =
     let new = c.read.auto.numbers in
     let old = c.deref_mut.ensures.len in
     let own = ap length c.deref_mut.ensures.value in
-    subst (λ (n : ℕ). HasRoom (length c.self.inside.block.items) (length c.self.inside.tags.items) n)
+    subst (λ (n : ℕ). HasRoom c.self.inside.layout (length c.self.inside.block.items) (length c.self.inside.tags.items) n)
     (sym (as-long c.self.inside.numbers.len (length c.self.inside.numbers.items) c.read.new.numbers (drop (length c.read.new.numbers) c.self.inside.numbers.items) (omega arith) (omega arith)))
     c.self.invariant
