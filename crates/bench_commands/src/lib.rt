@@ -1,7 +1,7 @@
 //! The commands of the program `jbench`: what its words say, the files of its logs, what a command prints, and how it ends.
 //!
 //! `words` reads the words that the program is called with, `files` opens files, `run` and `logs` are the commands over readers,
-//! writers and devices, and `fault` says how they end. What a script is, and what a run of one does, is said by `bench_script`
+//! writers and devices, `watched` tells how far one is, and `fault` says how they end. What a script is, and what a run of one does, is said by `bench_script`
 //! and `bench_run`.
 #![tactic(auto)]
 
@@ -9,4 +9,5 @@ pub mod fault;
 pub mod files;
 pub mod logs;
 pub mod run;
+pub mod watched;
 pub mod words;

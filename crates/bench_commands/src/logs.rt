@@ -1,5 +1,6 @@
 //! The commands `format`, `dump` and `recover`, over devices.
 use crate::fault::{self, Fault, Status};
+use crate::watched::{Watch, Watched};
 use bench_script::Measures;
 use block_device::Device;
 use journal_model::{Area, Tid};
@@ -75,21 +76,30 @@ fn dump_device<D: Device + Drop, W: Write + Drop>(
 }
 
 /// Opens the log of a device, which brings home what its complete transactions copied and leaves the log clean, and prints what
-/// was found. `path` names the log's file. Where the log is refused one line on `err` says why.
+/// was found. `path` names the log's file. Where the log is refused one line on `err` says why. `watch` is told of each read and
+/// write, and of their end before anything is said.
 ///
 /// # Errors
 ///
 /// The output can't be written.
-pub fn recover<D: Device + Drop, W: Write + Drop, E: Write + Drop>(
+pub fn recover<D: Device + Drop, H: Watch + Drop, W: Write + Drop, E: Write + Drop>(
     alloc: Global,
     path: &str,
     device: D,
+    watch: H,
     out: W,
     err: E,
 ) -> io::Result<Status> {
-    match recovery::open(alloc, device) {
-        Ok(opened) => end(path, say_opened(opened.report(), opened.next(), out), err),
-        Err((_, e)) => end(path, Err(Fault::Refused(e)), err),
+    match recovery::open(alloc, Watched::new(device, watch)) {
+        Ok(opened) => {
+            let (report, next) = (opened.report(), opened.next());
+            opened.into_device().into_watch().ends();
+            end(path, say_opened(report, next, out), err)
+        }
+        Err((device, e)) => {
+            device.into_watch().ends();
+            end(path, Err(Fault::Refused(e)), err)
+        }
     }
 }
 

@@ -5,11 +5,13 @@
 
 #[cfg(test)]
 mod commands;
+mod progress;
 
 use bench_commands::fault::{Status, refuse_file, refuse_rest};
 use bench_commands::words::{FormatWords, RecoverWords, RunWords, Words};
 use bench_commands::{files, logs, run, words};
 use file_device::UnknownContents;
+use progress::Progress;
 use std::process::ExitCode;
 use std::{env, fs, io};
 
@@ -74,7 +76,14 @@ fn recover_files(rt: &HostRuntime, words: &RecoverWords<'_>) -> io::Result<Statu
         Err(e) => return refuse_file(&mut rt.stderr(), words.home, e),
     };
     match files::device_of(UnknownContents, log, home) {
-        Ok(device) => logs::recover(rt.alloc(), words.log, device, io::writer(rt), rt.stderr()),
+        Ok(device) => logs::recover(
+            rt.alloc(),
+            words.log,
+            device,
+            Progress::new(rt),
+            io::writer(rt),
+            rt.stderr(),
+        ),
         Err(e) => refuse_file(&mut rt.stderr(), words.log, e),
     }
 }

@@ -2,6 +2,7 @@
 use crate::scripts::measures_text;
 use crate::texts::{numbers_in, written};
 use bench_commands::fault::Status;
+use bench_commands::watched::Unwatched;
 use bench_commands::words::{FormatWords, RecoverWords, RunWords, Words, answer, parse};
 use bench_commands::{logs, run};
 use block_device::MemDevice;
@@ -86,7 +87,7 @@ fn recover_device(
 ) -> Result<String, RowError> {
     let mut out = Vec::new(alloc);
     let mut err = Vec::new(alloc);
-    match logs::recover(alloc, words.log, device, &mut out, &mut err) {
+    match logs::recover(alloc, words.log, device, Unwatched, &mut out, &mut err) {
         Ok(status) => text_of(alloc, &out, &err, status),
         Err(_) => Err(RowError::Memory),
     }
