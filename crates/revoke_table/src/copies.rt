@@ -1,5 +1,5 @@
 //! Where the newest copy of each block stands.
-ghost use Rattle.std.specs.Prelude.{◌≡◌, IfErr, OnOk};
+ghost use Rattle.std.specs.Prelude.{◌≡◌, IfErr, None, OnErr, OnOk};
 ghost use Rattle.std.specs.FinMap as map;
 ghost use Rattle.journal_model.specs.declared.refusal.JournalError.TheVariants.{Memory};
 
@@ -46,6 +46,7 @@ impl CopyTable {
     pub fn note(&mut self, block: BlockNo, place: u64) -> Result<(), JournalError>
         ensures ok { OnOk result (self.new ≡ map.insert self.old block place) }
         ensures refused { IfErr result (λ e. (e ≡ Memory) × (self.new ≡ self.old)) }
+        ensures absent { OnErr result (map.get self.old block ≡ None) }
     {
         match self.newest.insert(block, place) {
             Ok(_) => Ok(()),

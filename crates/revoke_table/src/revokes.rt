@@ -1,5 +1,5 @@
 //! The greatest transaction that revokes each block.
-ghost use Rattle.std.specs.Prelude.{◌≡◌, ◌↔◌, IsTrue, IfErr, OnOk};
+ghost use Rattle.std.specs.Prelude.{◌≡◌, ◌↔◌, IsTrue, IfErr, None, OnErr, OnOk};
 ghost use Rattle.std.specs.FinMap as map;
 ghost use Rattle.journal_model.specs.declared.refusal.JournalError.TheVariants.{Memory};
 ghost use Rattle.revoke_table.specs.Revokes.{Covers, noted};
@@ -50,6 +50,7 @@ impl RevokeTable {
     pub fn note(&mut self, block: BlockNo, tid: Tid) -> Result<(), JournalError>
         ensures ok { OnOk result (self.new ≡ noted self.old block tid) }
         ensures refused { IfErr result (λ e. (e ≡ Memory) × (self.new ≡ self.old)) }
+        ensures absent { OnErr result (map.get self.old block ≡ None) }
     {
         if self.covers(block, tid) {
             return Ok(());
