@@ -1,26 +1,26 @@
 -- The whole text of a dump, and why there is none.
 use Rattle.std.proofs.Common.{◌≡◌, ℕ, ◌+◌, List, [], ◌∷◌, ◌++◌, Option, length, sym, ◌∙◌, ap, ap₂, subst, arith, inl, inr, append-nil}
-use Rattle.std.specs.Prelude.{◌≢◌, ◌==◌, Bool, true, false, if◌then◌else◌, Some, Result, Ok, Err, OnErr, codes}
+use Rattle.std.specs.Prelude.{◌≢◌, ◌==◌, true, false, Result, Ok, Err, OnErr, codes}
 use Rattle.std.specs.Fmt.{decimal}
 use Rattle.std.specs.Io.KnownBytes.{Appends}
-use Rattle.std.specs.List.{AllByRecursion}
 use Rattle.std.proofs.lemmas.Bool.Decides.{nat_tests}
 use Rattle.std.proofs.lemmas.Grind.{flat_map-append}
 use Rattle.journal_model.specs.declared.log.Text.{Text}
 use Rattle.journal_model.specs.declared.refusal.JournalError.{JournalError}
-use Rattle.journal_model.specs.declared.refusal.JournalError.TheVariants.{BadLength, Device}
 use Rattle.journal_model.specs.Disk.{Disk, Image, reading}
 use Rattle.journal_model.specs.Dump.{IsDump, IsDumpRefused, block_lines, dump_shape, dump_text, end_line, super_line, texts_captions}
 use Rattle.journal_model.specs.Dump.IsDump.{OfChain, OfClean}
 use Rattle.journal_model.specs.Dump.IsDumpRefused.{ByDamage, BySuperblock}
 use Rattle.journal_model.specs.Opening.{HasChain, IsStarted, super_of}
-use Rattle.journal_model.specs.Superblock.{Shape, Super, first_failed, super_refusal, super_tests}
+use Rattle.journal_model.specs.Superblock.{Shape, Super, super_refusal}
 use Rattle.block_device.specs.State.{DeviceState, one_more_fault}
 use Rattle.log_format.specs.Accepted.{IsAccepted}
 use Rattle.log_dump.specs.declared.fault.Fault.{Fault}
 use Rattle.log_dump.specs.declared.fault.Fault.TheVariants.{Refused, Output}
 use Rattle.log_scan.specs.Scanning.{AreTextsOf, IsScanned, IsScanRefused, IsDamageOf}
-use Rattle.log_dump.specs.Dumping.{DumpRefused, HasDump, IsDumpFault, IsLogRefused, IsPrintRefused, IsReadLog, shape_of}
+use Rattle.log_scan.specs.Refusals.{NamesDamage}
+use Rattle.log_scan.proofs.Listed.{damage-around, damage-device, damage-memory, super-device}
+use Rattle.log_dump.specs.Dumping.{DumpRefused, HasDump, IsContentRefusal, IsDumpFault, IsLogRefused, IsPrintRefused, IsReadLog, shape_of}
 use Rattle.log_scan.specs.Finding.{every_block}
 use Rattle.log_dump.specs.Lines.{ended, placed_lines}
 use Rattle.log_dump.proofs.Written.{appends-joins, appends-same}
@@ -63,25 +63,6 @@ written-chain s texts first count old mid behind new started number all one two 
     (ap₂ (λ (f n : ℕ). ended (codes "end sequence=" ++ decimal (f + n) ++ codes " transactions=" ++ decimal n)) number all) three in
     appends-same old new _ (dump_text s texts) (text-chain s texts started) (appends-joins old mid new _ _ one (appends-joins mid behind new _ _ two last))
 
--- the refusal of tests that are not the device's is not the device's
-not-device : (tests : List (Bool × JournalError)) (e : JournalError) → AllByRecursion (λ t. t.1 ≢ Device) tests → first_failed tests ≡ Some e → e ≢ Device
-not-device [] e all refused = cc
-not-device ((true, f) ∷ tests) e all refused = not-device tests e all.1 refused
-not-device ((false, f) ∷ tests) e all refused = λ is. all.0 (cc)
-
--- no test of a superblock tells of a failure of the device
-tests-other : (shape : Shape) (block : List ℕ) → AllByRecursion (λ t. t.1 ≢ Device) (super_tests shape block)
-tests-other shape block = ((λ e. cc), ((λ e. cc), ((λ e. cc), ((λ e. cc), ((λ e. cc), ((λ e. cc), ((λ e. cc), ((λ e. cc), tt))))))))
-
--- so a refused superblock is none, whether there is a block or not
-either-other : (shape : Shape) (block : List ℕ) (e : JournalError) (none : Bool) →
-    (if none then Some BadLength else first_failed (super_tests shape block)) ≡ Some e → e ≢ Device
-either-other shape block e true is = λ other. cc
-either-other shape block e false is = not-device (super_tests shape block) e (tests-other shape block) is
-
-pub refused-other : (shape : Shape) (block : List ℕ) (e : JournalError) → super_refusal shape block ≡ Some e → e ≢ Device
-refused-other shape block e refused = either-other shape block e (shape.log_blocks == 0) refused
-
 -- what the tests say of a block says so of the device's measures
 pub tested-for : (fields : Super) (size blocks length_is count : ℕ) (block other : List ℕ) (answer : Option JournalError) → length_is ≡ size → count ≡ blocks → block ≡ other →
     (let s : Shape = record { block_size = length_is; log_blocks = count; home_blocks = every_block fields } in super_refusal s block ≡ answer) →
@@ -97,19 +78,19 @@ log-refused honest unwritten old new e nothing (inl (inl failed)) = record {
   device = λ is. failed.1;
   no_fault = λ other. absurd (other failed.0);
   memory = λ is. nothing;
-  content = λ other more h. absurd (other failed.0);
+  content = λ other more. absurd (other failed.0);
 }
 log-refused honest unwritten old new e nothing (inl (inr failed)) = record {
   device = λ is. let wrong = failed.0 in absurd (cc);
   no_fault = λ other. failed.1;
   memory = λ is. nothing;
-  content = λ other more h. absurd (more failed.0);
+  content = λ other more. absurd (more failed.0);
 }
 log-refused honest unwritten old new e nothing (inr refused) = record {
-  device = λ is. absurd (refused.0 is);
+  device = λ is. absurd (super-device e refused.0 is);
   no_fault = λ other. refused.1;
   memory = λ is. nothing;
-  content = λ other more h. (BySuperblock e (refused.2 h), nothing);
+  content = λ other more. (inl refused.0, λ h. (BySuperblock e (refused.2 h), nothing));
 }
 
 module _ (size blocks : ℕ) (image : Image) (s : Super) (read : IsReadLog (dump_shape (super_of image) size blocks) image s) where
@@ -143,42 +124,52 @@ module _ (size blocks : ℕ) (image : Image) (s : Super) (read : IsReadLog (dump
             subst (IsDumpRefused (dump_shape (super_of image) size blocks) image) (sym d.refusal)
             (ByDamage d.k (record { started = image-started; damaged = d.damaged }))
 
+-- damage that the ring of an accepted log has is behind its superblock
+damage-content : (shape : Shape) (s : Super) (e : JournalError) → IsAccepted shape.block_size shape.log_blocks s → NamesDamage s.s_first s.s_maxlen e → IsContentRefusal shape e
+damage-content shape s e accepted names =
+    let behind = accepted.behind in
+    inr (damage-around s.s_first s.s_maxlen 1 shape.log_blocks e (omega arith) accepted.within names)
+
 -- why the transactions are not counted is why the log is refused
 pub count-refused : (honest unwritten : Type 0) (s : Super) (old mid new : DeviceState) (e : JournalError) → unwritten → s.s_start ≢ 0 → mid.faults ≡ old.faults → mid.disk ≡ old.disk →
-    (honest → IsReadLog (shape_of old) (reading old.disk) s) → IsScanRefused honest s (every_block s) mid new e → DumpRefused honest unwritten old new e
-count-refused honest unwritten s old mid new e nothing started faults disk read (inl failed) = record {
+    IsAccepted old.shape.block_size old.shape.log_blocks s → (honest → IsReadLog (shape_of old) (reading old.disk) s) →
+    IsScanRefused honest s (every_block s) mid new e → DumpRefused honest unwritten old new e
+count-refused honest unwritten s old mid new e nothing started faults disk accepted read (inl failed) = record {
   device = λ is. failed.1 ∙ ap one_more_fault faults;
   no_fault = λ other. absurd (other failed.0);
   memory = λ is. nothing;
-  content = λ other more h. absurd (other failed.0);
+  content = λ other more. absurd (other failed.0);
 }
-count-refused honest unwritten s old mid new e nothing started faults disk read (inr refused) = record {
-  device = λ is. absurd (refused.0 is);
-  no_fault = λ other. refused.2 ∙ faults;
+count-refused honest unwritten s old mid new e nothing started faults disk accepted read (inr (names, kept, damage)) = record {
+  device = λ is. absurd (damage-device s.s_first s.s_maxlen e names is);
+  no_fault = λ other. kept ∙ faults;
   memory = λ is. nothing;
-  content =
-      λ other more h. (
-        damage-refused old.shape.block_size old.shape.log_blocks (reading old.disk) s (read h) started e
-            (subst (λ (d : Disk). IsDamageOf s (every_block s) (reading d) e) disk (refused.3 h)),
-        nothing,
-      );
+  content = λ other more. (
+    damage-content old.shape s e accepted names,
+    λ h. (
+      damage-refused old.shape.block_size old.shape.log_blocks (reading old.disk) s (read h) started e
+          (subst (λ (d : Disk). IsDamageOf s (every_block s) (reading d) e) disk (damage h)),
+      nothing,
+    ),
+  );
 }
 
 -- why the counted transactions are not printed
-pub print-refused : (honest unwritten impossible : Type 0) (old mid new : DeviceState) (e : Fault) → mid.faults ≡ old.faults → (honest → HasDump (shape_of old) (reading old.disk)) →
-    (honest → impossible → ⊥) → IsPrintRefused honest impossible mid new e → IsDumpFault honest unwritten old new e
-print-refused honest unwritten impossible old mid new (Output e) faults has never refused = (refused ∙ faults, has)
-print-refused honest unwritten impossible old mid new (Refused e) faults has never (inl failed) = record {
+pub print-refused : (honest unwritten impossible : Type 0) (s : Super) (old mid new : DeviceState) (e : Fault) → mid.faults ≡ old.faults →
+    IsAccepted old.shape.block_size old.shape.log_blocks s → (honest → HasDump (shape_of old) (reading old.disk)) → (honest → impossible → ⊥) →
+    IsPrintRefused honest impossible s mid new e → IsDumpFault honest unwritten old new e
+print-refused honest unwritten impossible s old mid new (Output e) faults accepted has never refused = (refused ∙ faults, has)
+print-refused honest unwritten impossible s old mid new (Refused e) faults accepted has never (inl failed) = record {
   device = λ is. failed.1 ∙ ap one_more_fault faults;
   no_fault = λ other. absurd (other failed.0);
   memory = λ is. let wrong = failed.0 in absurd (cc);
-  content = λ other more h. absurd (other failed.0);
+  content = λ other more. absurd (other failed.0);
 }
-print-refused honest unwritten impossible old mid new (Refused e) faults has never (inr refused) = record {
-  device = λ is. absurd (refused.0 is);
-  no_fault = λ other. refused.2 ∙ faults;
-  memory = λ is. absurd (refused.1 is);
-  content = λ other more h. absurd (never h (refused.3 h));
+print-refused honest unwritten impossible s old mid new (Refused e) faults accepted has never (inr (names, kept, cannot)) = record {
+  device = λ is. absurd (damage-device s.s_first s.s_maxlen e names is);
+  no_fault = λ other. kept ∙ faults;
+  memory = λ is. absurd (damage-memory s.s_first s.s_maxlen e names is);
+  content = λ other more. (damage-content old.shape s e accepted names, λ h. absurd (never h (cannot h)));
 }
 
 -- what holds holds where a call failed

@@ -213,8 +213,8 @@ line-placed s k place caption old new at written =
     (ap (λ (p : ℕ). ended (placed_line p caption)) at ∙ sym (placed-one s k caption)) written
 
 -- what can't be is nothing else either, and the device that had not failed before has failed once
-pub refused-through : (honest one other : Type 0) (old mid new : DeviceState) (e : Fault) → (honest → one → other) → mid.faults ≡ old.faults →
-    IsPrintRefused honest one mid new e → IsPrintRefused honest other old new e
-refused-through honest one other old mid new (Output e) on same refused = refused ∙ same
-refused-through honest one other old mid new (Refused e) on same (inl failed) = inl (failed.0, failed.1 ∙ ap one_more_fault same)
-refused-through honest one other old mid new (Refused e) on same (inr refused) = inr (refused.0, refused.1, refused.2 ∙ same, λ h. on h (refused.3 h))
+pub refused-through : (honest one other : Type 0) (s : Super) (old mid new : DeviceState) (e : Fault) → (honest → one → other) → mid.faults ≡ old.faults →
+    IsPrintRefused honest one s mid new e → IsPrintRefused honest other s old new e
+refused-through honest one other s old mid new (Output e) on same refused = refused ∙ same
+refused-through honest one other s old mid new (Refused e) on same (inl failed) = inl (failed.0, failed.1 ∙ ap one_more_fault same)
+refused-through honest one other s old mid new (Refused e) on same (inr refused) = inr (refused.0, refused.1 ∙ same, λ h. on h (refused.2 h))

@@ -5,13 +5,14 @@ use Rattle.journal_model.specs.declared.log.Text.{Text}
 use Rattle.journal_model.specs.declared.number.Area.TheVariants.{Log}
 use Rattle.journal_model.specs.declared.refusal.JournalError.{JournalError}
 use Rattle.journal_model.specs.declared.refusal.JournalError.TheVariants.{Device, Memory}
-use Rattle.journal_model.specs.Disk.{Image, reading}
+use Rattle.journal_model.specs.Disk.{Image, IsOneOf, reading}
 use Rattle.journal_model.specs.Dump.{IsDump, IsDumpRefused, dump_shape, text_captions}
 use Rattle.journal_model.specs.Opening.{layout_of, super_of}
 use Rattle.journal_model.specs.ReadingLog.{TextBegins}
 use Rattle.journal_model.specs.Superblock.{Shape, Super, super_refusal}
 use Rattle.block_device.specs.State.{DeviceState, IsDeviceFailure, IsFailure, one_more_fault}
 use Rattle.log_scan.specs.Finding.{blocks_from, every_block}
+use Rattle.log_scan.specs.Refusals.{NamesDamage, super_refusals}
 use Rattle.log_dump.specs.Lines.{placed_lines}
 use Rattle.log_dump.specs.declared.fault.Fault.{Fault}
 use Rattle.log_dump.specs.declared.fault.Fault.TheVariants.{Refused, Output}
@@ -26,11 +27,11 @@ pub record IsPrinted (s : Super) (image : Image) (sequence : ℕ) (old new : Opt
 
 -- why texts are not printed: the output can't be written, the device failed, or, where each read gave what the disk
 -- reads, what can't be
-abbrev pub IsPrintRefused : (honest impossible : Type 0) → DeviceState → DeviceState → Fault → Type 0
-IsPrintRefused honest impossible old new (Refused e) =
+abbrev pub IsPrintRefused : (honest impossible : Type 0) → Super → DeviceState → DeviceState → Fault → Type 0
+IsPrintRefused honest impossible s old new (Refused e) =
     IsDeviceFailure old new e
-    ⊎ ((e ≢ Device) × (e ≢ Memory) × (new.faults ≡ old.faults) × (honest → impossible))
-IsPrintRefused honest impossible old new (Output e) = new.faults ≡ old.faults
+    ⊎ (NamesDamage s.s_first s.s_maxlen e × (new.faults ≡ old.faults) × (honest → impossible))
+IsPrintRefused honest impossible s old new (Output e) = new.faults ≡ old.faults
 
 -- the shape that a dump tests the log of a device with: its home area is not known
 abbrev pub shape_of : DeviceState → Shape
@@ -46,13 +47,17 @@ pub record PrintsDump (shape : Shape) (image : Image) (old new : Option (List �
   pub is_dump : IsDump shape image text
   pub written : Appends old new text
 
+-- the refusals of content: of the superblock, or of a block behind it
+abbrev pub IsContentRefusal : Shape → JournalError → Type 0
+IsContentRefusal shape e = IsOneOf super_refusals e ⊎ NamesDamage 1 shape.log_blocks e
+
 -- Why a log is refused: the device failed; memory ran out, and nothing was written; or else nothing was written, and what
 -- was read is refused for what stands in it.
 pub record DumpRefused (honest unwritten : Type 0) (old new : DeviceState) (e : JournalError) : Type 0 where
   pub device : e ≡ Device → new.faults ≡ one_more_fault old.faults
   pub no_fault : e ≢ Device → new.faults ≡ old.faults
   pub memory : e ≡ Memory → unwritten
-  pub content : e ≢ Device → e ≢ Memory → honest → IsDumpRefused (shape_of old) (reading old.disk) e × unwritten
+  pub content : e ≢ Device → e ≢ Memory → IsContentRefusal old.shape e × (honest → IsDumpRefused (shape_of old) (reading old.disk) e × unwritten)
 
 -- why there is no dump, or only a part of one: the log is refused; or the output can't be written, and the log has a dump
 abbrev pub IsDumpFault : (honest unwritten : Type 0) → DeviceState → DeviceState → Fault → Type 0
@@ -63,7 +68,7 @@ IsDumpFault honest unwritten old new (Output e) = (new.faults ≡ old.faults) ×
 abbrev pub IsLogRefused : (honest : Type 0) → DeviceState → DeviceState → JournalError → Type 0
 IsLogRefused honest old new e =
     IsFailure old new e
-    ⊎ ((e ≢ Device) × (new.faults ≡ old.faults) × (honest → super_refusal (shape_of old) (old.disk Log 0).reads ≡ Some e))
+    ⊎ (IsOneOf super_refusals e × (new.faults ≡ old.faults) × (honest → super_refusal (shape_of old) (old.disk Log 0).reads ≡ Some e))
 
 -- the superblock is accepted, and these are its fields
 pub record IsReadLog (shape : Shape) (image : Image) (s : Super) : Type 0 where

@@ -2,10 +2,8 @@
 ghost use Rattle.std.specs.Prelude.{◌≡◌, ◌≢◌, ◌⊎◌, ◌≤◌, List, [], length, IfOk, IfErr, OnOk, OnErr, MatchResult};
 ghost use Rattle.std.specs.Io.KnownBytes.{Appends};
 ghost use Rattle.journal_model.specs.declared.log.Text.{Text};
-ghost use Rattle.journal_model.specs.declared.refusal.JournalError.TheVariants.{Memory};
 ghost use Rattle.journal_model.specs.Disk.{reading};
 ghost use Rattle.journal_model.specs.Dump.{dump_text};
-ghost use Rattle.journal_model.specs.Layout.{IsTaken};
 ghost use Rattle.journal_model.specs.Opening.{layout_of, ring_of};
 ghost use Rattle.block_device.specs.State.{Stays};
 ghost use Rattle.log_format.specs.Accepted.{IsAccepted};
@@ -30,8 +28,7 @@ use std::io::Write;
 ///
 /// The home area is not known, so block numbers are not tested, and neither is what is left in the ring from earlier laps,
 /// nor whether a number is left for a further transaction. All other tests of an opening are made, and nothing is written
-/// before all have passed. Memory is taken for one block of the log, and for the tags and numbers that one block can hold.
-/// No block is read more than twice, and the device is not written.
+/// before all have passed. Memory is taken for block 0 alone. No block is read more than twice, and the device is not written.
 /// Source: fs/jbd2/recovery.c by behaviour; the refusals and the lines are this project's own.
 ///
 /// # Errors
@@ -54,18 +51,9 @@ pub fn dump<D: Device, W: Write>(alloc: Global, device: &mut D, out: &mut W) -> 
         write_clean(out, log.fields())?;
         return Ok(());
     }
-    let mut finder = make_finder(alloc, &log)?;
+    let mut finder = Finder::new(log.layout());
     let transactions = scan(device, &log, None, &mut finder)?;
     write_log(device, &log, &mut finder, transactions, out)
-}
-
-/// A finder for the blocks of this log.
-fn make_finder(alloc: Global, log: &Log) -> Result<Finder, JournalError>
-    requires { IsTaken (layout_of log.now) }
-    ensures layout { IfOk result (λ finder. finder.layout ≡ layout_of log.now) }
-    ensures memory { IfErr result (λ e. e ≡ Memory) }
-{
-    Ok(Finder::new(alloc, log.layout())?)
 }
 
 /// Reads and tests the superblock.
@@ -105,7 +93,7 @@ fn write_log<D: Device, W: Write>(
     requires accepted { IsAccepted (D.state device.old).shape.block_size (D.state device.old).shape.log_blocks log.now }
     requires few { transactions ≤ (ring_of log.now).blocks }
     ensures printed { OnOk result (D.honest device.new → (texts : List Text) → log.now.s_start ≢ 0 → AreTextsOf log.now (every_block log.now) (reading (D.state device.old).disk) texts → transactions ≡ length texts → Appends (W.contents out.old) (W.contents out.new) (dump_text log.now texts)) }
-    ensures refused { IfErr result (IsPrintRefused (D.honest device.new) ((texts : List Text) → AreTextsOf log.now (every_block log.now) (reading (D.state device.old).disk) texts → transactions ≡ length texts → ⊥) (D.state device.old) (D.state device.new)) }
+    ensures refused { IfErr result (IsPrintRefused (D.honest device.new) ((texts : List Text) → AreTextsOf log.now (every_block log.now) (reading (D.state device.old).disk) texts → transactions ≡ length texts → ⊥) log.now (D.state device.old) (D.state device.new)) }
     ensures faults { OnOk result ((D.state device.new).faults ≡ (D.state device.old).faults) }
     ensures stays { Stays (D.state device.old) (D.state device.new) }
     ensures honest { D.honest device.new → D.honest device.old }

@@ -34,7 +34,7 @@ pub(crate) fn write_transactions<D: Device, W: Write>(
     requires accepted { IsAccepted (D.state device.old).shape.block_size (D.state device.old).shape.log_blocks log.now }
     requires few { transactions ≤ (ring_of log.now).blocks }
     ensures printed { OnOk result (D.honest device.new → (texts : List Text) → AreTextsOf log.now (every_block log.now) (reading (D.state device.old).disk) texts → transactions ≡ length texts → Appends (W.contents out.old) (W.contents out.new) (placed_lines log.now 0 (texts_captions log.now.s_sequence texts))) }
-    ensures refused { IfErr result (IsPrintRefused (D.honest device.new) ((texts : List Text) → AreTextsOf log.now (every_block log.now) (reading (D.state device.old).disk) texts → transactions ≡ length texts → ⊥) (D.state device.old) (D.state device.new)) }
+    ensures refused { IfErr result (IsPrintRefused (D.honest device.new) ((texts : List Text) → AreTextsOf log.now (every_block log.now) (reading (D.state device.old).disk) texts → transactions ≡ length texts → ⊥) log.now (D.state device.old) (D.state device.new)) }
     ensures faults { OnOk result ((D.state device.new).faults ≡ (D.state device.old).faults) }
     ensures stays { Stays (D.state device.old) (D.state device.new) }
     ensures honest { D.honest device.new → D.honest device.old }
@@ -61,7 +61,7 @@ fn write_text<D: Device, W: Write>(
     ensures layout { finder.new.layout ≡ finder.old.layout }
     ensures within { IfOk result (λ end. (start ≤ end) × (end ≤ (ring_of log.now).blocks)) }
     ensures printed { IfOk result (λ end. D.honest device.new → IsPrinted log.now (reading (D.state device.old).disk) sequence (W.contents out.old) (W.contents out.new) start end) }
-    ensures refused { IfErr result (IsPrintRefused (D.honest device.new) (NoTextBegins (layout_of log.now) (every_block log.now) sequence (blocks_from log.now (reading (D.state device.old).disk) start)) (D.state device.old) (D.state device.new)) }
+    ensures refused { IfErr result (IsPrintRefused (D.honest device.new) (NoTextBegins (layout_of log.now) (every_block log.now) sequence (blocks_from log.now (reading (D.state device.old).disk) start)) log.now (D.state device.old) (D.state device.new)) }
     ensures faults { OnOk result ((D.state device.new).faults ≡ (D.state device.old).faults) }
     ensures stays { Stays (D.state device.old) (D.state device.new) }
     ensures honest { D.honest device.new → D.honest device.old }

@@ -1,21 +1,16 @@
 -- What a block that was read says of itself says what stands at its position of the lap.
-use Rattle.std.proofs.Common.{◌≡◌, ℕ, suc, ◌-◌, ◌<◌, ◌≤◌, List, ◌∷◌, length, sym, ◌∙◌, ap, subst, arith}
+use Rattle.std.proofs.Common.{◌≡◌, ℕ, suc, ◌-◌, ◌<◌, List, ◌∷◌, length, sym, ◌∙◌, ap, subst, arith}
 use Rattle.journal_model.specs.declared.number.Area.TheVariants.{Log}
 use Rattle.journal_model.specs.Chain.{place_from}
 use Rattle.journal_model.specs.Disk.{Image}
-use Rattle.journal_model.specs.Layout.{IsTaken, Layout, numbers_of}
+use Rattle.journal_model.specs.Layout.{Layout}
 use Rattle.journal_model.specs.Opening.{layout_of, ring_of}
 use Rattle.journal_model.specs.Superblock.{Super}
-use Rattle.log_format.specs.Size.{most_tags}
 use Rattle.log_scan.specs.declared.finding.Found.{Found}
 use Rattle.log_scan.specs.declared.finding.Found.TheVariants.{RevokeBlock, Descriptor, CommitBlock, Malformed, Nothing}
 use Rattle.log_scan.specs.Finding.{FinderValue, Fits, IsFound, Says, blocks_from}
 use Rattle.log_scan.proofs.Fronts.{found-says}
 use Rattle.log_scan.proofs.Laps.{from-within, length-from}
-
--- what a finder of this layout has room for, whose block, tags and numbers are so many
-abbrev pub HasRoom : Layout → ℕ → ℕ → ℕ → Type 0
-HasRoom l block tags numbers = IsTaken l × (block ≡ l.block_size) × (most_tags l ≤ tags) × (numbers_of l ≤ numbers)
 
 -- the same block says the same by the same layout and limit
 pub says-same : (sequence behind : ℕ) (f : FinderValue) (found : Found) {l m : Layout} {limit count : ℕ} {read block : List ℕ} → l ≡ m → limit ≡ count → read ≡ block →

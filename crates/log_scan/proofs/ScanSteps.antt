@@ -6,7 +6,7 @@ use Rattle.journal_model.specs.declared.log.Piece.{Piece}
 use Rattle.journal_model.specs.declared.log.Piece.TheVariants.{Copies, Revokes}
 use Rattle.journal_model.specs.declared.log.Text.{Text}
 use Rattle.journal_model.specs.declared.refusal.JournalError.{JournalError}
-use Rattle.journal_model.specs.declared.refusal.JournalError.TheVariants.{Damage, Device, Memory}
+use Rattle.journal_model.specs.declared.refusal.JournalError.TheVariants.{Damage}
 use Rattle.journal_model.specs.Chain.{lap, place_from}
 use Rattle.journal_model.specs.Disk.{Disk, Image, reading}
 use Rattle.journal_model.specs.Opening.{layout_of, ring_of}
@@ -30,13 +30,6 @@ stays-joins s t u first second = record {
   disk = second.disk ∙ first.disk;
   past = second.past ∙ first.past;
 }
-
--- damage is neither a failure of the device nor of memory
-pub no-failure : (place : ℕ) → Damage place ≡ Device → ⊥
-no-failure place e = cc
-
-pub no-memory : (place : ℕ) → Damage place ≡ Memory → ⊥
-no-memory place e = cc
 
 -- a log that was accepted on a device is so while that stays
 pub accepted-stays : (log : Super) (old new : DeviceState) → Stays old new → IsAccepted old.shape.block_size old.shape.log_blocks log →

@@ -6,12 +6,13 @@ use Rattle.journal_model.specs.declared.number.Area.TheVariants.{Log}
 use Rattle.journal_model.specs.Chain.{IsMalformed, lap}
 use Rattle.journal_model.specs.Descriptor.{IsDescriptor}
 use Rattle.journal_model.specs.Disk.{Image}
-use Rattle.journal_model.specs.Layout.{Layout, begins_with_magic, every_number, sequence_in}
+use Rattle.journal_model.specs.Layout.{Layout, begins_with_magic, every_number, narrow, numbers_of, sequence_in}
 use Rattle.journal_model.specs.Opening.{layout_of, ring_of}
 use Rattle.journal_model.specs.ReadingLog.{NoPieceBegins, PieceBegins}
 use Rattle.journal_model.specs.RevokeBlock.{IsRevokeBlock}
 use Rattle.journal_model.specs.Superblock.{Super}
 use Rattle.journal_model.specs.Text.{IsCommitBlock}
+use Rattle.log_format.specs.Size.{most_tags}
 use Rattle.log_scan.specs.declared.finding.Found.{Found}
 use Rattle.log_scan.specs.declared.finding.Found.TheVariants.{RevokeBlock, Descriptor, CommitBlock, Malformed, Nothing}
 
@@ -22,6 +23,17 @@ pub record FinderValue : Type 0 where
   pub block : List ℕ
   pub tags : List Tag
   pub numbers : List ℕ
+
+-- bytes of the largest block that a log may have
+abbrev pub most_bytes : ℕ
+most_bytes = 4096
+
+-- the most tags and numbers that a block of this size can have
+abbrev pub greatest_tags : ℕ
+greatest_tags = most_tags (narrow most_bytes)
+
+abbrev pub greatest_numbers : ℕ
+greatest_numbers = numbers_of (narrow most_bytes)
 
 -- where home is not known, each number is taken that a tag of the log can spell
 abbrev pub every_block : Super → ℕ

@@ -1,3 +1,4 @@
 pub mod Finding
 pub mod Scanning
 pub mod Passing
+pub mod Refusals

@@ -1,13 +1,14 @@
 -- What a scan of a log comes to: the texts of its chain, or a damaged block behind them.
-use Rattle.std.specs.Prelude.{◌≡◌, ◌≢◌, ◌⊎◌, ℕ, List, length}
+use Rattle.std.specs.Prelude.{◌≡◌, ◌⊎◌, ℕ, List, length}
 use Rattle.journal_model.specs.declared.log.Text.{Text}
 use Rattle.journal_model.specs.declared.refusal.JournalError.{JournalError}
-use Rattle.journal_model.specs.declared.refusal.JournalError.TheVariants.{Damage, Device, Memory}
+use Rattle.journal_model.specs.declared.refusal.JournalError.TheVariants.{Damage}
 use Rattle.journal_model.specs.Chain.{IsChain, IsDamaged, lap, place_from}
 use Rattle.journal_model.specs.Disk.{Image, reading}
 use Rattle.journal_model.specs.Opening.{layout_of, ring_of}
 use Rattle.journal_model.specs.Superblock.{Super}
 use Rattle.block_device.specs.State.{DeviceState, IsDeviceFailure}
+use Rattle.log_scan.specs.Refusals.{NamesDamage}
 
 -- these are the texts of a log that is not clean, where home blocks have numbers below this one, and no block behind them is
 -- malformed
@@ -27,8 +28,8 @@ pub record IsDamageOf (s : Super) (limit : ℕ) (image : Image) (e : JournalErro
   pub damaged : IsDamaged (layout_of s) limit s.s_sequence (lap (ring_of s) image s.s_start) k
   pub refusal : e ≡ Damage (place_from (ring_of s) s.s_start k)
 
--- why a scan is refused: the device failed, or a block is damaged
+-- why a scan is refused: the device failed, or a block of the ring is damaged
 abbrev pub IsScanRefused : (honest : Type 0) → Super → ℕ → DeviceState → DeviceState → JournalError → Type 0
 IsScanRefused honest s limit old new e =
     IsDeviceFailure old new e
-    ⊎ ((e ≢ Device) × (e ≢ Memory) × (new.faults ≡ old.faults) × (honest → IsDamageOf s limit (reading old.disk) e))
+    ⊎ (NamesDamage s.s_first s.s_maxlen e × (new.faults ≡ old.faults) × (honest → IsDamageOf s limit (reading old.disk) e))

@@ -1,5 +1,5 @@
 //! The way over a log, one piece after the other.
-ghost use Rattle.std.specs.Prelude.{◌≡◌, ◌<◌, ◌≤◌, ◌^◌, List, length, IfOk, IfErr, MatchResult};
+ghost use Rattle.std.specs.Prelude.{◌≡◌, ◌<◌, ◌≤◌, ◌^◌, List, length, IfOk, IfErr, OnErr, MatchResult};
 ghost use Rattle.journal_model.specs.declared.log.Piece.{Piece};
 ghost use Rattle.journal_model.specs.declared.log.Text.{Text};
 ghost use Rattle.journal_model.specs.Disk.{reading};
@@ -56,6 +56,7 @@ impl Cursor {
         ensures layout { finder.new.layout ≡ finder.old.layout }
         ensures fits { IfOk result (Fits (limit_of log.now home_blocks) (ring_of log.now).blocks self.old.position finder.new) }
         ensures behind { IfOk result (λ found. self.new ≡ cursor_behind self.old found) }
+        ensures err { OnErr result (self.new ≡ self.old) }
         ensures within { self.new.position ≤ (ring_of log.now).blocks }
         ensures few { self.new.transactions ≤ self.new.position }
         ensures leads { IfOk result (λ found. D.honest device.new → (texts : List Text) (pieces : List Piece) →

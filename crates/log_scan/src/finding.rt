@@ -9,15 +9,22 @@ ghost use Rattle.block_device.specs.State.{IsDeviceFailure, Stays};
 ghost use Rattle.log_format.specs.Accepted.{IsAccepted};
 ghost use Rattle.log_scan.specs.Finding.{Fits, IsFound, IsSequenceOf, Says, blocks_from, limit_of, log_block};
 
+use crate::buffer::BlockBuffer;
 use crate::log::Log;
 use block_device::Device;
 use journal_model::layout::{
-    COMMIT_TYPE, DESCRIPTOR_TYPE, HEADER_BYTES, REVOKE_HEADER_BYTES, REVOKE_TYPE,
+    COMMIT_TYPE, DESCRIPTOR_TYPE, HEADER_BYTES, NUMBER_BYTES, REVOKE_HEADER_BYTES, REVOKE_TYPE,
+    TAG_BYTES,
 };
 use journal_model::{Area, BlockNo, JournalError, LogLayout, Tag};
-use log_format::{Descriptor, Header, RevokeBlock, unescape};
-use std::alloc::{AllocError, Global};
+use log_format::{Descriptor, Header, RevokeBlock};
 use std::marker::Model;
+
+/// The most tags of the largest descriptor.
+const MOST_TAGS: usize = (BlockBuffer::MOST_BYTES - HEADER_BYTES) / TAG_BYTES;
+
+/// The most numbers of the largest revoke block.
+const MOST_NUMBERS: usize = (BlockBuffer::MOST_BYTES - REVOKE_HEADER_BYTES) / NUMBER_BYTES;
 
 /// What stands at a place of the log, where a block of one transaction is due.
 #[derive(Clone, Copy)]
@@ -39,40 +46,37 @@ pub enum Found {
 #[derive(Drop)]
 pub struct Finder {
     layout: LogLayout,
-    block: Vec<u8>,
-    tags: Vec<Tag>,
-    numbers: Vec<BlockNo>,
+    block: BlockBuffer,
+    tags: [Tag; MOST_TAGS],
+    numbers: [BlockNo; MOST_NUMBERS],
 }
 
 impl Model for Finder {
-    ghost use Rattle.std.specs.Prelude.{◌≡◌, ◌≤◌, length};
-    ghost use Rattle.journal_model.specs.Layout.{IsTaken, numbers_of};
-    ghost use Rattle.log_format.specs.Size.{most_tags};
-    ghost use Rattle.log_scan.specs.Finding.{FinderValue};
+    ghost use Rattle.std.specs.Prelude.{◌≡◌, length};
+    ghost use Rattle.journal_model.specs.Layout.{IsTaken};
+    ghost use Rattle.log_scan.specs.Finding.{FinderValue, greatest_numbers, greatest_tags};
 
     ghost Value = { FinderValue };
 
-    ghost view = { λ f. record { layout = f.layout; block = f.block.items; tags = f.tags.items; numbers = f.numbers.items } };
+    ghost view = { λ f. record { layout = f.layout; block = f.block; tags = f.tags; numbers = f.numbers } };
 
-    ghost invariant = { λ f. IsTaken f.layout × (length f.block.items ≡ f.layout.block_size)
-        × (most_tags f.layout ≤ length f.tags.items)
-        × (numbers_of f.layout ≤ length f.numbers.items) };
+    ghost invariant = { λ f. IsTaken f.layout × (length f.block ≡ f.layout.block_size)
+        × (length f.tags ≡ greatest_tags)
+        × (length f.numbers ≡ greatest_numbers) };
 }
 
 impl Finder {
-    /// A finder for logs of this layout. It fails where memory runs out, and takes none later.
-    pub fn new(alloc: Global, layout: LogLayout) -> Result<Self, AllocError>
+    /// A finder for logs of this layout. It holds its buffers itself, and takes no memory.
+    pub fn new(layout: LogLayout) -> Self
         requires { IsTaken layout }
-        ensures { IfOk result (λ f. f.layout ≡ layout) }
+        ensures { result.layout ≡ layout }
     {
-        let size = layout.block_size;
-        Ok(Finder {
+        Finder {
             layout,
-            block: vec![in alloc; 0; size]?,
-            tags: vec![in alloc; Tag::UNUSED; (size - HEADER_BYTES) / layout.tag_bytes()]?,
-            numbers: vec![in alloc; BlockNo(0); (size - REVOKE_HEADER_BYTES)
-                / layout.number_bytes]?,
-        })
+            block: BlockBuffer::new(layout.block_size),
+            tags: [Tag::UNUSED; MOST_TAGS],
+            numbers: [BlockNo(0); MOST_NUMBERS],
+        }
     }
 
     /// The tags of the descriptor that was found last.
@@ -96,7 +100,8 @@ impl Finder {
         requires { k < length self.now.tags }
         ensures { slice_get self.now.tags k ≡ Some result }
     {
-        self.tags[k]
+        let tags = &self.tags[..];
+        tags[k]
     }
 
     /// The block that was read last.
@@ -104,7 +109,7 @@ impl Finder {
         ensures block { result.now ≡ self.now.block }
         ensures size { length result.now ≡ self.now.layout.block_size }
     {
-        &self.block
+        self.block.bytes()
     }
 
     /// Reads the copy at this position of the lap, as replay writes it home: where it is escaped, the magic stands again in
@@ -130,8 +135,8 @@ impl Finder {
         ensures stays { Stays (D.state device.old) (D.state device.new) }
         ensures honest { D.honest device.new → D.honest device.old }
     {
-        device.read(Area::Log, log.place(position), &mut self.block)?;
-        unescape(&mut self.block, escaped);
+        self.block.read(device, Area::Log, log.place(position))?;
+        self.block.unescape(escaped);
         Ok(())
     }
 
@@ -156,8 +161,8 @@ impl Finder {
         ensures stays { Stays (D.state device.old) (D.state device.new) }
         ensures honest { D.honest device.new → D.honest device.old }
     {
-        device.read(Area::Log, place, &mut self.block)?;
-        Ok(Header::read(&self.block).map(|header| header.sequence))
+        self.block.read(device, Area::Log, place)?;
+        Ok(Header::read(self.block.bytes()).map(|header| header.sequence))
     }
 
     /// Reads the block at this position of the lap, and says what it is to the transaction `sequence`. A descriptor or revoke
@@ -186,7 +191,7 @@ impl Finder {
         if position >= log.blocks() {
             return Ok(Found::Nothing);
         }
-        device.read(Area::Log, log.place(position), &mut self.block)?;
+        self.block.read(device, Area::Log, log.place(position))?;
         let limit = home_blocks.unwrap_or(self.layout.every_number());
         Ok(self.parse(limit, sequence, log.blocks() - position - 1))
     }
@@ -198,7 +203,7 @@ impl Finder {
         ensures block { self.new.block ≡ self.old.block }
         ensures layout { self.new.layout ≡ self.old.layout }
     {
-        let Some(header) = Header::read(&self.block) else {
+        let Some(header) = Header::read(self.block.bytes()) else {
             return Found::Nothing;
         };
         if u64::from(header.sequence) != sequence {
@@ -219,7 +224,7 @@ impl Finder {
         ensures block { self.new.block ≡ self.old.block }
         ensures layout { self.new.layout ≡ self.old.layout }
     {
-        match Descriptor::read(self.layout, &self.block, limit, &mut self.tags) {
+        match Descriptor::read(self.layout, self.block.bytes(), limit, &mut self.tags) {
             Ok(tags) if tags as u64 <= behind => Found::Descriptor(tags),
             Ok(_) => Found::Nothing,
             Err(_) => Found::Malformed,
@@ -233,7 +238,7 @@ impl Finder {
         ensures block { self.new.block ≡ self.old.block }
         ensures layout { self.new.layout ≡ self.old.layout }
     {
-        match RevokeBlock::read(self.layout, &self.block, limit, &mut self.numbers) {
+        match RevokeBlock::read(self.layout, self.block.bytes(), limit, &mut self.numbers) {
             Ok(numbers) => Found::RevokeBlock(numbers),
             Err(_) => Found::Malformed,
         }

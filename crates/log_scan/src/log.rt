@@ -81,6 +81,7 @@ impl Log {
     /// ring's first block.
     pub fn place(&self, k: u64) -> u64
         ensures place { result ≡ place_from (ring_of self.now) self.now.s_start k }
+        ensures ring { self.now.s_first ≤ result }
         ensures there { result < self.now.s_maxlen }
     {
         self.ring.advance(u64::from(self.fields.s_start), k)

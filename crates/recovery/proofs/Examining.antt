@@ -1,23 +1,29 @@
 -- What a log that was read and tested says of the image that it was read from, and why an opening refuses it.
 use Rattle.std.proofs.Common.{refl, sym, ◌∙◌, ap, subst, arith, inl, inr}
-use Rattle.std.specs.Prelude.{◌≡◌, ◌≢◌, ℕ, ◌+◌, ◌<◌, List, [], length, None}
+use Rattle.std.specs.Prelude.{◌≡◌, ◌≢◌, ℕ, ◌+◌, ◌<◌, ◌≤◌, ◌==◌, true, List, [], length, None}
 use Rattle.std.proofs.lemmas.Bool.{cases_eq}
+use Rattle.std.proofs.lemmas.Bool.Decides.{nat_tests}
 use Rattle.journal_model.specs.declared.log.Text.{Text}
 use Rattle.journal_model.specs.declared.number.Area.TheVariants.{Log}
 use Rattle.journal_model.specs.declared.refusal.JournalError.{JournalError}
-use Rattle.journal_model.specs.declared.refusal.JournalError.TheVariants.{Memory}
+use Rattle.journal_model.specs.declared.refusal.JournalError.TheVariants.{BadLength, Device, Memory}
+use Rattle.journal_model.specs.Chain.{IsAhead}
 use Rattle.journal_model.specs.Disk.{Disk, Image, reading}
-use Rattle.journal_model.specs.Opening.{HasChain, HasLimit, IsRefused, greatest_number, super_of}
+use Rattle.journal_model.specs.Opening.{HasChain, HasLimit, IsDamagedImage, IsRefused, greatest_number, layout_of, log_lap, ring_of, super_of}
 use Rattle.journal_model.specs.Opening.HasLimit.{OfChain, OfClean}
 use Rattle.journal_model.specs.Opening.IsRefused.{ByAhead, ByDamage, ByNumber, BySuperblock}
 use Rattle.journal_model.specs.Superblock.{Shape, Super, super_in, super_refusal}
-use Rattle.block_device.specs.State.{DeviceState, IsFailure, Stays, one_more_fault}
+use Rattle.block_device.specs.State.{DeviceState, IsDeviceFailure, Stays, one_more_fault}
+use Rattle.journal_model.proofs.ReadingTexts.{one_chain_of}
+use Rattle.log_scan.specs.Finding.{most_bytes}
 use Rattle.log_scan.specs.Scanning.{AreTextsOf}
-use Rattle.log_epochs.specs.OpeningSteps.{Found}
+use Rattle.log_scan.proofs.Listed.{damage-around, damage-device, damage-memory, super-device, super-memory}
+use Rattle.log_epochs.specs.OpeningSteps.{Found, HasTexts, IsFound}
 use Rattle.log_epochs.specs.OpeningSteps.HasTexts.{NoTexts, Texts}
 use Rattle.log_epochs.specs.OpeningRun.{IsFoundOn}
 use Rattle.recovery.specs.Gather.{IsGatherRefused, TablesValue, tables_of}
-use Rattle.recovery.specs.Opening.{HasTransactions, IsExaminedOn, IsReadingRefused, IsRefusedLog, IsTested, IsTestRefused, IsWellRead, OpeningRefused}
+use Rattle.recovery.specs.Opening.{HasTransactions, IsContentRefusal, IsExaminedOn, IsNotRefused, IsReadingRefused, IsRefusedLog, IsRingRefusal, IsTested, IsTestRefused, IsWellRead, OpeningRefused}
+use Rattle.recovery.specs.Opening.IsRingRefusal.{NamesAhead, NamesDamaged, NoNumber}
 use Rattle.recovery.specs.Opening.IsRefusedLog.{ForAhead, ForDamage, ForNumber}
 
 -- block 0 of the image is accepted
@@ -160,60 +166,136 @@ pub stays-joined : (s t u : DeviceState) → Stays s t → Stays t u → Stays s
 stays-joined s t u first second =
     record { shape = second.shape ∙ first.shape; disk = second.disk ∙ first.disk; past = second.past ∙ first.past }
 
--- a failure is a refusal
-pub failure-refused : (honest : Type 0) (s t : DeviceState) (e : JournalError) → Stays s t → IsFailure s t e → OpeningRefused honest s t e
-failure-refused honest s t e stays (inl (is, counted)) = record {
+-- a failure of the device is a refusal
+pub failure-refused : (honest : Type 0) (s t : DeviceState) (e : JournalError) → Stays s t → IsDeviceFailure s t e → OpeningRefused honest s t e
+failure-refused honest s t e stays (is, counted) = record {
   device = λ same. counted;
   no_fault = λ other. absurd (other is);
-  memory = λ memory. stays;
+  memory = λ memory. cc;
   content = λ other more. absurd (other is);
 }
-failure-refused honest s t e stays (inr (is, same)) = record {
+
+-- so is want of memory, where the image is not refused, or its blocks are larger than any log's
+pub memory-refused : (honest : Type 0) (s t : DeviceState) (e : JournalError) → Stays s t → t.faults ≡ s.faults → e ≡ Memory →
+    (honest → s.shape.block_size ≤ most_bytes → IsNotRefused s.shape (reading s.disk)) → OpeningRefused honest s t e
+memory-refused honest s t e stays same memory sound = record {
   device = λ device. cc;
   no_fault = λ other. same;
-  memory = λ memory. stays;
-  content = λ other more. absurd (more is);
+  memory = λ same. (stays, sound);
+  content = λ other more. absurd (more memory);
 }
 
--- so is want of memory
-pub memory-refused : (honest : Type 0) (s t : DeviceState) (e : JournalError) → Stays s t → t.faults ≡ s.faults → e ≡ Memory → OpeningRefused honest s t e
-memory-refused honest s t e stays same memory = failure-refused honest s t e stays (inr (memory, same))
-
--- and what is wrong with the superblock
-pub reading-refused : (honest : Type 0) (s t : DeviceState) (e : JournalError) → Stays s t → IsReadingRefused honest s t e → OpeningRefused honest s t e
-reading-refused honest s t e stays (inl failure) = failure-refused honest s t e stays failure
-reading-refused honest s t e stays (inr (other, same, refused)) = record {
+-- and what stands in the log
+pub content-refused : (honest : Type 0) (s t : DeviceState) (e : JournalError) → Stays s t → t.faults ≡ s.faults → e ≢ Device → e ≢ Memory →
+    IsContentRefusal s.shape e → (honest → IsRefused s.shape (reading s.disk) e) → OpeningRefused honest s t e
+content-refused honest s t e stays same other more listed refused = record {
   device = λ device. absurd (other device);
   no_fault = λ not_device. same;
-  memory = λ memory. stays;
-  content = λ not_device more. (stays, λ trust. BySuperblock e (refused trust));
+  memory = λ memory. absurd (more memory);
+  content = λ not_device not_memory. (stays, listed, refused);
 }
 
--- a failure behind reads that did not fail
-later-failure : (s t u : DeviceState) (e : JournalError) → t.faults ≡ s.faults → IsFailure t u e → IsFailure s u e
-later-failure s t u e same (inl (is, counted)) = inl (is, counted ∙ ap one_more_fault same)
-later-failure s t u e same (inr (is, kept)) = inr (is, kept ∙ same)
+-- a refusal of the ring is neither the device's nor want of memory
+ring-device : (first end : ℕ) (e : JournalError) → IsRingRefusal first end e → e ≢ Device
+ring-device first end e (NamesDamaged f names) = damage-device first end e names
+ring-device first end e (NamesAhead place from below) = λ same. cc
+ring-device first end e NoNumber = λ same. cc
+
+ring-memory : (first end : ℕ) (e : JournalError) → IsRingRefusal first end e → e ≢ Memory
+ring-memory first end e (NamesDamaged f names) = damage-memory first end e names
+ring-memory first end e (NamesAhead place from below) = λ same. cc
+ring-memory first end e NoNumber = λ same. cc
+
+-- a refusal of the ring is one of any ring around it
+ring-around : (first end low high : ℕ) (e : JournalError) → low ≤ first → end ≤ high → IsRingRefusal first end e → IsRingRefusal low high e
+ring-around first end low high e under over (NamesDamaged f names) =
+    NamesDamaged e (damage-around first end low high e under over names)
+ring-around first end low high e under over (NamesAhead place from below) = NamesAhead place (omega arith) (omega arith)
+ring-around first end low high e under over NoNumber = NoNumber
+
+-- so it is one of content, where the superblock is accepted
+ring-content : (shape : Shape) (superblock : List ℕ) (fields : Super) (e : JournalError) → IsWellRead shape superblock fields →
+    IsRingRefusal fields.s_first fields.s_maxlen e → IsContentRefusal shape e
+ring-content shape superblock fields e well names =
+    let behind = well.accepted.behind in
+    inr (ring-around fields.s_first fields.s_maxlen 1 shape.log_blocks e (omega arith) well.accepted.within names)
+
+-- what is wrong with the superblock
+pub reading-refused : (honest : Type 0) (s t : DeviceState) (e : JournalError) → Stays s t → IsReadingRefused honest s t e → OpeningRefused honest s t e
+reading-refused honest s t e stays (inl failure) = failure-refused honest s t e stays failure
+reading-refused honest s t e stays (inr (inl (memory, same, large))) =
+    memory-refused honest s t e stays same memory (λ trust small. absurd (omega arith))
+reading-refused honest s t e stays (inr (inr (listed, same, refused))) =
+    content-refused honest s t e stays same (super-device e listed) (super-memory e listed) (inl listed) (λ trust. BySuperblock e (refused trust))
+
+-- and that the log area has no block
+pub no-log-refused : (honest : Type 0) (s : DeviceState) → s.shape.log_blocks ≡ 0 → OpeningRefused honest s s BadLength
+no-log-refused honest s none =
+    content-refused honest s s BadLength (record { shape = refl; disk = refl; past = refl }) refl (λ e. cc) (λ e. cc)
+    (inl (inr (inr (inr (inl refl)))))
+    (λ trust. BySuperblock BadLength (let test : (s.shape.log_blocks == 0) ≡ true = grind (arith, nat_tests) in rw test refl))
+
+-- a failure of the device behind reads that did not fail
+later-failure : (s t u : DeviceState) (e : JournalError) → t.faults ≡ s.faults → IsDeviceFailure t u e → IsDeviceFailure s u e
+later-failure s t u e same (is, counted) = (is, counted ∙ ap one_more_fault same)
 
 -- what the ring is refused for
 pub test-refused : (honest : Type 0) (s t u : DeviceState) (superblock : List ℕ) (fields : Super) (e : JournalError) → IsWellRead s.shape superblock fields →
     (honest → superblock ≡ reading s.disk Log 0) → Stays s t → Stays t u → t.faults ≡ s.faults → IsTestRefused honest fields t u e → OpeningRefused honest s u e
 test-refused honest s t u superblock fields e well read first second same (inl failure) =
-    failure-refused honest s u e (stays-joined s t u first second) (later-failure s t u e same (inl failure))
-test-refused honest s t u superblock fields e well read first second same (inr (other, more, kept, refused)) =
-    let stays : Stays s u = stays-joined s t u first second in
-    record {
-      device = λ device. absurd (other device);
-      no_fault = λ not_device. kept ∙ same;
-      memory = λ memory. stays;
-      content = λ not_device not_memory. (
-        stays,
-        λ trust.
-            let is : fields ≡ super_of (reading s.disk) = well.fields_are ∙ ap super_in (read trust) in
-            refused-image s.shape (reading s.disk) e (taken s.shape (reading s.disk) superblock fields well (read trust))
-            (subst (λ (f : Super). IsRefusedLog f s.shape.home_blocks (reading s.disk) e) is
-            (on-stays (λ (m : Shape) (d : Disk). IsRefusedLog fields m.home_blocks (reading d) e) s t first (refused trust))),
-      );
-    }
+    failure-refused honest s u e (stays-joined s t u first second) (later-failure s t u e same failure)
+test-refused honest s t u superblock fields e well read first second same (inr (names, kept, refused)) =
+    content-refused honest s u e (stays-joined s t u first second) (kept ∙ same) (ring-device fields.s_first fields.s_maxlen e names)
+    (ring-memory fields.s_first fields.s_maxlen e names) (ring-content s.shape superblock fields e well names)
+    (λ trust.
+    let is : fields ≡ super_of (reading s.disk) = well.fields_are ∙ ap super_in (read trust) in
+    refused-image s.shape (reading s.disk) e (taken s.shape (reading s.disk) superblock fields well (read trust))
+    (subst (λ (f : Super). IsRefusedLog f s.shape.home_blocks (reading s.disk) e) is
+    (on-stays (λ (m : Shape) (d : Disk). IsRefusedLog fields m.home_blocks (reading d) e) s t first (refused trust))))
+
+-- the limit of an image is one
+one-limit : (shape : Shape) (image : Image) (limit : ℕ) (texts : List Text) (other : ℕ) → HasTexts shape image texts other → HasLimit shape image limit → limit ≡ other
+one-limit shape image limit texts other (NoTexts clean) (OfClean also) = refl
+one-limit shape image limit texts other (NoTexts clean) (OfChain others has) = absurd (has.started.started clean.clean)
+one-limit shape image limit texts other (Texts ts has) (OfClean clean) = absurd (has.started.started clean.clean)
+one-limit shape image limit texts other (Texts ts has) (OfChain others also) =
+    ap (λ (xs : List Text). (super_of image).s_sequence + length xs)
+    (one_chain_of (layout_of (super_of image)) shape.home_blocks (omega arith) (super_of image).s_sequence (log_lap image) others ts also.chain has.chain)
+
+-- block 0 of an image with these texts is accepted
+accepted-texts : (shape : Shape) (image : Image) (texts : List Text) (limit : ℕ) → HasTexts shape image texts limit → super_refusal shape (image Log 0) ≡ None
+accepted-texts shape image texts limit (NoTexts clean) = clean.accepted
+accepted-texts shape image texts limit (Texts ts has) = has.started.accepted
+
+-- none of its blocks is damaged
+undamaged-texts : (shape : Shape) (image : Image) (texts : List Text) (limit k : ℕ) → HasTexts shape image texts limit → IsDamagedImage shape image k → ⊥
+undamaged-texts shape image texts limit k (NoTexts clean) damaged = damaged.started.started clean.clean
+undamaged-texts shape image texts limit k (Texts ts has) damaged = has.undamaged k damaged
+
+-- what is found in an image is not refused
+found-sound : (shape : Shape) (found : Found) → IsFound shape found → IsNotRefused shape found.image
+found-sound shape found good e (BySuperblock f refused) = let accepted = accepted-texts shape found.image found.texts found.limit good.has in cc
+found-sound shape found good e (ByDamage k damaged) = undamaged-texts shape found.image found.texts found.limit k good.has damaged
+found-sound shape found good e (ByAhead limit place has ahead lowest) =
+    good.none_ahead place
+    (subst (λ (n : ℕ). IsAhead (ring_of (super_of found.image)) found.image n place) (one-limit shape found.image limit found.texts found.limit good.has has) ahead)
+found-sound shape found good e (ByNumber limit has none great) =
+    let same = one-limit shape found.image limit found.texts found.limit good.has has in
+    let small = good.number in
+    omega arith
+
+-- so a log that was read and tested is not refused
+pub tested-sound : (honest : Type 0) (s t : DeviceState) (superblock : List ℕ) (fields : Super) (transactions : ℕ) → IsWellRead s.shape superblock fields →
+    (honest → superblock ≡ reading s.disk Log 0) → Stays s t → (honest → IsTested fields t.shape.home_blocks (reading t.disk) transactions) →
+    fields.s_sequence + transactions < greatest_number → honest → IsNotRefused s.shape (reading s.disk)
+tested-sound honest s t superblock fields transactions well read stays tested small trust =
+    let same : fields ≡ super_of (reading s.disk) = well.fields_are ∙ ap super_in (read trust) in
+    let is : Finds s.shape s.disk transactions =
+    finds s.shape s.disk transactions (taken s.shape (reading s.disk) superblock fields well (read trust))
+    (subst (λ (f : Super). IsTested f s.shape.home_blocks (reading s.disk) transactions) same
+    (on-stays (λ (m : Shape) (d : Disk). IsTested fields m.home_blocks (reading d) transactions) s t stays (tested trust)))
+    (subst (λ (f : Super). f.s_sequence + transactions < greatest_number) same small) in
+    subst (IsNotRefused s.shape) is.is.read (found-sound s.shape is.found is.is.good)
 
 -- a log that was scanned is gathered, whatever its transactions
 never-refused : (fields : Super) (count transactions : ℕ) (image : Image) → IsTested fields count image transactions → 0 < transactions →
@@ -223,22 +305,20 @@ never-refused fields count transactions image tested some other =
     other scanned.texts scanned.are scanned.number
 
 -- why gathering is refused
-pub gather-refused : (honest : Type 0) (s t u v : DeviceState) (fields : Super) (transactions : ℕ) (e : JournalError) → Stays s t → Stays t u → Stays u v →
-    u.faults ≡ s.faults → (honest → IsTested fields t.shape.home_blocks (reading t.disk) transactions) → IsGatherRefused honest fields transactions u v e →
-    OpeningRefused honest s v e
-gather-refused honest s t u v fields transactions e first second third same tested (inl failure) =
+pub gather-refused : (honest : Type 0) (s t u v : DeviceState) (superblock : List ℕ) (fields : Super) (transactions : ℕ) (e : JournalError) →
+    IsWellRead s.shape superblock fields → Stays s t → Stays t u → Stays u v → u.faults ≡ s.faults →
+    (honest → IsTested fields t.shape.home_blocks (reading t.disk) transactions) → (honest → IsNotRefused s.shape (reading s.disk)) →
+    IsGatherRefused honest fields transactions u v e → OpeningRefused honest s v e
+gather-refused honest s t u v superblock fields transactions e well first second third same tested sound (inl (inl failure)) =
     failure-refused honest s v e (stays-joined s u v (stays-joined s t u first second) third) (later-failure s u v e same failure)
-gather-refused honest s t u v fields transactions e first second third same tested (inr (other, more, kept, some, never)) =
-    let stays : Stays s v = stays-joined s u v (stays-joined s t u first second) third in
-    record {
-      device = λ device. absurd (other device);
-      no_fault = λ not_device. kept ∙ same;
-      memory = λ memory. stays;
-      content = λ not_device not_memory. (
-        stays,
-        λ trust.
-            absurd
-            (never-refused fields t.shape.home_blocks transactions (reading t.disk) (tested trust) some
-            (on-stays (λ (m : Shape) (d : Disk). (texts : List Text) → AreTextsOf fields m.home_blocks (reading d) texts → transactions ≡ length texts → ⊥) t u second (never trust))),
-      );
-    }
+gather-refused honest s t u v superblock fields transactions e well first second third same tested sound (inl (inr (memory, kept))) =
+    memory-refused honest s v e (stays-joined s u v (stays-joined s t u first second) third) (kept ∙ same) memory (λ trust small. sound trust)
+gather-refused honest s t u v superblock fields transactions e well first second third same tested sound (inr (names, kept, some, never)) =
+    let named : IsRingRefusal fields.s_first fields.s_maxlen e = NamesDamaged e names in
+    content-refused honest s v e (stays-joined s u v (stays-joined s t u first second) third) (kept ∙ same)
+    (ring-device fields.s_first fields.s_maxlen e named) (ring-memory fields.s_first fields.s_maxlen e named)
+    (ring-content s.shape superblock fields e well named)
+    (λ trust.
+    absurd
+    (never-refused fields t.shape.home_blocks transactions (reading t.disk) (tested trust) some
+    (on-stays (λ (m : Shape) (d : Disk). (texts : List Text) → AreTextsOf fields m.home_blocks (reading d) texts → transactions ≡ length texts → ⊥) t u second (never trust))))

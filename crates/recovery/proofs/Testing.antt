@@ -1,5 +1,5 @@
 -- The tests of a log's ring.
-use Rattle.std.proofs.Common.{◌≡◌, ℕ, ◌+◌, subst, inl, inr, arith}
+use Rattle.std.proofs.Common.{◌≡◌, ℕ, ◌+◌, ◌<◌, subst, inl, inr, arith}
 use Rattle.std.specs.Prelude.{◌≢◌, ◌≤◌, ◌==◌, false, true}
 use Rattle.std.proofs.lemmas.Bool.Decides.{nat_tests}
 use Rattle.journal_model.specs.declared.refusal.JournalError.{JournalError}
@@ -10,6 +10,7 @@ use Rattle.journal_model.specs.Superblock.{Super}
 use Rattle.block_device.specs.State.{DeviceState, Stays}
 use Rattle.log_scan.specs.Scanning.{IsDamageOf, IsScanRefused}
 use Rattle.recovery.specs.Opening.{HasTransactions, IsLowestAhead, IsTestRefused, NoneAhead}
+use Rattle.recovery.specs.Opening.IsRingRefusal.{NamesAhead, NamesDamaged, NoNumber}
 use Rattle.recovery.specs.Opening.IsRefusedLog.{ForAhead, ForDamage, ForNumber}
 
 -- a log is started where its start is not 0
@@ -20,17 +21,17 @@ started s other zero = let test : (s.s_start == 0) ≡ true = grind (arith, nat_
 pub scan-refused : (honest : Type 0) (s : Super) (home : ℕ) (old new : DeviceState) (e : JournalError) → (s.s_start == 0) ≡ false →
     home ≡ old.shape.home_blocks → IsScanRefused honest s home old new e → IsTestRefused honest s old new e
 scan-refused honest s home old new e other same (inl failure) = inl failure
-scan-refused honest s home old new e other same (inr (a, b, faults, damage)) =
-    inr (a, b, faults, λ h. ForDamage e (started s other) (subst (λ (n : ℕ). IsDamageOf s n (reading old.disk) e) same (damage h)))
+scan-refused honest s home old new e other same (inr (names, faults, damage)) =
+    inr (NamesDamaged e names, faults, λ h. ForDamage e (started s other) (subst (λ (n : ℕ). IsDamageOf s n (reading old.disk) e) same (damage h)))
 
 -- a block that is ahead
-pub ahead-refused : (honest : Type 0) (s : Super) (old mid new : DeviceState) (transactions limit place : ℕ) → limit ≡ s.s_sequence + transactions →
+pub ahead-refused : (honest : Type 0) (s : Super) (old mid new : DeviceState) (transactions limit place : ℕ) → s.s_first ≤ place → place < s.s_maxlen →
+    limit ≡ s.s_sequence + transactions →
     Stays old mid → new.faults ≡ old.faults → (honest → HasTransactions s old.shape.home_blocks (reading old.disk) transactions) →
     (honest → IsLowestAhead s (reading mid.disk) limit place) → IsTestRefused honest s old new (Ahead place)
-ahead-refused honest s old mid new transactions limit place is stays faults has lowest =
+ahead-refused honest s old mid new transactions limit place from below is stays faults has lowest =
     inr (
-      λ e. cc,
-      λ e. cc,
+      NamesAhead place from below,
       faults,
       λ h. ForAhead transactions place (has h)
           (subst (λ (n : ℕ). IsLowestAhead s (reading old.disk) n place) is (subst (λ (d : Disk). IsLowestAhead s (reading d) limit place) stays.disk (lowest h))),
@@ -47,4 +48,4 @@ pub number-refused : (honest : Type 0) (s : Super) (old mid new : DeviceState) (
     Stays old mid → new.faults ≡ old.faults → (honest → HasTransactions s old.shape.home_blocks (reading old.disk) transactions) →
     (honest → NoneAhead s (reading mid.disk) limit) → IsTestRefused honest s old new SequenceEnd
 number-refused honest s old mid new transactions limit is great stays faults has none =
-    inr (λ e. cc, λ e. cc, faults, λ h. ForNumber transactions (has h) (none-there s old mid transactions limit is stays (none h)) (omega arith))
+    inr (NoNumber, faults, λ h. ForNumber transactions (has h) (none-there s old mid transactions limit is stays (none h)) (omega arith))

@@ -1,5 +1,5 @@
 -- What an opening gathers of a chain before it writes home.
-use Rattle.std.specs.Prelude.{◌≡◌, ◌≢◌, ◌⊎◌, ℕ, suc, ◌<◌, List, [], ◌∷◌, length, map, refl}
+use Rattle.std.specs.Prelude.{◌≡◌, ◌⊎◌, ℕ, suc, ◌<◌, List, [], ◌∷◌, length, map, refl}
 use Rattle.std.specs.Coded.{Coded, code_by, coded×, coded_ℕ}
 use Rattle.std.specs.FinMap as fin_map
 use Rattle.std.specs.FinMap.{empty}
@@ -7,7 +7,6 @@ use Rattle.std.specs.List.{zip}
 use Rattle.journal_model.specs.declared.log.Tag.{Tag}
 use Rattle.journal_model.specs.declared.log.Text.{Text}
 use Rattle.journal_model.specs.declared.refusal.JournalError.{JournalError}
-use Rattle.journal_model.specs.declared.refusal.JournalError.TheVariants.{Device, Memory}
 use Rattle.journal_model.specs.Chain.{place_from}
 use Rattle.journal_model.specs.Disk.{Image, reading}
 use Rattle.journal_model.specs.Escape.{unescaped}
@@ -15,6 +14,7 @@ use Rattle.journal_model.specs.Opening.{ring_of}
 use Rattle.journal_model.specs.Superblock.{Super}
 use Rattle.block_device.specs.State.{DeviceState, IsFailure}
 use Rattle.log_scan.specs.Finding.{log_block}
+use Rattle.log_scan.specs.Refusals.{NamesDamage}
 use Rattle.log_scan.specs.Scanning.{AreTextsOf}
 use Rattle.journal_world.specs.Call.{Call}
 use Rattle.recovery.specs.Calls.{write_home}
@@ -55,11 +55,11 @@ abbrev pub with_copies : TablesValue → ℕ → List Tag → TablesValue
 with_copies tables place tags = record { revokes = tables.revokes; copies = placed_all tables.copies (tag_notes place tags) }
 
 -- why gathering is refused: the device failed, or memory ran out, or a log that has transactions reads otherwise than it was
--- scanned
+-- scanned, which shows at a block of the ring
 abbrev pub IsGatherRefused : (honest : Type 0) → Super → ℕ → DeviceState → DeviceState → JournalError → Type 0
 IsGatherRefused honest s transactions old new e =
     IsFailure old new e
-    ⊎ ((e ≢ Device) × (e ≢ Memory) × (new.faults ≡ old.faults) × (0 < transactions)
+    ⊎ (NamesDamage s.s_first s.s_maxlen e × (new.faults ≡ old.faults) × (0 < transactions)
     × (honest → (texts : List Text) → AreTextsOf s old.shape.home_blocks (reading old.disk) texts → transactions ≡ length texts → ⊥))
 
 -- those of the copies behind a descriptor with these tags which go home by the tables, as they go home

@@ -1,16 +1,18 @@
 -- What formatting and opening leave, why an opening is refused, and which calls it makes.
-use Rattle.std.specs.Prelude.{◌≡◌, ◌≢◌, ◌⊎◌, ℕ, ◌+◌, ◌<◌, ◌≤◌, Bool, true, false, List, length, replicate, Some, None}
+use Rattle.std.specs.Prelude.{◌≡◌, ◌≢◌, ◌⊎◌, ℕ, ◌+◌, ◌<◌, ◌≤◌, Bool, true, false, List, length, replicate, Option, Some, None, MatchOption, ⊤}
 use Rattle.journal_model.specs.declared.log.Text.{Text}
 use Rattle.journal_model.specs.declared.number.Area.TheVariants.{Log, Home}
 use Rattle.journal_model.specs.declared.refusal.JournalError.{JournalError}
 use Rattle.journal_model.specs.declared.refusal.JournalError.TheVariants.{Memory, Device, BadBlockSize, BadLength, Ahead, SequenceEnd}
 use Rattle.journal_model.specs.Chain.{IsAhead}
-use Rattle.journal_model.specs.Disk.{Disk, Image, flushed, reading}
+use Rattle.journal_model.specs.Disk.{Disk, Image, IsOneOf, flushed, reading}
 use Rattle.journal_model.specs.Opening.{HasChain, IsClean, IsRefused, greatest_number, ring_of, super_of}
 use Rattle.journal_model.specs.Superblock.{Shape, Super, formatted_super, greatest_length, least_length, super_in, super_refusal}
-use Rattle.block_device.specs.State.{DeviceState, IsDeviceFailure, IsFailure, Stays, one_more_fault}
+use Rattle.block_device.specs.State.{DeviceState, IsDeviceFailure, Stays, one_more_fault}
 use Rattle.log_format.specs.Accepted.{IsAccepted}
 use Rattle.log_format.specs.Size.{IsBlockSize}
+use Rattle.log_scan.specs.Finding.{most_bytes}
+use Rattle.log_scan.specs.Refusals.{NamesDamage, super_refusals}
 use Rattle.log_scan.specs.Scanning.{AreTextsOf, IsDamageOf, IsScanned}
 use Rattle.journal_world.specs.Opening.{cleaned}
 use Rattle.journal_world.specs.Sound.{durable_cell}
@@ -47,13 +49,29 @@ pub data Tells (shape : Shape) (image : Image) : (clean : Bool) → (ends_at tra
   OfChain : (texts : List Text) → HasChain shape image texts →
       Tells shape image false ((super_of image).s_sequence + length texts) (length texts)
 
--- Why an opening is refused: the device failed; memory ran out, and nothing was written; or else nothing was written, and what
--- was read is refused for what stands in it.
+-- The refusals of what stands in the ring of a log, which lies between these places of its area: a block that is damaged, one
+-- that is ahead, or that no number is left.
+pub data IsRingRefusal (first end : ℕ) : JournalError → Type 0 where
+  NamesDamaged : (e : JournalError) → NamesDamage first end e → IsRingRefusal first end e
+  NamesAhead : (place : ℕ) → first ≤ place → place < end → IsRingRefusal first end (Ahead place)
+  NoNumber : IsRingRefusal first end SequenceEnd
+
+-- the refusals of content: of the superblock, or of the ring, which lies behind block 0 of the log area
+abbrev pub IsContentRefusal : Shape → JournalError → Type 0
+IsContentRefusal shape e = IsOneOf super_refusals e ⊎ IsRingRefusal 1 shape.log_blocks e
+
+-- none of the refusals of content stands in the image
+abbrev pub IsNotRefused : Shape → Image → Type 0
+IsNotRefused shape image = (e : JournalError) → IsRefused shape image e → ⊥
+
+-- Why an opening is refused: the device failed; memory ran out, nothing was written, and what was read is not refused; or else
+-- nothing was written, and what was read is refused for what stands in it. (A block that is larger than any log's is read in
+-- memory.)
 pub record OpeningRefused (honest : Type 0) (old new : DeviceState) (e : JournalError) : Type 0 where
   pub device : e ≡ Device → new.faults ≡ one_more_fault old.faults
   pub no_fault : e ≢ Device → new.faults ≡ old.faults
-  pub memory : e ≡ Memory → Stays old new
-  pub content : e ≢ Device → e ≢ Memory → Stays old new × (honest → IsRefused old.shape (reading old.disk) e)
+  pub memory : e ≡ Memory → Stays old new × (honest → old.shape.block_size ≤ most_bytes → IsNotRefused old.shape (reading old.disk))
+  pub content : e ≢ Device → e ≢ Memory → Stays old new × IsContentRefusal old.shape e × (honest → IsRefused old.shape (reading old.disk) e)
 
 -- An opening that ended: what it read is good, and it made the calls that are due for that.
 pub record IsDone (old new : DeviceState) : Type 0 where
@@ -73,11 +91,13 @@ pub data IsBroken (old new : DeviceState) : Type 0 where
   Reading : Stays old new → IsBroken old new
   Writing : (found : Found) → IsFoundOn old.shape found old.disk → HasBegun (opening_calls found) old new → IsBroken old new
 
--- a failure, or block 0 of the log, as it was read, is refused
+-- a failure, where memory is taken for a block that is larger than any log's alone; or block 0 of the log, as it was read, is
+-- refused
 abbrev pub IsReadingRefused : (honest : Type 0) → DeviceState → DeviceState → JournalError → Type 0
 IsReadingRefused honest old new e =
-    IsFailure old new e
-    ⊎ ((e ≢ Device) × (new.faults ≡ old.faults) × (honest → super_refusal old.shape (old.disk Log 0).reads ≡ Some e))
+    IsDeviceFailure old new e
+    ⊎ (((e ≡ Memory) × (new.faults ≡ old.faults) × (most_bytes < old.shape.block_size))
+    ⊎ (IsOneOf super_refusals e × (new.faults ≡ old.faults) × (honest → super_refusal old.shape (old.disk Log 0).reads ≡ Some e)))
 
 -- zeros were written to some blocks of the log: those behind block 0 and before this one read as zeros, and those from this
 -- one on are as they were, and so is home
@@ -102,6 +122,10 @@ pub record HasTransactions (s : Super) (count : ℕ) (image : Image) (transactio
 abbrev pub NoneAhead : Super → Image → ℕ → Type 0
 NoneAhead s image limit = (place : ℕ) → IsAhead (ring_of s) image limit place → ⊥
 
+-- the place of a block of the ring, where one is named
+abbrev pub IsWithinRing : Super → Option ℕ → Type 0
+IsWithinRing s found = MatchOption found ⊤ (λ place. (s.s_first ≤ place) × (place < s.s_maxlen))
+
 -- the lowest ring block that has one
 pub record IsLowestAhead (s : Super) (image : Image) (limit place : ℕ) : Type 0 where
   pub ahead : IsAhead (ring_of s) image limit place
@@ -124,7 +148,7 @@ pub data IsRefusedLog (s : Super) (count : ℕ) (image : Image) : JournalError �
 abbrev pub IsTestRefused : (honest : Type 0) → Super → DeviceState → DeviceState → JournalError → Type 0
 IsTestRefused honest s old new e =
     IsDeviceFailure old new e
-    ⊎ ((e ≢ Device) × (e ≢ Memory) × (new.faults ≡ old.faults) × (honest → IsRefusedLog s old.shape.home_blocks (reading old.disk) e))
+    ⊎ (IsRingRefusal s.s_first s.s_maxlen e × (new.faults ≡ old.faults) × (honest → IsRefusedLog s old.shape.home_blocks (reading old.disk) e))
 
 -- What is known of a log that was read and is not refused, whatever the device answered: block 0 is accepted, and a number is
 -- left for the next transaction.

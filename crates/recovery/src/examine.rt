@@ -2,20 +2,19 @@
 ghost use Rattle.std.specs.Prelude.{◌≡◌, ◌↔◌, ◌+◌, ◌<◌, ◌≤◌, IsTrue, length, IfOk, IfErr, OnOk, MatchOption, MatchResult};
 ghost use Rattle.journal_model.specs.declared.number.Area.TheVariants.{Log as LogArea};
 ghost use Rattle.journal_model.specs.Disk.{reading};
-ghost use Rattle.journal_model.specs.declared.refusal.JournalError.TheVariants.{Memory};
-ghost use Rattle.journal_model.specs.Layout.{IsTaken};
 ghost use Rattle.journal_model.specs.Opening.{greatest_number, layout_of, ring_of};
-ghost use Rattle.block_device.specs.State.{IsDeviceFailure, IsFailure, Stays};
+ghost use Rattle.block_device.specs.State.{IsDeviceFailure, Stays};
 ghost use Rattle.log_format.specs.Accepted.{IsAccepted};
+ghost use Rattle.log_scan.specs.Finding.{most_bytes};
 ghost use Rattle.log_epochs.specs.OpeningSteps.{Found};
-ghost use Rattle.recovery.specs.Opening.{HasTransactions, IsExamined, IsExaminedOn, IsLowestAhead, IsReadingRefused, IsTestRefused, IsTested, IsWellRead, NoneAhead, OpeningRefused};
+ghost use Rattle.recovery.specs.Opening.{HasTransactions, IsExamined, IsExaminedOn, IsLowestAhead, IsReadingRefused, IsTestRefused, IsTested, IsWellRead, IsWithinRing, NoneAhead, OpeningRefused};
 
 use crate::gathering::{Tables, gather};
 use block_device::{Device, read_block};
 use journal_model::layout::GREATEST_NUMBER;
 use journal_model::{Area, JournalError};
 use log_format::Super;
-use log_scan::{Finder, Log, scan};
+use log_scan::{BlockBuffer, Finder, Log, scan};
 use std::alloc::Global;
 
 /// A log that was read and is not refused: block 0, the fields of its superblock, how many complete transactions it has, and
@@ -29,9 +28,10 @@ pub(crate) struct Examined {
     pub(crate) finder: Finder,
 }
 
-/// Reads the log and tests all that stands in it, and gathers what replay goes by. Nothing is written, and all memory that an
-/// opening needs is taken.
+/// Reads the log and tests all that stands in it, which takes no memory where blocks have at most 4096 bytes. Then it gathers
+/// what replay goes by. Nothing is written, and all memory that an opening needs is taken.
 pub(crate) fn examine<D: Device>(alloc: Global, device: &mut D) -> Result<Examined, JournalError>
+    requires some { 0 < (D.state device.old).shape.log_blocks }
     ensures examined { IfOk result (λ e. IsExamined (D.state device.old).shape e.superblock.items e.log e.transactions) }
     ensures layout { IfOk result (λ e. e.finder.layout ≡ layout_of e.log) }
     ensures on { IfOk result (λ e. D.honest device.new → (found : Found) × IsExaminedOn (D.state device.old).shape (D.state device.old).disk e.superblock.items e.log e.transactions e.tables found) }
@@ -40,9 +40,10 @@ pub(crate) fn examine<D: Device>(alloc: Global, device: &mut D) -> Result<Examin
     ensures stays { Stays (D.state device.old) (D.state device.new) }
     ensures honest { D.honest device.new → D.honest device.old }
 {
-    let (superblock, log) = read_super(alloc, device)?;
-    let mut finder = make_finder(alloc, &log)?;
+    let (block, log) = read_super(alloc, device)?;
+    let mut finder = Finder::new(log.layout());
     let transactions = test_log(device, &log, &mut finder)?;
+    let superblock = block.bytes().to_vec(alloc)?;
     let tables = gather(alloc, device, &log, transactions, &mut finder)?;
     Ok(Examined {
         superblock,
@@ -54,39 +55,40 @@ pub(crate) fn examine<D: Device>(alloc: Global, device: &mut D) -> Result<Examin
 }
 
 /// Reads block 0 and tests it.
-fn read_super<D: Device>(alloc: Global, device: &mut D) -> Result<(Vec<u8>, Log), JournalError>
-    ensures well { IfOk result (λ r. IsWellRead (D.state device.old).shape r.0.items r.1) }
-    ensures read { IfOk result (λ r. D.honest device.new → r.0.items ≡ reading (D.state device.old).disk LogArea 0) }
+fn read_super<D: Device>(alloc: Global, device: &mut D) -> Result<(BlockBuffer, Log), JournalError>
+    requires some { 0 < (D.state device.old).shape.log_blocks }
+    ensures well { IfOk result (λ r. IsWellRead (D.state device.old).shape r.0 r.1) }
+    ensures read { IfOk result (λ r. D.honest device.new → r.0 ≡ reading (D.state device.old).disk LogArea 0) }
     ensures faults { MatchResult result (λ _. (D.state device.new).faults ≡ (D.state device.old).faults) (IsReadingRefused (D.honest device.new) (D.state device.old) (D.state device.new)) }
     ensures stays { Stays (D.state device.old) (D.state device.new) }
     ensures honest { D.honest device.new → D.honest device.old }
 {
-    let superblock = read_superblock(alloc, device)?;
-    let fields = Super::read(&superblock, device.blocks(Area::Log))?;
-    Ok((superblock, Log::new(fields)))
+    if device.block_size() > BlockBuffer::MOST_BYTES {
+        return Err(refusal_of_large(alloc, device));
+    }
+    let mut block = BlockBuffer::new(device.block_size());
+    block.read(device, Area::Log, 0)?;
+    let fields = Super::read(block.bytes(), device.blocks(Area::Log))?;
+    Ok((block, Log::new(fields)))
 }
 
-/// Reads block 0 of the log, or zeros where the log has no block.
-fn read_superblock<D: Device>(alloc: Global, device: &mut D) -> Result<Vec<u8>, JournalError>
-    ensures size { IfOk result (λ block. length block.items ≡ (D.state device.old).shape.block_size) }
-    ensures read { IfOk result (λ block. D.honest device.new → 0 < (D.state device.old).shape.log_blocks → block.items ≡ reading (D.state device.old).disk LogArea 0) }
-    ensures faults { MatchResult result (λ _. (D.state device.new).faults ≡ (D.state device.old).faults) (λ e. IsFailure (D.state device.old) (D.state device.new) e) }
+/// Why a log is refused whose blocks are larger than any log's. Block 0 is read in memory.
+fn refusal_of_large<D: Device>(alloc: Global, device: &mut D) -> JournalError
+    requires some { 0 < (D.state device.old).shape.log_blocks }
+    requires large { most_bytes < (D.state device.old).shape.block_size }
+    ensures refused { IsReadingRefused (D.honest device.new) (D.state device.old) (D.state device.new) result }
     ensures stays { Stays (D.state device.old) (D.state device.new) }
     ensures honest { D.honest device.new → D.honest device.old }
 {
-    if device.blocks(Area::Log) == 0 {
-        return Ok(vec![in alloc; 0; device.block_size()]?);
+    let block = match read_block(alloc, device, Area::Log, 0) {
+        Ok(block) => block,
+        Err(e) => return e,
+    };
+    match Super::read(block.bytes(), device.blocks(Area::Log)) {
+        // Not met: no log has such blocks.
+        Ok(_) => JournalError::BadBlockSize,
+        Err(e) => e,
     }
-    Ok(read_block(alloc, device, Area::Log, 0)?.into_bytes())
-}
-
-/// A finder for the blocks of this log.
-fn make_finder(alloc: Global, log: &Log) -> Result<Finder, JournalError>
-    requires { IsTaken (layout_of log.now) }
-    ensures layout { IfOk result (λ finder. finder.layout ≡ layout_of log.now) }
-    ensures refused { IfErr result (λ e. e ≡ Memory) }
-{
-    Ok(Finder::new(alloc, log.layout())?)
 }
 
 /// How many complete transactions a log has, where nothing that stands in its ring is refused. It takes no memory.
@@ -147,6 +149,7 @@ fn lowest_ahead<D: Device>(
     requires layout { finder.old.layout ≡ layout_of log.now }
     requires accepted { IsAccepted (D.state device.old).shape.block_size (D.state device.old).shape.log_blocks log.now }
     ensures layout { finder.new.layout ≡ finder.old.layout }
+    ensures within { IfOk result (IsWithinRing log.now) }
     ensures ahead { IfOk result (λ found. D.honest device.new → MatchOption found (NoneAhead log.now (reading (D.state device.old).disk) limit) (IsLowestAhead log.now (reading (D.state device.old).disk) limit)) }
     ensures faults { MatchResult result (λ _. (D.state device.new).faults ≡ (D.state device.old).faults) (IsDeviceFailure (D.state device.old) (D.state device.new)) }
     ensures stays { Stays (D.state device.old) (D.state device.new) }

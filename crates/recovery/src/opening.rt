@@ -1,5 +1,6 @@
 //! Opening a log: what a stop left is replayed to home, and the log is left clean.
 ghost use Rattle.std.specs.Prelude.{◌<◌, ◌≡◌, ◌+◌, OnOk, IfOk, IfErr, MatchResult};
+ghost use Rattle.journal_model.specs.declared.refusal.JournalError.TheVariants.{BadLength};
 ghost use Rattle.journal_model.specs.Disk.{reading};
 ghost use Rattle.journal_model.specs.Layout.{IsTaken};
 ghost use Rattle.journal_model.specs.Opening.{greatest_number, layout_of};
@@ -63,14 +64,17 @@ impl<D: Device> Model for Opened<D> {
 ///
 /// The calls that it makes are those of `opening_calls` (`specs/Calls.antt`), one after the other: a flush of the log, and where
 /// that is not clean, one write of each home block that has a live copy, in the order of the chain, a flush of home, the write
-/// of the superblock, and a flush of the log. It holds one buffer of a block, and memory in proportion to the blocks that the
-/// chain names.
+/// of the superblock, and a flush of the log. It holds a block, and room for the tags and numbers of one, without taking memory.
+/// Memory is taken only once all tests have passed: for block 0, and in proportion to the blocks that the chain names. (Where the
+/// device's blocks are larger than 4096 bytes, which no log's are, block 0 is read in memory.)
 ///
 /// # Errors
 ///
 /// The device comes back with the refusal. `BadMagic` to `ErrnoSet`: the superblock; `Damage` and `Ahead`: a ring block;
-/// `SequenceEnd`: no number is left for a transaction; `Memory` where memory ran out: nothing is written. `Device` where the
-/// device failed: home may have been written, and what a stop then leaves opens to the same transactions.
+/// `SequenceEnd`: no number is left for a transaction; `Memory` where memory ran out, and nothing that stands in the log is
+/// refused: nothing is written. `BadLength` where the log area has no block: no call is made. `Device` where the device failed:
+/// home and the superblock may have been written. Once the flush of the log has succeeded, what a stop then leaves opens to the
+/// same transactions.
 /// Source: fs/jbd2/recovery.c by behaviour; the flush, the tests of ring blocks, and that each home block is written once are
 /// this project's own.
 pub fn open<D: Device>(alloc: Global, device: D) -> Result<Opened<D>, (D, JournalError)>
@@ -83,10 +87,16 @@ pub fn open<D: Device>(alloc: Global, device: D) -> Result<Opened<D>, (D, Journa
         (λ o. D.honest o.device → EachMoment (IsMoment (D.state device).shape (D.state device).disk) (D.state device) (D.state o.device))
         (λ e. D.honest e.0 → EachMoment (IsMoment (D.state device).shape (D.state device).disk) (D.state device) (D.state e.0)) }
     ensures refused { IfErr result (λ e. OpeningRefused (D.honest e.0) (D.state device) (D.state e.0) e.1) }
+    ensures no_log { MatchResult result
+        (λ _. 0 < (D.state device).shape.log_blocks)
+        (λ e. (D.state device).shape.log_blocks ≡ 0 → (e.0 ≡ device) × (e.1 ≡ BadLength)) }
     ensures no_fault { IfOk result (λ o. (D.state o.device).faults ≡ (D.state device).faults) }
     ensures shape { MatchResult result (λ o. (D.state o.device).shape ≡ (D.state device).shape) (λ e. (D.state e.0).shape ≡ (D.state device).shape) }
     ensures honest { MatchResult result (λ o. D.honest o.device → D.honest device) (λ e. D.honest e.0 → D.honest device) }
 {
+    if device.blocks(Area::Log) == 0 {
+        return Err((device, JournalError::BadLength));
+    }
     let mut device = device;
     match recover(alloc, &mut device) {
         Ok((superblock, next, report)) => Ok(Opened {
@@ -184,6 +194,7 @@ fn number_from(limit: u64) -> u32
 /// Reads the log, replays it and leaves it clean. The answer is block 0, the number of the next transaction and what was
 /// found.
 fn recover<D: Device>(alloc: Global, device: &mut D) -> Result<(Vec<u8>, Tid, Report), JournalError>
+    requires some { 0 < (D.state device.old).shape.log_blocks }
     ensures named { IfOk result (λ r. IsNextNamed (D.state device.new).shape r.0.items r.1) }
     ensures done { IfOk result (λ r. D.honest device.new → IsDoneWith (D.state device.old) (D.state device.new) r.0.items r.1) }
     ensures report { IfOk result (λ r. D.honest device.new → Tells (D.state device.old).shape (reading (D.state device.old).disk) r.2.clean r.2.ends_at r.2.transactions) }

@@ -3,7 +3,8 @@ use Rattle.std.specs.Io.KnownBytes.{Appends}
 use Rattle.std.proofs.lemmas.Result.{IfErr-weaker, err_from_is_err_and, on_ok_weaker}
 use Rattle.journal_model.specs.Disk.{Disk, reading}
 use Rattle.journal_model.specs.Dump.{dump_text}
-use Rattle.journal_model.specs.Superblock.{Shape, Super}
+use Rattle.journal_model.specs.Layout.{IsTaken}
+use Rattle.journal_model.specs.Superblock.{Super}
 use Rattle.log_scan.specs.Finding.{every_block}
 use Rattle.log_scan.specs.Scanning.{AreTextsOf, IsScanned}
 use Rattle.log_dump.specs.Dumping.{HasDump, IsReadLog, shape_of}
@@ -12,7 +13,7 @@ use Rattle.log_format.proofs.Layouts.{accepted-taken}
 use Rattle.log_dump.proofs.Dumps.{chain-dump, clean-dump, count-refused, counted-dump, log-refused, on-err, print-refused, test-clean, test-started}
 use Rattle.log_dump.proofs.dumping.dump.Given.{Over}
 use Rattle.log_dump.proofs.dumping.dump.Goals as goal
-use Rattle.log_dump.proofs.dumping.dump.Goals.{After-drop-finder-inside-4, After-from_residual-in_err-write_clean}
+use Rattle.log_dump.proofs.dumping.dump.Goals.{After-write_log, After-from_residual-in_err-write_clean}
 
 -- the superblock can't be read, or is refused
 pub returns-in_err-log-clause-refused : goal.returns-in_err-log-clause-refused
@@ -61,29 +62,29 @@ returns-in_err-transactions-clause-refused g c =
     (count-refused (g.D.Device.honest c.scan.new.device) (c.args.out.now ≡ c.args.out.now) c.in_ok-log.log
     (g.D.Device.state c.args.device.now) (g.D.Device.state c.read_log.new.device) (g.D.Device.state c.scan.new.device)
     c.in_err-transactions.field-0.0 refl (test-started c.in_ok-log.log.s_start c.if-is_clean.ensures) c.in_ok-log.ensures.faults c.read_log.ensures.stays.disk
-    (λ h. c.in_ok-log.ensures.read (c.scan.ensures.honest h)) c.in_err-transactions.ensures.refused)
+    c.in_ok-log.ensures.accepted (λ h. c.in_ok-log.ensures.read (c.scan.ensures.honest h)) c.in_err-transactions.ensures.refused)
 
 -- the texts that were counted
-counted : (g : Over) (c : After-drop-finder-inside-4 g) → g.D.Device.honest c.write_log.new.device →
+counted : (g : Over) (c : After-write_log g) → g.D.Device.honest c.write_log.new.device →
     IsScanned c.in_ok-log.log (every_block c.in_ok-log.log) (reading (g.D.Device.state c.args.device.now).disk) c.in_ok-transactions.transactions
 counted g c h =
     subst (λ (d : Disk). IsScanned c.in_ok-log.log (every_block c.in_ok-log.log) (reading d) c.in_ok-transactions.transactions) c.read_log.ensures.stays.disk
     (c.in_ok-transactions.ensures.scanned (c.write_log.ensures.honest h))
 
 -- the superblock that was read
-read : (g : Over) (c : After-drop-finder-inside-4 g) → g.D.Device.honest c.write_log.new.device →
+read : (g : Over) (c : After-write_log g) → g.D.Device.honest c.write_log.new.device →
     IsReadLog (shape_of (g.D.Device.state c.args.device.now)) (reading (g.D.Device.state c.args.device.now).disk) c.in_ok-log.log
 read g c h = c.in_ok-log.ensures.read (c.scan.ensures.honest (c.write_log.ensures.honest h))
 
 -- the log has a dump
-has-chain : (g : Over) (c : After-drop-finder-inside-4 g) → g.D.Device.honest c.write_log.new.device →
+has-chain : (g : Over) (c : After-write_log g) → g.D.Device.honest c.write_log.new.device →
     HasDump (shape_of (g.D.Device.state c.args.device.now)) (reading (g.D.Device.state c.args.device.now).disk)
 has-chain g c h =
     counted-dump (g.D.Device.state c.args.device.now).shape.block_size (g.D.Device.state c.args.device.now).shape.log_blocks (reading (g.D.Device.state c.args.device.now).disk)
     c.in_ok-log.log c.in_ok-transactions.transactions (read g c h) (test-started c.in_ok-log.log.s_start c.if-is_clean.ensures) (counted g c h)
 
 -- the disk is as it was when the printing begins
-same : (g : Over) (c : After-drop-finder-inside-4 g) → (g.D.Device.state c.args.device.now).disk ≡ (g.D.Device.state c.scan.new.device).disk
+same : (g : Over) (c : After-write_log g) → (g.D.Device.state c.args.device.now).disk ≡ (g.D.Device.state c.scan.new.device).disk
 same g c = sym (c.scan.ensures.stays.disk ∙ c.read_log.ensures.stays.disk)
 
 -- all is printed
@@ -106,9 +107,9 @@ pub returns-clause-refused : goal.returns-clause-refused
 returns-clause-refused g c =
     IfErr-weaker c.write_log.result _ _
     (λ e refused.
-    print-refused (g.D.Device.honest c.write_log.new.device) (c.write_log.new.out ≡ c.args.out.now) _
+    print-refused (g.D.Device.honest c.write_log.new.device) (c.write_log.new.out ≡ c.args.out.now) _ c.in_ok-log.log
     (g.D.Device.state c.args.device.now) (g.D.Device.state c.scan.new.device) (g.D.Device.state c.write_log.new.device) e
-    (c.in_ok-transactions.ensures.faults ∙ c.in_ok-log.ensures.faults) (λ h. has-chain g c h)
+    (c.in_ok-transactions.ensures.faults ∙ c.in_ok-log.ensures.faults) c.in_ok-log.ensures.accepted (λ h. has-chain g c h)
     (λ h never. let these = counted g c h in never these.texts (subst (λ (d : Disk). AreTextsOf c.in_ok-log.log (every_block c.in_ok-log.log) (reading d) these.texts) (same g c) these.are) these.number)
     refused)
     c.write_log.ensures.refused
@@ -126,12 +127,12 @@ write_log-requires-clause-accepted g c =
     accepted-stays c.in_ok-log.log (g.D.Device.state c.args.device.now) (g.D.Device.state c.scan.new.device)
     (stays-joins _ _ _ c.read_log.ensures.stays c.scan.ensures.stays) c.in_ok-log.ensures.accepted
 
-pub make_finder-requires : goal.make_finder-requires
-make_finder-requires g c =
-    accepted-taken c.in_ok-log.ensures.accepted
+pub new-finder-requires : goal.new-finder-requires
+new-finder-requires g c =
+    subst IsTaken (sym c.layout.ensures) (accepted-taken c.in_ok-log.ensures.accepted)
 
 pub write_log-requires-clause-layout : goal.write_log-requires-clause-layout
-write_log-requires-clause-layout g c = c.in_ok-transactions.ensures.layout ∙ c.in_ok-finder.ensures.layout
+write_log-requires-clause-layout g c = c.in_ok-transactions.ensures.layout ∙ c.new-finder.ensures ∙ c.layout.ensures
 
 pub write_log-requires-clause-few : goal.write_log-requires-clause-few
 write_log-requires-clause-few g c = c.in_ok-transactions.ensures.few

@@ -5,7 +5,8 @@ use Rattle.journal_model.specs.Disk.{reading}
 use Rattle.journal_model.specs.Opening.{super_of}
 use Rattle.journal_model.specs.Superblock.{super_in}
 use Rattle.log_scan.specs.Finding.{every_block}
-use Rattle.log_dump.proofs.Dumps.{accepted-for, refused-other, tested-for}
+use Rattle.log_scan.proofs.Listed.{refused-listed}
+use Rattle.log_dump.proofs.Dumps.{accepted-for, tested-for}
 use Rattle.log_dump.proofs.dumping.read_log.Goals as goal
 
 -- the superblock is refused
@@ -14,7 +15,7 @@ returns-in_err-fields-clause-faults g c =
     let p = err_from_is_err_and c.from_residual-in_err-fields.result c.from_residual-in_err-fields.ensures.1 in
     rw (p.1, p.2)
     (inr (
-      refused-other (record { block_size = length c.bytes.result.now; log_blocks = c.blocks-log_blocks.result; home_blocks = every_block (super_of (reading (g.D.Device.state c.args.device.now).disk)) }) c.bytes.result.now c.in_err-fields.field-0.0 (c.in_err-fields.ensures.tests (every_block (super_of (reading (g.D.Device.state c.args.device.now).disk)))),
+      refused-listed (record { block_size = length c.bytes.result.now; log_blocks = c.blocks-log_blocks.result; home_blocks = every_block (super_of (reading (g.D.Device.state c.args.device.now).disk)) }) c.bytes.result.now c.in_err-fields.field-0.0 (c.in_err-fields.ensures.tests (every_block (super_of (reading (g.D.Device.state c.args.device.now).disk)))),
       c.in_ok-superblock.ensures.faults,
       λ h. tested-for (super_of (reading (g.D.Device.state c.args.device.now).disk)) (g.D.Device.state c.args.device.now).shape.block_size (g.D.Device.state c.args.device.now).shape.log_blocks (length c.bytes.result.now) c.blocks-log_blocks.result
           c.bytes.result.now _ (Some c.in_err-fields.field-0.0) (ap length c.bytes.ensures ∙ c.in_ok-superblock.ensures.size) c.blocks-log_blocks.ensures

@@ -11,7 +11,7 @@ use Rattle.journal_model.specs.Dump.{comma, piece_captions}
 use Rattle.log_scan.specs.declared.finding.Found.TheVariants.{CommitBlock, Descriptor, Malformed, Nothing, RevokeBlock}
 use Rattle.log_dump.specs.Lines.{placed_lines, tags_captions}
 use Rattle.log_scan.specs.Finding.{every_block}
-use Rattle.log_scan.proofs.ScanSteps.{accepted-stays, found-there, no-failure, no-memory, stays-joins}
+use Rattle.log_scan.proofs.ScanSteps.{accepted-stays, found-there, stays-joins}
 use Rattle.log_dump.proofs.PrintingSteps.{line-placed, printed-none, printed-piece, printed-text, unprinted-malformed, unprinted-nothing}
 use Rattle.log_dump.proofs.printing.write_text.Goals as goal
 
@@ -89,8 +89,7 @@ pub returns-in-Malformed-clause-refused : goal.returns-in-Malformed-clause-refus
 returns-in-Malformed-clause-refused g c =
     let before = c.loop-numbers.invariant in
     inr (
-      no-failure c.place-place.result,
-      no-memory c.place-place.result,
+      record { place = c.place-place.result; from = c.place-place.ensures.ring; below = c.place-place.ensures.there; refusal = refl },
       c.in_ok-numbers.ensures.faults ∙ before.faults,
       λ h. elim c.in-Malformed.is [
         | inl bad ↦

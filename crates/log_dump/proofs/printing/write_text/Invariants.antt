@@ -1,4 +1,4 @@
-use Rattle.std.proofs.Common.{◌≡◌, ◌≤◌, ◌-◌, length}
+use Rattle.std.proofs.Common.{◌≡◌, ◌≤◌, ◌-◌}
 use Rattle.journal_model.specs.Disk.{reading}
 use Rattle.journal_model.specs.Opening.{ring_of}
 use Rattle.block_device.specs.State.{Stays}

@@ -49,7 +49,7 @@ returns-in_err-position-clause-refused g c =
     let before = c.loop-k.invariant in
     let p = err_from_is_err_and c.from_residual.result c.from_residual.ensures.1 in
     rw (p.1, p.2)
-    (refused-through (g.D.Device.honest c.write_text.new.device) _ _ (g.D.Device.state c.args.device.now) (g.D.Device.state c.loop-k.device) (g.D.Device.state c.write_text.new.device)
+    (refused-through (g.D.Device.honest c.write_text.new.device) _ _ c.args.log.now (g.D.Device.state c.args.device.now) (g.D.Device.state c.loop-k.device) (g.D.Device.state c.write_text.new.device)
     c.in_err-position.field-0.0
     (λ h none texts are all.
     texts-no-more c.args.log.now (reading (g.D.Device.state c.args.device.now).disk) (g.W.Write.contents c.args.out.now) (g.W.Write.contents c.loop-k.out)

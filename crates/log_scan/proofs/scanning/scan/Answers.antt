@@ -1,7 +1,7 @@
 use Rattle.std.proofs.Common.{[], refl, subst, ◌∙◌, arith, inr}
 use Rattle.journal_model.specs.Disk.{reading}
 use Rattle.log_scan.specs.Finding.{limit_of}
-use Rattle.log_scan.proofs.ScanSteps.{HasLed, farther, goes-on, led-damage, led-end, led-there, no-failure, no-memory, passed-none, stays-joins}
+use Rattle.log_scan.proofs.ScanSteps.{HasLed, farther, goes-on, led-damage, led-end, led-there, passed-none, stays-joins}
 use Rattle.log_scan.proofs.scanning.scan.Goals as goal
 
 -- nothing is read yet
@@ -49,8 +49,7 @@ returns-in-Malformed-clause-refused g c =
     let before = c.loop.invariant in
     let stayed = rw c.in-Malformed.is at c.in_ok-advance.ensures.behind in
     inr (
-      no-failure c.place.result,
-      no-memory c.place.result,
+      record { place = c.place.result; from = c.place.ensures.ring; below = c.place.ensures.there; refusal = refl },
       c.in_ok-advance.ensures.faults ∙ before.faults,
       λ h. led-damage c.args.log.now (limit_of c.args.log.now c.args.home_blocks) (reading (g.D.Device.state c.args.device.now).disk) c.advance.new.finder c.loop.cursor c.advance.new.self
           _ c.place.result refl (rw stayed at c.place.ensures.place)

@@ -1,4 +1,4 @@
-use Rattle.std.proofs.Common.{◌≡◌, ◌∙◌, List}
+use Rattle.std.proofs.Common.{◌≡◌, ◌∙◌, ℕ, List, sym, subst}
 use Rattle.std.specs.Prelude.{length}
 use Rattle.std.proofs.lemmas.Result.{err_from_is_err_and}
 use Rattle.journal_model.specs.declared.log.Text.{Text}
@@ -7,17 +7,17 @@ use Rattle.journal_model.specs.Superblock.{Shape}
 use Rattle.block_device.specs.State.{DeviceState}
 use Rattle.log_scan.specs.Scanning.{AreTextsOf}
 use Rattle.recovery.specs.Gather.{tables_of}
-use Rattle.recovery.specs.Opening.{IsTested}
-use Rattle.recovery.proofs.Examining.{examined-on, gather-refused, on-stays, reading-refused, stays-joined, test-refused}
+use Rattle.recovery.specs.Opening.{IsTested, IsWellRead}
+use Rattle.recovery.proofs.Examining.{examined-on, gather-refused, memory-refused, on-stays, reading-refused, stays-joined, test-refused, tested-sound}
 use Rattle.recovery.proofs.examine.examine.Goals as goal
 
 -- block 0 is refused, or could not be read
-pub returns-in_err-superblock-clause-refused : goal.returns-in_err-superblock-clause-refused
-returns-in_err-superblock-clause-refused g c =
+pub returns-in_err-block-clause-refused : goal.returns-in_err-block-clause-refused
+returns-in_err-block-clause-refused g c =
     let p = err_from_is_err_and c.from_residual.result c.from_residual.ensures.1 in
     rw (p.1, p.2)
     (reading-refused (g.D.Device.honest c.read_super.new.device) (g.D.Device.state c.args.device.now) (g.D.Device.state c.read_super.new.device)
-    c.in_err-superblock.field-0.0 c.read_super.ensures.stays c.in_err-superblock.ensures.faults)
+    c.in_err-block.field-0.0 c.read_super.ensures.stays c.in_err-block.ensures.faults)
 
 -- what stands in the ring is refused
 pub returns-in_err-transactions-clause-refused : goal.returns-in_err-transactions-clause-refused
@@ -25,25 +25,49 @@ returns-in_err-transactions-clause-refused g c =
     let p = err_from_is_err_and c.from_residual-in_err-transactions.result c.from_residual-in_err-transactions.ensures.1 in
     rw (p.1, p.2)
     (test-refused (g.D.Device.honest c.test_log.new.device) (g.D.Device.state c.args.device.now) (g.D.Device.state c.read_super.new.device)
-    (g.D.Device.state c.test_log.new.device) c.in_ok-superblock.superblock.items c.in_ok-superblock.log c.in_err-transactions.field-0.0
-    c.in_ok-superblock.ensures.well (λ h. c.in_ok-superblock.ensures.read (c.test_log.ensures.honest h)) c.read_super.ensures.stays
-    c.test_log.ensures.stays c.in_ok-superblock.ensures.faults c.in_err-transactions.ensures.refused)
+    (g.D.Device.state c.test_log.new.device) c.in_ok-block.block c.in_ok-block.log c.in_err-transactions.field-0.0
+    c.in_ok-block.ensures.well (λ h. c.in_ok-block.ensures.read (c.test_log.ensures.honest h)) c.read_super.ensures.stays
+    c.test_log.ensures.stays c.in_ok-block.ensures.faults c.in_err-transactions.ensures.refused)
+
+-- nothing is, and memory ran out
+pub returns-in_err-superblock-clause-refused : goal.returns-in_err-superblock-clause-refused
+returns-in_err-superblock-clause-refused g c =
+    let p = err_from_is_err_and c.from_residual-in_err-superblock.result c.from_residual-in_err-superblock.ensures.1 in
+    let s : DeviceState = g.D.Device.state c.args.device.now in
+    let t : DeviceState = g.D.Device.state c.read_super.new.device in
+    let u : DeviceState = g.D.Device.state c.test_log.new.device in
+    rw p.1
+    (memory-refused (g.D.Device.honest c.test_log.new.device) s u _ (stays-joined s t u c.read_super.ensures.stays c.test_log.ensures.stays)
+    (c.in_ok-transactions.ensures.faults ∙ c.in_ok-block.ensures.faults) p.2
+    (λ trust small. tested-sound (g.D.Device.honest c.test_log.new.device) s t c.in_ok-block.block c.in_ok-block.log c.in_ok-transactions.transactions
+    c.in_ok-block.ensures.well (λ h. c.in_ok-block.ensures.read (c.test_log.ensures.honest h)) c.read_super.ensures.stays
+    c.in_ok-transactions.ensures.tested c.in_ok-transactions.ensures.number trust))
 
 -- what was tested could not be gathered
 pub returns-in_err-tables-clause-refused : goal.returns-in_err-tables-clause-refused
 returns-in_err-tables-clause-refused g c =
     let p = err_from_is_err_and c.from_residual-in_err-tables.result c.from_residual-in_err-tables.ensures.1 in
+    let s : DeviceState = g.D.Device.state c.args.device.now in
+    let t : DeviceState = g.D.Device.state c.read_super.new.device in
     rw (p.1, p.2)
-    (gather-refused (g.D.Device.honest c.gather.new.device) (g.D.Device.state c.args.device.now) (g.D.Device.state c.read_super.new.device)
-    (g.D.Device.state c.test_log.new.device) (g.D.Device.state c.gather.new.device) c.in_ok-superblock.log c.in_ok-transactions.transactions
-    c.in_err-tables.field-0.0 c.read_super.ensures.stays c.test_log.ensures.stays c.gather.ensures.stays
-    (c.in_ok-transactions.ensures.faults ∙ c.in_ok-superblock.ensures.faults) (λ h. c.in_ok-transactions.ensures.tested (c.gather.ensures.honest h))
+    (gather-refused (g.D.Device.honest c.gather.new.device) s t
+    (g.D.Device.state c.test_log.new.device) (g.D.Device.state c.gather.new.device) c.in_ok-block.block c.in_ok-block.log c.in_ok-transactions.transactions
+    c.in_err-tables.field-0.0 c.in_ok-block.ensures.well c.read_super.ensures.stays c.test_log.ensures.stays c.gather.ensures.stays
+    (c.in_ok-transactions.ensures.faults ∙ c.in_ok-block.ensures.faults) (λ h. c.in_ok-transactions.ensures.tested (c.gather.ensures.honest h))
+    (tested-sound (g.D.Device.honest c.gather.new.device) s t c.in_ok-block.block c.in_ok-block.log c.in_ok-transactions.transactions
+    c.in_ok-block.ensures.well (λ h. c.in_ok-block.ensures.read (c.test_log.ensures.honest (c.gather.ensures.honest h))) c.read_super.ensures.stays
+    (λ h. c.in_ok-transactions.ensures.tested (c.gather.ensures.honest h)) c.in_ok-transactions.ensures.number)
     c.in_err-tables.ensures.refused)
 
 -- nothing is
 pub returns-clause-examined : goal.returns-clause-examined
 returns-clause-examined g c =
-    record { well = c.in_ok-superblock.ensures.well; number = c.in_ok-transactions.ensures.number; clean = c.in_ok-transactions.ensures.clean }
+    let copied = c.in_ok-superblock.ensures.items_if_clones_equal (λ x y same. same) ∙ c.bytes.ensures in
+    record {
+      well = subst (λ (b : List ℕ). IsWellRead (g.D.Device.state c.args.device.now).shape b c.in_ok-block.log) (sym copied) c.in_ok-block.ensures.well;
+      number = c.in_ok-transactions.ensures.number;
+      clean = c.in_ok-transactions.ensures.clean;
+    }
 
 -- and what was read stands on the disk
 pub returns-clause-on : goal.returns-clause-on
@@ -52,10 +76,12 @@ returns-clause-on g c = λ honest.
     let t : DeviceState = g.D.Device.state c.read_super.new.device in
     let u : DeviceState = g.D.Device.state c.test_log.new.device in
     let tested = c.gather.ensures.honest honest in
-    examined-on s.shape s.disk c.in_ok-superblock.superblock.items c.in_ok-superblock.log c.in_ok-transactions.transactions c.in_ok-tables.tables
-    c.in_ok-superblock.ensures.well (c.in_ok-superblock.ensures.read (c.test_log.ensures.honest tested))
-    (on-stays (λ (m : Shape) (d : Disk). IsTested c.in_ok-superblock.log m.home_blocks (reading d) c.in_ok-transactions.transactions) s t
+    let copied = c.in_ok-superblock.ensures.items_if_clones_equal (λ x y same. same) ∙ c.bytes.ensures in
+    examined-on s.shape s.disk c.in_ok-superblock.superblock.items c.in_ok-block.log c.in_ok-transactions.transactions c.in_ok-tables.tables
+    (subst (λ (b : List ℕ). IsWellRead s.shape b c.in_ok-block.log) (sym copied) c.in_ok-block.ensures.well)
+    (copied ∙ c.in_ok-block.ensures.read (c.test_log.ensures.honest tested))
+    (on-stays (λ (m : Shape) (d : Disk). IsTested c.in_ok-block.log m.home_blocks (reading d) c.in_ok-transactions.transactions) s t
     c.read_super.ensures.stays (c.in_ok-transactions.ensures.tested tested))
     c.in_ok-transactions.ensures.number
-    (on-stays (λ (m : Shape) (d : Disk). (texts : List Text) → AreTextsOf c.in_ok-superblock.log m.home_blocks (reading d) texts → c.in_ok-transactions.transactions ≡ length texts → c.in_ok-tables.tables ≡ tables_of c.in_ok-superblock.log.s_sequence texts) s u
+    (on-stays (λ (m : Shape) (d : Disk). (texts : List Text) → AreTextsOf c.in_ok-block.log m.home_blocks (reading d) texts → c.in_ok-transactions.transactions ≡ length texts → c.in_ok-tables.tables ≡ tables_of c.in_ok-block.log.s_sequence texts) s u
     (stays-joined s t u c.read_super.ensures.stays c.test_log.ensures.stays) (c.in_ok-tables.ensures.tables honest))

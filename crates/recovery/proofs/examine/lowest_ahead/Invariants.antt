@@ -1,4 +1,4 @@
-use Rattle.std.proofs.Common.{◌≡◌, ℕ, ◌<◌, length}
+use Rattle.std.proofs.Common.{◌≡◌, ℕ, ◌<◌}
 use Rattle.journal_model.specs.Chain.{IsAhead}
 use Rattle.journal_model.specs.Disk.{reading}
 use Rattle.journal_model.specs.Opening.{ring_of}

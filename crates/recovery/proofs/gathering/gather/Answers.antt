@@ -8,7 +8,7 @@ use Rattle.block_device.specs.State.{DeviceState}
 use Rattle.log_scan.specs.declared.cursor.Cursor.{Cursor}
 use Rattle.log_scan.specs.Passing.{LeadsTo}
 use Rattle.log_scan.specs.Scanning.{AreTextsOf}
-use Rattle.log_scan.proofs.ScanSteps.{no-failure, no-memory, stays-joins}
+use Rattle.log_scan.proofs.ScanSteps.{stays-joins}
 use Rattle.recovery.specs.Gather.{TablesValue, with_copies, with_revokes}
 use Rattle.recovery.proofs.GatherRuns.{Gathers, gathers-all, gathers-commit, gathers-copies, gathers-none, gathers-revokes, led-nowhere, led-on}
 use Rattle.recovery.proofs.gathering.gather.Goals as goal
@@ -121,8 +121,7 @@ returns-in-Malformed-clause-refused g c =
     let old : DeviceState = g.D.Device.state c.args.device.now in
     let before = c.loop-cursor.invariant in
     inr (
-      no-failure c.place.result,
-      no-memory c.place.result,
+      record { place = c.place.result; from = c.place.ensures.ring; below = c.place.ensures.there; refusal = refl },
       c.in_ok-count.ensures.faults ∙ before.faults,
       (let below = c.loop-cursor-test.true in omega arith),
       λ h texts are all.

@@ -1,3 +1,5 @@
+use Rattle.std.proofs.Common.{sym, ◌∙◌}
+use Rattle.recovery.proofs.Examining.{no-log-refused}
 use Rattle.recovery.proofs.OpeningDone.{broken-moments, done-log, done-moments, done-opening}
 use Rattle.recovery.proofs.opening.open.Goals as goal
 
@@ -9,6 +11,11 @@ invariant_of-result g c = (
       done-log (g.D.Device.state c.args.device) (g.D.Device.state c.recover.new.device) c.in-Ok.superblock.items c.in-Ok.next
       (c.in-Ok.ensures.done honest),
 )
+
+-- a log area without a block is refused
+pub returns-then-blocks-eq0-clause-refused : goal.returns-then-blocks-eq0-clause-refused
+returns-then-blocks-eq0-clause-refused g c =
+    no-log-refused (g.D.Device.honest c.args.device) (g.D.Device.state c.args.device) (sym c.blocks-2.ensures ∙ c.if-blocks-eq0.true)
 
 -- it is a whole opening
 pub returns-in-Ok-clause-opened : goal.returns-in-Ok-clause-opened

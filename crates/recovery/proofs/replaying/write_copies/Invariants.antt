@@ -1,4 +1,4 @@
-use Rattle.std.proofs.Common.{◌≡◌, List, ℕ, take, length}
+use Rattle.std.proofs.Common.{◌≡◌, List, ℕ, take}
 use Rattle.journal_model.specs.Disk.{reading}
 use Rattle.log_scan.specs.Passing.{StandAt}
 use Rattle.recovery.specs.Calls.{HasMade, writes_home}

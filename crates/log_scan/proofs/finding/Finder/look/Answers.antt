@@ -1,15 +1,14 @@
 use Rattle.std.specs.Prelude.{unwrap_or}
-use Rattle.std.proofs.Common.{◌≡◌, refl, ℕ, ◌-◌, List, ◌++◌, take, drop, length, ap, sym, ◌∙◌, arith, subst}
+use Rattle.std.proofs.Common.{◌≡◌, refl, ℕ, ◌-◌, ap, ◌∙◌, arith}
 use Rattle.journal_model.specs.declared.number.Area.TheVariants.{Log}
 use Rattle.journal_model.specs.Layout.{every_number}
 use Rattle.journal_model.specs.Superblock.{Super}
 use Rattle.journal_model.specs.Disk.{reading}
-use Rattle.journal_model.specs.Opening.{layout_of, ring_of}
+use Rattle.journal_model.specs.Opening.{layout_of}
 use Rattle.log_scan.specs.Finding.{FinderValue, Says, limit_of}
 use Rattle.log_scan.proofs.Fronts.{found-none}
 use Rattle.log_scan.proofs.Laps.{from-end}
-use Rattle.journal_model.proofs.Buffers.{as-long, whole-buffer}
-use Rattle.log_scan.proofs.Looking.{HasRoom, fits-says, found-at, says-same}
+use Rattle.log_scan.proofs.Looking.{found-at, says-same}
 use Rattle.log_scan.proofs.finding.Finder.look.Goals as goal
 
 -- the ring ends
@@ -22,44 +21,11 @@ returns-then-position-blocks-clause-found g c = λ honest.
 pub returns-clause-found : goal.returns-clause-found
 returns-clause-found g c = λ honest.
     let s : Super = c.args.log.now in
-    let block : List ℕ = c.read.new.into in
-    let into : take c.self.inside.block.len (c.read.new.into ++ drop (length c.read.new.into) c.self.inside.block.items) ≡ block =
-    whole-buffer c.self.inside.block.len block _ (let new = c.read.auto.into in let old = c.deref_mut.ensures.len in omega arith) in
     let layout : c.self.inside.layout ≡ layout_of s = ap (λ (f : FinderValue). f.layout) c.self.view_is ∙ c.requires.layout in
     let limit : c.unwrap_or-limit.result ≡ limit_of s c.args.home_blocks =
     c.unwrap_or-limit.ensures ∙ ap (unwrap_or c.args.home_blocks) (c.every_number.ensures ∙ ap every_number layout) in
-    let says : Says (layout_of s) (limit_of s c.args.home_blocks) c.args.sequence (c.blocks-3.result - c.args.position - 1) block c.parse.new.self c.parse.result =
-    says-same c.args.sequence (c.blocks-3.result - c.args.position - 1) c.parse.new.self c.parse.result layout limit into c.parse.ensures.says in
-    found-at s (limit_of c.args.log.now c.args.home_blocks) (reading (g.D.Device.state c.args.device.now).disk) c.args.sequence c.args.position (c.blocks-3.result - c.args.position - 1) block c.parse.new.self c.parse.result
+    let says : Says (layout_of s) (limit_of s c.args.home_blocks) c.args.sequence (c.blocks-3.result - c.args.position - 1) c.read.new.self c.parse.new.self c.parse.result =
+    says-same c.args.sequence (c.blocks-3.result - c.args.position - 1) c.parse.new.self c.parse.result layout limit refl c.parse.ensures.says in
+    found-at s (limit_of c.args.log.now c.args.home_blocks) (reading (g.D.Device.state c.args.device.now).disk) c.args.sequence c.args.position (c.blocks-3.result - c.args.position - 1) c.read.new.self c.parse.new.self c.parse.result
     (omega arith) (omega arith)
-    (c.in_ok-read.ensures.bytes honest ∙ ap (λ (place : ℕ). ((g.D.Device.state c.args.device.now).disk Log place).reads) c.place.ensures.place) says
-
--- what was read fits
-pub returns-clause-fits : goal.returns-clause-fits
-returns-clause-fits g c =
-    let s : Super = c.args.log.now in
-    let block : List ℕ = take c.self.inside.block.len (c.read.new.into ++ drop (length c.read.new.into) c.self.inside.block.items) in
-    let layout : c.self.inside.layout ≡ layout_of s = ap (λ (f : FinderValue). f.layout) c.self.view_is ∙ c.requires.layout in
-    let limit : c.unwrap_or-limit.result ≡ limit_of s c.args.home_blocks =
-    c.unwrap_or-limit.ensures ∙ ap (unwrap_or c.args.home_blocks) (c.every_number.ensures ∙ ap every_number layout) in
-    fits-says (layout_of s) (limit_of s c.args.home_blocks) c.args.sequence (c.blocks-3.result - c.args.position - 1) (ring_of s).blocks c.args.position block
-    c.parse.new.self c.parse.result (omega arith) (omega arith) (says-same c.args.sequence (c.blocks-3.result - c.args.position - 1) c.parse.new.self c.parse.result layout limit refl c.parse.ensures.says)
-
--- the buffer is as long as before, so the finder has room for as much
-pub invariant_of-self : goal.invariant_of-self
-invariant_of-self g c =
-    let new = c.read.auto.into in
-    let old = c.deref_mut.ensures.len in
-    let own = ap length c.deref_mut.ensures.value in
-    subst (λ (n : ℕ). HasRoom c.self.inside.layout n (length c.self.inside.tags.items) (length c.self.inside.numbers.items))
-    (sym (as-long c.self.inside.block.len (length c.self.inside.block.items) c.read.new.into (drop (length c.read.new.into) c.self.inside.block.items) (omega arith) (omega arith)))
-    c.self.invariant
-
-pub invariant_of-self-2 : goal.invariant_of-self-2
-invariant_of-self-2 g c =
-    let new = c.read.auto.into in
-    let old = c.deref_mut.ensures.len in
-    let own = ap length c.deref_mut.ensures.value in
-    subst (λ (n : ℕ). HasRoom c.self.inside.layout n (length c.self.inside.tags.items) (length c.self.inside.numbers.items))
-    (sym (as-long c.self.inside.block.len (length c.self.inside.block.items) c.read.new.into (drop (length c.read.new.into) c.self.inside.block.items) (omega arith) (omega arith)))
-    c.self.invariant
+    (c.in_ok-read.ensures.bytes honest ∙ ap (λ (place : ℕ). reading (g.D.Device.state c.args.device.now).disk Log place) c.place.ensures.place) says

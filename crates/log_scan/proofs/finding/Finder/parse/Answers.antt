@@ -1,4 +1,4 @@
-use Rattle.std.proofs.Common.{◌≡◌, ℕ, ap, ◌∙◌, sym, subst, length}
+use Rattle.std.proofs.Common.{◌≡◌, ℕ, ap, ◌∙◌, sym, subst}
 use Rattle.journal_model.specs.Layout.{sequence_in}
 use Rattle.log_scan.specs.Finding.{FinderValue, Says}
 use Rattle.log_scan.proofs.finding.Finder.parse.Goals as goal
@@ -6,7 +6,7 @@ use Rattle.log_scan.proofs.finding.Finder.parse.Goals as goal
 -- a revoke block of this number
 pub returns-in-5-clause-says : goal.returns-in-5-clause-says
 returns-in-5-clause-says c =
-    let same : c.deref.result.now ≡ c.args.self.now.block = c.deref.ensures.value ∙ ap (λ (f : FinderValue). f.block) c.self.view_is in
+    let same : c.bytes.result.now ≡ c.args.self.now.block = c.bytes.ensures ∙ ap (λ (f : FinderValue). f.block) c.self.view_is in
     let number : sequence_in c.args.self.now.block ≡ c.args.sequence =
     ap sequence_in (sym same) ∙ sym c.in-Some.ensures.2 ∙ sym c.from.ensures ∙ c.if-from-sequence.false in
     subst (λ (n : ℕ). Says c.args.self.now.layout c.args.limit n c.args.behind c.args.self.now.block c.parse_revokes.new.self c.parse_revokes.result) number

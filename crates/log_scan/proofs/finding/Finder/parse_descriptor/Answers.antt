@@ -1,31 +1,30 @@
-use Rattle.std.proofs.Common.{◌≡◌, ◌++◌, take, refl, List, ℕ, ap, sym, ◌∙◌, subst, arith, inl, length, drop}
+use Rattle.std.proofs.Common.{◌≡◌, refl, List, ℕ, ap, sym, ◌∙◌, subst, arith, inl}
 use Rattle.journal_model.specs.declared.log.Tag.{Tag}
 use Rattle.journal_model.specs.Layout.{HasHeader, descriptor_type, sequence_in}
 use Rattle.log_scan.specs.declared.finding.Found.{Found}
 use Rattle.log_scan.specs.declared.finding.Found.TheVariants.{Descriptor, Malformed, Nothing}
 use Rattle.log_scan.specs.Finding.{FinderValue, Says}
 use Rattle.log_scan.proofs.Fronts.{other-many}
-use Rattle.journal_model.proofs.Buffers.{as-long, whole-buffer}
-use Rattle.log_scan.proofs.Looking.{HasRoom, says-same}
+use Rattle.log_scan.proofs.Looking.{says-same}
 use Rattle.std.proofs.lemmas.List.{length-take-le}
 use Rattle.log_scan.proofs.finding.Finder.parse_descriptor.Goals as goal
 use Rattle.log_scan.proofs.finding.Finder.parse_descriptor.Goals.{Joined-read, in-Ok, in-Ok-2, in-Err}
 
 -- the block that was read
-same : (c : Joined-read) → c.deref.result.now ≡ c.args.self.now.block
-same c = c.deref.ensures.value ∙ ap (λ (f : FinderValue). f.block) c.self.view_is
+same : (c : Joined-read) → c.bytes.result.now ≡ c.args.self.now.block
+same c = c.bytes.ensures ∙ ap (λ (f : FinderValue). f.block) c.self.view_is
 
 -- what a block that was read says, the block says
 says : (c : Joined-read) → Found → List Tag → List ℕ → Type 0
 says c found tags x =
-    let f : FinderValue = record { layout = c.self.inside.layout; block = c.self.inside.block.items; tags = tags; numbers = c.self.inside.numbers.items } in
+    let f : FinderValue = record { layout = c.self.inside.layout; block = c.self.inside.block; tags = tags; numbers = c.self.inside.numbers } in
     Says c.self.inside.layout c.args.limit (sequence_in x) c.args.behind x f found
 
 -- its tags, or that it has none
 tags-said : (c : Joined-read) → says c c.match-read.result c.read.new.tags c.args.self.now.block
 unfolding says
 tags-said c =
-    let b : List ℕ = c.deref.result.now in
+    let b : List ℕ = c.bytes.result.now in
     let ts : List Tag = c.read.new.tags in
     let header : HasHeader descriptor_type (sequence_in b) b = subst (λ (x : List ℕ). HasHeader descriptor_type (sequence_in x) x) (sym (same c)) c.requires in
     elim c.match-read.branch [
@@ -44,19 +43,6 @@ tags-said c =
 pub returns-clause-says : goal.returns-clause-says
 unfolding says
 returns-clause-says c =
-    let whole = whole-buffer c.self.inside.tags.len c.read.new.tags (drop (length c.read.new.tags) c.self.inside.tags.items)
-    (let new = c.read.auto.tags in let old = c.deref_mut.ensures.len in omega arith) in
-    let kept : List Tag = take c.self.inside.tags.len (c.read.new.tags ++ drop (length c.read.new.tags) c.self.inside.tags.items) in
-    let f : FinderValue = record { layout = c.self.inside.layout; block = c.self.inside.block.items; tags = kept; numbers = c.self.inside.numbers.items } in
+    let f : FinderValue = record { layout = c.self.inside.layout; block = c.self.inside.block; tags = c.read.new.tags; numbers = c.self.inside.numbers } in
     says-same (sequence_in c.args.self.now.block) c.args.behind f c.match-read.result (ap (λ (f : FinderValue). f.layout) c.self.view_is) refl refl
-    (subst (λ (ts : List Tag). says c c.match-read.result ts c.args.self.now.block) (sym whole) (tags-said c))
-
--- there is room for as many tags as before
-pub invariant_of-self : goal.invariant_of-self
-invariant_of-self c =
-    let new = c.read.auto.tags in
-    let old = c.deref_mut.ensures.len in
-    let own = ap length c.deref_mut.ensures.value in
-    subst (λ (n : ℕ). HasRoom c.self.inside.layout (length c.self.inside.block.items) n (length c.self.inside.numbers.items))
-    (sym (as-long c.self.inside.tags.len (length c.self.inside.tags.items) c.read.new.tags (drop (length c.read.new.tags) c.self.inside.tags.items) (omega arith) (omega arith)))
-    c.self.invariant
+    (tags-said c)
