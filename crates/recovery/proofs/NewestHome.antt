@@ -1,16 +1,19 @@
 -- The copies of a chain that go home are the newest live ones, and a block of which none goes home has no live copy.
 use Rattle.std.proofs.Common.{refl, sym, ◌∙◌, ap, subst, arith, inl, inr, zero}
-use Rattle.std.specs.Prelude.{◌≡◌, ◌⊎◌, ℕ, suc, ◌<◌, ◌≤◌, false, List, [], ◌∷◌, map, Some, Contains, slice_get}
-use Rattle.std.specs.List.{list_any}
+use Rattle.std.specs.Prelude.{◌≡◌, ◌≢◌, ◌⊎◌, ℕ, suc, ◌<◌, ◌≤◌, Bool, true, false, if◌then◌else◌, List, [], ◌∷◌, map, Some, Contains, get_or, slice_get}
+use Rattle.std.specs.List.{AllPairs, list_any}
+use Rattle.std.proofs.lemmas.List.Elements.{All-contains_itself}
+use Rattle.std.proofs.lemmas.List.Kept.{AllPairs-cons}
 use Rattle.std.proofs.lemmas.Option.{none-some, same_Some}
 use Rattle.journal_model.proofs.ListElements.{contains-none}
+use Rattle.journal_model.proofs.Newest.{newest-same}
 use Rattle.journal_model.specs.declared.log.Text.{Text}
 use Rattle.journal_model.specs.Replay.{HasNoLive, IsCovered, IsLive, IsNewest}
 use Rattle.journal_model.specs.Text.{text_copies, text_revokes}
-use Rattle.recovery.specs.HomeCopies.{chain_changes, home_copies, is_of, last_copies, text_changes}
+use Rattle.recovery.specs.HomeCopies.{Change, chain_changes, home_copies, is_of, last_copies, text_changes}
 use Rattle.recovery.specs.HomeCopies.Change.{Copied, Revoked}
 use Rattle.recovery.proofs.ChainChanges.{chain-has, changes-copied, changes-revoked, covered-more, covered-tail, revoked-covered}
-use Rattle.recovery.proofs.LastCopies.{IsLastAt, changed-last, contains-at, copied, copied-last, has-copied, last-append, last-split, mapped-has, none-copied, none-revoked, revoked-none}
+use Rattle.recovery.proofs.LastCopies.{IsLastAt, changed-last, contains-at, copied, copied-last, has-copied, last-among, last-append, last-split, mapped-has, none-copied, none-revoked, revoked-none}
 
 -- a copy of a text is one of its chain's changes
 copy-changes : (texts : List Text) (j m b : ℕ) (v : List ℕ) (text : Text) → slice_get texts j ≡ Some text → slice_get (text_copies text) m ≡ Some (b, v) →
@@ -114,3 +117,32 @@ live-home (t ∷ ts) b (suc i) k v live =
 -- so a block of which none goes home has no live copy
 pub home-copies-all : (texts : List Text) (b : ℕ) → ((v : List ℕ) → Contains (home_copies texts) (b, v) → ⊥) → HasNoLive texts b
 home-copies-all texts b none i k v live = let home = live-home texts b i k v live in none home.0 home.1
+
+-- the newest live copy of a block goes home
+pub newest-home : (texts : List Text) (b : ℕ) (v : List ℕ) → IsNewest texts b v → Contains (home_copies texts) (b, v)
+newest-home texts b v newest =
+    let home = live-home texts b newest.i newest.k v newest.live in
+    let same : home.0 ≡ v = newest-same texts b home.0 v (home-copies-newest texts b home.0 home.1) newest in
+    subst (λ (w : List ℕ). Contains (home_copies texts) (b, w)) same home.1
+
+-- the last copies among changes are of different blocks
+last-once : (changes : List Change) → AllPairs (λ x y. x.0 ≢ y.0) (last_copies changes)
+last-once [] = λ i j d less below. absurd (omega arith)
+last-once (Copied b v ∷ changes) = by (list_any (is_of b) changes) refl (last-once changes)
+  where
+    by : (any : Bool) → list_any (is_of b) changes ≡ any → AllPairs (λ x y. x.0 ≢ y.0) (last_copies changes) →
+        AllPairs (λ x y. x.0 ≢ y.0) (if any then last_copies changes else (b, v) ∷ last_copies changes)
+    by true is rest = rest
+    by false is rest =
+        AllPairs-cons (λ (x y : ℕ × List ℕ). x.0 ≢ y.0) (b, v) (last_copies changes)
+        (λ k d below same.
+        none-copied b (get_or (last_copies changes) k d).1 changes is
+        (subst (λ (n : ℕ). Contains changes (Copied n (get_or (last_copies changes) k d).1)) (sym same)
+        (last-among changes (get_or (last_copies changes) k d).0 (get_or (last_copies changes) k d).1
+        (All-contains_itself (last_copies changes) k d below))))
+        rest
+last-once (Revoked b ∷ changes) = last-once changes
+
+-- so are those of a chain that go home
+pub home-once : (texts : List Text) → AllPairs (λ x y. x.0 ≢ y.0) (home_copies texts)
+home-once texts = last-once (chain_changes texts)
