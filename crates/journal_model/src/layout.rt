@@ -25,6 +25,12 @@ pub const REVOKE_HEADER_BYTES: usize = 16;
 /// Bytes of a UUID.
 pub const UUID_BYTES: usize = 16;
 
+/// Bytes of a block number in a log without 64-bit numbers, the fewest that one has.
+pub const NUMBER_BYTES: usize = 4;
+
+/// Bytes of a tag in such a log, without the UUID that may follow it.
+pub const TAG_BYTES: usize = 8;
+
 /// The fewest blocks of a log, with the superblock. The limits of a length are this project's own.
 pub const LEAST_LENGTH: u32 = 17;
 
