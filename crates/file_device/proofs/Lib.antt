@@ -1,3 +1,4 @@
 -- The lemmas of this crate.
 pub mod FileBlocks
+pub mod KeptAhead
 pub mod Walks

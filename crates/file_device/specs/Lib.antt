@@ -1,3 +1,4 @@
+pub mod Ahead
 pub mod Calls
 pub mod Notes
 pub mod Files

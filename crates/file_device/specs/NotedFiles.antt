@@ -1,5 +1,5 @@
 -- The files of a device, and what was asked of them.
-use Rattle.std.specs.Prelude.{List, ◌∷◌, Option, Some}
+use Rattle.std.specs.Prelude.{List, ◌∷◌, ◌++◌, Option, Some}
 use Rattle.std.specs.declared.fs.File.{File}
 use Rattle.journal_model.specs.declared.number.Area.{Area}
 use Rattle.journal_model.specs.declared.number.Area.TheVariants.{Log, Home}
@@ -14,6 +14,10 @@ calls_of files = files.history.calls
 abbrev pub file_of : NotedFiles → Area → Option File
 file_of files Log = Some files.log
 file_of files Home = files.home
+
+-- the same files after more calls
+abbrev pub with_calls : NotedFiles → List FileCall → NotedFiles
+with_calls files calls = record files { history = record { calls = calls ++ files.history.calls } }
 
 -- the same files after one more call
 abbrev pub with_call : NotedFiles → FileCall → NotedFiles

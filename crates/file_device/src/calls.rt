@@ -1,7 +1,7 @@
 //! The calls that a device makes on its files. Each function here makes one call of `std::fs::File` on the file of an
 //! area, and notes it with its answer just as that was. No proof sees what such a call does or gives, so these functions
 //! have to be read.
-ghost use Rattle.std.specs.Prelude.{◌≡◌, [], option_map, IsNone, IfOk, IfErr, OnOk, OnErr};
+ghost use Rattle.std.specs.Prelude.{◌≡◌, ◌+◌, ◌/◌, ◌<◌, ◌^◌, length, [], option_map, IsNone, IfOk, IfErr, OnOk, OnErr};
 ghost use Rattle.journal_model.specs.declared.number.Area.TheVariants.{Home};
 ghost use Rattle.file_device.specs.Calls.{Measured, Read, ReadFailed, Wrote, WriteFailed, Synced, SyncFailed};
 
@@ -21,7 +21,8 @@ pub(crate) struct NotedFiles {
 }
 
 impl NotedFiles {
-    ghost use Rattle.file_device.specs.NotedFiles.{file_of, with_call};
+    ghost use Rattle.file_device.specs.Ahead.{reads_of};
+    ghost use Rattle.file_device.specs.NotedFiles.{file_of, with_call, with_calls};
 
     pub(crate) fn new(log: File, home: Option<File>) -> NotedFiles
         ensures { result ≡ record { log = log; home = home; history = record { calls = [] } } }
@@ -82,6 +83,37 @@ impl NotedFiles {
             Ok(()) => self.history.then(&Note::Read(area, at, into)),
             Err(_) => self.history.then(&Note::ReadFailed(area, at)),
         };
+        answer
+    }
+
+    /// Fills a buffer with whole blocks of the file of an area, from byte `at` on. It is noted as a read of each of them.
+    pub(crate) fn read_blocks(
+        &mut self,
+        area: Area,
+        at: u64,
+        size: usize,
+        into: &mut [u8],
+    ) -> io::Result<()>
+        requires some { 0 < size }
+        requires small { at + length into.old < 2 ^ 64 }
+        ensures ok { OnOk result (self.new ≡ with_calls self.old (reads_of area at size into.new (length into.new / size))) }
+        ensures err { OnErr result (self.new ≡ with_call self.old (ReadFailed area at)) }
+        ensures size { length into.new ≡ length into.old }
+    {
+        let answer = match self.file(area) {
+            Some(file) => file.read_exact_at(into, at),
+            None => Err(io::ErrorKind::NotFound.into()),
+        };
+        if answer.is_err() {
+            self.history = self.history.then(&Note::ReadFailed(area, at));
+            return answer;
+        }
+        for k in 0..into.len() / size {
+            let block = &into[k * size..k * size + size];
+            self.history = self
+                .history
+                .then(&Note::Read(area, at + (k * size) as u64, block));
+        }
         answer
     }
 

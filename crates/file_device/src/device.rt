@@ -15,6 +15,7 @@ ghost use Rattle.std.specs.Prelude.{◌≡◌, ◌<◌, ◌*◌, ◌/◌, ◌↔
 ghost use Rattle.block_device.specs.State.{one_more_fault};
 ghost use Rattle.file_device.specs.Files.{FileContents};
 
+use crate::ahead::{Ahead, MOST_BYTES, copy_block};
 use crate::calls::NotedFiles;
 use crate::unmeasured::Unmeasured;
 use block_device::{Device, DeviceFault};
@@ -45,8 +46,11 @@ impl Contents for UnknownContents {
 ///
 /// Block `n` of an area is the bytes from `n` times the block size on in its file, and an area has the whole blocks of
 /// its file: what is left behind the last of them is never touched. The lengths are read once, when the device is
-/// made. The device holds no copy of what the files hold, and takes no memory. A flush makes its area's file durable
-/// (fdatasync); the home area of a log file alone has nothing to flush.
+/// made. The device takes no memory. A flush makes its area's file durable (fdatasync); the home area of a log file alone
+/// has nothing to flush.
+///
+/// A reader that asks for log blocks one behind the other is handed them from a buffer of 64 KiB, which one call of the
+/// system fills. A write to the log, and each flush, empties it.
 ///
 /// After a write or a flush that failed each further write and flush answers a fault and makes no call, since the
 /// system may have dropped what it was handed: open the files again to see what is there. A read that fails changes
@@ -60,6 +64,7 @@ pub struct FileDevice<C: Contents> {
     home_bytes: u64,
     has_failed: bool,
     faults: u64,
+    ahead: Ahead,
 }
 
 impl<C: Contents> Model for FileDevice<C> {
@@ -68,6 +73,7 @@ impl<C: Contents> Model for FileDevice<C> {
     ghost Value = { FileState };
 
     ghost use Rattle.file_device.specs.NotedFiles.{calls_of};
+    ghost use Rattle.file_device.specs.Ahead.{KeepsAhead};
     ghost use Rattle.file_device.specs.Files.{KeepsBlocks};
 
     ghost view = { λ d. record {
@@ -81,7 +87,7 @@ impl<C: Contents> Model for FileDevice<C> {
       faults = d.faults;
     } };
 
-    ghost invariant = { λ d. KeepsBlocks d.size (calls_of d.files) };
+    ghost invariant = { λ d. KeepsBlocks d.size (calls_of d.files) × KeepsAhead C.contents d.size (calls_of d.files) d.ahead };
 }
 
 /// Where block `n` of a file of so many bytes begins, for blocks of `size` bytes.
@@ -94,9 +100,11 @@ fn place_of(n: u64, size: usize, length: u64) -> u64
 }
 
 impl<C: Contents> FileDevice<C> {
-    ghost use Rattle.std.specs.Prelude.{◌≡◌, ◌<◌, IfErr, IfOk, IsNone, IsSome};
-    ghost use Rattle.journal_model.specs.declared.number.Area.TheVariants.{Home};
-    ghost use Rattle.file_device.specs.Files.{bytes_in, new_device};
+    ghost use Rattle.std.specs.Prelude.{◌≡◌, ◌<◌, length, IfErr, IfOk, IsNone, IsSome, IsTrue, OnErr, OnOk};
+    ghost use Rattle.block_device.specs.State.{blocks_in};
+    ghost use Rattle.journal_model.specs.declared.number.Area.TheVariants.{Home, Log};
+    ghost use Rattle.file_device.specs.Ahead.{HasRead, HasFailedRead};
+    ghost use Rattle.file_device.specs.Files.{HasAgreed, bytes_in, file_shape, file_state, new_device};
 
     /// A device with blocks of `block_size` bytes over these files. They are to be two regular files, each open for
     /// reading, and for writing where the device is to be written. What was done to their names and lengths is not synced
@@ -128,7 +136,77 @@ impl<C: Contents> FileDevice<C> {
             home_bytes,
             has_failed: false,
             faults: 0,
+            ahead: Ahead::new(),
         })
+    }
+
+    /// Hands out block `n` of the log, where it was read before it was asked for.
+    fn hand_out(&mut self, n: u64, into: &mut [u8]) -> bool
+        requires block { length into.old ≡ self.old.block_size }
+        ensures same { self.new ≡ self.old }
+        ensures bytes { IsTrue result → HasAgreed C.contents self.new → into.new ≡ ((file_state C.contents self.new).disk Log n).reads }
+    {
+        let Some(k) = self.ahead.place(n) else {
+            return false;
+        };
+        copy_block(&self.ahead.bytes, self.size, k, into);
+        self.ahead.next = n.saturating_add(1);
+        true
+    }
+
+    /// Reads as many blocks of the log at once as there is room for, from block `n` on.
+    fn read_ahead(&mut self, n: u64)
+        requires there { n < (file_shape self.old).log_blocks }
+        ensures { HasRead self.old self.new }
+    {
+        let size = self.size;
+        let length = self.length(Area::Log);
+        let room = (MOST_BYTES / size) as u64;
+        let count = room.min(length / size as u64 - n);
+        let at = place_of(n, size, length);
+        let FileDevice { files, ahead, .. } = self;
+        let span = &mut ahead.bytes[..count as usize * size];
+        ahead.count = match files.read_blocks(Area::Log, at, size, span) {
+            Ok(()) => count,
+            Err(_) => 0,
+        };
+        ahead.first = n;
+    }
+
+    /// Reads a block of the log. Where it is the one behind the last that was asked for, further ones are read with it.
+    fn read_log(&mut self, n: u64, into: &mut [u8]) -> Result<(), DeviceFault>
+        requires block { length into.old ≡ self.old.block_size }
+        requires there { n < (file_shape self.old).log_blocks }
+        ensures bytes { OnOk result (HasAgreed C.contents self.new → into.new ≡ ((file_state C.contents self.old).disk Log n).reads) }
+        ensures ok { OnOk result (HasRead self.old self.new) }
+        ensures err { OnErr result (HasFailedRead self.old self.new Log (n * self.old.block_size)) }
+    {
+        if self.hand_out(n, into) {
+            return Ok(());
+        }
+        if n == self.ahead.next {
+            self.read_ahead(n);
+            if self.hand_out(n, into) {
+                return Ok(());
+            }
+        }
+        self.ahead.next = n.saturating_add(1);
+        self.read_block(Area::Log, n, into)
+    }
+
+    /// Reads one block.
+    fn read_block(&mut self, area: Area, n: u64, into: &mut [u8]) -> Result<(), DeviceFault>
+        requires block { length into.old ≡ self.old.block_size }
+        requires there { n < blocks_in (file_state C.contents self.old).shape area }
+        ensures bytes { OnOk result (HasAgreed C.contents self.new → into.new ≡ ((file_state C.contents self.old).disk area n).reads) }
+        ensures ok { OnOk result (HasRead self.old self.new) }
+        ensures err { OnErr result (HasFailedRead self.old self.new area (n * self.old.block_size)) }
+    {
+        let at = place_of(n, self.size, self.length(area));
+        match self.files.read(area, at, into) {
+            Ok(()) => Ok(()),
+            Err(_) => Err(self.fault()),
+        }
     }
 
     /// How long the file of an area was.
@@ -173,7 +251,8 @@ impl<C: Contents> FileDevice<C> {
 impl<C: Contents> Device for FileDevice<C> {
     ghost use Rattle.std.specs.Prelude.{◌≡◌, ◌<◌, ◌*◌, ◌∷◌, length, IsErr, OnOk, OnErr};
     ghost use Rattle.journal_model.specs.Disk.{written, flushed};
-    ghost use Rattle.file_device.specs.Calls.{Read, ReadFailed, Wrote, WriteFailed, Synced, SyncFailed};
+    ghost use Rattle.file_device.specs.Ahead.{HasRead, HasFailedRead};
+    ghost use Rattle.file_device.specs.Calls.{Wrote, WriteFailed, Synced, SyncFailed};
     ghost use Rattle.file_device.specs.Files.{asked, failed_for_good, file_state, HasAgreed, IsRefused};
     ghost use Rattle.block_device.specs.State.{blocks_in, CountsFaults, Stays, Moves, Writes};
 
@@ -189,15 +268,13 @@ impl<C: Contents> Device for FileDevice<C> {
         ensures faults { CountsFaults result (file_state C.contents self.old) (file_state C.contents self.new) }
         ensures honest { HasAgreed C.contents self.new → HasAgreed C.contents self.old }
 
-        // The bytes are those that the file gave for the block's place. A read that fails leaves the device as usable.
-        ensures gave { OnOk result (self.new ≡ asked self.old (Read area (n * self.old.block_size) into.new)) }
-        ensures failed { OnErr result
-            (self.new ≡ record (asked self.old (ReadFailed area (n * self.old.block_size))) { faults = one_more_fault self.old.faults }) }
+        // The files were asked for bytes, or for none. A read that fails leaves the device as usable.
+        ensures gave { OnOk result (HasRead self.old self.new) }
+        ensures failed { OnErr result (HasFailedRead self.old self.new area (n * self.old.block_size)) }
     {
-        let at = place_of(n, self.size, self.length(area));
-        match self.files.read(area, at, into) {
-            Ok(()) => Ok(()),
-            Err(_) => Err(self.fault()),
+        match area {
+            Area::Log => self.read_log(n, into),
+            Area::Home => self.read_block(Area::Home, n, into),
         }
     }
 
@@ -217,6 +294,9 @@ impl<C: Contents> Device for FileDevice<C> {
         ensures refused { IsRefused result self.old self.new }
     {
         self.check_usable()?;
+        if let Area::Log = area {
+            self.ahead.count = 0;
+        }
         let at = place_of(n, self.size, self.length(area));
         match self.files.write(area, at, bytes) {
             Ok(()) => Ok(()),
@@ -236,6 +316,7 @@ impl<C: Contents> Device for FileDevice<C> {
         ensures refused { IsRefused result self.old self.new }
     {
         self.check_usable()?;
+        self.ahead.count = 0;
         if self.files.sync(area).is_err() {
             return Err(self.fail());
         }

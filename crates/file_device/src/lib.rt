@@ -5,6 +5,7 @@
 //! its flush is honest, and the other premises that `device` names.
 #![tactic(auto)]
 
+mod ahead;
 mod calls;
 mod device;
 mod history;

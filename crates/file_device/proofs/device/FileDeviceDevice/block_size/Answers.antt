@@ -9,4 +9,4 @@ pub returns-clause-whole : goal.returns-clause-whole
 returns-clause-whole g c =
     let d = c.self.inside in
     let Whole : FileState → Type 0 = λ s. HoldsWholeBlocks (file_state g.C.Contents.contents s) in
-    subst Whole c.self.view_is (λ a n v below one. whole_calls g.C.Contents.contents d.size (calls_of d.files) c.self.invariant.whole a n v one)
+    subst Whole c.self.view_is (λ a n v below one. whole_calls g.C.Contents.contents d.size (calls_of d.files) c.self.invariant.0.whole a n v one)

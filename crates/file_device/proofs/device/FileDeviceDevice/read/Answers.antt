@@ -1,9 +1,14 @@
-use Rattle.std.proofs.Common.{ap}
-use Rattle.file_device.specs.NotedFiles.{calls_of}
-use Rattle.file_device.proofs.FileBlocks.{agreed_read}
+use Rattle.file_device.proofs.KeptAhead.{answer-agreed, answer-stays}
 use Rattle.file_device.proofs.device.FileDeviceDevice.read.Goals as goal
 
-pub returns-in-Ok-clause-bytes : goal.returns-in-Ok-clause-bytes
-returns-in-Ok-clause-bytes g c agrees =
-    agreed_read g.C.Contents.contents (calls_of c.read.new.self) c.place_of-at.result c.args.n c.args.area c.read.new.into
-    c.self.view_is c.self.invariant.some c.place_of-at.ensures (ap calls_of c.in-Ok.ensures.ok) agrees
+pub returns-in-Log-clause-stays : goal.returns-in-Log-clause-stays
+returns-in-Log-clause-stays g c = answer-stays c.read_log.result g.C.Contents.contents _ _ _ _ c.read_log.ensures.ok c.read_log.ensures.err
+
+pub returns-in-Log-clause-honest : goal.returns-in-Log-clause-honest
+returns-in-Log-clause-honest g c = answer-agreed c.read_log.result g.C.Contents.contents _ _ _ _ c.read_log.ensures.ok c.read_log.ensures.err
+
+pub returns-in-Home-clause-stays : goal.returns-in-Home-clause-stays
+returns-in-Home-clause-stays g c = answer-stays c.read_block.result g.C.Contents.contents _ _ _ _ c.read_block.ensures.ok c.read_block.ensures.err
+
+pub returns-in-Home-clause-honest : goal.returns-in-Home-clause-honest
+returns-in-Home-clause-honest g c = answer-agreed c.read_block.result g.C.Contents.contents _ _ _ _ c.read_block.ensures.ok c.read_block.ensures.err

@@ -1,0 +1,47 @@
+-- Blocks of a log file that were read before they were asked for. This project's own.
+use Rattle.std.specs.Prelude.{◌≡◌, ℕ, zero, suc, ◌+◌, ◌*◌, ◌<◌, ◌≤◌, List, [], ◌∷◌, ◌++◌, length, take, drop, ⊤}
+use Rattle.std.specs.List.{AllByRecursion}
+use Rattle.journal_model.specs.declared.number.Area.{Area}
+use Rattle.journal_model.specs.declared.number.Area.TheVariants.{Log}
+use Rattle.block_device.specs.State.{one_more_fault}
+use Rattle.file_device.specs.declared.ahead.Ahead.{Ahead}
+use Rattle.file_device.specs.Calls.{FileCall, Measured, Read, ReadFailed, Wrote, WriteFailed, Synced, SyncFailed}
+use Rattle.file_device.specs.Files.{AgreesEach, FileContents, FileState, after_calls}
+
+-- block k of some bytes, for blocks of this size
+abbrev pub block_of : ℕ → List ℕ → ℕ → List ℕ
+block_of size bytes k = take size (drop (k * size) bytes)
+
+-- the first so many blocks of these bytes, which came from this place on, noted one by one
+abbrev pub reads_of : Area → ℕ → ℕ → List ℕ → ℕ → List FileCall
+reads_of area at size bytes zero = []
+reads_of area at size bytes (suc k) = Read area (at + k * size) (block_of size bytes k) ∷ reads_of area at size bytes k
+
+-- the call asked for bytes alone
+abbrev pub IsReading : FileCall → Type 0
+IsReading (Measured area length) = ⊥
+IsReading (Read area at bytes) = ⊤
+IsReading (ReadFailed area at) = ⊤
+IsReading (Wrote area at bytes) = ⊥
+IsReading (WriteFailed area at bytes) = ⊥
+IsReading (Synced area) = ⊥
+IsReading (SyncFailed area) = ⊥
+
+-- the device after calls that asked for bytes alone
+pub record HasRead (old new : FileState) : Type 0 where
+  pub calls : List FileCall
+  pub readings : AllByRecursion IsReading calls
+  pub after : new ≡ record old { calls = calls ++ old.calls }
+
+-- the device after a read that failed, the last of calls that asked for bytes alone
+pub record HasFailedRead (old new : FileState) (area : Area) (at : ℕ) : Type 0 where
+  pub before : FileState
+  pub asked_before : HasRead old before
+  pub after : new ≡ record before { calls = ReadFailed area at ∷ before.calls; faults = one_more_fault before.faults }
+
+-- the blocks that are kept are there, and each is what the log reads where each read so far gave what the disk had
+pub record KeepsAhead (contents : FileContents) (size : ℕ) (calls : List FileCall) (a : Ahead) : Type 0 where
+  pub room : length a.bytes ≡ 65536
+  pub fits : a.count * size ≤ 65536
+  pub reads : (k : ℕ) → k < a.count → AgreesEach contents size calls →
+      block_of size a.bytes k ≡ ((after_calls contents size calls).disk Log (a.first + k)).reads

@@ -1,0 +1,54 @@
+//! Blocks of a log file that were read before they were asked for.
+ghost use Rattle.std.specs.Prelude.{◌≡◌, ◌+◌, ◌*◌, ◌<◌, ◌≤◌, length, IfSome};
+ghost use Rattle.file_device.specs.Ahead.{block_of};
+
+/// How many bytes are read at once.
+pub(crate) const MOST_BYTES: usize = 65_536;
+
+/// Blocks of the log file, one behind the other. A reader that goes over a log block by block asks the system for many at
+/// once.
+#[derive(Drop)]
+pub(crate) struct Ahead {
+    pub(crate) bytes: [u8; MOST_BYTES],
+    /// The number of the first of them, and how many they are.
+    pub(crate) first: u64,
+    pub(crate) count: u64,
+    /// The block behind the one that was asked for last.
+    pub(crate) next: u64,
+}
+
+impl Ahead {
+    /// No block is kept.
+    pub(crate) fn new() -> Self
+        ensures { result.count ≡ 0 }
+    {
+        Ahead {
+            bytes: [0; MOST_BYTES],
+            first: 0,
+            count: 0,
+            next: 0,
+        }
+    }
+
+    /// The place among the blocks that are kept of this block of the log, if it is one of them.
+    pub(crate) fn place(&self, n: u64) -> Option<u64>
+        ensures { IfSome result (λ k. (k < self.now.count) × (self.now.first + k ≡ n)) }
+    {
+        let place = n.checked_sub(self.first)?;
+        if place < self.count {
+            Some(place)
+        } else {
+            None
+        }
+    }
+}
+
+/// Copies block `k` of some bytes.
+pub(crate) fn copy_block(bytes: &[u8], size: usize, k: u64, into: &mut [u8])
+    requires there { (k + 1) * size ≤ length bytes.now }
+    requires block { length into.old ≡ size }
+    ensures { into.new ≡ block_of size bytes.now k }
+{
+    let at = k as usize * size;
+    into.copy_from_slice(&bytes[at..at + size]);
+}
