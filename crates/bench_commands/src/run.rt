@@ -6,7 +6,7 @@ use std::alloc::Global;
 use std::io;
 use std::io::{BufWriter, Read, Write};
 
-/// Runs a script, and prints its lines, the dump of what the stop left, and the verdict on what an opening of it gives back.
+/// Runs a script, and prints its lines, the dump of what the stop left, and the verdict on what openings of it give back.
 /// Where it can't go on, one line on `err` says why.
 ///
 /// # Errors
@@ -48,7 +48,7 @@ fn run_script<W: Write + Drop>(
     out: W,
 ) -> Result<bool, Fault> {
     let mut out = BufWriter::new(alloc, out)?;
-    let verdict = bench_run::run(alloc, script, words.stop, &words.keep, &mut out)?;
+    let verdict = bench_run::run(alloc, script, &words.stops(), &mut out)?;
     out.flush()?;
     Ok(verdict)
 }

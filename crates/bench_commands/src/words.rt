@@ -4,6 +4,7 @@ ghost use Rattle.bench_script.specs.Measures.{AreLimited};
 ghost use Rattle.log_format.specs.Size.{IsBlockSize};
 
 use crate::fault::{self, Fault, Status};
+use bench_run::{Stop, Stops};
 use bench_script::{DEFAULTS, HOMES, LENGTHS, Measures, is_block_size, limited, uuid_of};
 use clap::error::ErrorKind;
 use clap::{Arg, ArgMatches, Command, Error};
@@ -37,8 +38,9 @@ const PROGRAM: Usage = Usage {
     name: "jbench",
     about: "Runs scripts of journal operations over a disk in memory that loses power and judges what is left; makes, prints and recovers logs",
     after_help: "\
-run SCRIPT [--stop K] [--keep LIST]: SCRIPT is a file, K a write number from 1 on (default: the device stops at the end), LIST
-write numbers with commas (default: none). jbench run --help says what a script is.
+run SCRIPT [--stop K] [--keep LIST] [--stop2 K] [--keep2 LIST]: SCRIPT is a file, K a write number from 1 on (default: the device
+stops at the end, and the opening does not stop), LIST write numbers with commas (default: none). jbench run --help says what a
+script is.
 format LOG HOME [--block B] [--length M] [--home N] [--uuid DIGITS]: two files become an empty log of M blocks (default: 33) and
 a home area of N zero blocks (default: 64), of B bytes each (default: 1024).
 dump LOG: prints the log in a file.
@@ -58,6 +60,9 @@ const RUN: Usage = Usage {
 The device is formatted and opened before the first operation; its writes are numbered from 1 after that. The image has of
 each block the greatest unflushed write that --keep names, else what was flushed last. A refused operation prints its
 refusal, and counts as done.
+
+With --stop2 the opening of the image is stopped at its own write K, counted from 1, and keeps of its unflushed writes those of
+--keep2. That is opened once more, and judged by what the image had. An opening that makes fewer writes is not stopped.
 
 A script is a JSON object with these keys, of which \"ops\" alone has to be there:
   \"block\"   bytes of a block: 1024, 2048 or 4096 [default: 1024]
@@ -98,6 +103,18 @@ Example: jbench run examples/one_write.json --stop 4 --keep 4",
             value: "LIST",
             is_option: true,
             help: "Unflushed writes that the image keeps: numbers with commas [default: none]",
+        },
+        Word {
+            name: "stop2",
+            value: "K",
+            is_option: true,
+            help: "Stop the opening of the image at its write K, at least 1 [default: it does not stop]",
+        },
+        Word {
+            name: "keep2",
+            value: "LIST",
+            is_option: true,
+            help: "Unflushed writes that the stop of --stop2 keeps: numbers with commas [default: none]",
         },
     ],
 };
@@ -240,10 +257,39 @@ pub struct FormatWords<'a> {
 pub struct RunWords<'a> {
     /// The script's file.
     pub script: &'a str,
-    /// The write at which the device stops, if it is to stop before the script's end.
-    pub stop: Option<u64>,
-    /// The unflushed writes that the image keeps.
+    /// The stop of the run.
+    pub run: StopWords,
+    /// The stop of the opening of what the run left.
+    pub opening: StopWords,
+}
+
+/// Where a device is to stop.
+#[derive(Debug, Drop)]
+pub struct StopWords {
+    /// The write at which it stops, if one is told.
+    pub at_write: Option<u64>,
+    /// The unflushed writes that are kept.
     pub keep: Vec<u64>,
+}
+
+impl StopWords {
+    /// What they tell.
+    fn stop(&self) -> Stop<'_> {
+        Stop {
+            at_write: self.at_write,
+            keep: &self.keep,
+        }
+    }
+}
+
+impl RunWords<'_> {
+    /// Where the run and the opening stop.
+    pub fn stops(&self) -> Stops<'_> {
+        Stops {
+            run: self.run.stop(),
+            opening: self.opening.stop(),
+        }
+    }
 }
 
 /// A value that may stand behind a command.
@@ -331,6 +377,10 @@ enum Wanted {
     WriteNumber,
     /// Write numbers with commas behind `--keep`.
     WriteNumbers,
+    /// A write number behind `--stop2`.
+    OpeningNumber,
+    /// Write numbers with commas behind `--keep2`.
+    OpeningNumbers,
     /// The bytes of a block behind `--block`.
     BlockSize,
     /// The blocks of a log behind `--length`.
@@ -357,6 +407,10 @@ fn line_of(wanted: Wanted) -> &'static str {
         Wanted::WriteNumber => "invalid value for '--stop <K>': a number from 1 on is wanted",
         Wanted::WriteNumbers => {
             "invalid value for '--keep <LIST>': write numbers with commas are wanted"
+        }
+        Wanted::OpeningNumber => "invalid value for '--stop2 <K>': a number from 1 on is wanted",
+        Wanted::OpeningNumbers => {
+            "invalid value for '--keep2 <LIST>': write numbers with commas are wanted"
         }
         Wanted::BlockSize => "invalid value for '--block <B>': 1024, 2048 or 4096 is wanted",
         Wanted::LogBlocks => "invalid value for '--length <M>': 17 to 1048576 is wanted",
@@ -396,17 +450,39 @@ fn number_of(
     }
 }
 
+/// The numbers of a list behind a word, none where the word is not there.
+fn numbers_of(
+    alloc: Global,
+    matches: &ArgMatches<'_>,
+    name: &str,
+    wanted: Wanted,
+) -> Result<Vec<u64>, Wanted> {
+    list_of(alloc, matches.get_str(name).unwrap_or(""))?.ok_or(wanted)
+}
+
+/// The stop of a run that `run` is told.
+fn run_stop(alloc: Global, matches: &ArgMatches<'_>) -> Result<StopWords, Wanted> {
+    Ok(StopWords {
+        at_write: number_of(matches, "stop", (1, u64::MAX), Wanted::WriteNumber)?,
+        keep: numbers_of(alloc, matches, "keep", Wanted::WriteNumbers)?,
+    })
+}
+
+/// The stop of an opening that `run` is told.
+fn opening_stop(alloc: Global, matches: &ArgMatches<'_>) -> Result<StopWords, Wanted> {
+    Ok(StopWords {
+        at_write: number_of(matches, "stop2", (1, u64::MAX), Wanted::OpeningNumber)?,
+        keep: numbers_of(alloc, matches, "keep2", Wanted::OpeningNumbers)?,
+    })
+}
+
 /// What `run` is told.
 fn run_words<'a>(alloc: Global, matches: &ArgMatches<'a>) -> Result<RunWords<'a>, Wanted> {
-    let stop = number_of(matches, "stop", (1, u64::MAX), Wanted::WriteNumber)?;
-    match list_of(alloc, matches.get_str("keep").unwrap_or(""))? {
-        Some(keep) => Ok(RunWords {
-            script: matches.get_str("script").unwrap_or(""),
-            stop,
-            keep,
-        }),
-        None => Err(Wanted::WriteNumbers),
-    }
+    Ok(RunWords {
+        script: matches.get_str("script").unwrap_or(""),
+        run: run_stop(alloc, matches)?,
+        opening: opening_stop(alloc, matches)?,
+    })
 }
 
 /// The limits of a number of blocks.

@@ -1,2 +1,4 @@
 pub mod Judging
 pub mod LastEntries
+pub mod Limits
+pub mod Openings

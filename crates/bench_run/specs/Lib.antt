@@ -1,2 +1,6 @@
 pub mod LastEntries
+pub mod Left
+pub mod Limit
+pub mod OpenedImages
+pub mod Reopening
 pub mod Verdict

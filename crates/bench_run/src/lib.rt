@@ -1,20 +1,27 @@
 //! Runs of scripts: the operations on a journal over a device in memory that stops at one of its writes, what a crash then
-//! leaves, and the verdict on what an opening of that gives back.
+//! leaves, and the verdict on what openings of that give back.
 //!
-//! `disk` makes the device, `interpreter` runs the operations on it with `slots` for what their names stand for and `outcome`
-//! for what they came to, `running` crashes, dumps and opens the device, and `verdict` judges it, with `blocks` to read home.
+//! `stops` says where devices stop. `disk` makes the device, `interpreter` runs the operations on it with `slots` for what their
+//! names stand for and `outcome` for what they came to, and `running` crashes and dumps it. `opening` opens what is left;
+//! `reopening` does so over a device that stops within the opening, and then once more, with `limit` for where the transactions
+//! end. `verdict` judges what that gave, with `blocks` to read home.
 #![tactic(auto)]
 
 mod blocks;
 mod disk;
 mod interpreter;
 mod last_entries;
+mod limit;
+mod opening;
 mod outcome;
+mod reopening;
 mod running;
 mod slots;
+mod stops;
 mod verdict;
 
 pub use disk::empty_disk;
 pub use log_dump::Fault;
-pub use running::{Stopped, judge, run, run_operations, run_operations_over};
+pub use running::{Left, Stopped, judge, judge_left, run, run_operations, run_operations_over};
+pub use stops::{Stop, Stops};
 pub use verdict::Record;

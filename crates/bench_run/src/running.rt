@@ -1,23 +1,22 @@
-//! A script's operations over a device that stops, and then the verdict on what an opening gives back.
-ghost use Rattle.std.specs.Prelude.{◌≡◌, ◌↔◌, IfOk, IsTrue};
+//! A script's operations over a device that stops, and then the verdict on what openings give back.
+ghost use Rattle.std.specs.Prelude.{◌≡◌, ℕ, [], IfOk};
 ghost use Rattle.std.specs.BTreeSet.{keys};
-ghost use Rattle.journal_model.specs.declared.number.Area.TheVariants.{Home};
-ghost use Rattle.journal_model.specs.Disk.{reading};
-ghost use Rattle.journal_model.specs.Opening.{HasLimit, OpensAs};
-ghost use Rattle.block_device.specs.Memory.{state_of};
-ghost use Rattle.block_device.specs.State.{Stays};
-ghost use Rattle.bench_run.specs.Verdict.{IsImageVerdict, IsRight, IsVerdict};
+ghost use Rattle.journal_model.specs.declared.number.Area.{Area};
+ghost use Rattle.block_device.specs.Memory.{crashed, state_of, writes_of};
+ghost use Rattle.bench_run.specs.Left.{IsLeftVerdict};
+ghost use Rattle.bench_run.specs.Verdict.{IsVerdict};
 
-use crate::blocks::read_block;
 use crate::disk::empty_disk;
 use crate::interpreter::Interpreter;
-use crate::outcome::{Hex, Outcome, PRINTED_BYTES};
+use crate::opening::judge_image;
+use crate::outcome::Outcome;
+use crate::reopening::judge_stopped_opening;
+use crate::stops::{Stop, Stops};
 use crate::verdict::Record;
 use bench_script::{Operation, Script};
-use block_device::{Device, MemDevice, StopAt};
-use journal_model::{Area, JournalError, Tid};
+use block_device::{MemDevice, StopAt};
+use journal_model::JournalError;
 use log_dump::{Fault, dump};
-use recovery::{Opened, Report, open};
 use std::alloc::Global;
 use std::collections::BTreeSet;
 use std::io;
@@ -34,25 +33,63 @@ pub struct Stopped {
     pub at_write: Option<u64>,
 }
 
+/// What a crash leaves of a stopped run.
+#[derive(Drop)]
+pub struct Left {
+    /// The device, with an empty cache.
+    pub image: MemDevice,
+    /// What the run had recorded.
+    pub recorded: Record,
+    /// The write at which the device stopped, where it did before the end.
+    pub at_write: Option<u64>,
+}
+
+impl Stopped {
+    /// Takes the power away: the image has of each block the greatest unflushed write that `keep` names, else what was flushed
+    /// last.
+    pub fn crash(self, keep: &[u64]) -> Left
+        ensures image { (a : Area) (n : ℕ) → (state_of result.image).disk a n ≡ record { reads = crashed keep.now self.device a n; others = [] } }
+        ensures numbers { writes_of result.image.calls ≡ 0 }
+        ensures shape { result.image.shape ≡ self.device.shape }
+        ensures recorded { result.recorded ≡ self.recorded }
+        ensures stop { result.at_write ≡ self.at_write }
+    {
+        let Stopped {
+            device,
+            recorded,
+            at_write,
+        } = self;
+        Left {
+            image: device.crash(keep),
+            recorded,
+            at_write,
+        }
+    }
+}
+
 /// Runs a script over a device in memory, and prints a line for each operation, the dump of what the stop left, and the
-/// verdict on what an opening of that gives back, which is also the answer. The device stops at write `stop`, counted from 1
-/// once it is formatted and opened, or at the end. The image has of each block the greatest unflushed write that `keep`
-/// names, else what was flushed last.
+/// verdict on what openings of that give back, which is also the answer. The writes of the run are numbered from 1 once the device
+/// is formatted and opened, and those of the opening from 1 again.
 ///
 /// # Errors
 ///
-/// `Fault::Refused` where memory runs out, or what the stop left is refused; `Fault::Output` where the output can't be
+/// `Fault::Refused` where memory runs out, or what a stop left is refused; `Fault::Output` where the output can't be
 /// written. Some of the lines may have been written.
 pub fn run(
     alloc: Global,
     script: &Script,
-    stop: Option<u64>,
-    keep: &[u64],
+    stops: &Stops<'_>,
     out: &mut impl Write,
 ) -> Result<bool, Fault> {
     let named = script.named_blocks(alloc).map_err(JournalError::from)?;
-    let stopped = run_operations(alloc, script, stop, out)?;
-    judge(alloc, stopped, keep, &named, out)
+    let stopped = run_operations(alloc, script, stops.run.at_write, out)?;
+    judge_left(
+        alloc,
+        stopped.crash(stops.run.keep),
+        stops.opening,
+        &named,
+        out,
+    )
 }
 
 /// Runs a script's operations over a device in memory that stops at write `stop`, or at the end, and prints a line for each.
@@ -144,46 +181,37 @@ pub fn judge(
 ) -> Result<bool, Fault>
     ensures { IfOk result (IsVerdict stopped.device keep.now stopped.recorded.sealed.items stopped.recorded.acknowledged (keys named.now)) }
 {
-    write_stop(out, stopped.at_write)?;
-    let mut image = stopped.device.crash(keep);
+    let none = Stop {
+        at_write: None,
+        keep: &[],
+    };
+    judge_left(alloc, stopped.crash(keep), none, named, out)
+}
+
+/// Dumps what a crash left and opens it, over a device that stops at the write of `opening` where one is named and the opening
+/// makes it: what that leaves is opened once more. Prints how the named blocks of home begin behind the last opening and the
+/// verdict on what it gave back, which is also the answer.
+///
+/// # Errors
+///
+/// `Fault::Refused` where memory runs out, an image is refused, or home lacks a named block; `Fault::Output` where the
+/// output can't be written. Some of the lines may have been written.
+pub fn judge_left(
+    alloc: Global,
+    left: Left,
+    opening: Stop<'_>,
+    named: &BTreeSet<u64>,
+    out: &mut impl Write,
+) -> Result<bool, Fault>
+    ensures { IfOk result (IsLeftVerdict left.image opening.entry left.recorded.sealed.items left.recorded.acknowledged (keys named.now)) }
+{
+    write_stop(out, left.at_write)?;
+    let mut image = left.image;
     dump(alloc, &mut image, out)?;
-    judge_image(alloc, image, &stopped.recorded, named, out)
-}
-
-/// Opens an image, and prints what the opening found, how the named blocks of home then begin, and the verdict.
-fn judge_image(
-    alloc: Global,
-    image: MemDevice,
-    recorded: &Record,
-    named: &BTreeSet<u64>,
-    out: &mut impl Write,
-) -> Result<bool, Fault>
-    ensures { IfOk result (IsImageVerdict image.shape (reading (state_of image).disk) recorded.now.sealed.items recorded.now.acknowledged (keys named.now)) }
-{
-    let opened = open_image(alloc, image)?;
-    let n = recorded.count_below(opened.report().ends_at);
-    write_opening(out, opened.report(), opened.next(), n)?;
-    let mut device = opened.into_device();
-    judge_home(alloc, &mut device, recorded, named, n, out)
-}
-
-/// Prints how the named blocks of home begin on a device whose opening found the first `n` recorded transactions, and the
-/// verdict.
-fn judge_home<D: Device>(
-    alloc: Global,
-    device: &mut D,
-    recorded: &Record,
-    named: &BTreeSet<u64>,
-    n: usize,
-    out: &mut impl Write,
-) -> Result<bool, Fault>
-    ensures { IfOk result (λ right. D.honest device.new → IsTrue right ↔
-        IsRight recorded.now.sealed.items recorded.now.acknowledged (keys named.now) n (D.state device.old).shape.block_size (reading (D.state device.old).disk Home)) }
-{
-    write_home(alloc, device, named, out)?;
-    let verdict = recorded.judge(alloc, device, named, n)?;
-    write_verdict(out, verdict)?;
-    Ok(verdict)
+    match opening.at_write {
+        Some(k) => judge_stopped_opening(alloc, image, k, opening.keep, &left.recorded, named, out),
+        None => judge_image(alloc, image, &left.recorded, named, out),
+    }
 }
 
 /// Prints at which write the device stopped.
@@ -192,65 +220,4 @@ fn write_stop(out: &mut impl Write, at_write: Option<u64>) -> io::Result<()> {
         Some(k) => writeln!(out, "stopped {k}"),
         None => writeln!(out, "stopped at end"),
     }
-}
-
-/// Prints the verdict.
-fn write_verdict(out: &mut impl Write, verdict: bool) -> io::Result<()> {
-    writeln!(out, "verdict {}", if verdict { "ok" } else { "false" })
-}
-
-/// Opens what a crash left.
-fn open_image(alloc: Global, image: MemDevice) -> Result<Opened<MemDevice>, JournalError>
-    ensures limit { IfOk result (λ o. HasLimit image.shape (reading (state_of image).disk) o.ends_at) }
-    ensures opens { IfOk result (λ o. OpensAs image.shape (reading (state_of image).disk) (reading (state_of o.device).disk Home)) }
-    ensures shape { IfOk result (λ o. o.device.shape ≡ image.shape) }
-{
-    match open(alloc, image) {
-        Ok(opened) => Ok(opened),
-        Err((_, e)) => Err(e),
-    }
-}
-
-/// Prints what an opening found.
-fn write_opening(out: &mut impl Write, report: Report, next: Tid, n: usize) -> io::Result<()> {
-    let (end, next) = (report.ends_at, next.0);
-    if report.clean {
-        writeln!(out, "open clean next={next} n={n}")
-    } else {
-        writeln!(out, "open end={end} next={next} n={n}")
-    }
-}
-
-/// Prints how each named block begins.
-fn write_home<D: Device>(
-    alloc: Global,
-    device: &mut D,
-    named: &BTreeSet<u64>,
-    out: &mut impl Write,
-) -> Result<(), Fault>
-    ensures { Stays (D.state device.old) (D.state device.new) }
-{
-    for block in named {
-        write_block(alloc, device, *block, out)?;
-    }
-    Ok(())
-}
-
-/// Prints how one block begins.
-fn write_block<D: Device>(
-    alloc: Global,
-    device: &mut D,
-    block: u64,
-    out: &mut impl Write,
-) -> Result<(), Fault>
-    ensures { Stays (D.state device.old) (D.state device.new) }
-{
-    let home = read_block(alloc, device, Area::Home, block)?;
-    write_home_line(out, block, home.bytes()).map_err(Fault::Output)
-}
-
-/// Prints the line of a block with these bytes.
-fn write_home_line(out: &mut impl Write, block: u64, bytes: &[u8]) -> io::Result<()> {
-    let begins = &bytes[..bytes.len().min(PRINTED_BYTES)];
-    writeln!(out, "home {block} {}", Hex(begins))
 }

@@ -3,7 +3,7 @@ use crate::scripts::measures_text;
 use crate::texts::{numbers_in, written};
 use bench_commands::fault::Status;
 use bench_commands::watched::Unwatched;
-use bench_commands::words::{FormatWords, RecoverWords, RunWords, Words, answer, parse};
+use bench_commands::words::{FormatWords, RecoverWords, RunWords, StopWords, Words, answer, parse};
 use bench_commands::{logs, run};
 use block_device::MemDevice;
 use format_rows::RowError;
@@ -116,7 +116,17 @@ fn told(alloc: Global, words: &Words<'_>) -> Result<String, RowError> {
 /// What words tell `run`.
 fn told_run(alloc: Global, words: &RunWords<'_>) -> Result<String, AllocError> {
     let mut text = format!(in alloc; "run {}", words.script)?;
-    match words.stop {
+    write_stop(&mut text, &words.run)?;
+    if words.opening.at_write.is_some() || !words.opening.keep.is_empty() {
+        text.push_str(", opening")?;
+        write_stop(&mut text, &words.opening)?;
+    }
+    Ok(text)
+}
+
+/// Writes where a device is told to stop, and what it keeps.
+fn write_stop(text: &mut String, words: &StopWords) -> Result<(), AllocError> {
+    match words.at_write {
         Some(k) => write!(text, ", stop {k}")?,
         None => text.push_str(", no stop")?,
     }
@@ -124,7 +134,7 @@ fn told_run(alloc: Global, words: &RunWords<'_>) -> Result<String, AllocError> {
     for number in &words.keep {
         write!(text, " {number}")?;
     }
-    Ok(text)
+    Ok(())
 }
 
 /// What words tell `format`.

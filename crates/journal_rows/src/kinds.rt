@@ -34,6 +34,7 @@ fn found_of_run(alloc: Global, kind: &str, given: &str) -> Option<Found> {
         "run" => Some(commands::run(alloc, given)),
         "script" => Some(scripts::script(alloc, given)),
         "stops" => Some(stops::stops(alloc, given)),
+        "stops_of_openings" => Some(stops::stops_of_openings(alloc, given)),
         "verdict" => Some(verdicts::verdict(alloc, given)),
         "words" => Some(commands::words(alloc, given)),
         _ => None,

@@ -1,7 +1,7 @@
-//! Rows of runs that stop at each of their writes.
+//! Rows of runs that stop at each of their writes, and of runs whose openings do.
 use crate::scripts::given_script;
 use crate::texts::{numbers_in, written};
-use bench_run::run;
+use bench_run::{Stop, Stops, run};
 use bench_script::Script;
 use format_rows::RowError;
 use format_rows::words::cut;
@@ -66,6 +66,20 @@ pub fn kept(alloc: Global, k: u64, bits: u64) -> Result<Vec<u64>, AllocError> {
     Ok(kept)
 }
 
+/// A stop at write `k` that keeps these.
+fn stop_at<'a>(k: u64, kept: &'a [u64]) -> Stop<'a> {
+    Stop {
+        at_write: Some(k),
+        keep: kept,
+    }
+}
+
+/// No stop.
+const NO_STOP: Stop<'static> = Stop {
+    at_write: None,
+    keep: &[],
+};
+
 /// Adds how a run ends that stops at write `k` and keeps these.
 fn add_run(
     alloc: Global,
@@ -75,7 +89,11 @@ fn add_run(
     endings: &mut Vec<Ending>,
 ) -> Result<(), RowError> {
     let mut out = Vec::new(alloc);
-    match run(alloc, script, Some(k), kept, &mut out) {
+    let stops = Stops {
+        run: stop_at(k, kept),
+        opening: NO_STOP,
+    };
+    match run(alloc, script, &stops, &mut out) {
         Ok(right) => add_lines(alloc, written(&out)?, right, endings),
         Err(_) => Err(RowError::Memory),
     }
@@ -93,6 +111,78 @@ fn add_lines(
     let (_, ending) = cut(behind, " n=")?;
     let text = format!(in alloc; "n={}, right {right}", in_one_line(alloc, ending)?)?;
     Ok(note(alloc, endings, text, stop)?)
+}
+
+/// Runs that stop at their end, and openings of what they leave that stop at each write. Given: a line as
+/// `openings that stop at writes 1 to 5, any of the last 4 kept`, and a script. Found: each way in which these end, with what the
+/// last opening finds, the named blocks and the verdict, and the stops of which some kept writes make one end so.
+pub fn stops_of_openings(alloc: Global, given: &str) -> Result<String, RowError> {
+    let (line, text) = cut(given, "\n")?;
+    let [first, last, back] = numbers_in::<3>(line)?;
+    let script = given_script(alloc, text)?;
+    let mut endings = Vec::new(alloc);
+    for k in first..=last {
+        add_openings(alloc, &script, k, back, &mut endings)?;
+    }
+    let mut all = String::new(alloc);
+    for ending in &endings {
+        write_ending(&mut all, ending, "stops")?;
+    }
+    Ok(all)
+}
+
+/// Adds how openings end that stop at write `k` and keep any of so many writes up to that.
+fn add_openings(
+    alloc: Global,
+    script: &Script,
+    k: u64,
+    back: u64,
+    endings: &mut Vec<Ending>,
+) -> Result<(), RowError> {
+    if back > 8 {
+        return Err(RowError::Unread);
+    }
+    for bits in 0..1u64 << back {
+        let kept = kept(alloc, k, bits)?;
+        add_opening(alloc, script, k, &kept, endings)?;
+    }
+    Ok(())
+}
+
+/// Adds how an opening ends that stops at write `k` and keeps these.
+fn add_opening(
+    alloc: Global,
+    script: &Script,
+    k: u64,
+    kept: &[u64],
+    endings: &mut Vec<Ending>,
+) -> Result<(), RowError> {
+    let mut out = Vec::new(alloc);
+    let stops = Stops {
+        run: NO_STOP,
+        opening: stop_at(k, kept),
+    };
+    match run(alloc, script, &stops, &mut out) {
+        Ok(right) => add_opened(alloc, written(&out)?, right, k, endings),
+        Err(_) => Err(RowError::Memory),
+    }
+}
+
+/// Adds how an opening ends of which these lines were printed: from the line of the last opening on.
+fn add_opened(
+    alloc: Global,
+    lines: &str,
+    right: bool,
+    k: u64,
+    endings: &mut Vec<Ending>,
+) -> Result<(), RowError> {
+    let (word, behind) = match lines.split_once("\nreopen ") {
+        Some((_, behind)) => ("reopen", behind),
+        None => ("open", cut(lines, "\nopen ")?.1),
+    };
+    let text = format!(in alloc; "{word} {}, right {right}", in_one_line(alloc, behind)?)?;
+    let number = format!(in alloc; "{k}")?;
+    Ok(note(alloc, endings, text, number.as_str())?)
 }
 
 /// Lines as one, with commas.

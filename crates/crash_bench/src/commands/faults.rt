@@ -1,7 +1,7 @@
 //! Readers and writers that fail.
 use super::text_of;
 use bench_commands::run::run;
-use bench_commands::words::RunWords;
+use bench_commands::words::{RunWords, StopWords};
 use std::alloc::Global;
 use std::io;
 use std::io::{ErrorKind, Read, Write};
@@ -11,12 +11,20 @@ use std::test::Fail;
 const ONE_WRITE: &str =
     r#"{"ops": [["start",1,1],["write",1,9,"11"],["stop",1],["request",1],["commit"],["wait",1]]}"#;
 
+/// The words of no stop.
+fn no_stop(alloc: Global) -> StopWords {
+    StopWords {
+        at_write: None,
+        keep: Vec::new(alloc),
+    }
+}
+
 /// The words of a run without options.
 fn words(alloc: Global) -> RunWords<'static> {
     RunWords {
         script: "a.json",
-        stop: None,
-        keep: Vec::new(alloc),
+        run: no_stop(alloc),
+        opening: no_stop(alloc),
     }
 }
 

@@ -1,19 +1,23 @@
+use Rattle.std.proofs.Common.{refl, ap, subst}
 use Rattle.std.specs.BTreeSet.{keys}
 use Rattle.std.proofs.lemmas.Result.{IfOk-weaker}
 use Rattle.journal_model.specs.Disk.{reading}
 use Rattle.block_device.specs.Memory.{state_of}
+use Rattle.bench_run.specs.declared.verdict.Record.{Record}
 use Rattle.bench_run.specs.Verdict.{IsImageVerdict, IsVerdict}
 use Rattle.bench_run.proofs.Judging.{IsVerdict-from}
 use Rattle.bench_run.proofs.running.judge.Goals as goal
 
 pub returns : goal.returns
 returns g c =
-    let recorded = c.args.stopped.recorded in
-    let image = c.dump.new.device in
-    IfOk-weaker c.judge_image.result
-    (IsImageVerdict image.shape (reading (state_of image).disk) recorded.sealed.items recorded.acknowledged (keys c.args.named.now))
-    (IsVerdict c.args.stopped.device c.args.keep.now recorded.sealed.items recorded.acknowledged (keys c.args.named.now))
+    let left = c.crash.result in
+    let stopped = c.args.stopped in
+    let named = keys c.args.named.now in
+    IfOk-weaker c.judge_left.result
+    (IsImageVerdict left.image.shape (reading (state_of left.image).disk) left.recorded.sealed.items left.recorded.acknowledged named)
+    (IsVerdict stopped.device c.args.keep.now stopped.recorded.sealed.items stopped.recorded.acknowledged named)
     (λ right verdict.
-    IsVerdict-from c.args.stopped.device c.args.keep.now recorded.sealed.items recorded.acknowledged (keys c.args.named.now) right
-    c.crash-image.result image c.crash-image.ensures.image c.crash-image.ensures.shape c.dump.ensures.stays verdict)
-    c.judge_image.ensures
+    subst (λ (r : Record). IsVerdict stopped.device c.args.keep.now r.sealed.items r.acknowledged named right) c.crash.ensures.recorded
+    (IsVerdict-from stopped.device c.args.keep.now left.recorded.sealed.items left.recorded.acknowledged named right
+    left.image left.image c.crash.ensures.image c.crash.ensures.shape (record { shape = refl; disk = refl; past = refl }) verdict))
+    c.judge_left.ensures

@@ -1,5 +1,5 @@
 use Rattle.block_device.specs.State.{Stays}
-use Rattle.bench_run.proofs.running.write_home.Given as goal
+use Rattle.bench_run.proofs.opening.write_home.Given as goal
 
 -- the device stays
 abbrev pub invariant-loop-block : goal.invariant-loop-block

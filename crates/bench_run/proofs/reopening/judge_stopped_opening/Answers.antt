@@ -1,0 +1,40 @@
+use Rattle.std.specs.Prelude.{◌↔◌, IsTrue}
+use Rattle.std.specs.BTreeSet.{keys}
+use Rattle.std.proofs.lemmas.Result.{IfOk-weaker}
+use Rattle.journal_model.specs.declared.number.Area.TheVariants.{Home}
+use Rattle.journal_model.specs.Disk.{reading}
+use Rattle.journal_model.specs.Opening.{numbered_below}
+use Rattle.block_device.specs.Memory.{state_of}
+use Rattle.bench_run.specs.Reopening.{IsOpeningVerdict, IsSecondVerdict}
+use Rattle.bench_run.specs.Verdict.{IsRight}
+use Rattle.bench_run.proofs.Openings.{verdict-once, verdict-twice}
+use Rattle.bench_run.proofs.reopening.judge_stopped_opening.Goals as goal
+
+-- the opening was not stopped
+pub returns-in-Whole : goal.returns-in-Whole
+returns-in-Whole g c =
+    let recorded = c.args.recorded.now in
+    let opened = c.in-Whole.opened in
+    let named = keys c.args.named.now in
+    IfOk-weaker c.judge_opened.result
+    (λ right. IsTrue right ↔ IsRight recorded.sealed.items recorded.acknowledged named (numbered_below opened.report.ends_at recorded.sealed.items) opened.device.shape.block_size (reading (state_of opened.device).disk Home))
+    (IsOpeningVerdict (state_of c.args.image) c.args.k c.args.keep.now recorded.sealed.items recorded.acknowledged named)
+    (λ right is.
+    verdict-once recorded.sealed.items recorded.acknowledged named c.args.k c.args.keep.now right c.args.image c.limit_of.new.device opened
+    c.in_ok-limit.ensures.stays (rw c.in-Whole.is at c.in_ok-opened.ensures) is)
+    c.judge_opened.ensures
+
+-- it was
+pub returns-in_ok-writeln-in-Stopped : goal.returns-in_ok-writeln-in-Stopped
+returns-in_ok-writeln-in-Stopped g c =
+    let recorded = c.args.recorded.now in
+    let left = c.crash.result in
+    let named = keys c.args.named.now in
+    let limit = c.in_ok-limit.limit in
+    IfOk-weaker c.judge_second.result
+    (IsSecondVerdict left.shape (reading (state_of left).disk) limit recorded.sealed.items recorded.acknowledged named)
+    (IsOpeningVerdict (state_of c.args.image) c.args.k c.args.keep.now recorded.sealed.items recorded.acknowledged named)
+    (λ right is.
+    verdict-twice recorded.sealed.items recorded.acknowledged named c.args.k c.args.keep.now right limit c.args.image c.limit_of.new.device c.in-Stopped.device left
+    c.in_ok-limit.ensures.stays (c.in_ok-limit.ensures.limit tt) (rw c.in-Stopped.is at c.in_ok-opened.ensures) c.crash.ensures.image c.crash.ensures.shape is)
+    c.judge_second.ensures

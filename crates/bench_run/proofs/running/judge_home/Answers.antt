@@ -1,8 +1,0 @@
-use Rattle.std.specs.BTreeSet.{keys}
-use Rattle.bench_run.proofs.Judging.{IsRight-stays}
-use Rattle.bench_run.proofs.running.judge_home.Goals as goal
-
-pub returns : goal.returns
-returns g c = λ honest.
-    IsRight-stays c.args.recorded.now.sealed.items c.args.recorded.now.acknowledged (keys c.args.named.now) c.args.n c.in_ok-verdict.verdict
-    (g.D.Device.state c.args.device.now) (g.D.Device.state c.write_home.new.device) c.write_home.ensures (c.in_ok-verdict.ensures honest)

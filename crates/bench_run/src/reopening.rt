@@ -1,0 +1,128 @@
+//! Openings that stop at one of their writes, and the verdict on what the next opening gives back.
+ghost use Rattle.std.specs.Prelude.{◌≡◌, ◌↔◌, IfOk, IsTrue};
+ghost use Rattle.std.specs.BTreeSet.{keys};
+ghost use Rattle.journal_model.specs.Disk.{reading};
+ghost use Rattle.journal_model.specs.Opening.{HasLimit};
+ghost use Rattle.block_device.specs.Memory.{state_of};
+ghost use Rattle.bench_run.specs.Reopening.{FollowsOn, IsAttempt, IsOpeningVerdict, IsSecondVerdict, IsStoppedAttempt, IsWholeAttempt};
+
+use crate::limit::limit_of;
+use crate::opening::{
+    OpenedImage, judge_home, judge_opened, open_image, write_opening, write_verdict,
+};
+use crate::verdict::Record;
+use block_device::{MemDevice, StopAt};
+use journal_model::{JournalError, Tid};
+use log_dump::Fault;
+use recovery::{Report, open};
+use std::alloc::Global;
+use std::collections::BTreeSet;
+use std::io::Write;
+
+/// What came of an opening over a device that stops at one of its writes.
+#[derive(Drop)]
+pub(crate) enum Attempt {
+    /// It ended before that write.
+    Whole(OpenedImage),
+    /// The device stopped, and this is left of it, with its cache.
+    Stopped(MemDevice),
+}
+
+/// Opens an image over a device that stops at write `k` of the opening, counted from 1, and prints that it did. Of its unflushed
+/// writes those of `keep` are left. That is opened once more, and what the second opening found is printed, how the named blocks
+/// of home then begin, and the verdict. Where the opening makes fewer writes, all is printed as of an image that is opened once.
+pub(crate) fn judge_stopped_opening(
+    alloc: Global,
+    image: MemDevice,
+    k: u64,
+    keep: &[u64],
+    recorded: &Record,
+    named: &BTreeSet<u64>,
+    out: &mut impl Write,
+) -> Result<bool, Fault>
+    ensures { IfOk result (IsOpeningVerdict (state_of image) k keep.now recorded.now.sealed.items recorded.now.acknowledged (keys named.now)) }
+{
+    let mut image = image;
+    let limit = limit_of(alloc, &mut image)?;
+    match open_to(alloc, image, k)? {
+        Attempt::Whole(opened) => judge_opened(alloc, opened, recorded, named, out),
+        Attempt::Stopped(device) => {
+            writeln!(out, "stopped again {k}")?;
+            judge_second(alloc, device.crash(keep), limit, recorded, named, out)
+        }
+    }
+}
+
+/// Opens an image over a device that stops at write `k`.
+fn open_to(alloc: Global, image: MemDevice, k: u64) -> Result<Attempt, JournalError>
+    ensures { IfOk result (IsAttempt (state_of image) k) }
+{
+    match open(alloc, StopAt::new(image, k)) {
+        Ok(opened) => {
+            let (report, next) = (opened.report(), opened.next());
+            whole(opened.into_device().into_inner(), report, next, k)
+        }
+        Err((device, e)) => stopped(device.into_inner(), k, e),
+    }
+}
+
+/// The device on which an opening ended, which made fewer than `k` writes.
+fn whole(device: MemDevice, report: Report, next: Tid, k: u64) -> Result<Attempt, JournalError>
+    ensures { IfOk result (IsWholeAttempt (record { device = device; report = report; next = next }) k) }
+{
+    if device.writes() < k {
+        Ok(Attempt::Whole(OpenedImage {
+            device,
+            report,
+            next,
+        }))
+    } else {
+        // Not met: a device that stops at write k never answers Ok to it.
+        Err(JournalError::Device)
+    }
+}
+
+/// The device on which an opening failed so, where write `k` was its last.
+fn stopped(device: MemDevice, k: u64, e: JournalError) -> Result<Attempt, JournalError>
+    ensures { IfOk result (IsStoppedAttempt device k) }
+{
+    if device.writes() == k {
+        Ok(Attempt::Stopped(device))
+    } else {
+        Err(e)
+    }
+}
+
+/// Opens what a stop within an opening left, where the transactions of the image that was opened first end at `limit`, and prints
+/// what the second opening found, how the named blocks of home then begin, and the verdict.
+fn judge_second(
+    alloc: Global,
+    left: MemDevice,
+    limit: u64,
+    recorded: &Record,
+    named: &BTreeSet<u64>,
+    out: &mut impl Write,
+) -> Result<bool, Fault>
+    ensures { IfOk result (IsSecondVerdict left.shape (reading (state_of left).disk) limit recorded.now.sealed.items recorded.now.acknowledged (keys named.now)) }
+{
+    let opened = open_image(alloc, left)?;
+    let n = recorded.count_below(limit);
+    write_opening(out, "reopen", opened.report, opened.next, n)?;
+    let mut device = opened.device;
+    let right = judge_home(alloc, &mut device, recorded, named, n, out)?;
+    let verdict = follows_on(limit, opened.report) && right;
+    write_verdict(out, verdict)?;
+    Ok(verdict)
+}
+
+/// Whether a second opening found what a stop within the first one can leave, where the transactions end at `limit`: the same end;
+/// or a clean log, whose last number is the one behind that.
+fn follows_on(limit: u64, report: Report) -> bool
+    ensures { IsTrue result ↔ FollowsOn limit report.clean report.ends_at }
+{
+    if report.clean {
+        limit.checked_add(1) == Some(report.ends_at)
+    } else {
+        report.ends_at == limit
+    }
+}
