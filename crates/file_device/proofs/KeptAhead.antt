@@ -1,6 +1,6 @@
 -- What is read ahead is what the log reads.
 use Rattle.std.proofs.Common.{◌≡◌, ℕ, zero, suc, ◌<◌, ◌≤◌, ◌*◌, ◌/◌, ◌+◌, ◌-◌, List, [], ◌∷◌, ◌++◌, length, take, drop, ap, refl, sym, subst, ◌∙◌, inl, inr, arith, length-drop}
-use Rattle.std.specs.Prelude.{◌⊎◌, min, Result, Ok, Err, OnOk, OnErr}
+use Rattle.std.specs.Prelude.{◌⊎◌, Bool, min, Result, Ok, Err, OnOk, OnErr}
 use Rattle.block_device.specs.State.{DeviceState, Stays}
 use Rattle.std.specs.List.{AllByRecursion}
 use Rattle.std.proofs.lemmas.List.{append_assoc, drop-append-le, length-append, length-take-le, take-append-le}
@@ -102,9 +102,9 @@ block-within k count size below =
     omega (arith, one_more, mul-le (k + 1) size count size (omega arith) (omega arith))
 
 -- blocks that were just read ahead are kept rightly
-pub kept-ahead : (contents : FileContents) (size : ℕ) (calls : List FileCall) (n : ℕ) (bytes rest : List ℕ) (count next : ℕ) → 0 < size → length bytes ≡ count * size → length (bytes ++ rest) ≡ 65536 →
-    KeepsAhead contents size (reads_of Log (n * size) size bytes (length bytes / size) ++ calls) (record { bytes = bytes ++ rest; first = n; count = count; next = next })
-kept-ahead contents size calls n bytes rest count next some long room =
+pub kept-ahead : (contents : FileContents) (size : ℕ) (calls : List FileCall) (n : ℕ) (bytes rest : List ℕ) (count next : ℕ) (steady : Bool) → 0 < size → length bytes ≡ count * size → length (bytes ++ rest) ≡ 65536 →
+    KeepsAhead contents size (reads_of Log (n * size) size bytes (length bytes / size) ++ calls) (record { bytes = bytes ++ rest; first = n; count = count; next = next; is_steady = steady })
+kept-ahead contents size calls n bytes rest count next steady some long room =
     let number : length bytes / size ≡ count = ap (λ (p : ℕ). p / size) long ∙ mul-div_cancel count some in
     let asked : List FileCall = reads_of Log (n * size) size bytes (length bytes / size) in
     record {
@@ -117,15 +117,15 @@ kept-ahead contents size calls n bytes rest count next some long room =
     }
 
 -- a device that has just read ahead keeps what it has to
-pub read-ahead-kept : (contents : FileContents) (size : ℕ) (calls cs : List FileCall) (n at count ahead next : ℕ) (old bytes : List ℕ) → KeepsBlocks size calls → at ≡ n * size →
+pub read-ahead-kept : (contents : FileContents) (size : ℕ) (calls cs : List FileCall) (n at count ahead next : ℕ) (steady : Bool) (old bytes : List ℕ) → KeepsBlocks size calls → at ≡ n * size →
     length old ≡ 65536 → count * size ≤ 65536 → length bytes ≡ length (take (count * size) old) → cs ≡ reads_of Log at size bytes (length bytes / size) ++ calls → ahead ≡ count →
-    KeepsBlocks size cs × KeepsAhead contents size cs (record { bytes = bytes ++ drop (count * size) old; first = n; count = ahead; next = next })
-read-ahead-kept contents size calls cs n at count ahead next old bytes keeps place room within long noted counted =
+    KeepsBlocks size cs × KeepsAhead contents size cs (record { bytes = bytes ++ drop (count * size) old; first = n; count = ahead; next = next; is_steady = steady })
+read-ahead-kept contents size calls cs n at count ahead next steady old bytes keeps place room within long noted counted =
     let whole : length bytes ≡ count * size = long ∙ length-take-le (count * size) old (omega arith) in
     let all : length (bytes ++ drop (count * size) old) ≡ 65536 = omega (arith, length-append bytes (drop (count * size) old), length-drop (count * size) old) in
     rw (noted, place, counted) (
       record { some = keeps.some; whole = reads-hand Log (n * size) size bytes (length bytes / size) size calls keeps.whole },
-      kept-ahead contents size calls n bytes (drop (count * size) old) count next keeps.some whole all,
+      kept-ahead contents size calls n bytes (drop (count * size) old) count next steady keeps.some whole all,
     )
 
 -- and so does one whose reading ahead failed

@@ -5,6 +5,9 @@ ghost use Rattle.file_device.specs.Ahead.{block_of};
 /// How many bytes are read at once.
 pub(crate) const MOST_BYTES: usize = 65_536;
 
+/// A block is near the one that was asked for last where fewer than so many blocks lie between them.
+const NEAR_BLOCKS: u64 = 8;
+
 /// Blocks of the log file, one behind the other. A reader that goes over a log block by block asks the system for many at
 /// once.
 #[derive(Drop)]
@@ -15,6 +18,8 @@ pub(crate) struct Ahead {
     pub(crate) count: u64,
     /// The block behind the one that was asked for last.
     pub(crate) next: u64,
+    /// Whether the block that was asked for last was near the one before it.
+    pub(crate) is_steady: bool,
 }
 
 impl Ahead {
@@ -27,6 +32,7 @@ impl Ahead {
             first: 0,
             count: 0,
             next: 0,
+            is_steady: false,
         }
     }
 
@@ -39,6 +45,14 @@ impl Ahead {
             Some(place)
         } else {
             None
+        }
+    }
+
+    /// Whether this block of the log is near the one that was asked for last, and not before it.
+    pub(crate) fn is_near(&self, n: u64) -> bool {
+        match n.checked_sub(self.next) {
+            Some(between) => between < NEAR_BLOCKS,
+            None => false,
         }
     }
 }

@@ -49,8 +49,8 @@ impl Contents for UnknownContents {
 /// made. The device takes no memory. A flush makes its area's file durable (fdatasync); the home area of a log file alone
 /// has nothing to flush.
 ///
-/// A reader that asks for log blocks one behind the other is handed them from a buffer of 64 KiB, which one call of the
-/// system fills. A write to the log, and each flush, empties it.
+/// A reader that goes over the log from block to block, and leaves out a few at most, is handed them from a buffer of 64 KiB,
+/// which one call of the system fills. A write to the log, and each flush, empties it.
 ///
 /// After a write or a flush that failed each further write and flush answers a fault and makes no call, since the
 /// system may have dropped what it was handed: open the files again to see what is there. A read that fails changes
@@ -140,6 +140,18 @@ impl<C: Contents> FileDevice<C> {
         })
     }
 
+    /// Notes that block `n` of the log is asked for. The answer is whether its reader goes on from block to block: it is near
+    /// the one that was asked for before it, as that was.
+    fn note_asked(&mut self, n: u64) -> bool
+        ensures { self.new ≡ self.old }
+    {
+        let is_near = self.ahead.is_near(n);
+        let goes_on = is_near && self.ahead.is_steady;
+        self.ahead.next = n.saturating_add(1);
+        self.ahead.is_steady = is_near;
+        goes_on
+    }
+
     /// Hands out block `n` of the log, where it was read before it was asked for.
     fn hand_out(&mut self, n: u64, into: &mut [u8]) -> bool
         requires block { length into.old ≡ self.old.block_size }
@@ -150,7 +162,6 @@ impl<C: Contents> FileDevice<C> {
             return false;
         };
         copy_block(&self.ahead.bytes, self.size, k, into);
-        self.ahead.next = n.saturating_add(1);
         true
     }
 
@@ -173,7 +184,7 @@ impl<C: Contents> FileDevice<C> {
         ahead.first = n;
     }
 
-    /// Reads a block of the log. Where it is the one behind the last that was asked for, further ones are read with it.
+    /// Reads a block of the log. Where its reader goes on from block to block, further ones are read with it.
     fn read_log(&mut self, n: u64, into: &mut [u8]) -> Result<(), DeviceFault>
         requires block { length into.old ≡ self.old.block_size }
         requires there { n < (file_shape self.old).log_blocks }
@@ -181,16 +192,16 @@ impl<C: Contents> FileDevice<C> {
         ensures ok { OnOk result (HasRead self.old self.new) }
         ensures err { OnErr result (HasFailedRead self.old self.new Log (n * self.old.block_size)) }
     {
+        let goes_on = self.note_asked(n);
         if self.hand_out(n, into) {
             return Ok(());
         }
-        if n == self.ahead.next {
+        if goes_on {
             self.read_ahead(n);
             if self.hand_out(n, into) {
                 return Ok(());
             }
         }
-        self.ahead.next = n.saturating_add(1);
         self.read_block(Area::Log, n, into)
     }
 

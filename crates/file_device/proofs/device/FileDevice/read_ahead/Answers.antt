@@ -29,10 +29,10 @@ invariant_of-self g c =
     let d = c.self.inside in
     let within = room-for d.size 65536 (c.length-length.result / d.size - c.args.n) c.min-count.result c.min-count.ensures in
     elim c.match-read_blocks.branch [
-      | in-Ok w ↦ read-ahead-kept g.C.Contents.contents d.size (calls_of d.files) (calls_of c.read_blocks.new.self) c.args.n c.place_of-at.result c.min-count.result c.match-read_blocks.ahead d.ahead.next
+      | in-Ok w ↦ read-ahead-kept g.C.Contents.contents d.size (calls_of d.files) (calls_of c.read_blocks.new.self) c.args.n c.place_of-at.result c.min-count.result c.match-read_blocks.ahead d.ahead.next d.ahead.is_steady
           d.ahead.bytes c.read_blocks.new.into c.self.invariant.0 c.place_of-at.ensures c.self.invariant.1.room within c.read_blocks.ensures.size (ap calls_of w.in-Ok.ensures.ok) w.ahead-is
       | in-Err w ↦ failed-ahead-kept g.C.Contents.contents d.size (calls_of d.files) (calls_of c.read_blocks.new.self) c.place_of-at.result
-          (record { bytes = c.read_blocks.new.into ++ drop (c.min-count.result * d.size) d.ahead.bytes; first = c.args.n; count = c.match-read_blocks.ahead; next = d.ahead.next })
+          (record { bytes = c.read_blocks.new.into ++ drop (c.min-count.result * d.size) d.ahead.bytes; first = c.args.n; count = c.match-read_blocks.ahead; next = d.ahead.next; is_steady = d.ahead.is_steady })
           c.self.invariant.0
           (omega (
             arith,

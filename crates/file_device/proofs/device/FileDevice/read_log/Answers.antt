@@ -6,29 +6,29 @@ use Rattle.file_device.specs.Files.{file_state}
 use Rattle.file_device.proofs.KeptAhead.{failed-behind, on-err, on-ok, read-as, read-behind, read-leaves, same-read, no-read}
 use Rattle.file_device.proofs.device.FileDevice.read_log.Given.{Over}
 use Rattle.file_device.proofs.device.FileDevice.read_log.Goals as goal
-use Rattle.file_device.proofs.device.FileDevice.read_log.Goals.{then-n-self+else-hand_out-2, else-n-self}
+use Rattle.file_device.proofs.device.FileDevice.read_log.Goals.{then-goes_on+else-hand_out-2, else-goes_on}
 
 -- what was just read ahead is what the log reads
 pub returns-then-hand_out-2-clause-bytes : goal.returns-then-hand_out-2-clause-bytes
 returns-then-hand_out-2-clause-bytes g c agrees =
-    let ahead : HasRead c.hand_out.new.self c.hand_out-then-n-self.new.self = read-as c.read_ahead.ensures c.hand_out-then-n-self.ensures.same in
+    let ahead : HasRead c.hand_out.new.self c.hand_out-then-goes_on.new.self = read-as c.read_ahead.ensures c.hand_out-then-goes_on.ensures.same in
     c.if-hand_out-2.ensures.bytes refl agrees
-    ∙ ap (λ (s : DeviceState). (s.disk Log c.args.n).reads) (read-leaves g.C.Contents.contents ahead ∙ ap (file_state g.C.Contents.contents) c.hand_out.ensures.same)
+    ∙ ap (λ (s : DeviceState). (s.disk Log c.args.n).reads) (read-leaves g.C.Contents.contents ahead ∙ ap (file_state g.C.Contents.contents) (c.hand_out.ensures.same ∙ c.note_asked-goes_on.ensures))
 
 -- before the block itself is read, the log was asked for bytes alone
-so_far : (g : Over) (c : goal.After-slice_known-3-1 g) → HasRead c.args.self.now c.if-n-self.self
-so_far g c = elim c.if-n-self.branch [
-  | then-n-self+else-hand_out-2 w ↦ read-as (same-read c.hand_out.ensures.same (read-as w.read_ahead.ensures w.hand_out-then-n-self.ensures.same)) w.self-is
-  | else-n-self w ↦ same-read c.hand_out.ensures.same (read-as (no-read c.hand_out.new.self) w.self-is)
+so_far : (g : Over) (c : goal.After-slice_known-3-1 g) → HasRead c.args.self.now c.if-goes_on.self
+so_far g c = elim c.if-goes_on.branch [
+  | then-goes_on+else-hand_out-2 w ↦ read-as (same-read (c.hand_out.ensures.same ∙ c.note_asked-goes_on.ensures) (read-as w.read_ahead.ensures w.hand_out-then-goes_on.ensures.same)) w.self-is
+  | else-goes_on w ↦ same-read (c.hand_out.ensures.same ∙ c.note_asked-goes_on.ensures) (read-as (no-read c.hand_out.new.self) w.self-is)
 ]
 
 pub returns-clause-bytes : goal.returns-clause-bytes
 returns-clause-bytes g c =
-    let leaves = read-leaves g.C.Contents.contents (read-as (so_far g c) c.self-2.view_is) in
+    let leaves = read-leaves g.C.Contents.contents (so_far g c) in
     on-ok c.read_block.result (λ gives agrees. gives agrees ∙ ap (λ (s : DeviceState). (s.disk Log c.args.n).reads) leaves) c.read_block.ensures.bytes
 
 pub returns-clause-ok : goal.returns-clause-ok
-returns-clause-ok g c = on-ok c.read_block.result (read-behind (read-as (so_far g c) c.self-2.view_is)) c.read_block.ensures.ok
+returns-clause-ok g c = on-ok c.read_block.result (read-behind (so_far g c)) c.read_block.ensures.ok
 
 pub returns-clause-err : goal.returns-clause-err
-returns-clause-err g c = on-err c.read_block.result (failed-behind c.args.n (read-as (so_far g c) c.self-2.view_is)) c.read_block.ensures.err
+returns-clause-err g c = on-err c.read_block.result (failed-behind c.args.n (so_far g c)) c.read_block.ensures.err
