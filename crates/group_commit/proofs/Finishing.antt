@@ -20,8 +20,9 @@ use Rattle.journal_world.specs.Checkpoint.{RoundCall, RoundSteps, begun, begun_f
 use Rattle.journal_world.specs.Checkpoint.RoundCall.{CopyHome, FlushHome, WriteTail, FlushTail}
 use Rattle.journal_world.specs.Engine.{CommitSteps, Engine, call_in, stepped_from}
 use Rattle.journal_world.specs.Front.{Front}
+use Rattle.journal_world.specs.Front.FrontEvent.{Lock}
 use Rattle.journal_world.specs.Journal.{Event, Journal}
-use Rattle.journal_world.specs.Journal.Event.{CheckpointFault, CheckpointStep, CommitFault, CommitStep, Finish, Lock, Seal}
+use Rattle.journal_world.specs.Journal.Event.{CheckpointFault, CheckpointStep, CommitFault, CommitStep, Finish, FrontStep, Seal}
 use Rattle.journal_world.specs.Sound.{IsPlain, StageAgrees, position}
 use Rattle.journal_model.specs.Disk.{Disk}
 use Rattle.journal_world.proofs.Batches.{same-length}
@@ -108,9 +109,9 @@ module _ {D : Type 0} (state : D → DeviceState) where
   ways a b c one two = comes-behind a.journal b.journal c.journal (state a.device).disk (state b.device).disk (state c.device).disk Running one two
 
   -- a transaction that a handle has joined is locked
-  by-lock : (v : JournalValue D) → v.journal.engine.aborted ≡ false → 0 < length v.journal.front.running.handles → ComesBy v (locked_journal v)
+  by-lock : (v : JournalValue D) → v.journal.front.aborted ≡ false → 0 < length v.journal.front.running.handles → ComesBy v (locked_journal v)
   by-lock v running joined =
-      by-step v (locked_journal v) Lock (record { running = running; joined = joined; change = record { journal = refl; disk_is = refl } })
+      by-step v (locked_journal v) (FrontStep Lock) (record { front = record { running = running; joined = joined; after = refl }; engine = refl; disk_is = refl })
 
   -- one way behind another
   on-on : (a b c : JournalValue D) → GoesOn state a b → GoesOn state b c → GoesOn state a c
@@ -186,18 +187,18 @@ module _ {D : Type 0} (state : D → DeviceState) where
       }
   commit-went (Sealed tid) old new running busy did shape faults = absurd (busy did.0.engine.idle)
   commit-went (Committed tid) old new running busy did shape faults =
-      let made = did.finishes.change.journal in
+      let made = did.finishes.front in
       let front = did.commits.front in
-      let engine : new.journal.engine ≡ did.mid.engine = ap (λ (j : Journal). j.engine) made in
+      let engine : new.journal.engine ≡ did.mid.engine = did.finishes.engine in
       let log : KeepsLog old.journal.engine new.journal.engine =
       subst (KeepsLog old.journal.engine) (sym engine)
       (commit-log old.journal.engine did.mid.engine (state old.device).disk (state new.device).disk did.commits.engine) in
       record {
         on = record {
-          sealed = ap (λ (j : Journal). j.front.sealed) made ∙ ap (λ (f : Front). f.sealed) front;
-          transaction = ap (λ (j : Journal). j.front.running) made ∙ ap (λ (f : Front). f.running) front;
-          locked = ap (λ (j : Journal). j.front.locked) made ∙ ap (λ (f : Front). f.locked) front;
-          open_handles = ap (λ (j : Journal). j.front.open_handles) made ∙ ap (λ (f : Front). f.open_handles) front;
+          sealed = ap (λ (f : Front). f.sealed) made ∙ ap (λ (f : Front). f.sealed) front;
+          transaction = ap (λ (f : Front). f.running) made ∙ ap (λ (f : Front). f.running) front;
+          locked = ap (λ (f : Front). f.locked) made ∙ ap (λ (f : Front). f.locked) front;
+          open_handles = ap (λ (f : Front). f.open_handles) made ∙ ap (λ (f : Front). f.open_handles) front;
           measures = log.measures;
           layout = log.layout;
           ring = log.ring;
@@ -357,9 +358,9 @@ module _ {D : Type 0} (state : D → DeviceState) where
   same-closing old new on = ap₂ (λ (sealed : History) (running : Transaction). with_running sealed running running.handles) on.sealed on.transaction
 
   -- behind the seal all is sealed
-  pub seal-done : (old mid new : JournalValue D) → Went state old mid → 0 < length mid.journal.front.running.handles →
+  pub seal-done : (old mid new : JournalValue D) → Went state old mid → mid.journal.front.aborted ≡ false → 0 < length mid.journal.front.running.handles →
       Does state (locked_journal mid) Seal new → new.device ≡ mid.device → HasSealed state old new
-  seal-done old mid new went joined did device =
+  seal-done old mid new went running joined did device =
       let on = went.on in
       let after = did.engine.after in
       let low : old.journal.engine.committed ≤ mid.journal.engine.committed = on.committed in
@@ -373,7 +374,7 @@ module _ {D : Type 0} (state : D → DeviceState) where
         shape = ap (λ (d : D). (state d).shape) device ∙ on.shape;
         running = ap (λ (e : Engine). e.aborted) after ∙ went.running;
         faults = ap (λ (d : D). (state d).faults) device ∙ went.faults;
-        path = ways old mid new on.path (ways mid (locked_journal mid) new (by-lock mid went.running joined) (by-step (locked_journal mid) new Seal did));
+        path = ways old mid new on.path (ways mid (locked_journal mid) new (by-lock mid running joined) (by-step (locked_journal mid) new Seal did));
       }
 
   -- and stays so
@@ -521,6 +522,6 @@ module _ {D : Type 0} (state : D → DeviceState) where
   way-on (Err e) old mid new way went wrong = ways old mid new way wrong.1.on.path
 
   -- where the seal is refused, the transaction is locked
-  pub way-locked : (old mid new : JournalValue D) → Went state old mid → 0 < length mid.journal.front.running.handles → new ≡ locked_journal mid → ComesBy old new
-  way-locked old mid new went joined is =
-      subst (ComesBy old) (sym is) (ways old mid (locked_journal mid) went.on.path (by-lock mid went.running joined))
+  pub way-locked : (old mid new : JournalValue D) → Went state old mid → mid.journal.front.aborted ≡ false → 0 < length mid.journal.front.running.handles → new ≡ locked_journal mid → ComesBy old new
+  way-locked old mid new went running joined is =
+      subst (ComesBy old) (sym is) (ways old mid (locked_journal mid) went.on.path (by-lock mid running joined))

@@ -1,6 +1,7 @@
 -- The lemmas of this crate.
 pub mod Closed
 pub mod Finishing
+pub mod Holding
 pub mod Leading
 pub mod Reading
 pub mod Rounding

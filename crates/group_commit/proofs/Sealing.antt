@@ -1,6 +1,6 @@
 -- The batch of a transaction whose steps are good ones, and a front and an engine that still agree after each step.
 use Rattle.std.proofs.Common.{arith, refl, sym, ap, ap₂, subst, ◌∙◌, length-append}
-use Rattle.std.specs.Prelude.{◌≡◌, ◌≢◌, ℕ, suc, ◌+◌, ◌<◌, ◌≤◌, ◌==◌, Bool, true, false, if◌then◌else◌, List, [], ◌∷◌, ◌++◌, length, Option, Some, None, option_map, option_to_list, nat_eq}
+use Rattle.std.specs.Prelude.{◌≡◌, ◌≢◌, ⊤, ℕ, suc, ◌+◌, ◌<◌, ◌≤◌, ◌==◌, Bool, true, false, if◌then◌else◌, List, [], ◌∷◌, ◌++◌, length, Option, Some, None, option_map, option_to_list, nat_eq}
 use Rattle.std.specs.List.{AllByRecursion, IsDistinct, filter_map}
 use Rattle.std.proofs.lemmas.Bool.Decides.{nat_tests}
 use Rattle.std.proofs.lemmas.List.Elements.{All-from_recursion}
@@ -20,7 +20,8 @@ use Rattle.journal_model.specs.OwnText.{copied, revoked}
 use Rattle.journal_model.specs.Room.{need}
 use Rattle.journal_model.specs.Superblock.{Shape}
 use Rattle.journal_model.specs.Text.{text_blocks}
-use Rattle.journal_model.specs.Transaction.{Transaction, effect, entries, entry_of, later, touched}
+use Rattle.journal_model.specs.Opening.{greatest_number}
+use Rattle.journal_model.specs.Transaction.{History, Transaction, effect, entries, entry_of, later, touched}
 use Rattle.journal_model.proofs.Effects.{entries-blocks, touched-distinct}
 use Rattle.journal_model.proofs.OwnTextEach.{each-append}
 use Rattle.journal_model.proofs.OwnTextWhole.{length_own_text}
@@ -28,10 +29,12 @@ use Rattle.journal_world.specs.declared.stage.Stage.{Stage}
 use Rattle.journal_world.specs.declared.stage.Stage.TheVariants.{Idle, SuperblockWrite, SuperblockFlush, Blocks, CommitWrite, CommitFlush}
 use Rattle.block_device.specs.State.{DeviceState}
 use Rattle.journal_world.specs.Call.{Call}
-use Rattle.journal_world.specs.Engine.{AreBatchesOf, CommitSteps, Engine, HasRoom, IsBatch, call_due, call_in, stepped_from, text_of}
-use Rattle.journal_world.specs.Front.{Front, finishing, sealing, write_step, writing}
+use Rattle.journal_world.specs.Engine.{AreBatchesOf, CommitSteps, Engine, HasRoom, IsBatch, accepting, call_due, call_in, stepped_from, text_of}
+use Rattle.journal_world.specs.Front.{Front, FrontEvent, FrontHappens, WritesBlock, aborting, finishing, next_handle, sealing, write_step}
+use Rattle.journal_world.specs.Front.FrontEvent.{Reserve, GiveBack, Join, WriteBlock, StopHandle, Lock}
 use Rattle.journal_world.specs.Journal.{batch_of}
 use Rattle.journal_world.proofs.Batches.{batches-last}
+use Rattle.journal_world.proofs.Onward.{step-unfailed}
 use Rattle.journal_world.specs.Sound.{IsPlain, StageAgrees}
 use Rattle.journal_world.proofs.Positions.{tail-start}
 use Rattle.journal_model.proofs.Taken.{taken-layout}
@@ -218,9 +221,12 @@ module _ (f : Front) (old new : Engine) (agrees : Agrees (record { front = f; en
   steps-kept = subst (λ (l : Layout). AllByRecursion (IsGoodStep l new.shape) f.running.steps) (sym keeps.layout)
       (subst (λ (s : Shape). AllByRecursion (IsGoodStep old.layout s) f.running.steps) (sym keeps.shape) agrees.steps)
 
-  -- front and engine agree after a step that commits nothing
-  pub agrees-moved : new.committed ≡ old.committed → Agrees (record { front = f; engine = new })
-  agrees-moved same = record {
+  -- front and engine agree after a step that commits nothing, where the front knows whether the engine is aborted
+  pub agrees-told : (aborted : Bool) → new.committed ≡ old.committed → new.aborted ≡ aborted → Agrees (record { front = record f { aborted = aborted }; engine = new })
+  agrees-told aborted same told = record {
+    layout = agrees.layout ∙ sym keeps.layout;
+    home_blocks = agrees.home_blocks ∙ sym (ap (λ (s : Shape). s.home_blocks) keeps.shape);
+    aborted = sym told;
     batches = batches-kept;
     number = number-kept;
     mark = agrees.mark ∙ ap₂ (λ (a b : ℕ). a + b) (sym keeps.first) (sym same);
@@ -229,9 +235,16 @@ module _ (f : Front) (old new : Engine) (agrees : Agrees (record { front = f; en
     locked = agrees.locked;
   }
 
+  -- so it is where the step succeeds
+  pub agrees-moved : new.committed ≡ old.committed → new.aborted ≡ old.aborted → Agrees (record { front = f; engine = new })
+  agrees-moved same unfailed = agrees-told f.aborted same (unfailed ∙ sym agrees.aborted)
+
   -- and after one that commits, where the front tells of it
-  pub agrees-done : new.committed ≡ old.committed + 1 → Agrees (record { front = finishing f; engine = new })
-  agrees-done more = record {
+  pub agrees-done : new.committed ≡ old.committed + 1 → new.aborted ≡ old.aborted → Agrees (record { front = finishing f; engine = new })
+  agrees-done more unfailed = record {
+    layout = agrees.layout ∙ sym keeps.layout;
+    home_blocks = agrees.home_blocks ∙ sym (ap (λ (s : Shape). s.home_blocks) keeps.shape);
+    aborted = agrees.aborted ∙ sym unfailed;
     batches = batches-kept;
     number = number-kept;
     mark = let mark = agrees.mark in let first = keeps.first in omega arith;
@@ -241,19 +254,25 @@ module _ (f : Front) (old new : Engine) (agrees : Agrees (record { front = f; en
   }
 
 -- and after the seal of a transaction whose entries the engine took
-pub agrees-sealed : (f : Front) (old new : Engine) → Agrees (record { front = f; engine = old }) → new.first ≡ old.first → new.committed ≡ old.committed →
-    new.accepted ≡ old.accepted ++ batch_of f.running ∷ [] → Agrees (record { front = sealing f; engine = new })
-agrees-sealed f old new agrees first committed accepted = record {
-  batches = subst (AreBatchesOf (f.sealed ++ f.running ∷ [])) (sym accepted) (batches-last f.sealed old.accepted f.running agrees.batches);
-  number =
-      let number = agrees.number in
-      let size : length new.accepted ≡ length old.accepted + 1 = ap length accepted ∙ omega (arith, length-append old.accepted (batch_of f.running ∷ [])) in
-      omega arith;
-  mark = agrees.mark ∙ ap₂ (λ (a b : ℕ). a + b) (sym first) (sym committed);
-  steps = tt;
-  joined = λ some. absurd (omega arith);
-  locked = λ is. absurd (true≢false (sym is));
-}
+pub agrees-sealed : (f : Front) (old new : Engine) → Agrees (record { front = f; engine = old }) → new ≡ accepting old (batch_of f.running) →
+    Agrees (record { front = sealing f; engine = new })
+agrees-sealed f old new agrees after =
+    let accepted : new.accepted ≡ old.accepted ++ batch_of f.running ∷ [] = ap (λ (e : Engine). e.accepted) after in
+    let first : new.first ≡ old.first = ap (λ (e : Engine). e.first) after in
+    record {
+      layout = agrees.layout ∙ sym (ap (λ (e : Engine). e.layout) after);
+      home_blocks = agrees.home_blocks ∙ sym (ap (λ (e : Engine). e.shape.home_blocks) after);
+      aborted = agrees.aborted ∙ sym (ap (λ (e : Engine). e.aborted) after);
+      batches = subst (AreBatchesOf (f.sealed ++ f.running ∷ [])) (sym accepted) (batches-last f.sealed old.accepted f.running agrees.batches);
+      number =
+          let number = agrees.number in
+          let size : length new.accepted ≡ length old.accepted + 1 = ap length accepted ∙ omega (arith, length-append old.accepted (batch_of f.running ∷ [])) in
+          omega arith;
+      mark = agrees.mark ∙ ap₂ (λ (a b : ℕ). a + b) (sym first) (sym (ap (λ (e : Engine). e.committed) after));
+      steps = tt;
+      joined = λ some. absurd (omega arith);
+      locked = λ is. absurd (true≢false (sym is));
+    }
 
 -- the engine may be handed the batch of a transaction that is due to be sealed
 pub may-hand_over : (f : Front) (e : Engine) → Agrees (record { front = f; engine = e }) → IsPlain e → SealIsDue (record { front = f; engine = e }) →
@@ -284,12 +303,17 @@ refused-seal state f d e new r agrees plain due room (AfterFailure is) same = ab
 refused-seal state f d e new r agrees plain due room (RingIsShort running none) same = absurd (none (room-good e f.running plain agrees.steps room))
 refused-seal state f d e new r agrees plain due room (MemoryIsShort running has) same = NoMemory due room same
 
--- front and engine agree after a step that was refused
-pub agrees-refused : (f : Front) (old new : Engine) (before after : DeviceState) (e : JournalError) → Agrees (record { front = f; engine = old }) →
-    StepRefused old before new after e → Agrees (record { front = f; engine = new })
-agrees-refused f old new before after e agrees (WasAborted is same stays counted) = subst (λ (x : Engine). Agrees (record { front = f; engine = x })) (sym same) agrees
-agrees-refused f old new before after e agrees (DeviceFailed fault counted) =
-    agrees-moved f old new agrees (fault-keeps old new before.disk after.disk fault) (ap (λ (x : Engine). x.committed) fault.engine)
+-- front and engine agree after a step that was refused, once the front is told
+pub agrees-refused : (f front : Front) (old new : Engine) (before after : DeviceState) (e : JournalError) → Agrees (record { front = f; engine = old }) →
+    front ≡ aborting f → StepRefused old before new after e → Agrees (record { front = front; engine = new })
+agrees-refused f front old new before after e agrees told (WasAborted is same stays counted) =
+    subst (λ (x : Front). Agrees (record { front = x; engine = new })) (sym told)
+    (subst (λ (x : Engine). Agrees (record { front = aborting f; engine = x })) (sym same)
+    (agrees-told f old old agrees (record { shape = refl; layout = refl; accepted = refl; first = refl }) true refl is))
+agrees-refused f front old new before after e agrees told (DeviceFailed fault counted) =
+    subst (λ (x : Front). Agrees (record { front = x; engine = new })) (sym told)
+    (agrees-told f old new agrees (fault-keeps old new before.disk after.disk fault) true (ap (λ (x : Engine). x.committed) fault.engine)
+    (ap (λ (x : Engine). x.aborted) fault.engine))
 
 -- after a step that is not the last one
 pub agrees-step : (f : Front) (old new : Engine) (disk after : Disk) → Agrees (record { front = f; engine = old }) → CommitSteps old disk new after →
@@ -297,6 +321,7 @@ pub agrees-step : (f : Front) (old new : Engine) (disk after : Disk) → Agrees 
 agrees-step f old new disk after agrees step going =
     let same : (stepped_from old old.stage).committed ≡ old.committed = counts-same old old.stage (λ idle. going (ap (λ (x : Engine). x.stage) step.engine ∙ idle)) in
     agrees-moved f old new agrees (step-keeps old new disk after step) (ap (λ (x : Engine). x.committed) step.engine ∙ same)
+    (step-unfailed old new disk after step)
 
 -- the last step commits one transaction
 pub one-more : (old new : Engine) (disk after : Disk) → CommitSteps old disk new after → new.stage ≡ Idle → new.committed ≡ old.committed + 1
@@ -309,14 +334,14 @@ pub agrees-last : (f front : Front) (old new : Engine) (disk after : Disk) → A
     new.stage ≡ Idle → front ≡ finishing f → Agrees (record { front = front; engine = new })
 agrees-last f front old new disk after agrees step idle told =
     subst (λ (x : Front). Agrees (record { front = x; engine = new })) (sym told)
-    (agrees-done f old new agrees (step-keeps old new disk after step) (one-more old new disk after step idle))
+    (agrees-done f old new agrees (step-keeps old new disk after step) (one-more old new disk after step idle) (step-unfailed old new disk after step))
 
 -- a commit step that is refused refuses the turn
-pub refused-turn : {D : Type 0} (state : D → DeviceState) (f : Front) (d other : D) (old new : Engine) (e : JournalError) → old.aborted ≡ false →
-    StepRefused old (state d) new (state other) e →
-    TurnRefused state (record { device = d; journal = record { front = f; engine = old } }) (record { device = other; journal = record { front = f; engine = new } }) e
-refused-turn state f d other old new e running (WasAborted is same stays counted) = absurd (true≢false (sym is ∙ running))
-refused-turn state f d other old new e running (DeviceFailed fault counted) = FailedTurn (record { front = refl; engine = fault }) counted
+pub refused-turn : {D : Type 0} (state : D → DeviceState) (f front : Front) (d other : D) (old new : Engine) (e : JournalError) → old.aborted ≡ false →
+    front ≡ aborting f → StepRefused old (state d) new (state other) e →
+    TurnRefused state (record { device = d; journal = record { front = f; engine = old } }) (record { device = other; journal = record { front = front; engine = new } }) e
+refused-turn state f front d other old new e running told (WasAborted is same stays counted) = absurd (true≢false (sym is ∙ running))
+refused-turn state f front d other old new e running told (DeviceFailed fault counted) = FailedTurn (record { front = told; engine = fault }) counted
 
 -- the last step of a commit, with what the front tells
 pub finishes-commit : {D : Type 0} (state : D → DeviceState) (f front : Front) (d other : D) (old new : Engine) (tid : ℕ) →
@@ -334,7 +359,9 @@ finishes-commit state f front d other old new tid agrees step idle number told =
         let first : new.first ≡ old.first = (step-keeps old new (state d).disk (state other).disk step).first in
         let more = one-more old new (state d).disk (state other).disk step idle in
         omega arith;
-    change = record { journal = ap (λ (x : Front). record { front = x; engine = new }) told; disk_is = refl };
+    front = told;
+    engine = refl;
+    disk_is = refl;
   };
   number = number ∙ sym agrees.mark ∙ sym (ap (λ (x : Front). x.mark) told);
 }
@@ -347,17 +374,61 @@ mark-below f e agrees plain going =
     let number = agrees.number in
     omega arith
 
--- front and engine agree after a good step of a handle
+-- the event is a write
+abbrev pub IsWrite : FrontEvent → Type 0
+IsWrite (Reserve n) = ⊥
+IsWrite (GiveBack n) = ⊥
+IsWrite (Join n) = ⊥
+IsWrite (WriteBlock h b v) = ⊤
+IsWrite (StopHandle h) = ⊥
+IsWrite Lock = ⊥
+
+-- a front of the same measures and the same transactions agrees with the same engine
+agrees-like : (f made : Front) (e : Engine) → Agrees (record { front = f; engine = e }) → made.layout ≡ f.layout → made.home_blocks ≡ f.home_blocks →
+    made.aborted ≡ f.aborted → made.sealed ≡ f.sealed → made.running.tid ≡ f.running.tid → made.mark ≡ f.mark →
+    AllByRecursion (IsGoodStep e.layout e.shape) made.running.steps → (0 < length made.running.handles → made.running.tid ≤ greatest_number) →
+    (made.locked ≡ true → 0 < length made.running.handles) → Agrees (record { front = made; engine = e })
+agrees-like f made e agrees layout home_blocks aborted sealed tid mark steps joined locked = record {
+  layout = layout ∙ agrees.layout;
+  home_blocks = home_blocks ∙ agrees.home_blocks;
+  aborted = aborted ∙ agrees.aborted;
+  batches = subst (λ (ts : History). AreBatchesOf ts e.accepted) (sym sealed) agrees.batches;
+  number = tid ∙ agrees.number;
+  mark = ap (λ (n : ℕ). n + 1) mark ∙ agrees.mark;
+  steps = steps;
+  joined = joined;
+  locked = locked;
+}
+
+-- front and engine agree after a step of the front alone that is no write
+pub agrees-unwritten : (f front : Front) (e : Engine) (event : FrontEvent) → (IsWrite event → ⊥) → FrontHappens f event front →
+    Agrees (record { front = f; engine = e }) → Agrees (record { front = front; engine = e })
+agrees-unwritten f front e (Reserve n) other step agrees =
+    subst (λ (x : Front). Agrees (record { front = x; engine = e })) (sym step.after)
+    (agrees-like f _ e agrees refl refl refl refl refl refl agrees.steps agrees.joined agrees.locked)
+agrees-unwritten f front e (GiveBack n) other step agrees =
+    subst (λ (x : Front). Agrees (record { front = x; engine = e })) (sym step.after)
+    (agrees-like f _ e agrees refl refl refl refl refl refl agrees.steps agrees.joined agrees.locked)
+agrees-unwritten f front e (Join n) other step agrees =
+    let one = length-append f.running.handles (next_handle f ∷ []) in
+    subst (λ (x : Front). Agrees (record { front = x; engine = e })) (sym step.after)
+    (agrees-like f _ e agrees refl refl refl refl refl refl agrees.steps (λ some. step.may.number) (λ is. omega arith))
+agrees-unwritten f front e (WriteBlock h b v) other step agrees = absurd (other tt)
+agrees-unwritten f front e (StopHandle h) other step agrees =
+    subst (λ (x : Front). Agrees (record { front = x; engine = e })) (sym step.after)
+    (agrees-like f _ e agrees refl refl refl refl refl refl agrees.steps agrees.joined agrees.locked)
+agrees-unwritten f front e Lock other step agrees =
+    subst (λ (x : Front). Agrees (record { front = x; engine = e })) (sym step.after)
+    (agrees-like f _ e agrees refl refl refl refl refl refl agrees.steps agrees.joined (λ is. step.joined))
+
+-- and after a write
 pub agrees-written : (f front : Front) (e : Engine) (h b : ℕ) (v : List ℕ) → Agrees (record { front = f; engine = e }) →
-    IsAllowedBlock e.layout e.shape.home_blocks b → length v ≡ e.shape.block_size → front ≡ writing f h b v →
-    Agrees (record { front = front; engine = e })
-agrees-written f front e h b v agrees allowed whole wrote =
-    let written : Agrees (record { front = writing f h b v; engine = e }) = record {
-      batches = agrees.batches;
-      number = agrees.number;
-      mark = agrees.mark;
-      steps = each-append (IsGoodStep e.layout e.shape) f.running.steps (write_step h b v ∷ []) agrees.steps (record { whole = whole; allowed = allowed }, tt);
-      joined = agrees.joined;
-      locked = agrees.locked;
+    e.layout.block_size ≡ e.shape.block_size → WritesBlock f h b v front → Agrees (record { front = front; engine = e })
+agrees-written f front e h b v agrees size step =
+    let good : IsGoodStep e.layout e.shape (write_step h b v) = record {
+      whole = step.whole ∙ ap (λ (l : Layout). l.block_size) agrees.layout ∙ size;
+      allowed = allowed-here agrees.layout agrees.home_blocks step.allowed;
     } in
-    subst (λ (x : Front). Agrees (record { front = x; engine = e })) (sym wrote) written
+    subst (λ (x : Front). Agrees (record { front = x; engine = e })) (sym step.after)
+    (agrees-like f _ e agrees refl refl refl refl refl refl
+    (each-append (IsGoodStep e.layout e.shape) f.running.steps (write_step h b v ∷ []) agrees.steps (good, tt)) agrees.joined agrees.locked)

@@ -51,11 +51,6 @@ each-stay j state opens =
     let here : IsDuringTurn j state.disk state.disk = record { home = record { same = λ b. refl }; opens = opens } in
     each-stays (IsDuringTurn j state.disk) state state (record { shape = refl; disk = refl; past = refl }) here
 
--- where not one handle is open, none is
-pub none-open : (n : ℕ) → (0 < n → ⊥) → n ≡ 0
-none-open zero some = refl
-none-open (suc n) some = absurd (some (omega arith))
-
 -- what holds of each disk of a list, where something stronger does
 all-weaker : (P Q : Disk → Type 0) → ((disk : Disk) → P disk → Q disk) → (disks : List Disk) → AllByRecursion P disks → AllByRecursion Q disks
 all-weaker P Q weaker [] all = tt
@@ -134,26 +129,45 @@ round-fault-keeps old new disk after fault =
 
 -- front and engine of a journal that was just made agree
 pub fresh-agrees : (shape : Shape) (superblock : List ℕ) (next capacity : ℕ) (j : Journal) → j.engine ≡ fresh_engine shape superblock next →
-    j.front ≡ fresh_front capacity next → 0 < next → Agrees j
+    j.front ≡ fresh_front j.engine.layout j.engine.shape.home_blocks capacity next → 0 < next → Agrees j
 fresh-agrees shape superblock next capacity j engine front some =
-    let made : Journal = record { front = fresh_front capacity next; engine = fresh_engine shape superblock next } in
-    let agrees : Agrees made = record {
-      batches = tt;
+    let e : Engine = j.engine in
+    let accepted : e.accepted ≡ [] = ap (λ (x : Engine). x.accepted) engine in
+    let none : length e.accepted ≡ 0 = ap (λ (bs : List Batch). length bs) accepted in
+    let first : e.first ≡ next = ap (λ (x : Engine). x.first) engine in
+    let committed : e.committed ≡ 0 = ap (λ (x : Engine). x.committed) engine in
+    let made : Front = fresh_front e.layout e.shape.home_blocks capacity next in
+    let agrees : Agrees (record { front = made; engine = e }) = record {
+      layout = refl;
+      home_blocks = refl;
+      aborted = sym (ap (λ (x : Engine). x.aborted) engine);
+      batches = subst (AreBatchesOf []) (sym accepted) tt;
       number = omega arith;
       mark = omega arith;
       steps = tt;
       joined = λ none. absurd (omega arith);
       locked = λ lock. cc;
     } in
-    subst Agrees (sym (ap₂ (λ (f : Front) (e : Engine). record { front = f; engine = e }) front engine)) agrees
+    subst Agrees (sym (ap (λ (f : Front). record { front = f; engine = e }) front)) agrees
 
 -- and it is as an opening leaves it
 pub fresh-journal : (shape : Shape) (superblock : List ℕ) (next capacity : ℕ) (j : Journal) → j.engine ≡ fresh_engine shape superblock next →
-    j.front ≡ fresh_front capacity next → IsCapacity j.engine.layout j.engine.ring.blocks capacity → IsFresh shape superblock next j
+    j.front ≡ fresh_front j.engine.layout j.engine.shape.home_blocks capacity next → IsCapacity j.engine.layout j.engine.ring.blocks capacity →
+    IsFresh shape superblock next j
 fresh-journal shape superblock next capacity j engine front is =
     let credits : j.front.capacity ≡ capacity = ap (λ (f : Front). f.capacity) front in
     record {
       engine = engine;
-      front = front ∙ ap (λ (n : ℕ). fresh_front n next) (sym credits);
+      front = front ∙ ap (λ (n : ℕ). fresh_front j.engine.layout j.engine.shape.home_blocks n next) (sym credits);
       capacity = subst (IsCapacity j.engine.layout j.engine.ring.blocks) (sym credits) is;
     }
+
+-- a fresh journal is so by what its engine says of the log
+pub fresh-itself : (shape : Shape) (superblock : List ℕ) (next : ℕ) (j : Journal) → IsFresh shape superblock next j →
+    IsFresh j.engine.shape j.engine.superblock j.engine.first j
+fresh-itself shape superblock next j fresh =
+    let e : Engine = j.engine in
+    let is : e ≡ fresh_engine shape superblock next = fresh.engine in
+    subst (λ (s : Shape). IsFresh s e.superblock e.first j) (sym (ap (λ (x : Engine). x.shape) is))
+    (subst (λ (v : List ℕ). IsFresh shape v e.first j) (sym (ap (λ (x : Engine). x.superblock) is))
+    (subst (λ (n : ℕ). IsFresh shape superblock n j) (sym (ap (λ (x : Engine). x.first) is)) fresh))

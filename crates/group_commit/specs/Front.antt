@@ -1,19 +1,34 @@
 -- The front as contracts see it: the transaction that handles join, and what it keeps for them.
-use Rattle.std.specs.Prelude.{◌≡◌, ℕ, ◌+◌, ◌-◌, ◌^◌, ◌<◌, ◌≤◌, true, false, [], ◌∷◌, ◌++◌, length, drop}
+use Rattle.std.specs.Prelude.{◌≡◌, ℕ, ◌+◌, ◌-◌, ◌^◌, ◌<◌, ◌≤◌, nat_eq, true, false, [], ◌∷◌, ◌++◌, length, drop, Some}
+use Rattle.std.specs.List.{AllByRecursion}
+use Rattle.std.specs.Map.{lookup}
 use Rattle.journal_model.specs.declared.refusal.JournalError.{JournalError}
-use Rattle.journal_model.specs.declared.refusal.JournalError.TheVariants.{Full, Memory, NotRunning, SequenceEnd, TooMany}
+use Rattle.journal_model.specs.declared.refusal.JournalError.TheVariants.{Aborted, BadBlock, Full, Memory, NoCredit, NotRunning, SequenceEnd, TooMany}
+use Rattle.journal_model.specs.Block.{IsAllowedBlock}
+use Rattle.journal_model.specs.Layout.{IsTaken}
 use Rattle.journal_model.specs.Opening.{greatest_number}
 use Rattle.journal_model.specs.Transaction.{History}
-use Rattle.journal_world.specs.Front.{Front, MayJoin, next_handle}
+use Rattle.journal_world.specs.Front.{Front, IsFirstTouch, MayJoin, held, next_handle}
+use Rattle.group_commit.specs.Values.{HandleValue}
 
--- what a front keeps true: no more credits are held than a transaction may have, no more numbers are given out than there
--- are, and a transaction that takes no further handles has one
+-- what a front keeps true: no more credits are held than a transaction may have, no open handle has a number that is still
+-- to be given, no more numbers are given out than there are, and a transaction that takes no further handles has one
 pub record IsFront (f : Front) : Type 0 where
-  pub credits : f.held ≤ f.capacity
-  pub few : f.open_handles ≤ f.given
+  pub layout : IsTaken f.layout
+  pub credits : held f ≤ f.capacity
+  pub numbers : AllByRecursion (λ h. h.0 ≤ f.given) f.open_handles
   pub given : f.given < 2 ^ 64
   pub joined : f.locked ≡ true → 0 < length f.running.handles
   pub number : f.running.tid ≤ greatest_number + 1
+
+-- the handle is one of the open ones, with the credits that it says, of the transaction that runs
+pub record IsOpenHandle (f : Front) (h : HandleValue) : Type 0 where
+  pub left : lookup (nat_eq h.number) f.open_handles ≡ Some h.left
+  pub transaction : h.tid ≡ f.running.tid
+
+-- the block is one that may be touched
+abbrev pub MayTouch : Front → ℕ → Type 0
+MayTouch f b = IsAllowedBlock f.layout f.home_blocks b
 
 -- the transactions that are not told to be committed, the running one last
 abbrev pub unfinished : Front → History
@@ -22,11 +37,21 @@ unfinished f = drop (f.mark + 1 + length f.sealed - f.running.tid) (f.sealed ++ 
 -- why credits are not granted: a transaction can never have so many, or the credits held leave fewer
 pub data ReserveRefused (f : Front) (n : ℕ) : JournalError → Type 0 where
   BeyondCapacity : f.capacity < n → ReserveRefused f n TooMany
-  BeyondFree : n ≤ f.capacity → f.capacity < f.held + n → ReserveRefused f n Full
+  BeyondFree : n ≤ f.capacity → f.capacity < held f + n → ReserveRefused f n Full
 
--- why a handle may not join: memory runs out only where it may
-pub data JoinRefused (f : Front) : JournalError → Type 0 where
-  IsLocked : f.locked ≡ true → JoinRefused f NotRunning
-  NoNumber : f.locked ≡ false → greatest_number < f.running.tid → JoinRefused f SequenceEnd
-  NoHandle : f.locked ≡ false → 2 ^ 64 ≤ next_handle f → JoinRefused f SequenceEnd
-  NoMemory : MayJoin f → JoinRefused f Memory
+-- why a handle may not join with so many credits: they are none that the front has granted; memory runs out only where it may
+pub data JoinRefused (f : Front) (n : ℕ) : JournalError → Type 0 where
+  IsAborted : f.aborted ≡ true → JoinRefused f n Aborted
+  IsLocked : f.aborted ≡ false → f.locked ≡ true → JoinRefused f n NotRunning
+  NoNumber : f.aborted ≡ false → f.locked ≡ false → greatest_number < f.running.tid → JoinRefused f n SequenceEnd
+  NoHandle : f.aborted ≡ false → f.locked ≡ false → 2 ^ 64 ≤ next_handle f → JoinRefused f n SequenceEnd
+  NotGranted : f.aborted ≡ false → MayJoin f → f.reserved < n → JoinRefused f n NoCredit
+  NoMemory : f.aborted ≡ false → MayJoin f → n ≤ f.reserved → JoinRefused f n Memory
+
+-- why a handle may not write a block: a handle that is not open has no credit, nor has one at a first touch that has none left
+pub data WriteRefused (f : Front) (h : HandleValue) (b : ℕ) : JournalError → Type 0 where
+  WhileAborted : f.aborted ≡ true → WriteRefused f h b Aborted
+  OutOfHome : f.aborted ≡ false → (MayTouch f b → ⊥) → WriteRefused f h b BadBlock
+  NotOpen : f.aborted ≡ false → MayTouch f b → (IsOpenHandle f h → ⊥) → WriteRefused f h b NoCredit
+  WithoutCredit : f.aborted ≡ false → MayTouch f b → IsOpenHandle f h → IsFirstTouch f b → h.left ≡ 0 → WriteRefused f h b NoCredit
+  WithoutMemory : f.aborted ≡ false → MayTouch f b → IsOpenHandle f h → (IsFirstTouch f b → 0 < h.left) → WriteRefused f h b Memory

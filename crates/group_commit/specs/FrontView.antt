@@ -4,20 +4,23 @@ use Rattle.std.specs.List.{AllByRecursion}
 use Rattle.journal_model.specs.declared.entry.Entry.{Entry}
 use Rattle.journal_model.specs.declared.entry.Entry.TheVariants.{Copy, Revoke}
 use Rattle.journal_model.specs.Transaction.{History, Transaction, entries}
-use Rattle.journal_world.specs.Front.{Front}
+use Rattle.journal_world.specs.Front.{Front, held}
 use Rattle.group_commit.specs.declared.front.Front.TheInside.{Inside}
 use Rattle.group_commit.specs.Front.{IsFront}
 
 abbrev pub front_of : Inside → Front
 front_of f = record {
+  layout = f.layout;
+  home_blocks = f.home_blocks;
   capacity = f.capacity;
-  held = f.held;
+  reserved = f.reserved;
   mark = f.mark;
   sealed = f.sealed.items;
   running = f.running;
-  open_handles = f.open_handles;
+  open_handles = f.open_handles.entries;
   locked = f.locked;
   given = f.given;
+  aborted = f.aborted;
 }
 
 -- the entry is a copy
@@ -32,10 +35,11 @@ pub data AreCommitting (sealed : History) (mark running : ℕ) : List (ℕ × En
   LastUnfinished : (before : History) (last : Transaction) → sealed ≡ before ++ last ∷ [] → mark + 2 ≡ running →
       AreCommitting sealed mark running (entries last.steps)
 
--- the entries are those of the running transaction's steps, all of them copies, as those of the sealed one that is not told
--- to be committed are; and once a handle has joined it there is room to seal it
+-- the count of credits is that of those held; the entries are those of the running transaction's steps, all of them copies,
+-- as those of the sealed one that is not told to be committed are; and once a handle has joined it there is room to seal it
 pub record KeepsFront (f : Inside) : Type 0 where
   pub front : IsFront (front_of f)
+  pub held_are : f.held ≡ held (front_of f)
   pub entries_are : f.entries.entries ≡ entries f.running.steps
   pub committing_are : AreCommitting f.sealed.items f.mark f.running.tid f.committing.entries
   pub copies : AllByRecursion IsCopy f.entries.entries

@@ -4,7 +4,7 @@ use Rattle.std.specs.List.{AllByRecursion}
 use Rattle.journal_model.specs.declared.entry.Entry.{Entry}
 use Rattle.journal_model.specs.declared.number.Area.TheVariants.{Home}
 use Rattle.journal_model.specs.declared.refusal.JournalError.{JournalError}
-use Rattle.journal_model.specs.declared.refusal.JournalError.TheVariants.{Aborted, BadBlock, Device, Memory, NeedSpace, NoCredit}
+use Rattle.journal_model.specs.declared.refusal.JournalError.TheVariants.{Aborted, BadBlock, Device, Memory, NeedSpace}
 use Rattle.journal_model.specs.declared.transaction.Op.{Op}
 use Rattle.journal_model.specs.declared.transaction.Op.TheVariants.{Write, Revoke, Read}
 use Rattle.journal_model.specs.declared.transaction.Step.{Step as HandleStep}
@@ -22,8 +22,9 @@ use Rattle.journal_world.specs.declared.stage.Stage.TheVariants.{Idle}
 use Rattle.journal_world.specs.Checkpoint.{IsPending}
 use Rattle.journal_world.specs.Engine.{AreBatchesOf, Engine}
 use Rattle.journal_world.specs.Front.{Front, IsFirstTouch}
+use Rattle.journal_world.specs.Front.FrontEvent.{Lock}
 use Rattle.journal_world.specs.Journal.{Event, Happens, Journal}
-use Rattle.journal_world.specs.Journal.Event.{CheckpointFault, CheckpointStep, CommitFault, CommitStep, Finish, Lock, ReadFault, Seal}
+use Rattle.journal_world.specs.Journal.Event.{CheckpointFault, CheckpointStep, CommitFault, CommitStep, Finish, FrontStep, ReadFault, Seal}
 use Rattle.journal_world.specs.Sound.{CopiesHome, KeepsHome}
 use Rattle.group_commit.specs.declared.handle.Status.{Status}
 use Rattle.group_commit.specs.declared.handle.Status.TheVariants.{Committed as IsCommitted, Open}
@@ -31,7 +32,7 @@ use Rattle.group_commit.specs.declared.journal.CheckTurn.{CheckTurn}
 use Rattle.group_commit.specs.declared.journal.CheckTurn.TheVariants.{Idle as IdleCheck, Step as StepCheck, Released}
 use Rattle.group_commit.specs.declared.journal.Turn.{Turn}
 use Rattle.group_commit.specs.declared.journal.Turn.TheVariants.{Idle as IdleTurn, Waiting, Step, Sealed, Committed}
-use Rattle.group_commit.specs.Front.{JoinRefused, unfinished}
+use Rattle.group_commit.specs.Front.{MayTouch, unfinished}
 use Rattle.group_commit.specs.Values.{HandleValue, JournalValue}
 
 -- the journal and the disk of its device go from old to new by this one step
@@ -48,30 +49,18 @@ pub record IsGoodStep (l : Layout) (shape : Shape) (s : HandleStep) : Type 0 whe
   pub whole : IsWholeWrite shape.block_size s.op
   pub allowed : IsAllowedBlock l shape.home_blocks s.block
 
--- front and engine agree: what is sealed is what is accepted, and what is told to be committed is what is committed
+-- front and engine agree: what is sealed is what is accepted, what is told to be committed is what is committed, and the
+-- front knows the measures of log and device, and whether the device has failed
 pub record Agrees (j : Journal) : Type 0 where
+  pub layout : j.front.layout ≡ j.engine.layout
+  pub home_blocks : j.front.home_blocks ≡ j.engine.shape.home_blocks
+  pub aborted : j.front.aborted ≡ j.engine.aborted
   pub batches : AreBatchesOf j.front.sealed j.engine.accepted
   pub number : j.front.running.tid ≡ j.engine.first + length j.engine.accepted
   pub mark : j.front.mark + 1 ≡ j.engine.first + j.engine.committed
   pub steps : AllByRecursion (IsGoodStep j.engine.layout j.engine.shape) j.front.running.steps
   pub joined : 0 < length j.front.running.handles → j.front.running.tid ≤ greatest_number
   pub locked : j.front.locked ≡ true → 0 < length j.front.running.handles
-
--- why a handle can't be had: the journal is aborted, or else the front refuses it
-pub data TryJoinRefused (j : Journal) (e : JournalError) : Type 0 where
-  IsAborted : j.engine.aborted ≡ true → e ≡ Aborted → TryJoinRefused j e
-  ByFront : j.engine.aborted ≡ false → JoinRefused j.front e → TryJoinRefused j e
-
--- the block is one that may be touched
-abbrev pub MayTouch : Journal → ℕ → Type 0
-MayTouch j b = IsAllowedBlock j.engine.layout j.engine.shape.home_blocks b
-
--- why a write is refused
-pub data WriteRefused (j : Journal) (left b : ℕ) : JournalError → Type 0 where
-  WhileAborted : j.engine.aborted ≡ true → WriteRefused j left b Aborted
-  OutOfHome : j.engine.aborted ≡ false → (MayTouch j b → ⊥) → WriteRefused j left b BadBlock
-  WithoutCredit : j.engine.aborted ≡ false → MayTouch j b → IsFirstTouch j.front b → left ≡ 0 → WriteRefused j left b NoCredit
-  WithoutMemory : j.engine.aborted ≡ false → MayTouch j b → (IsFirstTouch j.front b → 0 < left) → WriteRefused j left b Memory
 
 -- how many transactions since the opening are told to be committed
 abbrev pub finished : Journal → ℕ
@@ -90,8 +79,8 @@ pub data HasCopyKept (j : Journal) (b : ℕ) : Type 0 where
 -- device failed in the read
 pub data ReadRefused {D : Type 0} (state : D → DeviceState) (old : JournalValue D) (b : ℕ) (new : JournalValue D) : JournalError → Type 0 where
   ReadAborted : old.journal.engine.aborted ≡ true → new ≡ old → ReadRefused state old b new Aborted
-  ReadOutside : old.journal.engine.aborted ≡ false → (MayTouch old.journal b → ⊥) → new ≡ old → ReadRefused state old b new BadBlock
-  ReadFailed : MayTouch old.journal b → (HasCopyKept old.journal b → ⊥) → Does state old ReadFault new →
+  ReadOutside : old.journal.engine.aborted ≡ false → (MayTouch old.journal.front b → ⊥) → new ≡ old → ReadRefused state old b new BadBlock
+  ReadFailed : MayTouch old.journal.front b → (HasCopyKept old.journal b → ⊥) → Does state old ReadFault new →
       (state new.device).faults ≡ one_more_fault (state old.device).faults → ReadRefused state old b new Device
 
 -- what a write leaves of the handle: a first touch takes one of its credits, any other write none
@@ -101,8 +90,8 @@ pub record Spends (f : Front) (b : ℕ) (old new : HandleValue) : Type 0 where
 
 -- a request locks the ticket's transaction where that is still running, and a handle has joined it; else it does nothing
 pub record Requests {D : Type 0} (state : D → DeviceState) (tid : ℕ) (old new : JournalValue D) : Type 0 where
-  pub running : old.journal.engine.aborted ≡ false
-  pub same : tid ≡ old.journal.front.running.tid → 0 < length old.journal.front.running.handles → Does state old Lock new
+  pub running : old.journal.front.aborted ≡ false
+  pub same : tid ≡ old.journal.front.running.tid → 0 < length old.journal.front.running.handles → Does state old (FrontStep Lock) new
   pub other : (tid ≢ old.journal.front.running.tid) → new ≡ old
   pub empty : length old.journal.front.running.handles ≡ 0 → new ≡ old
 
@@ -121,7 +110,7 @@ pub record SealIsDue (j : Journal) : Type 0 where
   pub running : j.engine.aborted ≡ false
   pub idle : j.engine.stage ≡ Idle
   pub locked : j.front.locked ≡ true
-  pub stopped : j.front.open_handles ≡ 0
+  pub stopped : j.front.open_handles ≡ []
 
 -- The commit step was the last one of its transaction: it is committed, and told to be so.
 pub record FinishesCommit {D : Type 0} (state : D → DeviceState) (tid : ℕ) (old new : JournalValue D) : Type 0 where
@@ -147,7 +136,7 @@ pub record StopIsAwaited (j : Journal) : Type 0 where
   pub running : j.engine.aborted ≡ false
   pub idle : j.engine.stage ≡ Idle
   pub locked : j.front.locked ≡ true
-  pub open_handle : 0 < j.front.open_handles
+  pub open_handle : 0 < length j.front.open_handles
 
 -- what a commit turn did
 abbrev pub TurnDid : {D : Type 0} → (D → DeviceState) → Turn → JournalValue D → JournalValue D → Type 0

@@ -1,6 +1,6 @@
 //! What a journal does before its log is closed: the running transaction is sealed where a handle has joined it, and
 //! everything is committed and released.
-ghost use Rattle.std.specs.Prelude.{◌≡◌, ◌<◌, ◌≤◌, false, length, IfErr, OnOk};
+ghost use Rattle.std.specs.Prelude.{◌≡◌, ◌<◌, ◌≤◌, false, length, [], IfErr, OnOk};
 ghost use Rattle.journal_model.specs.declared.refusal.JournalError.TheVariants.{Device as DeviceFailed};
 ghost use Rattle.journal_world.specs.declared.stage.Stage.TheVariants.{Idle};
 ghost use Rattle.log_epochs.specs.EngineWorld.Phase.{Running};
@@ -14,7 +14,7 @@ use journal_model::JournalError;
 /// Seals the running transaction where a handle has joined it, and commits and releases everything. Where it is refused,
 /// what was sealed and committed so far stays so.
 pub(crate) fn finish<D: Device>(journal: &mut Journal<D>) -> Result<(), JournalError>
-    requires { journal.old.journal.front.open_handles ≡ 0 }
+    requires { journal.old.journal.front.open_handles ≡ [] }
     ensures ok { OnOk result (IsFinished D.state journal.old journal.new) }
     ensures err { IfErr result (λ e. CloseRefused D.state journal.old journal.new.device journal.new.journal.front.sealed journal.new.journal.engine.committed e) }
     ensures path { ComesTo journal.old.journal (D.state journal.old.device).disk journal.new.journal (D.state journal.new.device).disk Running }
@@ -37,7 +37,7 @@ fn seal_last<D: Device>(journal: &mut Journal<D>) -> Result<(), JournalError>
     requires running { journal.old.journal.engine.aborted ≡ false }
     requires idle { journal.old.journal.engine.stage ≡ Idle }
     requires joined { 0 < length journal.old.journal.front.running.handles }
-    requires stopped { journal.old.journal.front.open_handles ≡ 0 }
+    requires stopped { journal.old.journal.front.open_handles ≡ [] }
     ensures ok { OnOk result (HasSealed D.state journal.old journal.new) }
     ensures idle { OnOk result (journal.new.journal.engine.stage ≡ Idle) }
     ensures err { IfErr result (λ e. CloseRefused D.state journal.old journal.new.device journal.new.journal.front.sealed journal.new.journal.engine.committed e) }

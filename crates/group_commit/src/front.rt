@@ -1,16 +1,21 @@
-//! The transaction that handles join and write to, the ones that are sealed, and the credits.
-ghost use Rattle.std.specs.Prelude.{◌≡◌, ◌+◌, ◌<◌, ◌≤◌, ◌↔◌, true, IsTrue, length, Some, None, IfSome, IfNone, OnOk, OnErr, IfOk, IfErr};
+//! The transaction that handles join and write to, the ones that are sealed, the open handles, and the credits. It knows the
+//! measures of log and device and whether the device has failed, and asks nobody else.
+ghost use Rattle.std.specs.Prelude.{◌≡◌, ◌+◌, ◌-◌, ◌<◌, ◌≤◌, ◌↔◌, nat_eq, true, false, [], IsTrue, length, Some, None, IfSome, IfNone, OnOk, OnErr, IfOk, IfErr};
+ghost use Rattle.std.specs.Map.{lookup};
 ghost use Rattle.journal_model.specs.declared.entry.Entry.TheVariants.{Copy};
+ghost use Rattle.journal_model.specs.Layout.{IsTaken};
 ghost use Rattle.journal_model.specs.Opening.{greatest_number};
 ghost use Rattle.journal_model.specs.Transaction.{entries, last_effect};
-ghost use Rattle.journal_world.specs.Front.{IsFirstTouch, MayJoin, empty_transaction, finishing, fresh_front, giving_back, joining, locking, next_handle, reserving, sealing, stopping, writing};
+ghost use Rattle.journal_world.specs.Front.{FrontHappens, IsFirstTouch, aborting, empty_transaction, finishing, fresh_front, left_after, next_handle, sealing};
+ghost use Rattle.journal_world.specs.Front.FrontEvent.{GiveBack, Join, Lock, Reserve, StopHandle, WriteBlock};
 ghost use Rattle.journal_world.specs.Journal.{batch_of};
-ghost use Rattle.group_commit.specs.Front.{JoinRefused, ReserveRefused, unfinished};
+ghost use Rattle.group_commit.specs.Front.{IsOpenHandle, JoinRefused, MayTouch, ReserveRefused, unfinished};
 
+use crate::handle::Handle;
 use indexmap::IndexMap;
 use journal_model::layout::GREATEST_NUMBER;
 use journal_model::{
-    Batch, Block, BlockNo, Entry, HandleNo, Items, JournalError, Op, Sealed, Step, Tid,
+    Batch, Block, BlockNo, Entry, HandleNo, Items, JournalError, LogLayout, Op, Sealed, Step, Tid,
 };
 use std::alloc::{AllocError, Global};
 use std::marker::Model;
@@ -19,10 +24,16 @@ use std::marker::Model;
 #[derive(Drop)]
 pub(crate) struct Front {
     alloc: Global,
+    /// The layout of the log.
+    layout: LogLayout,
+    /// How many home blocks the device has.
+    home_blocks: u64,
     /// The most credits that are held.
     capacity: u64,
-    /// The credits granted and not given back.
+    /// The credits held: those that no handle was made of, those that open handles have left, and one for each entry.
     held: u64,
+    /// Those of them that no handle was made of.
+    reserved: u64,
     /// The number of the last transaction that callers are told is committed.
     mark: u32,
     /// The transactions sealed since the opening.
@@ -33,12 +44,14 @@ pub(crate) struct Front {
     entries: IndexMap<BlockNo, Entry>,
     /// The entries of the last sealed transaction, while it is not told to be committed.
     committing: IndexMap<BlockNo, Entry>,
-    /// How many of its handles have not stopped.
-    open_handles: u64,
+    /// Those of its handles that have not stopped, in the order in which they joined, with the credits that each has left.
+    open_handles: IndexMap<HandleNo, u64>,
     /// It takes no further handles.
     locked: bool,
     /// How many handle numbers have been given out.
     given: u64,
+    /// The device has failed.
+    aborted: bool,
 }
 
 impl Model for Front {
@@ -65,30 +78,42 @@ fn empty_transaction(alloc: Global, tid: Tid) -> Sealed
 }
 
 impl Front {
-    /// The front of a journal whose first transaction has the number `first`, with so many credits. It takes no memory.
-    pub(crate) fn new(alloc: Global, capacity: u64, first: Tid) -> Self
+    /// The front of a journal whose first transaction has the number `first`, with so many credits, on a log of this layout
+    /// beside so many home blocks. It takes no memory.
+    pub(crate) fn new(
+        alloc: Global,
+        layout: LogLayout,
+        home_blocks: u64,
+        capacity: u64,
+        first: Tid,
+    ) -> Self
+        requires layout { IsTaken layout }
         requires some { 0 < first }
         requires number { first ≤ greatest_number }
-        ensures { result ≡ fresh_front capacity first }
+        ensures { result ≡ fresh_front layout home_blocks capacity first }
     {
         Front {
             alloc,
+            layout,
+            home_blocks,
             capacity,
             held: 0,
+            reserved: 0,
             mark: first.0 - 1,
             sealed: Vec::new(alloc),
             running: empty_transaction(alloc, first),
             entries: IndexMap::new(alloc),
             committing: IndexMap::new(alloc),
-            open_handles: 0,
+            open_handles: IndexMap::new(alloc),
             locked: false,
             given: 0,
+            aborted: false,
         }
     }
 
     /// Grants credits.
     pub(crate) fn reserve(&mut self, n: u64) -> Result<(), JournalError>
-        ensures ok { OnOk result ((self.old.held + n ≤ self.old.capacity) × (self.new ≡ reserving self.old n)) }
+        ensures ok { OnOk result (FrontHappens self.old (Reserve n) self.new) }
         ensures err { IfErr result (λ e. ReserveRefused self.old n e × (self.new ≡ self.old)) }
     {
         if n > self.capacity {
@@ -98,21 +123,30 @@ impl Front {
             return Err(JournalError::Full);
         }
         self.held += n;
+        self.reserved += n;
         Ok(())
     }
 
-    /// Takes credits back.
+    /// Takes credits back, of those that no handle was made of. More than there are were not granted here: nothing changes.
     pub(crate) fn give_back(&mut self, n: u64)
-        ensures { self.new ≡ giving_back self.old n }
+        ensures granted { n ≤ self.old.reserved → FrontHappens self.old (GiveBack n) self.new }
+        ensures other { self.old.reserved < n → self.new ≡ self.old }
     {
-        self.held = self.held.saturating_sub(n);
+        if n <= self.reserved {
+            self.held -= n;
+            self.reserved -= n;
+        }
     }
 
-    /// Lets one more handle join.
-    pub(crate) fn join(&mut self) -> Result<(HandleNo, Tid), JournalError>
-        ensures ok { IfOk result (λ r. MayJoin self.old × (r.0 ≡ next_handle self.old) × (r.1 ≡ self.old.running.tid) × (self.new ≡ joining self.old)) }
-        ensures err { IfErr result (λ e. JoinRefused self.old e × (self.new ≡ self.old)) }
+    /// Lets one more handle join, with so many of the credits that no other was made of.
+    pub(crate) fn join(&mut self, n: u64) -> Result<(HandleNo, Tid), JournalError>
+        ensures ok { IfOk result (λ r. FrontHappens self.old (Join n) self.new × (r.0 ≡ next_handle self.old) × (r.1 ≡ self.old.running.tid)) }
+        ensures open { IfOk result (λ r. lookup (nat_eq r.0) self.new.open_handles ≡ Some n) }
+        ensures err { IfErr result (λ e. JoinRefused self.old n e × (self.new ≡ self.old)) }
     {
+        if self.aborted {
+            return Err(JournalError::Aborted);
+        }
         if self.locked {
             return Err(JournalError::NotRunning);
         }
@@ -120,12 +154,51 @@ impl Front {
         if tid.0 > GREATEST_NUMBER || self.given == u64::MAX {
             return Err(JournalError::SequenceEnd);
         }
+        if n > self.reserved {
+            return Err(JournalError::NoCredit);
+        }
         self.sealed.try_reserve(1)?;
+        self.open_handles.reserve(1)?;
         let number = HandleNo(self.given + 1);
         self.running.handles.push(number)?;
+        match self.open_handles.insert(number, n) {
+            Ok(_) => {}
+            Err(_) => unreachable!(),
+        }
+        self.reserved -= n;
         self.given += 1;
-        self.open_handles += 1;
         Ok((number, tid))
+    }
+
+    /// Whether a handle is one of the open ones, with the credits that it says, of the running transaction.
+    pub(crate) fn is_open(&self, handle: &Handle) -> bool
+        ensures { IsTrue result ↔ IsOpenHandle self.now handle.now }
+    {
+        match self.open_handles.get(&handle.number()) {
+            Some(left) => *left == handle.left() && self.running.tid == handle.tid(),
+            None => false,
+        }
+    }
+
+    /// Whether a block is one that may be touched.
+    pub(crate) fn may_touch(&self, block: BlockNo) -> bool
+        ensures { IsTrue result ↔ MayTouch self.now block }
+    {
+        block.is_allowed(self.layout, self.home_blocks)
+    }
+
+    /// Whether the device has failed, as far as the front was told.
+    pub(crate) fn is_aborted(&self) -> bool
+        ensures { result ≡ self.now.aborted }
+    {
+        self.aborted
+    }
+
+    /// Notes that the device has failed.
+    pub(crate) fn abort(&mut self)
+        ensures { self.new ≡ aborting self.old }
+    {
+        self.aborted = true;
     }
 
     /// Whether no step of the running transaction has touched the block.
@@ -151,37 +224,65 @@ impl Front {
         }
     }
 
-    /// Notes a write. Where memory runs out nothing is noted.
+    /// How many credits a handle has left once it has written the block, which has so many before.
+    fn left_after(&self, block: BlockNo, left: u64) -> u64
+        requires { IsFirstTouch self.now block → 0 < left }
+        ensures { result ≡ left_after self.now block left }
+    {
+        if self.is_first_touch(block) {
+            left - 1
+        } else {
+            left
+        }
+    }
+
+    /// Notes a write of an open handle, which has so many credits left; a first touch takes one of them. Where memory runs out
+    /// nothing is noted.
     pub(crate) fn write(
         &mut self,
         handle: HandleNo,
+        left: u64,
         block: BlockNo,
         bytes: &[u8],
     ) -> Result<(), AllocError>
-        ensures ok { OnOk result (self.new ≡ writing self.old handle block bytes.now) }
+        requires running { self.old.aborted ≡ false }
+        requires open { lookup (nat_eq handle) self.old.open_handles ≡ Some left }
+        requires credit { IsFirstTouch self.old block → 0 < left }
+        requires allowed { MayTouch self.old block }
+        requires whole { length bytes.now ≡ self.old.layout.block_size }
+        ensures ok { OnOk result (FrontHappens self.old (WriteBlock handle block bytes.now) self.new) }
+        ensures left { OnOk result (lookup (nat_eq handle) self.new.open_handles ≡ Some (left_after self.old block left)) }
+        ensures same { OnOk result (self.new.running.tid ≡ self.old.running.tid) }
         ensures err { OnErr result (self.new ≡ self.old) }
     {
+        let left = self.left_after(block, left);
         let copy = Block::copy_of(self.alloc, bytes)?;
         let op = Op::Write(Block::copy_of(self.alloc, bytes)?);
         self.entries.reserve(1)?;
         self.running.steps.push(Step { handle, block, op })?;
         match self.entries.insert(block, Entry::Copy(copy)) {
+            Ok(_) => {}
+            Err(_) => unreachable!(),
+        }
+        match self.open_handles.insert(handle, left) {
             Ok(_) => Ok(()),
             Err(_) => unreachable!(),
         }
     }
 
-    /// Lets a handle stop, with so many credits left.
-    pub(crate) fn stop(&mut self, left: u64)
-        ensures { self.new ≡ stopping self.old left }
+    /// Lets an open handle stop, which has so many credits left.
+    pub(crate) fn stop(&mut self, handle: HandleNo, left: u64)
+        requires { lookup (nat_eq handle) self.old.open_handles ≡ Some left }
+        ensures { FrontHappens self.old (StopHandle handle) self.new }
     {
-        self.open_handles = self.open_handles.saturating_sub(1);
-        self.give_back(left);
+        self.open_handles.shift_remove(&handle);
+        self.held -= left;
     }
 
     /// The running transaction takes no further handles, where one has joined it.
     pub(crate) fn lock(&mut self)
-        ensures joined { 0 < length self.old.running.handles → self.new ≡ locking self.old }
+        requires { self.old.aborted ≡ false }
+        ensures joined { 0 < length self.old.running.handles → FrontHappens self.old Lock self.new }
         ensures empty { length self.old.running.handles ≡ 0 → self.new ≡ self.old }
     {
         if self.running.handles.len() > 0 {
@@ -205,9 +306,10 @@ impl Front {
 
     /// Whether a handle of the running transaction has not stopped.
     pub(crate) fn has_open_handles(&self) -> bool
-        ensures { IsTrue result ↔ (0 < self.now.open_handles) }
+        ensures some { IsTrue result ↔ (0 < length self.now.open_handles) }
+        ensures none { result ≡ false → self.now.open_handles ≡ [] }
     {
-        self.open_handles > 0
+        !self.open_handles.is_empty()
     }
 
     /// The number of the running transaction.
@@ -276,8 +378,11 @@ impl Front {
     {
         let Front {
             alloc: _,
+            layout: _,
+            home_blocks: _,
             capacity: _,
             held: _,
+            reserved: _,
             mark: _,
             sealed,
             running: _,
@@ -286,6 +391,7 @@ impl Front {
             open_handles: _,
             locked: _,
             given: _,
+            aborted: _,
         } = self;
         sealed
     }

@@ -1,23 +1,23 @@
 //! The journal that callers hold: a front and an engine.
-ghost use Rattle.std.specs.Prelude.{◌≡◌, ◌<◌, ◌≤◌, ◌≢◌, ◌↔◌, true, false, length, [], IfOk, IfErr, MatchResult, OnOk, IsTrue, Contains};
+ghost use Rattle.std.specs.Prelude.{◌≡◌, ◌<◌, ◌≤◌, ◌≢◌, ◌↔◌, true, false, length, [], IfOk, IfErr, MatchResult, OnOk, IsTrue, Some, None};
 ghost use Rattle.journal_model.specs.declared.refusal.JournalError.TheVariants.{Aborted, Device as DeviceFailed, Memory};
 ghost use Rattle.journal_model.specs.Disk.{Image, Leaves};
 ghost use Rattle.block_device.specs.State.{EachMoment, Stays, one_more_fault};
 ghost use Rattle.journal_world.specs.declared.stage.Stage.TheVariants.{Idle};
-ghost use Rattle.journal_world.specs.Front.{next_handle, writing};
+ghost use Rattle.journal_world.specs.Front.{next_handle};
+ghost use Rattle.journal_world.specs.Front.FrontEvent.{GiveBack, Join, Reserve, StopHandle, WriteBlock};
 ghost use Rattle.journal_world.specs.Sound.{IsPlain};
 ghost use Rattle.journal_world.specs.Journal.{IsFresh};
-ghost use Rattle.journal_world.specs.Journal.Event.{GiveBack, Join, Reserve, Seal, StopHandle, WriteBlock};
-ghost use Rattle.journal_world.specs.World.{Begins};
-ghost use Rattle.journal_world.specs.World.Phase.{Running};
-ghost use Rattle.log_epochs.specs.EngineWorld.Phase.{Shut};
+ghost use Rattle.journal_world.specs.Journal.Event.{FrontStep, Seal};
+ghost use Rattle.log_epochs.specs.EngineWorld.Phase.{Running, Shut};
 ghost use Rattle.log_epochs.specs.JournalPromise.{IsClosed};
+ghost use Rattle.log_epochs.specs.JournalWorld.{Begins};
 ghost use Rattle.log_engine.specs.Call.{IsOneMoment};
 ghost use Rattle.log_engine.specs.Close.{IsAllReleased};
 ghost use Rattle.log_engine.specs.Left.{commit_calls};
 ghost use Rattle.group_commit.specs.Close.{CloseDid, CloseRefused, EndsWith, LeavesFewerRounds, SealRefused, closing, locked_journal};
-ghost use Rattle.group_commit.specs.Front.{ReserveRefused};
-ghost use Rattle.group_commit.specs.Journal.{Agrees, CheckTurnDid, CheckTurnRefused, Does, HasCopyKept, HasRoomFor, IsDuringCheckTurn, IsDuringTurn, IsSeen, MayTouch, OpensNow, OpensOver, ReadRefused, Requests, SealIsDue, Spends, StatusIs, TryJoinRefused, TurnDid, TurnRefused, WriteRefused};
+ghost use Rattle.group_commit.specs.Front.{IsOpenHandle, JoinRefused, MayTouch, ReserveRefused, WriteRefused};
+ghost use Rattle.group_commit.specs.Journal.{Agrees, CheckTurnDid, CheckTurnRefused, Does, HasCopyKept, HasRoomFor, IsDuringCheckTurn, IsDuringTurn, IsSeen, OpensNow, OpensOver, ReadRefused, Requests, SealIsDue, Spends, StatusIs, TurnDid, TurnRefused};
 
 use crate::close::finish;
 use crate::front::Front;
@@ -95,18 +95,23 @@ impl<D: Device> Journal<D> {
         ensures fresh { IfOk result (λ r. IsFresh (D.state opened.device).shape opened.superblock opened.next r.0.journal) }
         ensures device { IfOk result (λ r. r.0.device ≡ opened.device) }
         ensures begins { IfOk result (λ r. D.honest opened.device → Begins (record {
-          opening = (D.state opened.device).disk;
-          journal = r.0.journal;
-          disk = (D.state r.0.device).disk;
-          answered = [];
-          phase = Running;
+          below = record {
+            shape = (D.state r.0.device).shape;
+            disk = (D.state r.0.device).disk;
+            phase = Running;
+            epoch = Some (record { opening = (D.state opened.device).disk; engine = r.0.journal.engine; pin = None });
+            ended = [];
+          };
+          told = record { front = r.0.journal.front; answered = [] };
+          past = [];
         })) }
         ensures err { IfErr result (λ e. (e.0 ≡ opened) × (e.1 ≡ Memory)) }
     {
         let next = opened.next();
         let engine = Engine::new(alloc, opened)?;
-        let credits = Layout::capacity(engine.layout(), engine.ring_blocks());
-        let front = Front::new(alloc, credits, next);
+        let layout = engine.layout();
+        let credits = Layout::capacity(layout, engine.ring_blocks());
+        let front = Front::new(alloc, layout, engine.home_blocks(), credits, next);
         Ok((Journal { front, engine }, Seat::new()))
     }
 
@@ -125,7 +130,7 @@ impl<D: Device> Journal<D> {
     /// leave fewer.
     /// Source: journalling.rst (`journal_start`).
     pub fn reserve(&mut self, _seat: &mut Seat, n: u64) -> Result<Credits, JournalError>
-        ensures ok { IfOk result (λ credits. (credits ≡ n) × Does D.state self.old (Reserve n) self.new) }
+        ensures ok { IfOk result (λ credits. (credits ≡ n) × Does D.state self.old (FrontStep (Reserve n)) self.new) }
         ensures err { IfErr result (λ e. ReserveRefused self.old.journal.front n e × (self.new ≡ self.old)) }
         ensures device { self.new.device ≡ self.old.device }
     {
@@ -133,9 +138,10 @@ impl<D: Device> Journal<D> {
         Ok(Credits::new(n))
     }
 
-    /// Takes back credits that no handle was made of.
+    /// Takes back credits that no handle was made of. More than are held so were granted by another journal: nothing changes.
     pub fn give_back(&mut self, credits: Credits)
-        ensures gives { Does D.state self.old (GiveBack credits) self.new }
+        ensures gives { credits ≤ self.old.journal.front.reserved → Does D.state self.old (FrontStep (GiveBack credits)) self.new }
+        ensures other { self.old.journal.front.reserved < credits → self.new ≡ self.old }
         ensures device { self.new.device ≡ self.old.device }
     {
         self.front.give_back(credits.count());
@@ -147,18 +153,17 @@ impl<D: Device> Journal<D> {
     ///
     /// The credits come back, and nothing else changes. The first that applies of `Aborted` after a device failure,
     /// `NotRunning` where the transaction takes no further handles, `SequenceEnd` where no number is left for it or for the
-    /// handle, and `Memory`.
+    /// handle, `NoCredit` where these are more credits than this journal has granted that no handle was made of, as those of
+    /// another journal may be, and `Memory`.
     /// Source: journalling.rst (`journal_start`).
     pub fn try_join(&mut self, credits: Credits) -> Result<Handle, (Credits, JournalError)>
-        ensures ok { IfOk result (λ handle. Does D.state self.old Join self.new
+        ensures ok { IfOk result (λ handle. Does D.state self.old (FrontStep (Join credits)) self.new
             × (handle ≡ record { number = next_handle self.old.journal.front; tid = self.old.journal.front.running.tid; left = credits })) }
-        ensures err { IfErr result (λ e. (e.0 ≡ credits) × TryJoinRefused self.old.journal e.1 × (self.new ≡ self.old)) }
+        ensures open { IfOk result (IsOpenHandle self.new.journal.front) }
+        ensures err { IfErr result (λ e. (e.0 ≡ credits) × JoinRefused self.old.journal.front credits e.1 × (self.new ≡ self.old)) }
         ensures device { self.new.device ≡ self.old.device }
     {
-        if self.engine.is_aborted() {
-            return Err((credits, JournalError::Aborted));
-        }
-        match self.front.join() {
+        match self.front.join(credits.count()) {
             Ok((number, tid)) => Ok(Handle::new(number, tid, credits.count())),
             Err(e) => Err((credits, e)),
         }
@@ -170,7 +175,8 @@ impl<D: Device> Journal<D> {
     /// # Errors
     ///
     /// Nothing changes. The first that applies of `Aborted` after a device failure, `BadBlock` where home has no such block,
-    /// or its number is not below 2^32, `NoCredit` at a first touch without a credit left, and `Memory`.
+    /// or its number is not below 2^32, `NoCredit` where the handle is none of this journal's open ones, or at a first touch
+    /// without a credit left, and `Memory`.
     /// Source: journalling.rst (`journal_get_write_access`, `journal_dirty_metadata`).
     pub fn write(
         &mut self,
@@ -179,26 +185,28 @@ impl<D: Device> Journal<D> {
         bytes: &[u8],
     ) -> Result<(), JournalError>
         requires { length bytes.now ≡ (D.state self.old.device).shape.block_size }
-        // A handle of this journal makes one step of its transaction.
-        ensures ok { OnOk result (Contains self.old.journal.front.running.handles handle.old.number →
-            Does D.state self.old (WriteBlock handle.old.number block bytes.now) self.new) }
-        ensures noted { OnOk result (self.new.journal ≡ record self.old.journal { front = writing self.old.journal.front handle.old.number block bytes.now }) }
+        ensures ok { OnOk result (Does D.state self.old (FrontStep (WriteBlock handle.old.number block bytes.now)) self.new) }
+        ensures open { OnOk result (IsOpenHandle self.old.journal.front handle.old × IsOpenHandle self.new.journal.front handle.new) }
         ensures spends { OnOk result (Spends self.old.journal.front block handle.old handle.new) }
-        ensures err { IfErr result (λ e. WriteRefused self.old.journal handle.old.left block e × (self.new ≡ self.old) × (handle.new ≡ handle.old)) }
+        ensures err { IfErr result (λ e. WriteRefused self.old.journal.front handle.old block e × (self.new ≡ self.old) × (handle.new ≡ handle.old)) }
         ensures device { self.new.device ≡ self.old.device }
     {
         self.engine.recall_invariant();
-        if self.engine.is_aborted() {
+        if self.front.is_aborted() {
             return Err(JournalError::Aborted);
         }
-        if !block.is_allowed(self.engine.layout(), self.engine.home_blocks()) {
+        if !self.front.may_touch(block) {
             return Err(JournalError::BadBlock);
+        }
+        if !self.front.is_open(handle) {
+            return Err(JournalError::NoCredit);
         }
         let first = self.front.is_first_touch(block);
         if first && handle.left() == 0 {
             return Err(JournalError::NoCredit);
         }
-        self.front.write(handle.number(), block, bytes)?;
+        self.front
+            .write(handle.number(), handle.left(), block, bytes)?;
         if first {
             handle.spend();
         }
@@ -221,7 +229,7 @@ impl<D: Device> Journal<D> {
         into: &mut [u8],
     ) -> Result<(), JournalError>
         requires { length into.old ≡ (D.state self.old.device).shape.block_size }
-        ensures may { OnOk result ((self.old.journal.engine.aborted ≡ false) × MayTouch self.old.journal block) }
+        ensures may { OnOk result ((self.old.journal.engine.aborted ≡ false) × MayTouch self.old.journal.front block) }
         ensures seen { OnOk result (D.honest self.new.device → IsSeen self.old.journal (D.state self.old.device).disk block into.new) }
         ensures same { OnOk result (self.new.journal ≡ self.old.journal) }
         // Where a copy is kept there is no device call.
@@ -238,25 +246,34 @@ impl<D: Device> Journal<D> {
         if self.engine.is_aborted() {
             return Err(JournalError::Aborted);
         }
-        let home_blocks = self.engine.home_blocks();
-        if !block.is_allowed(self.engine.layout(), home_blocks) {
+        if !self.front.may_touch(block) {
             return Err(JournalError::BadBlock);
         }
         if let Some(copy) = self.front.copy_of(block) {
             into.copy_from_slice(copy);
             return Ok(());
         }
-        self.engine.read(block, into)
+        match self.engine.read(block, into) {
+            Ok(()) => Ok(()),
+            Err(e) => {
+                self.front.abort();
+                Err(e)
+            }
+        }
     }
 
-    /// Ends a handle. Its credits that are left come back. It always succeeds, after a device failure too.
+    /// Ends a handle. Its credits that are left come back. It always succeeds, after a device failure too. Where the handle is
+    /// none of this journal's open ones nothing changes.
     /// Source: journalling.rst (`journal_stop`).
     pub fn stop(&mut self, handle: Handle) -> Ticket
-        ensures stops { Does D.state self.old (StopHandle handle.left) self.new }
+        ensures stops { IsOpenHandle self.old.journal.front handle → Does D.state self.old (FrontStep (StopHandle handle.number)) self.new }
+        ensures other { (IsOpenHandle self.old.journal.front handle → ⊥) → self.new ≡ self.old }
         ensures ticket { result ≡ record { handle = handle.number; tid = handle.tid } }
         ensures device { self.new.device ≡ self.old.device }
     {
-        self.front.stop(handle.left());
+        if self.front.is_open(&handle) {
+            self.front.stop(handle.number(), handle.left());
+        }
         Ticket::new(handle.number(), handle.tid())
     }
 
@@ -268,10 +285,10 @@ impl<D: Device> Journal<D> {
     /// Source: fs/jbd2/journal.c by behaviour (`jbd2_log_start_commit`).
     pub fn request(&mut self, ticket: &Ticket) -> Result<(), JournalError>
         ensures ok { OnOk result (Requests D.state ticket.now.tid self.old self.new) }
-        ensures err { IfErr result (λ e. (e ≡ Aborted) × (self.old.journal.engine.aborted ≡ true) × (self.new ≡ self.old)) }
+        ensures err { IfErr result (λ e. (e ≡ Aborted) × (self.old.journal.front.aborted ≡ true) × (self.new ≡ self.old)) }
         ensures device { self.new.device ≡ self.old.device }
     {
-        if self.engine.is_aborted() {
+        if self.front.is_aborted() {
             return Err(JournalError::Aborted);
         }
         if ticket.tid() == self.front.tid() {
@@ -304,11 +321,11 @@ impl<D: Device> Journal<D> {
         _seat: &mut Seat,
     ) -> Result<Receipt, (Ticket, JournalError)>
         requires { ticket.tid ≤ self.old.journal.front.mark }
-        ensures ok { IfOk result (λ receipt. (receipt ≡ ticket) × (self.old.journal.engine.aborted ≡ false)) }
-        ensures err { IfErr result (λ e. (e.0 ≡ ticket) × (e.1 ≡ Aborted) × (self.old.journal.engine.aborted ≡ true)) }
+        ensures ok { IfOk result (λ receipt. (receipt ≡ ticket) × (self.old.journal.front.aborted ≡ false)) }
+        ensures err { IfErr result (λ e. (e.0 ≡ ticket) × (e.1 ≡ Aborted) × (self.old.journal.front.aborted ≡ true)) }
         ensures same { self.new ≡ self.old }
     {
-        if self.engine.is_aborted() {
+        if self.front.is_aborted() {
             return Err((ticket, JournalError::Aborted));
         }
         Ok(Receipt::new(ticket.handle(), ticket.tid()))
@@ -371,7 +388,14 @@ impl<D: Device> Journal<D> {
         ensures one { IsOneMoment (D.state self.old.device) (D.state self.new.device) }
         ensures honest { D.honest self.new.device → D.honest self.old.device }
     {
-        match self.engine.commit_step()? {
+        let progress = match self.engine.commit_step() {
+            Ok(progress) => progress,
+            Err(e) => {
+                self.front.abort();
+                return Err(e);
+            }
+        };
+        match progress {
             Progress::Idle => Ok(Turn::Idle),
             Progress::Step => Ok(Turn::Step),
             Progress::Done(tid) => {
@@ -420,7 +444,14 @@ impl<D: Device> Journal<D> {
         ensures one { IsOneMoment (D.state self.old.device) (D.state self.new.device) }
         ensures honest { D.honest self.new.device → D.honest self.old.device }
     {
-        match self.engine.checkpoint_step()? {
+        let progress = match self.engine.checkpoint_step() {
+            Ok(progress) => progress,
+            Err(e) => {
+                self.front.abort();
+                return Err(e);
+            }
+        };
+        match progress {
             Progress::Idle => Ok(CheckTurn::Idle),
             Progress::Step => Ok(CheckTurn::Step),
             Progress::Done(tid) => Ok(CheckTurn::Released(tid)),
@@ -429,7 +460,8 @@ impl<D: Device> Journal<D> {
 
     /// Whether a handle has not stopped.
     pub fn has_open_handles(&self) -> bool
-        ensures { IsTrue result ↔ (0 < self.now.journal.front.open_handles) }
+        ensures some { IsTrue result ↔ (0 < length self.now.journal.front.open_handles) }
+        ensures none { result ≡ false → self.now.journal.front.open_handles ≡ [] }
     {
         self.front.has_open_handles()
     }
@@ -477,10 +509,11 @@ impl<D: Device> Journal<D> {
         requires running { self.old.journal.engine.aborted ≡ false }
         requires idle { self.old.journal.engine.stage ≡ Idle }
         requires joined { 0 < length self.old.journal.front.running.handles }
-        requires stopped { self.old.journal.front.open_handles ≡ 0 }
+        requires stopped { self.old.journal.front.open_handles ≡ [] }
         ensures ok { OnOk result (Does D.state (locked_journal self.old) Seal self.new) }
         ensures err { IfErr result (λ e. SealRefused self.old.journal e × (self.new ≡ locked_journal self.old)) }
         ensures all { self.old.journal.engine.committed ≡ length self.old.journal.front.sealed }
+        ensures told { self.old.journal.front.aborted ≡ false }
         ensures device { self.new.device ≡ self.old.device }
     {
         self.engine.recall_invariant();
@@ -500,7 +533,7 @@ impl<D: Device> Journal<D> {
     /// as it may be with handles of another journal: it is not sealed, and all before it is committed.
     /// Source: fs/jbd2/journal.c by behaviour (`jbd2_journal_destroy`).
     pub fn close(self) -> Result<Parts<D>, (Parts<D>, JournalError)>
-        requires { self.journal.front.open_handles ≡ 0 }
+        requires { self.journal.front.open_handles ≡ [] }
         ensures running { OnOk result (self.journal.engine.aborted ≡ false) }
         ensures ok { IfOk result (λ parts. (parts.sealed.items ≡ closing self.journal.front) × (parts.committed ≡ length parts.sealed.items)) }
         ensures closed { IfOk result (λ parts. D.honest parts.device → (image : Image) → Leaves (D.state parts.device).disk image → IsClosed self.journal.engine.shape parts.sealed.items image) }

@@ -3,8 +3,8 @@
 //! Bytes are spelled as in `log 3 from 8: 00000002`: these, from place 8 of block 3 of the log on. `home` names the home area.
 use crate::scripts::given_script;
 use crate::texts::{write_hex, written};
-use bench_run::{Fault, Stopped, empty_disk, judge, run_operations, run_operations_over};
-use bench_script::Script;
+use bench_run::{AnyHome, Fault, Stopped, empty_disk, judge, run_operations, run_operations_over};
+use bench_script::{Operation, Script};
 use block_device::{Device, MemDevice, StopAt};
 use format_rows::RowError;
 use format_rows::words::{cut, hex_bytes, number};
@@ -57,10 +57,23 @@ fn run_changed(
     out: &mut Vec<u8>,
 ) -> Result<Answer, RowError> {
     let device = StopAt::new(changed_disk(alloc, script, before)?, 0);
-    let answer = run_operations_over(alloc, device, &script.operations, None, out);
+    let answer = run_over(alloc, device, &script.operations, out);
     match answer_of(answer)? {
         Ok(stopped) => judge_changed(alloc, script, stopped, after, out),
         Err(e) => Ok(Err(e)),
+    }
+}
+
+/// Runs operations over a device with a log, which it opens.
+fn run_over(
+    alloc: Global,
+    device: StopAt<MemDevice>,
+    operations: &[Operation],
+    out: &mut Vec<u8>,
+) -> Result<Stopped, Fault> {
+    match open(alloc, device) {
+        Ok(opened) => run_operations_over::<AnyHome>(alloc, opened, operations, None, out),
+        Err((_, e)) => Err(Fault::Refused(e)),
     }
 }
 

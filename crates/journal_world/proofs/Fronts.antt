@@ -1,63 +1,211 @@
 -- The front agrees with the engine, and each step of the front keeps that, as does whatever step the engine goes on by.
-use Rattle.std.proofs.Common.{sym, ap, subst, arith, length-append}
-use Rattle.std.specs.Prelude.{◌≡◌, ℕ, suc, ◌+◌, ◌<◌, ◌≤◌, Bool, List, [], ◌∷◌, ◌++◌, length, Contains}
-use Rattle.std.specs.List.{AllByRecursion}
+use Rattle.std.proofs.Common.{refl, sym, ap, subst, ◌∙◌, arith, length-append}
+use Rattle.std.specs.Prelude.{◌≡◌, ℕ, suc, ◌+◌, ◌<◌, ◌≤◌, nat_eq, Bool, true, false, List, [], ◌∷◌, ◌++◌, length, map, Contains}
+use Rattle.std.specs.List.{AllByRecursion, IsDistinct, list_any}
+use Rattle.std.proofs.lemmas.Bool.Decides.{nat_tests}
+use Rattle.std.proofs.lemmas.Cmp.{nat_eq_equiv}
+use Rattle.std.proofs.lemmas.List.{map-append}
+use Rattle.std.proofs.lemmas.List.Elements.{Contains-append_left, Contains-push}
+use Rattle.std.proofs.lemmas.Map.Keys.{IsDistinct-push}
+use Rattle.journal_model.proofs.OwnTextEach.{each-append}
 use Rattle.journal_model.specs.declared.entry.Batch.{Batch}
+use Rattle.journal_model.specs.Chain.{Ring}
+use Rattle.journal_model.specs.Room.{IsCapacity}
 use Rattle.journal_model.specs.Superblock.{Shape}
 use Rattle.journal_world.specs.Engine.{Engine, Accepts, AreBatchesOf}
-use Rattle.journal_world.specs.Front.{Front, MaySeal, finishing, fresh_front, joining, sealing, write_step, writing}
-use Rattle.journal_world.specs.Journal.{batch_of, fresh_engine}
+use Rattle.journal_world.specs.Front.{Front, FrontEvent, FrontHappens, IsOpen, MaySeal, aborting, finishing, fresh_front, held, joining, left_after, next_handle, sealing, stopping, write_step, writing}
+use Rattle.journal_world.specs.Front.FrontEvent.{Reserve, GiveBack, Join, WriteBlock, StopHandle, Lock}
+use Rattle.journal_world.specs.Journal.{KeepsFront, batch_of, fresh_engine}
 use Rattle.journal_world.proofs.Batches.{batches-last}
-use Rattle.journal_world.proofs.Elements.{all-weaker}
+use Rattle.journal_world.proofs.Credits.{held-within}
+use Rattle.journal_world.proofs.Elements.{all-weaker, none-passes}
 use Rattle.journal_world.proofs.Handles.{HasHandles, handles-begin, handles-empty, handles-join, handles-step}
 use Rattle.journal_world.proofs.Onward.{GoesOn}
+use Rattle.journal_world.proofs.OpenHandles.{all-changed, all-without, distinct-without, same-numbers}
 
 -- What the front keeps true beside the engine: the sealed transactions are those that the engine has, the running one
 -- has the next number, and none is told committed that is not. (With number 0 for the first one nothing is ever sealed.)
+-- No open handle has a number that is still to be given.
 pub record FrontAgrees (f : Front) (e : Engine) (answered : List ℕ) : Type 0 where
   pub batches : AreBatchesOf f.sealed e.accepted
   pub number : f.running.tid ≡ e.first + length e.accepted
   pub marked : 0 < length e.accepted → f.mark < e.first + e.committed
   pub told : AllByRecursion (λ n. n ≤ f.mark) answered
   pub handles : HasHandles f.given (f.sealed ++ f.running ∷ [])
+  pub keeps : KeepsFront f e
+  pub least : AllByRecursion (λ h. h.0 ≤ f.given) f.open_handles
 
 -- the front of a journal that was just made agrees with its engine
-pub fresh-agrees : (capacity : ℕ) (shape : Shape) (superblock : List ℕ) (next : ℕ) →
-    FrontAgrees (fresh_front capacity next) (fresh_engine shape superblock next) []
-fresh-agrees capacity shape superblock next = record {
-  batches = tt;
-  number = omega arith;
-  marked = λ some. absurd (omega arith);
-  told = tt;
-  handles = handles-empty next;
-}
+pub fresh-agrees : (capacity : ℕ) (shape : Shape) (superblock : List ℕ) (next : ℕ) (e : Engine) → e ≡ fresh_engine shape superblock next →
+    IsCapacity e.layout e.ring.blocks capacity → FrontAgrees (fresh_front e.layout e.shape.home_blocks capacity next) e []
+fresh-agrees capacity shape superblock next e is fits =
+    let accepted : e.accepted ≡ [] = ap (λ (x : Engine). x.accepted) is in
+    let first : e.first ≡ next = ap (λ (x : Engine). x.first) is in
+    let none : length e.accepted ≡ 0 = ap (λ (bs : List Batch). length bs) accepted in
+    record {
+      batches = subst (AreBatchesOf []) (sym accepted) tt;
+      number = omega arith;
+      marked = λ some. absurd (omega arith);
+      told = tt;
+      handles = handles-empty next;
+      keeps = record {
+        layout = refl;
+        home_blocks = refl;
+        aborted = sym (ap (λ (x : Engine). x.aborted) is);
+        capacity = fits;
+        credits = omega arith;
+        joined = tt;
+        once = unfold IsDistinct in tt;
+      };
+      least = tt;
+    }
 
--- credits, open handles and the lock do not matter
-pub credits-agree : (f : Front) (e : Engine) (answered : List ℕ) (held open_handles : ℕ) (locked : Bool) → FrontAgrees f e answered →
-    FrontAgrees (record f { held = held; open_handles = open_handles; locked = locked }) e answered
-credits-agree f e answered held open_handles locked agrees =
-    record { batches = agrees.batches; number = agrees.number; marked = agrees.marked; told = agrees.told; handles = agrees.handles }
+-- other credits that no handle was made of, and the lock, do not matter
+credits-agree : (f : Front) (e : Engine) (answered : List ℕ) (reserved : ℕ) (locked : Bool) →
+    held (record f { reserved = reserved; locked = locked }) ≤ f.capacity → FrontAgrees f e answered →
+    FrontAgrees (record f { reserved = reserved; locked = locked }) e answered
+credits-agree f e answered reserved locked within agrees = record {
+  batches = agrees.batches;
+  number = agrees.number;
+  marked = agrees.marked;
+  told = agrees.told;
+  handles = agrees.handles;
+  keeps = record {
+    layout = agrees.keeps.layout;
+    home_blocks = agrees.keeps.home_blocks;
+    aborted = agrees.keeps.aborted;
+    capacity = agrees.keeps.capacity;
+    credits = within;
+    joined = agrees.keeps.joined;
+    once = agrees.keeps.once;
+  };
+  least = agrees.least;
+}
 
 -- a handle joins
-pub join-agrees : (f : Front) (e : Engine) (answered : List ℕ) → FrontAgrees f e answered → FrontAgrees (joining f) e answered
-join-agrees f e answered agrees = record {
+join-agrees : (f : Front) (e : Engine) (answered : List ℕ) (n : ℕ) → held (joining f n) ≤ f.capacity → FrontAgrees f e answered →
+    FrontAgrees (joining f n) e answered
+join-agrees f e answered n within agrees =
+    let number : ℕ × ℕ → ℕ = λ h. h.0 in
+    let fresh : list_any (nat_eq (next_handle f)) (map number f.open_handles) ≡ false =
+    above-none f.given f.open_handles agrees.least in
+    record {
+      batches = agrees.batches;
+      number = agrees.number;
+      marked = agrees.marked;
+      told = agrees.told;
+      handles = handles-join f.given f.sealed f.running agrees.handles;
+      keeps = record {
+        layout = agrees.keeps.layout;
+        home_blocks = agrees.keeps.home_blocks;
+        aborted = agrees.keeps.aborted;
+        capacity = agrees.keeps.capacity;
+        credits = within;
+        joined =
+            each-append (λ h. Contains (f.running.handles ++ next_handle f ∷ []) h.0) f.open_handles ((next_handle f, n) ∷ [])
+            (all-weaker (λ h. Contains f.running.handles h.0) (λ h. Contains (f.running.handles ++ next_handle f ∷ []) h.0)
+            (λ h one. Contains-append_left f.running.handles (next_handle f ∷ []) h.0 one) f.open_handles agrees.keeps.joined)
+            (Contains-push f.running.handles (next_handle f), tt);
+        once =
+            subst (IsDistinct nat_eq) (sym (map-append number f.open_handles ((next_handle f, n) ∷ [])))
+            (IsDistinct-push nat_eq_equiv (map number f.open_handles) (next_handle f) agrees.keeps.once fresh);
+      };
+      least =
+          each-append (λ h. h.0 ≤ next_handle f) f.open_handles ((next_handle f, n) ∷ [])
+          (all-weaker (λ h. h.0 ≤ f.given) (λ h. h.0 ≤ next_handle f) (λ h low. omega arith) f.open_handles agrees.least) (omega arith, tt);
+    }
+  where
+    above-none : (given : ℕ) (hs : List (ℕ × ℕ)) → AllByRecursion (λ h. h.0 ≤ given) hs → list_any (nat_eq (given + 1)) (map (λ h. h.0) hs) ≡ false
+    above-none given hs least = none-passes (nat_eq (given + 1)) (map (λ h. h.0) hs) (apart hs least)
+      where
+        apart : (rest : List (ℕ × ℕ)) → AllByRecursion (λ h. h.0 ≤ given) rest → AllByRecursion (λ k. nat_eq (given + 1) k ≡ false) (map (λ h. h.0) rest)
+        apart [] low = tt
+        apart (h ∷ rest) low = (grind (arith, nat_tests, low.0), apart rest low.1)
+
+-- an open handle writes a block
+write-agrees : (f : Front) (e : Engine) (answered : List ℕ) (h b : ℕ) (v : List ℕ) (handle : IsOpen f h) → held (writing f h b v handle) ≤ f.capacity →
+    FrontAgrees f e answered → FrontAgrees (writing f h b v handle) e answered
+write-agrees f e answered h b v handle within agrees =
+    let all : AllByRecursion (λ o. Contains f.running.handles o.0) (handle.before ++ (h, handle.left) ∷ handle.behind) =
+    subst (AllByRecursion (λ o. Contains f.running.handles o.0)) handle.stands agrees.keeps.joined in
+    let least : AllByRecursion (λ o. o.0 ≤ f.given) (handle.before ++ (h, handle.left) ∷ handle.behind) =
+    subst (AllByRecursion (λ o. o.0 ≤ f.given)) handle.stands agrees.least in
+    record {
+      batches = agrees.batches;
+      number = agrees.number;
+      marked = agrees.marked;
+      told = agrees.told;
+      handles = handles-step f.given f.sealed f.running (write_step h b v) (own handle.before handle.behind all) agrees.handles;
+      keeps = record {
+        layout = agrees.keeps.layout;
+        home_blocks = agrees.keeps.home_blocks;
+        aborted = agrees.keeps.aborted;
+        capacity = agrees.keeps.capacity;
+        credits = within;
+        joined = all-changed (λ o. Contains f.running.handles o.0) handle.before (h, handle.left) (h, left_after f b handle.left) handle.behind (λ one. one) all;
+        once =
+            subst (IsDistinct nat_eq) (ap (map (λ o. o.0)) handle.stands ∙ same-numbers handle.before h handle.left (left_after f b handle.left) handle.behind)
+            agrees.keeps.once;
+      };
+      least = all-changed (λ o. o.0 ≤ f.given) handle.before (h, handle.left) (h, left_after f b handle.left) handle.behind (λ low. low) least;
+    }
+  where
+    own : (before behind : List (ℕ × ℕ)) → AllByRecursion (λ o. Contains f.running.handles o.0) (before ++ (h, handle.left) ∷ behind) →
+        Contains f.running.handles h
+    own [] behind all = all.0
+    own (o ∷ before) behind all = own before behind all.1
+
+-- an open handle stops
+stop-agrees : (f : Front) (e : Engine) (answered : List ℕ) (h : ℕ) (handle : IsOpen f h) → held (stopping f h handle) ≤ f.capacity → FrontAgrees f e answered →
+    FrontAgrees (stopping f h handle) e answered
+stop-agrees f e answered h handle within agrees = record {
   batches = agrees.batches;
   number = agrees.number;
   marked = agrees.marked;
   told = agrees.told;
-  handles = handles-join f.given f.sealed f.running agrees.handles;
+  handles = agrees.handles;
+  keeps = record {
+    layout = agrees.keeps.layout;
+    home_blocks = agrees.keeps.home_blocks;
+    aborted = agrees.keeps.aborted;
+    capacity = agrees.keeps.capacity;
+    credits = within;
+    joined =
+        all-without (λ o. Contains f.running.handles o.0) handle.before (h, handle.left) handle.behind
+        (subst (AllByRecursion (λ o. Contains f.running.handles o.0)) handle.stands agrees.keeps.joined);
+    once =
+        distinct-without handle.before (h, handle.left) handle.behind
+        (subst (λ (hs : List (ℕ × ℕ)). IsDistinct nat_eq (map (λ o. o.0) hs)) handle.stands agrees.keeps.once);
+  };
+  least = all-without (λ o. o.0 ≤ f.given) handle.before (h, handle.left) handle.behind (subst (AllByRecursion (λ o. o.0 ≤ f.given)) handle.stands agrees.least);
 }
 
--- a handle writes a block
-pub write-agrees : (f : Front) (e : Engine) (answered : List ℕ) (h b : ℕ) (v : List ℕ) → Contains f.running.handles h → FrontAgrees f e answered →
-    FrontAgrees (writing f h b v) e answered
-write-agrees f e answered h b v joined agrees = record {
-  batches = agrees.batches;
-  number = agrees.number;
-  marked = agrees.marked;
-  told = agrees.told;
-  handles = handles-step f.given f.sealed f.running (write_step h b v) joined agrees.handles;
-}
+-- a step of the front alone
+pub front-agrees : (old new : Front) (e : Engine) (answered : List ℕ) (event : FrontEvent) → FrontHappens old event new → FrontAgrees old e answered →
+    FrontAgrees new e answered
+front-agrees old new e answered event step agrees = by event step (held-within old new event step agrees.keeps.credits)
+  where
+    with : (front : Front) → new ≡ front → front.capacity ≡ old.capacity → held new ≤ new.capacity → held front ≤ old.capacity
+    with front is same within = let now : held front ≤ front.capacity = subst (λ (f : Front). held f ≤ f.capacity) is within in omega arith
+
+    by : (event : FrontEvent) → FrontHappens old event new → held new ≤ new.capacity → FrontAgrees new e answered
+    by (Reserve n) step within =
+        subst (λ (f : Front). FrontAgrees f e answered) (sym step.after)
+        (credits-agree old e answered _ _ (with _ step.after refl within) agrees)
+    by (GiveBack n) step within =
+        subst (λ (f : Front). FrontAgrees f e answered) (sym step.after)
+        (credits-agree old e answered _ _ (with _ step.after refl within) agrees)
+    by (Join n) step within =
+        subst (λ (f : Front). FrontAgrees f e answered) (sym step.after) (join-agrees old e answered n (with _ step.after refl within) agrees)
+    by (WriteBlock h b v) step within =
+        subst (λ (f : Front). FrontAgrees f e answered) (sym step.after)
+        (write-agrees old e answered h b v step.handle (with _ step.after refl within) agrees)
+    by (StopHandle h) step within =
+        subst (λ (f : Front). FrontAgrees f e answered) (sym step.after)
+        (stop-agrees old e answered h step.handle (with _ step.after refl within) agrees)
+    by Lock step within =
+        subst (λ (f : Front). FrontAgrees f e answered) (sym step.after)
+        (credits-agree old e answered _ _ (with _ step.after refl within) agrees)
 
 -- the front tells that one more transaction is committed
 pub finish-agrees : (f : Front) (e : Engine) (answered : List ℕ) → f.mark + 1 < e.first + e.committed → FrontAgrees f e answered →
@@ -68,6 +216,16 @@ finish-agrees f e answered committed agrees = record {
   marked = λ some. committed;
   told = all-weaker (λ n. n ≤ f.mark) (λ n. n ≤ f.mark + 1) (λ n low. omega arith) answered agrees.told;
   handles = agrees.handles;
+  keeps = record {
+    layout = agrees.keeps.layout;
+    home_blocks = agrees.keeps.home_blocks;
+    aborted = agrees.keeps.aborted;
+    capacity = agrees.keeps.capacity;
+    credits = agrees.keeps.credits;
+    joined = agrees.keeps.joined;
+    once = agrees.keeps.once;
+  };
+  least = agrees.least;
 }
 
 -- an answer tells of a transaction that the mark has come to
@@ -78,7 +236,24 @@ answer-agrees f e answered tid marked agrees = record {
   marked = agrees.marked;
   told = (marked, agrees.told);
   handles = agrees.handles;
+  keeps = agrees.keeps;
+  least = agrees.least;
 }
+
+-- what a sealed front keeps beside an engine of the same measures that has not failed either
+sealed-keeps : (f : Front) (old new : Engine) → f.open_handles ≡ [] → new.shape ≡ old.shape → new.layout ≡ old.layout → new.ring ≡ old.ring →
+    new.aborted ≡ old.aborted → KeepsFront f old → KeepsFront (sealing f) new
+sealed-keeps f old new none shape layout ring aborted keeps =
+    let within : held f ≤ f.capacity = keeps.credits in
+    record {
+      layout = keeps.layout ∙ sym layout;
+      home_blocks = keeps.home_blocks ∙ sym (ap (λ (s : Shape). s.home_blocks) shape);
+      aborted = keeps.aborted ∙ sym aborted;
+      capacity = subst (λ (r : Ring). IsCapacity f.layout r.blocks f.capacity) (sym ring) keeps.capacity;
+      credits = omega arith;
+      joined = subst (AllByRecursion (λ h. Contains [] h.0)) (sym none) tt;
+      once = keeps.once;
+    }
 
 -- the running transaction is sealed, and the engine takes it
 pub seal-agrees : (f : Front) (old new : Engine) (answered : List ℕ) → MaySeal f → Accepts old (batch_of f.running) new → FrontAgrees f old answered →
@@ -95,11 +270,27 @@ seal-agrees f old new answered may accepts agrees =
       marked = λ some. omega arith;
       told = agrees.told;
       handles = handles-begin f.given (f.sealed ++ f.running ∷ []) (suc f.running.tid) agrees.handles;
+      keeps = sealed-keeps f old _ may.stopped refl refl refl refl agrees.keeps;
+      least = agrees.least;
     })
 
--- a front agrees with an engine that goes on
-pub goes-on : (f : Front) (old new : Engine) (answered : List ℕ) → GoesOn old new → FrontAgrees f old answered → FrontAgrees f new answered
-goes-on f old new answered on agrees =
+-- what a front keeps beside an engine that goes on, where it knows whether that has failed
+keeps-on : (f : Front) (old new : Engine) (aborted : Bool) → GoesOn old new → new.aborted ≡ aborted → KeepsFront f old →
+    KeepsFront (record f { aborted = aborted }) new
+keeps-on f old new aborted on told keeps = record {
+  layout = keeps.layout ∙ sym on.layout;
+  home_blocks = keeps.home_blocks ∙ sym (ap (λ (s : Shape). s.home_blocks) on.shape);
+  aborted = sym told;
+  capacity = subst (λ (r : Ring). IsCapacity f.layout r.blocks f.capacity) (sym on.ring) keeps.capacity;
+  credits = keeps.credits;
+  joined = keeps.joined;
+  once = keeps.once;
+}
+
+-- a front agrees with an engine that goes on, once it knows whether that has failed
+told-on : (f : Front) (old new : Engine) (answered : List ℕ) (aborted : Bool) → GoesOn old new → new.aborted ≡ aborted → FrontAgrees f old answered →
+    FrontAgrees (record f { aborted = aborted }) new answered
+told-on f old new answered aborted on told agrees =
     let first : new.first ≡ old.first = on.first in
     let size : length new.accepted ≡ length old.accepted = ap (λ (bs : List Batch). length bs) on.accepted in
     let committed : old.committed ≤ new.committed = on.committed in
@@ -109,4 +300,16 @@ goes-on f old new answered on agrees =
       marked = λ some. let marked = agrees.marked (omega arith) in omega arith;
       told = agrees.told;
       handles = agrees.handles;
+      keeps = keeps-on f old new aborted on told agrees.keeps;
+      least = agrees.least;
     }
+
+-- by a step that succeeds
+pub goes-on : (f : Front) (old new : Engine) (answered : List ℕ) → GoesOn old new → new.aborted ≡ old.aborted → FrontAgrees f old answered →
+    FrontAgrees f new answered
+goes-on f old new answered on same agrees = told-on f old new answered f.aborted on (same ∙ sym agrees.keeps.aborted) agrees
+
+-- and by one that fails
+pub fails-on : (f : Front) (old new : Engine) (answered : List ℕ) → GoesOn old new → new.aborted ≡ true → FrontAgrees f old answered →
+    FrontAgrees (aborting f) new answered
+fails-on f old new answered on failed agrees = told-on f old new answered true on failed agrees

@@ -85,7 +85,7 @@ fault-right opening old new disk after fault right =
 pub abort-right : (opening : Disk) (e : Engine) (disk : Disk) → HomeRight opening e disk → HomeRight opening (record e { aborted = true }) disk
 abort-right opening e disk right =
     right-on opening e (record e { aborted = true }) disk disk
-    (own-on e (record e { aborted = true }) (record { first = refl; accepted = refl; committed = omega arith }))
+    (own-on e (record e { aborted = true }) (record { shape = refl; layout = refl; ring = refl; first = refl; accepted = refl; committed = omega arith }))
     (adds-none (IsOwnCopy (record e { aborted = true })) disk disk (λ b. refl)) right
 
 -- over a step of a round

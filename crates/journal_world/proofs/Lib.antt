@@ -7,6 +7,7 @@ pub mod Chains
 pub mod Changes
 pub mod Committing
 pub mod Copying
+pub mod Credits
 pub mod Due
 pub mod Elements
 pub mod Faults
@@ -22,6 +23,7 @@ pub mod Laps
 pub mod Lasts
 pub mod Left
 pub mod Onward
+pub mod OpenHandles
 pub mod Openings
 pub mod OwnBlocks
 pub mod Pending
@@ -36,7 +38,6 @@ pub mod RoundPlain
 pub mod RoundSteps
 pub mod Rounded
 pub mod Rounds
-pub mod Runs
 pub mod Starting
 pub mod Steps
 pub mod Suffixes

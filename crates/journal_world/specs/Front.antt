@@ -1,47 +1,56 @@
--- The front: the transaction that handles join and write to, the ones that are sealed, and the credits. Source:
--- journalling.rst (handles, transactions, credits), fs/jbd2/transaction.c by behaviour.
-use Rattle.std.specs.Prelude.{◌≡◌, ℕ, suc, ◌+◌, ◌-◌, ◌^◌, ◌<◌, ◌≤◌, Bool, true, false, List, [], ◌∷◌, ◌++◌, length, None}
+-- The front: the transaction that handles join and write to, the ones that are sealed, the handles that are open, and the
+-- credits; and each step of it alone, none of which reads the engine. Source: journalling.rst (handles, transactions,
+-- credits), fs/jbd2/transaction.c by behaviour.
+use Rattle.std.specs.Prelude.{◌≡◌, ℕ, suc, ◌+◌, ◌-◌, ◌^◌, ◌<◌, ◌≤◌, Bool, true, false, if◌then◌else◌, List, [], ◌∷◌, ◌++◌, length, is_some, None}
+use Rattle.std.specs.List.{sum_by}
 use Rattle.journal_model.specs.declared.transaction.Op.TheVariants.{Write}
 use Rattle.journal_model.specs.declared.transaction.Step.{Step}
+use Rattle.journal_model.specs.Block.{IsAllowedBlock}
+use Rattle.journal_model.specs.Layout.{Layout}
 use Rattle.journal_model.specs.Opening.{greatest_number}
 use Rattle.journal_model.specs.Transaction.{History, Transaction, effect, entries}
 
 pub record Front : Type 0 where
+  pub layout : Layout  -- of the log
+  pub home_blocks : ℕ  -- of the device
   pub capacity : ℕ  -- the most credits that are held
-  pub held : ℕ  -- the credits granted and not given back
+  pub reserved : ℕ  -- the credits granted that no handle was made of, and that were not given back
   pub mark : ℕ  -- callers are told that transactions up to this number are committed
   pub sealed : History  -- since the opening
   pub running : Transaction  -- the one that handles join and write to, until it is sealed
-  pub open_handles : ℕ  -- how many of its handles have not stopped
+  pub open_handles : List (ℕ × ℕ)  -- those of its handles that have not stopped, each with the credits that it has left
   pub locked : Bool  -- it takes no further handles
   pub given : ℕ  -- how many handle numbers have been given out
+  pub aborted : Bool  -- the device has failed, as far as the front knows
 
 -- a transaction that no handle has joined
 abbrev pub empty_transaction : ℕ → Transaction
 empty_transaction tid = record { tid = tid; handles = []; steps = [] }
 
 -- the front of a journal whose first transaction has this number
-abbrev pub fresh_front : ℕ → ℕ → Front
-fresh_front capacity first = record {
+abbrev pub fresh_front : Layout → ℕ → ℕ → ℕ → Front
+fresh_front layout home_blocks capacity first = record {
+  layout = layout;
+  home_blocks = home_blocks;
   capacity = capacity;
-  held = 0;
+  reserved = 0;
   mark = first - 1;
   sealed = [];
   running = empty_transaction first;
-  open_handles = 0;
+  open_handles = [];
   locked = false;
   given = 0;
+  aborted = false;
 }
 
--- how many credits are left to be granted
-abbrev pub free_credits : Front → ℕ
-free_credits f = f.capacity - f.held
+-- the credits that handles have left
+abbrev pub left_in : List (ℕ × ℕ) → ℕ
+left_in handles = sum_by (λ h. h.1) handles
 
-abbrev pub reserving : Front → ℕ → Front
-reserving f n = record f { held = f.held + n }
-
-abbrev pub giving_back : Front → ℕ → Front
-giving_back f n = record f { held = f.held - n }
+-- the credits held: those that no handle was made of, those that open handles have left, and one for each entry of the
+-- running transaction
+abbrev pub held : Front → ℕ
+held f = f.reserved + left_in f.open_handles + length (entries f.running.steps)
 
 -- the number of the next handle
 abbrev pub next_handle : Front → ℕ
@@ -53,12 +62,12 @@ pub record MayJoin (f : Front) : Type 0 where
   pub number : f.running.tid ≤ greatest_number
   pub handle : next_handle f < 2 ^ 64
 
-abbrev pub joining : Front → Front
-joining f = record f {
-  running = record f.running { handles = f.running.handles ++ next_handle f ∷ [] };
-  open_handles = f.open_handles + 1;
-  given = next_handle f;
-}
+-- the handle is open, with so many credits left: it stands between these others
+pub record IsOpen (f : Front) (h : ℕ) : Type 0 where
+  pub left : ℕ
+  pub before : List (ℕ × ℕ)
+  pub behind : List (ℕ × ℕ)
+  pub stands : f.open_handles ≡ before ++ (h, left) ∷ behind
 
 abbrev pub write_step : ℕ → ℕ → List ℕ → Step
 write_step h b v = record { handle = h; block = b; op = Write v }
@@ -67,30 +76,118 @@ write_step h b v = record { handle = h; block = b; op = Write v }
 abbrev pub IsFirstTouch : Front → ℕ → Type 0
 IsFirstTouch f b = effect b f.running.steps ≡ None
 
-abbrev pub writing : Front → ℕ → ℕ → List ℕ → Front
-writing f h b v = record f { running = record f.running { steps = f.running.steps ++ write_step h b v ∷ [] } }
+-- how many of its credits a handle has left once it has written the block
+abbrev pub left_after : Front → ℕ → ℕ → ℕ
+left_after f b left = if is_some (effect b f.running.steps) then left else left - 1
 
--- a handle stops, with so many credits left
-abbrev pub stopping : Front → ℕ → Front
-stopping f left = record f { open_handles = f.open_handles - 1; held = f.held - left }
+-- what the front does by itself
+pub data FrontEvent : Type 0 where
+  Reserve : (credits : ℕ) → FrontEvent
+  GiveBack : (credits : ℕ) → FrontEvent
+  Join : (credits : ℕ) → FrontEvent
+  WriteBlock : (handle block : ℕ) → (bytes : List ℕ) → FrontEvent
+  StopHandle : (handle : ℕ) → FrontEvent
+  Lock : FrontEvent
+
+abbrev pub reserving : Front → ℕ → Front
+reserving f n = record f { reserved = f.reserved + n }
+
+-- Credits are granted where as many are free.
+pub record Reserves (old : Front) (n : ℕ) (new : Front) : Type 0 where
+  pub free : held old + n ≤ old.capacity
+  pub after : new ≡ reserving old n
+
+abbrev pub giving_back : Front → ℕ → Front
+giving_back f n = record f { reserved = f.reserved - n }
+
+-- Credits come back that no handle was made of.
+pub record GivesBack (old : Front) (n : ℕ) (new : Front) : Type 0 where
+  pub granted : n ≤ old.reserved
+  pub after : new ≡ giving_back old n
+
+abbrev pub joining : Front → ℕ → Front
+joining f n = record f {
+  reserved = f.reserved - n;
+  running = record f.running { handles = f.running.handles ++ next_handle f ∷ [] };
+  open_handles = f.open_handles ++ (next_handle f, n) ∷ [];
+  given = next_handle f;
+}
+
+-- A handle joins the transaction, with credits that no other was made of.
+pub record Joins (old : Front) (n : ℕ) (new : Front) : Type 0 where
+  pub running : old.aborted ≡ false
+  pub may : MayJoin old
+  pub credits : n ≤ old.reserved
+  pub after : new ≡ joining old n
+
+abbrev pub writing : (f : Front) (h b : ℕ) (v : List ℕ) → IsOpen f h → Front
+writing f h b v handle = record f {
+  running = record f.running { steps = f.running.steps ++ write_step h b v ∷ [] };
+  open_handles = handle.before ++ (h, left_after f b handle.left) ∷ handle.behind;
+}
+
+-- An open handle writes one block that may be touched. The first touch of a block takes one of its credits.
+pub record WritesBlock (old : Front) (h b : ℕ) (v : List ℕ) (new : Front) : Type 0 where
+  pub running : old.aborted ≡ false
+  pub handle : IsOpen old h
+  pub credit : IsFirstTouch old b → 0 < handle.left
+  pub allowed : IsAllowedBlock old.layout old.home_blocks b
+  pub whole : length v ≡ old.layout.block_size
+  pub after : new ≡ writing old h b v handle
+
+abbrev pub stopping : (f : Front) (h : ℕ) → IsOpen f h → Front
+stopping f h handle = record f { open_handles = handle.before ++ handle.behind }
+
+-- An open handle stops. The credits that it has left are then held by nobody.
+pub record StopsHandle (old : Front) (h : ℕ) (new : Front) : Type 0 where
+  pub handle : IsOpen old h
+  pub after : new ≡ stopping old h handle
 
 abbrev pub locking : Front → Front
 locking f = record f { locked = true }
 
+-- A transaction that a handle has joined takes no further ones.
+pub record Locks (old new : Front) : Type 0 where
+  pub running : old.aborted ≡ false
+  pub joined : 0 < length old.running.handles
+  pub after : new ≡ locking old
+
+-- what each event does
+abbrev pub FrontHappens : Front → FrontEvent → Front → Type 0
+FrontHappens old (Reserve n) new = Reserves old n new
+FrontHappens old (GiveBack n) new = GivesBack old n new
+FrontHappens old (Join n) new = Joins old n new
+FrontHappens old (WriteBlock h b v) new = WritesBlock old h b v new
+FrontHappens old (StopHandle h) new = StopsHandle old h new
+FrontHappens old Lock new = Locks old new
+
+-- how many credits are held after an event: those that are granted are more, those that come back fewer
+abbrev pub HeldAfter : Front → FrontEvent → ℕ → Type 0
+HeldAfter old (Reserve n) after = after ≡ held old + n
+HeldAfter old (GiveBack n) after = after + n ≡ held old
+HeldAfter old (Join n) after = after ≡ held old
+HeldAfter old (WriteBlock h b v) after = after ≡ held old
+HeldAfter old (StopHandle h) after = (handle : IsOpen old h) × (after + handle.left ≡ held old)
+HeldAfter old Lock after = after ≡ held old
+
 -- the transaction may be sealed: it is locked, has no open handle, and the one before is finished
 pub record MaySeal (f : Front) : Type 0 where
   pub locked : f.locked ≡ true
-  pub stopped : f.open_handles ≡ 0
+  pub stopped : f.open_handles ≡ []
   pub finished : f.mark + 1 ≡ f.running.tid
 
+-- it is sealed, and the credits of its entries are held by nobody
 abbrev pub sealing : Front → Front
 sealing f = record f {
   sealed = f.sealed ++ f.running ∷ [];
   running = empty_transaction (suc f.running.tid);
   locked = false;
-  held = f.held - length (entries f.running.steps);
 }
 
 -- the front tells that one more transaction is committed
 abbrev pub finishing : Front → Front
 finishing f = record f { mark = f.mark + 1 }
+
+-- it is told that the device has failed
+abbrev pub aborting : Front → Front
+aborting f = record f { aborted = true }

@@ -1,7 +1,7 @@
 -- The journal: a front and an engine, and the atomic steps of both. Source: journalling.rst, fs/jbd2 by behaviour.
-use Rattle.std.specs.Prelude.{◌≡◌, ℕ, ◌+◌, ◌<◌, ◌≤◌, true, false, List, [], length, Contains}
+use Rattle.std.specs.Prelude.{◌≡◌, ℕ, ◌+◌, ◌<◌, ◌≤◌, nat_eq, true, false, List, [], map, Contains}
+use Rattle.std.specs.List.{AllByRecursion, IsDistinct}
 use Rattle.journal_model.specs.declared.entry.Batch.{Batch}
-use Rattle.journal_model.specs.Block.{IsAllowedBlock}
 use Rattle.journal_model.specs.Disk.{Disk}
 use Rattle.journal_model.specs.Opening.{layout_of, ring_of}
 use Rattle.journal_model.specs.Room.{IsCapacity}
@@ -11,7 +11,7 @@ use Rattle.journal_world.specs.declared.round.Round.TheVariants.{Idle as NoRound
 use Rattle.journal_world.specs.declared.stage.Stage.TheVariants.{Idle}
 use Rattle.journal_world.specs.Checkpoint.{RoundFaults, RoundSteps}
 use Rattle.journal_world.specs.Engine.{Engine, Accepts, CommitSteps, CommitFaults}
-use Rattle.journal_world.specs.Front.{Front, MayJoin, MaySeal, finishing, fresh_front, giving_back, joining, locking, reserving, sealing, stopping, writing}
+use Rattle.journal_world.specs.Front.{Front, FrontEvent, FrontHappens, MaySeal, aborting, finishing, fresh_front, held, sealing}
 
 pub record Journal : Type 0 where
   pub front : Front
@@ -19,12 +19,7 @@ pub record Journal : Type 0 where
 
 -- one atomic step
 pub data Event : Type 0 where
-  Reserve : (credits : ℕ) → Event
-  GiveBack : (credits : ℕ) → Event
-  Join : Event
-  WriteBlock : (handle block : ℕ) → (bytes : List ℕ) → Event
-  StopHandle : (left : ℕ) → Event
-  Lock : Event
+  FrontStep : (event : FrontEvent) → Event
   Seal : Event
   CommitStep : Event
   CommitFault : Event
@@ -37,34 +32,11 @@ pub data Event : Type 0 where
 abbrev pub batch_of : Transaction → Batch
 batch_of t = record { tid = t.tid; entries = entries t.steps }
 
--- a step of the front alone: neither the engine nor the disk changes
-pub record ChangesFront (old : Journal) (disk : Disk) (front : Front) (new : Journal) (after : Disk) : Type 0 where
-  pub journal : new ≡ record old { front = front }
+-- A step of the front alone: it reads neither the engine nor the disk, and changes neither.
+pub record StepsFront (old : Journal) (disk : Disk) (event : FrontEvent) (new : Journal) (after : Disk) : Type 0 where
+  pub front : FrontHappens old.front event new.front
+  pub engine : new.engine ≡ old.engine
   pub disk_is : after ≡ disk
-
--- Credits are granted where as many are free.
-pub record Reserves (old : Journal) (disk : Disk) (credits : ℕ) (new : Journal) (after : Disk) : Type 0 where
-  pub free : old.front.held + credits ≤ old.front.capacity
-  pub change : ChangesFront old disk (reserving old.front credits) new after
-
-pub record Joins (old : Journal) (disk : Disk) (new : Journal) (after : Disk) : Type 0 where
-  pub running : old.engine.aborted ≡ false
-  pub may : MayJoin old.front
-  pub change : ChangesFront old disk (joining old.front) new after
-
--- A handle of the transaction writes one block that may be touched.
-pub record WritesBlock (old : Journal) (disk : Disk) (h b : ℕ) (v : List ℕ) (new : Journal) (after : Disk) : Type 0 where
-  pub running : old.engine.aborted ≡ false
-  pub joined : Contains old.front.running.handles h
-  pub allowed : IsAllowedBlock old.engine.layout old.engine.shape.home_blocks b
-  pub whole : length v ≡ old.engine.shape.block_size
-  pub change : ChangesFront old disk (writing old.front h b v) new after
-
--- A transaction that a handle has joined takes no further ones.
-pub record Locks (old : Journal) (disk : Disk) (new : Journal) (after : Disk) : Type 0 where
-  pub running : old.engine.aborted ≡ false
-  pub joined : 0 < length old.front.running.handles
-  pub change : ChangesFront old disk (locking old.front) new after
 
 -- The transaction is sealed, and the engine takes its entries.
 pub record Seals (old : Journal) (disk : Disk) (new : Journal) (after : Disk) : Type 0 where
@@ -77,8 +49,9 @@ pub record Commits (old : Journal) (disk : Disk) (new : Journal) (after : Disk) 
   pub front : new.front ≡ old.front
   pub engine : CommitSteps old.engine disk new.engine after
 
+-- Where the device fails, the front is told.
 pub record CommitFails (old : Journal) (disk : Disk) (new : Journal) (after : Disk) : Type 0 where
-  pub front : new.front ≡ old.front
+  pub front : new.front ≡ aborting old.front
   pub engine : CommitFaults old.engine disk new.engine after
 
 pub record Checkpoints (old : Journal) (disk : Disk) (new : Journal) (after : Disk) : Type 0 where
@@ -86,29 +59,26 @@ pub record Checkpoints (old : Journal) (disk : Disk) (new : Journal) (after : Di
   pub engine : RoundSteps old.engine disk new.engine after
 
 pub record CheckpointFails (old : Journal) (disk : Disk) (new : Journal) (after : Disk) : Type 0 where
-  pub front : new.front ≡ old.front
+  pub front : new.front ≡ aborting old.front
   pub engine : RoundFaults old.engine disk new.engine after
 
 -- A read of home fails: the journal is aborted.
 pub record ReadFails (old : Journal) (disk : Disk) (new : Journal) (after : Disk) : Type 0 where
   pub running : old.engine.aborted ≡ false
-  pub front : new.front ≡ old.front
+  pub front : new.front ≡ aborting old.front
   pub engine : new.engine ≡ record old.engine { aborted = true }
   pub disk_is : after ≡ disk
 
 -- The front tells of a transaction that the engine has committed.
 pub record Finishes (old : Journal) (disk : Disk) (new : Journal) (after : Disk) : Type 0 where
   pub committed : old.front.mark + 1 < old.engine.first + old.engine.committed
-  pub change : ChangesFront old disk (finishing old.front) new after
+  pub front : new.front ≡ finishing old.front
+  pub engine : new.engine ≡ old.engine
+  pub disk_is : after ≡ disk
 
 -- what each event does
 abbrev pub Happens : Journal → Disk → Event → Journal → Disk → Type 0
-Happens old disk (Reserve n) new after = Reserves old disk n new after
-Happens old disk (GiveBack n) new after = ChangesFront old disk (giving_back old.front n) new after
-Happens old disk Join new after = Joins old disk new after
-Happens old disk (WriteBlock h b v) new after = WritesBlock old disk h b v new after
-Happens old disk (StopHandle left) new after = ChangesFront old disk (stopping old.front left) new after
-Happens old disk Lock new after = Locks old disk new after
+Happens old disk (FrontStep event) new after = StepsFront old disk event new after
 Happens old disk Seal new after = Seals old disk new after
 Happens old disk CommitStep new after = Commits old disk new after
 Happens old disk CommitFault new after = CommitFails old disk new after
@@ -116,6 +86,18 @@ Happens old disk CheckpointStep new after = Checkpoints old disk new after
 Happens old disk CheckpointFault new after = CheckpointFails old disk new after
 Happens old disk ReadFault new after = ReadFails old disk new after
 Happens old disk Finish new after = Finishes old disk new after
+
+-- What a front keeps beside its engine. It knows the layout of the log, how many home blocks there are and whether the
+-- device has failed; no more credits are held than a transaction may have; and its open handles are different ones that
+-- joined the running transaction.
+pub record KeepsFront (f : Front) (e : Engine) : Type 0 where
+  pub layout : f.layout ≡ e.layout
+  pub home_blocks : f.home_blocks ≡ e.shape.home_blocks
+  pub aborted : f.aborted ≡ e.aborted
+  pub capacity : IsCapacity f.layout e.ring.blocks f.capacity
+  pub credits : held f ≤ f.capacity
+  pub joined : AllByRecursion (λ h. Contains f.running.handles h.0) f.open_handles
+  pub once : IsDistinct nat_eq (map (λ h. h.0) f.open_handles)
 
 -- the engine of an opened log: nothing is accepted yet
 abbrev pub fresh_engine : Shape → List ℕ → ℕ → Engine
@@ -144,5 +126,5 @@ fresh_engine shape superblock next =
 -- the journal of an opened log
 pub record IsFresh (shape : Shape) (superblock : List ℕ) (next : ℕ) (journal : Journal) : Type 0 where
   pub engine : journal.engine ≡ fresh_engine shape superblock next
-  pub front : journal.front ≡ fresh_front journal.front.capacity next
+  pub front : journal.front ≡ fresh_front journal.engine.layout journal.engine.shape.home_blocks journal.front.capacity next
   pub capacity : IsCapacity journal.engine.layout journal.engine.ring.blocks journal.front.capacity

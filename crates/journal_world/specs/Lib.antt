@@ -5,4 +5,3 @@ pub mod Front
 pub mod Journal
 pub mod Opening
 pub mod Sound
-pub mod World

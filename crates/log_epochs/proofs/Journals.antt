@@ -9,7 +9,7 @@ use Rattle.journal_model.specs.Opening.{Opens}
 use Rattle.journal_model.specs.Superblock.{Shape}
 use Rattle.journal_model.specs.Transaction.{AreNumbered, History}
 use Rattle.journal_world.specs.Engine.{AreBatchesOf, Engine}
-use Rattle.journal_world.specs.Front.{Front, fresh_front}
+use Rattle.journal_world.specs.Front.{Front}
 use Rattle.journal_world.specs.Journal.{Event as JournalEvent}
 use Rattle.journal_world.specs.Sound.{AreNumberedFrom}
 use Rattle.journal_world.proofs.Batches.{same-length}
@@ -24,12 +24,13 @@ use Rattle.log_epochs.specs.EngineWorld.Begins.{Unopened, Made}
 use Rattle.log_epochs.specs.EngineWorld.Move.{Step as EngineStep, CloseStep, CloseFault, GiveUp, Stop, Begin, OpeningStep, OpeningFault, AnswerOk}
 use Rattle.log_epochs.specs.EngineWorld.Phase.{Shut, Opening, Running, Closing, Closed}
 use Rattle.log_epochs.specs.Epoch.{Ended, Epoch, ending, pinning, pinning_at}
-use Rattle.log_epochs.specs.JournalPromise.{HaveEndedWell, KeepsClosed, KeepsNow, KeepsPromise, Kept, MayAdd, MayCheckpoint}
+use Rattle.log_epochs.specs.JournalPromise.{HaveEndedWell, KeepsClosed, KeepsFrontNow, KeepsNow, KeepsPromise, Kept, MakesSteps, MayAdd, MayCheckpoint}
+use Rattle.log_epochs.specs.JournalPromise.MakesSteps.{NoStep, Begun}
 use Rattle.log_epochs.specs.JournalWorld.{Begins, IsFreshTold, JournalWorld, Leads, Move, Moves, Steps, TellsAfter, TellsAfterStep, TellsAnew, TellsNothing, TellsSame, Told, journal_of, telling}
 use Rattle.log_epochs.specs.JournalWorld.Move.{Step, Answer, Below}
 use Rattle.log_epochs.specs.OpeningSteps.{OpeningStage}
 use Rattle.log_epochs.specs.OpeningSteps.OpeningStage.{LogFlush, Copies, SuperblockWrite, SuperblockFlush, Done}
-use Rattle.log_epochs.proofs.JournalSteps.{Agrees, IsBelow, event-agrees, event-below}
+use Rattle.log_epochs.proofs.JournalSteps.{Agrees, IsBelow, event-agrees, event-below, event-steps}
 use Rattle.log_epochs.proofs.JournalSteps.IsBelow.{Nothing, Same}
 
 -- what was told in an epoch agrees with its engine
@@ -97,8 +98,7 @@ fresh-told epoch told fresh =
     let e : Engine = epoch.engine in
     subst (λ (answered : List ℕ). FrontAgrees told.front e answered) (sym fresh.unanswered)
     (subst (λ (f : Front). FrontAgrees f e []) (sym fresh.journal.front)
-    (subst (λ (x : Engine). FrontAgrees (fresh_front told.front.capacity e.first) x []) (sym fresh.journal.engine)
-    (fresh-agrees told.front.capacity e.shape e.superblock e.first)))
+    (fresh-agrees told.front.capacity e.shape e.superblock e.first e fresh.journal.engine fresh.journal.capacity))
 
 -- an opening answers Ok
 answer-holds : (old new : JournalWorld) → BelowMoves old.below AnswerOk new.below → TellsAnew old new → Holds old → Holds new
@@ -310,6 +310,47 @@ move-home w new (Answer tid) holds promise moves =
     unchanged-adds (MayAdd w (Answer tid)) w.below new.below (ap (λ (x : JournalWorld). x.below) moves.after)
 move-home w new (Below move) holds promise moves = promise.home move new.below moves.below
 
+-- what the front of the epoch of now keeps
+front-kept : (epoch : Option Epoch) (told : Told) → AgreesNow epoch told → KeepsFrontNow epoch told
+front-kept None told agrees = tt
+front-kept (Some epoch) told agrees = agrees.keeps
+
+-- what is told stays, and so do the steps of handles
+told-steps : (move : Move) (old new : JournalWorld) → TellsSame old new → MakesSteps move old.told.front new.told.front
+told-steps move old new tells = NoStep (ap (λ (t : Told). t.front.sealed) tells.told) (ap (λ (t : Told). t.front.running.steps) tells.told)
+
+-- a step of the engine makes none of a handle
+engine-steps : (move : Move) (old new : JournalWorld) (event : Event) → TellsAfterStep event old new → MakesSteps move old.told.front new.told.front
+engine-steps move old new (Read b v) tells = told-steps move old new tells
+engine-steps move old new (Accept b) tells = absurd tells
+engine-steps move old new CommitStep tells = absurd tells
+engine-steps move old new CommitFault tells = absurd tells
+engine-steps move old new CheckpointStep tells = absurd tells
+engine-steps move old new CheckpointFault tells = absurd tells
+engine-steps move old new ReadFault tells = absurd tells
+
+-- nor does another move of the world below, of which an opening that answers Ok begins an epoch
+below-steps : (old new : JournalWorld) (move : BelowMove) → TellsAfter move old new → MakesSteps (Below move) old.told.front new.told.front
+below-steps old new (EngineStep event) tells = engine-steps (Below (EngineStep event)) old new event tells
+below-steps old new CloseStep tells = told-steps (Below CloseStep) old new tells
+below-steps old new CloseFault tells = told-steps (Below CloseFault) old new tells
+below-steps old new GiveUp tells = told-steps (Below GiveUp) old new tells
+below-steps old new (Stop left) tells = told-steps (Below (Stop left)) old new tells
+below-steps old new (Begin found) tells = told-steps (Below (Begin found)) old new tells
+below-steps old new OpeningStep tells = told-steps (Below OpeningStep) old new tells
+below-steps old new OpeningFault tells = told-steps (Below OpeningFault) old new tells
+below-steps old new AnswerOk tells =
+    let front : new.told.front ≡ _ = tells.fresh.journal.front in Begun refl (ap (λ (f : Front). f.sealed) front) (ap (λ (f : Front). f.running.steps) front)
+
+-- what each move does to the steps of handles
+move-steps : (old new : JournalWorld) (move : Move) → Moves old move new → MakesSteps move old.told.front new.told.front
+move-steps old new (Step event) moves =
+    let made = event-steps (journal_of moves.epoch old.told) moves.journal old.below.disk new.below.disk event moves.happens in
+    subst (λ (w : JournalWorld). MakesSteps (Step event) old.told.front w.told.front) (sym moves.after) made
+move-steps old new (Answer tid) moves =
+    NoStep (ap (λ (w : JournalWorld). w.told.front.sealed) moves.after) (ap (λ (w : JournalWorld). w.told.front.running.steps) moves.after)
+move-steps old new (Below move) moves = below-steps old new move moves.tells
+
 -- at the begin
 begin-told : (epoch : Option Epoch) (told : Told) → TellsNothing epoch told → AgreesNow epoch told
 begin-told None told fresh = tt
@@ -335,5 +376,7 @@ journal-promise law start end moves begins leads =
       ended = past-kept end.below.shape end.below.ended end.past holds.1 promise.ended;
       follows = promise.follows;
       closed = closed-kept end.below.shape end.below.epoch end.below.disk end.told end.below.phase holds.0 promise.closed;
+      front = front-kept end.below.epoch end.told holds.0;
+      steps = λ move new moved. move-steps end new move moved;
       home = λ move new moved. move-home end new move holds promise moved;
     }

@@ -23,14 +23,14 @@ use Rattle.log_epochs.proofs.Homes.{held-read}
 use Rattle.log_epochs.proofs.Replaying.{IsReadyFor, SameLog, durable-one, kept-home, one-chain, opens-replaying, others-copying, same-chain}
 
 -- two images of the same log are clean alike
-same-clean : (shape : Shape) (image other : Image) → SameLog image other → IsClean shape image → IsClean shape other
+pub same-clean : (shape : Shape) (image other : Image) → SameLog image other → IsClean shape image → IsClean shape other
 same-clean shape image other same is = record {
   accepted = ap (super_refusal shape) (same 0) ∙ is.accepted;
   clean = ap (λ (block : List ℕ). (super_in block).s_start) (same 0) ∙ is.clean;
 }
 
 -- and have the same limit
-same-limit : (shape : Shape) (image other : Image) (limit : ℕ) → SameLog image other → HasLimit shape image limit → HasLimit shape other limit
+pub same-limit : (shape : Shape) (image other : Image) (limit : ℕ) → SameLog image other → HasLimit shape image limit → HasLimit shape other limit
 same-limit shape image other limit same (OfClean clean) =
     subst (HasLimit shape other) (ap (λ (block : List ℕ). (super_in block).s_sequence) (same 0)) (OfClean (same-clean shape image other same clean))
 same-limit shape image other limit same (OfChain texts has) =
@@ -38,7 +38,7 @@ same-limit shape image other limit same (OfChain texts has) =
     (OfChain texts (same-chain shape image other texts same has))
 
 -- an image has one limit
-one-limit : (shape : Shape) (image : Image) (limit other : ℕ) → HasLimit shape image limit → HasLimit shape image other → limit ≡ other
+pub one-limit : (shape : Shape) (image : Image) (limit other : ℕ) → HasLimit shape image limit → HasLimit shape image other → limit ≡ other
 one-limit shape image limit other (OfClean clean) (OfClean also) = refl
 one-limit shape image limit other (OfClean clean) (OfChain texts has) = absurd (has.started.started clean.clean)
 one-limit shape image limit other (OfChain texts has) (OfClean clean) = absurd (has.started.started clean.clean)

@@ -8,9 +8,14 @@ use Rattle.journal_model.specs.Opening.{IsClean, IsCountOf, Opens}
 use Rattle.journal_model.specs.Record.{EachHandleOnce, acknowledged}
 use Rattle.journal_model.specs.Superblock.{Shape}
 use Rattle.journal_model.specs.Transaction.{AreNumbered, History}
+use Rattle.journal_world.specs.Front.{Front, IsOpen, write_step}
+use Rattle.journal_world.specs.Front.FrontEvent.{WriteBlock}
+use Rattle.journal_world.specs.Journal.{KeepsFront}
+use Rattle.journal_world.specs.Journal.Event.{FrontStep, Seal}
 use Rattle.log_epochs.specs.Epoch.{Ended, Epoch}
 use Rattle.log_epochs.specs.EnginePromise.{Continues, MayAdd as BelowMayAdd, direct_writes}
 use Rattle.log_epochs.specs.EngineWorld.{Phase}
+use Rattle.log_epochs.specs.EngineWorld.Move.{AnswerOk}
 use Rattle.log_epochs.specs.EngineWorld.Phase.{Shut, Opening, Running, Closing, Closed}
 use Rattle.log_epochs.specs.JournalWorld.{JournalWorld, Move, Moves, Told}
 use Rattle.log_epochs.specs.JournalWorld.Move.{Step, Answer, Below}
@@ -70,11 +75,28 @@ MayAdd w (Step event) b v = MayCheckpoint w.below.epoch w.told b v
 MayAdd w (Answer tid) b v = ⊥
 MayAdd w (Below move) b v = BelowMayAdd w.below move b v
 
+-- what the front of the epoch of now keeps beside its engine
+abbrev pub KeepsFrontNow : Option Epoch → Told → Type 0
+KeepsFrontNow None told = ⊤
+KeepsFrontNow (Some epoch) told = KeepsFront told.front epoch.engine
+
+-- What a move does to the steps that handles have made: nothing; a handle that is open writes, which is one step more; the
+-- running transaction is sealed with all of them, while no handle is open; or an epoch begins.
+pub data MakesSteps (move : Move) (old new : Front) : Type 0 where
+  NoStep : new.sealed ≡ old.sealed → new.running.steps ≡ old.running.steps → MakesSteps move old new
+  OneStep : (h b : ℕ) (v : List ℕ) → move ≡ Step (FrontStep (WriteBlock h b v)) → IsOpen old h → new.sealed ≡ old.sealed →
+      new.running.steps ≡ old.running.steps ++ write_step h b v ∷ [] → MakesSteps move old new
+  Sealed : move ≡ Step Seal → old.open_handles ≡ [] → new.sealed ≡ old.sealed ++ old.running ∷ [] → new.running.steps ≡ [] → MakesSteps move old new
+  Begun : move ≡ Below AnswerOk → new.sealed ≡ [] → new.running.steps ≡ [] → MakesSteps move old new
+
 -- Each epoch keeps its promise: the one of now whatever a stop leaves at this moment, those that ended with what home
--- then read. Whatever move comes next adds to home nothing but what it may.
+-- then read. Front and engine agree. Whatever move comes next adds to home nothing but what it may, and no step of a
+-- handle but of one that is open.
 pub record KeepsPromise (w : JournalWorld) : Type 0 where
   pub now : KeepsNow w.below.shape w.below.epoch w.below.disk w.told
   pub ended : HaveEndedWell w.below.shape w.below.ended w.past
   pub follows : Continues w.below.epoch w.below.ended
   pub closed : KeepsClosed w.below.shape w.below.disk w.told w.below.phase
+  pub front : KeepsFrontNow w.below.epoch w.told
+  pub steps : (move : Move) (new : JournalWorld) → Moves w move new → MakesSteps move w.told.front new.told.front
   pub home : (move : Move) (new : JournalWorld) → Moves w move new → HomeAddsOnly (MayAdd w move) w.below.disk new.below.disk

@@ -24,7 +24,7 @@ pub returns-clause-err : goal.returns-clause-err
 returns-clause-err g c =
     let went = c.in_ok-make_room.ensures.ok in
     let joined = subst (λ (t : Transaction). 0 < length t.handles) (sym went.on.transaction) c.requires.joined in
-    let has = seal-done g.D.Device.state _ _ _ went joined c.in_ok-seal_running.ensures.ok c.seal_running.ensures.device in
+    let has = seal-done g.D.Device.state _ _ _ went c.seal_running.ensures.told joined c.in_ok-seal_running.ensures.ok c.seal_running.ensures.device in
     sealed-refused g.D.Device.state c.finish_commit.result _ _ _ c.requires.running has c.finish_commit.ensures.err
 
 -- the moves, up to where the device failed
@@ -36,14 +36,14 @@ pub returns-in_err-seal_running-clause-path : goal.returns-in_err-seal_running-c
 returns-in_err-seal_running-clause-path g c =
     let went = c.in_ok-make_room.ensures.ok in
     let joined = subst (λ (t : Transaction). 0 < length t.handles) (sym went.on.transaction) c.requires.joined in
-    way-locked g.D.Device.state _ _ _ went joined c.in_err-seal_running.ensures.err.1
+    way-locked g.D.Device.state _ _ _ went c.seal_running.ensures.told joined c.in_err-seal_running.ensures.err.1
 
 -- and behind it
 pub returns-clause-path : goal.returns-clause-path
 returns-clause-path g c =
     let went = c.in_ok-make_room.ensures.ok in
     let joined = subst (λ (t : Transaction). 0 < length t.handles) (sym went.on.transaction) c.requires.joined in
-    let has = seal-done g.D.Device.state _ _ _ went joined c.in_ok-seal_running.ensures.ok c.seal_running.ensures.device in
+    let has = seal-done g.D.Device.state _ _ _ went c.seal_running.ensures.told joined c.in_ok-seal_running.ensures.ok c.seal_running.ensures.device in
     way-on g.D.Device.state c.finish_commit.result _ _ _ has.path c.finish_commit.ensures.ok c.finish_commit.ensures.err
 
 -- all is sealed
@@ -51,5 +51,5 @@ pub returns-clause-ok : goal.returns-clause-ok
 returns-clause-ok g c =
     let went = c.in_ok-make_room.ensures.ok in
     let joined = subst (λ (t : Transaction). 0 < length t.handles) (sym went.on.transaction) c.requires.joined in
-    let has = seal-done g.D.Device.state _ _ _ went joined c.in_ok-seal_running.ensures.ok c.seal_running.ensures.device in
+    let has = seal-done g.D.Device.state _ _ _ went c.seal_running.ensures.told joined c.in_ok-seal_running.ensures.ok c.seal_running.ensures.device in
     sealed-on g.D.Device.state c.finish_commit.result _ _ _ has c.finish_commit.ensures.ok

@@ -10,7 +10,15 @@ invariant_of-self c =
     let less : f.mark + 1 < f.running.tid = rw (← c.self.view_is) at c.requires in
     let told = one-untold f.sealed.items f.mark f.running.tid f.committing.entries c.self.invariant.committing_are less in
     record {
-      front = record { credits = front.credits; few = front.few; given = front.given; joined = front.joined; number = front.number };
+      front = record {
+        layout = front.layout;
+        credits = front.credits;
+        numbers = front.numbers;
+        given = front.given;
+        joined = front.joined;
+        number = front.number;
+      };
+      held_are = c.self.invariant.held_are;
       entries_are = c.self.invariant.entries_are;
       committing_are = committing-none f.sealed.items (f.mark + 1) f.running.tid c.clear.new.self.entries c.clear.ensures.empty (omega arith);
       copies = c.self.invariant.copies;

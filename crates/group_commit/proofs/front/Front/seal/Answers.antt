@@ -18,15 +18,20 @@ invariant_of-self c =
     c.replace-sealed.ensures.after ∙ c.empty_transaction.ensures ∙ ap (λ (x : Inside). empty_transaction (x.running.tid + 1)) c.self-inside.view_is in
     let swapped = c.swap.ensures.y_after in
     let tid : c.replace-sealed.new.dest.tid ≡ f.running.tid + 1 = ap (λ (t : Transaction). t.tid) next in
+    let held_are = c.self.invariant.held_are in
+    let count : length f.entries.entries ≡ length (entries f.running.steps) = ap length c.self.invariant.entries_are in
+    let none : length (entries c.replace-sealed.new.dest.steps) ≡ 0 = ap (λ (t : Transaction). length (entries t.steps)) next in
     let told : f.mark + 1 ≡ f.running.tid = rw (← c.self.view_is) at c.requires.finished in
     record {
       front = record {
-        credits = let held = front.credits in omega arith;
-        few = front.few;
+        layout = front.layout;
+        credits = let within = front.credits in omega arith;
+        numbers = front.numbers;
         given = front.given;
         joined = λ is. absurd (true≢false (sym is));
         number = let most : f.running.tid ≤ greatest_number = rw (← c.self.view_is) at c.requires.number in omega arith;
       };
+      held_are = omega arith;
       entries_are = c.clear.ensures.empty ∙ ap (λ (t : Transaction). entries t.steps) (sym next);
       committing_are =
           committing-sealed f.sealed.items _ f.running f.mark _ _

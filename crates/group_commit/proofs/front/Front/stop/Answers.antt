@@ -1,11 +1,38 @@
-use Rattle.std.proofs.Common.{ap, ℕ, ◌∙◌, ◌-◌}
-use Rattle.journal_world.specs.Front.{Front}
+use Rattle.std.proofs.Common.{◌≡◌, Some, ◌≤◌, arith, nat_eq}
+use Rattle.std.specs.Map.{lookup}
+use Rattle.journal_world.specs.Front.FrontEvent.{StopHandle}
 use Rattle.group_commit.specs.FrontView.{front_of}
+use Rattle.group_commit.proofs.Holding.{is-front, left-held, stops, stops-held}
 use Rattle.group_commit.proofs.front.Front.stop.Goals as goal
 
--- one handle fewer is open, and its credits come back
+-- the handle is open no longer
 pub returns : goal.returns
 returns c =
+    rw (← c.self.view_is)
+    (stops (front_of c.self.inside) c.args.handle c.args.left _ (rw (← c.self.view_is) at c.requires) c.shift_remove.ensures.entries)
+
+-- what it has left is held
+pub overflow_sub-self : goal.overflow_sub-self
+overflow_sub-self c =
+    let found = rw (← c.self.view_is) at c.requires in
+    let some = left-held (front_of c.self.inside) c.args.handle c.args.left found in
+    let held_are = c.self.invariant.held_are in
+    omega arith
+
+-- and then no more
+pub invariant_of-self : goal.invariant_of-self
+invariant_of-self c =
     let f = front_of c.self.inside in
-    let stopped = λ (n : ℕ). let made : Front = record f { open_handles = n; held = f.held - c.args.left } in made in
-    rw (← c.self.view_is) (c.give_back.ensures ∙ ap stopped c.saturating_sub-self-inside.ensures)
+    let found = rw (← c.self.view_is) at c.requires in
+    let taken = c.shift_remove.ensures.entries in
+    let held_are = c.self.invariant.held_are in
+    let fewer = stops-held f c.args.handle c.args.left c.shift_remove.new.self.entries found taken in
+    record {
+      front = is-front f _ (StopHandle c.args.handle) (stops f c.args.handle c.args.left c.shift_remove.new.self.entries found taken) c.self.invariant.front;
+      held_are = omega arith;
+      entries_are = c.self.invariant.entries_are;
+      committing_are = c.self.invariant.committing_are;
+      copies = c.self.invariant.copies;
+      committing_copies = c.self.invariant.committing_copies;
+      room = c.self.invariant.room;
+    }

@@ -8,20 +8,19 @@ use Rattle.group_commit.proofs.Sealing.{agrees-last, agrees-refused, finishes-co
 use Rattle.group_commit.proofs.Turning.{each-turn}
 use Rattle.group_commit.proofs.journal.Journal.commit_step.Goals as goal
 
--- where the device failed, front and engine agree as before
+-- where the device failed, front and engine agree once the front is told
 pub invariant_of-self : goal.invariant_of-self
-invariant_of-self g c = agrees-refused _ _ _ _ _ _ c.self.invariant c.in_err-commit_step.ensures.err
+invariant_of-self g c = agrees-refused _ _ _ _ _ _ _ c.self.invariant c.abort.ensures c.in-Err.ensures.err
 
 -- the device failed
-pub returns-in_err-commit_step-clause-err : goal.returns-in_err-commit_step-clause-err
-returns-in_err-commit_step-clause-err g c =
+pub returns-in-Err-clause-err : goal.returns-in-Err-clause-err
+returns-in-Err-clause-err g c =
     let running = subst (λ (v : JournalValue g.row.D.Denot). v.journal.engine.aborted ≡ false) (sym c.self.view_is) c.requires.running in
-    let p = err_from_is_err_and c.from_residual.result c.from_residual.ensures.1 in
-    rw (p.1, p.2, ← c.self.view_is) (refused-turn g.D.Device.state _ _ _ _ _ _ running c.in_err-commit_step.ensures.err)
+    rw (← c.self.view_is) (refused-turn g.D.Device.state _ _ _ _ _ _ _ running c.abort.ensures c.in-Err.ensures.err)
 
 -- each of its moments is one of the turn
-pub returns-in_err-commit_step-clause-moments : goal.returns-in_err-commit_step-clause-moments
-returns-in_err-commit_step-clause-moments g c =
+pub returns-in-Err-clause-moments : goal.returns-in-Err-clause-moments
+returns-in-Err-clause-moments g c =
     rw (← c.self.view_is) (λ honest. each-turn _ _ _ c.self.invariant (c.commit_step.ensures.moments honest))
 
 -- so it is of a step that is not the last
@@ -35,7 +34,7 @@ invariant_of-self-in-Done g c =
     let old = c.self.inside.engine in
     let new = c.commit_step.new.self in
     let did = subst (λ (p : Progress). StepDid p old.engine (g.D.Device.state old.device).disk new.engine (g.D.Device.state new.device).disk)
-    c.in-Done.is c.in_ok-commit_step.ensures.ok in
+    c.in-Done.is c.in-Ok.ensures.ok in
     agrees-last _ _ _ _ _ _ c.self.invariant did.0 did.1 cc
 
 -- the last step commits the transaction, and the front tells of it
@@ -44,7 +43,7 @@ returns-in-Done-clause-ok g c =
     let old = c.self.inside.engine in
     let new = c.commit_step.new.self in
     let did = subst (λ (p : Progress). StepDid p old.engine (g.D.Device.state old.device).disk new.engine (g.D.Device.state new.device).disk)
-    c.in-Done.is c.in_ok-commit_step.ensures.ok in
+    c.in-Done.is c.in-Ok.ensures.ok in
     rw (← c.self.view_is) (finishes-commit g.D.Device.state _ _ _ _ _ _ _ c.self.invariant did.0 did.1 did.2 cc)
 
 -- each of its moments is one of the turn
@@ -53,8 +52,8 @@ returns-in-Done-clause-moments g c =
     rw (← c.self.view_is) (λ honest. each-turn _ _ _ c.self.invariant (c.commit_step.ensures.moments honest))
 
 -- there is one moment at most
-pub returns-in_err-commit_step-clause-one : goal.returns-in_err-commit_step-clause-one
-returns-in_err-commit_step-clause-one g c = rw (← c.self.view_is) c.commit_step.ensures.one
+pub returns-in-Err-clause-one : goal.returns-in-Err-clause-one
+returns-in-Err-clause-one g c = rw (← c.self.view_is) c.commit_step.ensures.one
 
 pub returns-in-Step-clause-one : goal.returns-in-Step-clause-one
 returns-in-Step-clause-one g c = rw (← c.self.view_is) c.commit_step.ensures.one

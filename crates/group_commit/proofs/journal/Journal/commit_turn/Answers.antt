@@ -5,7 +5,7 @@ use Rattle.log_engine.specs.Call.{IsOneMoment}
 use Rattle.group_commit.specs.Journal.{IsDuringTurn, TurnRefused}
 use Rattle.journal_world.specs.Journal.{Journal}
 use Rattle.group_commit.specs.Values.{JournalValue}
-use Rattle.group_commit.proofs.Turning.{each-stay, none-open, opens-now, same-moment}
+use Rattle.group_commit.proofs.Turning.{each-stay, opens-now, same-moment}
 use Rattle.group_commit.proofs.journal.Journal.commit_turn.Goals as goal
 
 -- an aborted journal refuses
@@ -72,7 +72,7 @@ returns-then-has_open_handles-clause-ok g c =
         running = sym c.is_aborted.ensures ∙ c.if-is_aborted.false;
         idle = c.is_idle.ensures.0 c.if-not-is_idle.false;
         locked = sym c.is_locked.ensures ∙ c.if-not-is_locked.false;
-        open_handle = c.has_open_handles.ensures.0 c.if-has_open_handles.true;
+        open_handle = c.has_open_handles.ensures.some.0 c.if-has_open_handles.true;
       },
       refl,
     )
@@ -85,5 +85,5 @@ seal-requires-clause-due g c =
       running = sym c.is_aborted.ensures ∙ c.if-is_aborted.false;
       idle = c.is_idle.ensures.0 c.if-not-is_idle.false;
       locked = sym c.is_locked.ensures ∙ c.if-not-is_locked.false;
-      stopped = none-open _ (λ some. true≢false (sym (c.has_open_handles.ensures.1 some) ∙ c.if-has_open_handles.false));
+      stopped = c.has_open_handles.ensures.none c.if-has_open_handles.false;
     })

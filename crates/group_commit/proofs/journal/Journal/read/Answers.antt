@@ -2,13 +2,14 @@ use Rattle.std.proofs.Common.{refl, sym, ap, subst, ◌∙◌, ◌≡◌, ℕ, l
 use Rattle.std.proofs.lemmas.Bool.{true≢false}
 use Rattle.journal_model.specs.Block.{IsAllowedBlock}
 use Rattle.journal_model.specs.Superblock.{Shape}
+use Rattle.journal_world.specs.Engine.{Engine}
 use Rattle.journal_world.specs.Journal.{Journal}
 use Rattle.log_engine.specs.Engine.{EngineValue}
-use Rattle.group_commit.specs.Journal.{IsSeen, MayTouch, ReadRefused}
+use Rattle.group_commit.specs.Journal.{Agrees, IsSeen, ReadRefused}
+use Rattle.group_commit.specs.Front.{MayTouch}
 use Rattle.group_commit.specs.Values.{JournalValue}
 use Rattle.group_commit.proofs.Reading.{kept-pending, kept-whole, seen-kept, seen-read}
-use Rattle.group_commit.proofs.Rounding.{agrees-read, refused-read}
-use Rattle.group_commit.proofs.Touches.{err-map, ok-map}
+use Rattle.group_commit.proofs.Rounding.{agrees-read_refused, refused-read}
 use Rattle.group_commit.proofs.Sealing.{allowed-here}
 use Rattle.group_commit.proofs.journal.Journal.read.Goals as goal
 
@@ -18,24 +19,17 @@ returns-then-is_aborted-clause-err g c =
     rw (← c.self.view_is) (ReadRefused.ReadAborted (sym c.is_aborted.ensures ∙ c.if-is_aborted.true) refl)
 
 -- home has no such block
-pub returns-then-not-is_allowed-clause-err : goal.returns-then-not-is_allowed-clause-err
-returns-then-not-is_allowed-clause-err g c =
-    let e = c.self.inside.engine.engine in
+pub returns-then-not-may_touch-clause-err : goal.returns-then-not-may_touch-clause-err
+returns-then-not-may_touch-clause-err g c =
     let running = sym c.is_aborted.ensures ∙ c.if-is_aborted.false in
-    let no = λ (may : MayTouch (record { front = c.self.inside.front; engine = e }) c.args.block).
-    true≢false
-    (sym (c.is_allowed.ensures.1 (allowed-here (sym c.layout.ensures.layout) (sym c.home_blocks-home_blocks.ensures) may))
-    ∙ c.if-not-is_allowed.true) in
+    let no = λ (may : MayTouch c.self.inside.front c.args.block). true≢false (sym (c.may_touch.ensures.1 may) ∙ c.if-not-may_touch.true) in
     rw (← c.self.view_is) (ReadRefused.ReadOutside running no refl)
 
 -- the journal runs, and the block may be touched
 pub returns-in-Some-clause-may : goal.returns-in-Some-clause-may
 returns-in-Some-clause-may g c =
-    let e = c.self.inside.engine.engine in
     let running = sym c.is_aborted.ensures ∙ c.if-is_aborted.false in
-    let may = allowed-here c.layout.ensures.layout c.home_blocks-home_blocks.ensures
-    (c.is_allowed.ensures.0 c.if-not-is_allowed.false) in
-    rw (← c.self.view_is) (running, may)
+    rw (← c.self.view_is) (running, c.may_touch.ensures.0 c.if-not-may_touch.false)
 
 -- the copy that is kept fills the buffer
 pub copy_from_slice-requires : goal.copy_from_slice-requires
@@ -55,43 +49,43 @@ returns-in-Some-clause-seen g c =
 
 -- front and engine agree after the engine's read
 pub invariant_of-self : goal.invariant_of-self
-invariant_of-self g c = agrees-read g.D.Device.state _ _ _ _ _ c.read.result c.self.invariant c.read.ensures.ok c.read.ensures.err
+invariant_of-self g c =
+    subst (λ (e : Engine). Agrees (record { front = c.self.inside.front; engine = e })) (sym c.in-Ok.ensures.ok.1) c.self.invariant
 
--- so it is where the engine reads
-pub returns-clause-may : goal.returns-clause-may
-returns-clause-may g c =
-    let e = c.self.inside.engine.engine in
+-- and after one that failed, once the front is told
+pub invariant_of-self-in-Err : goal.invariant_of-self-in-Err
+invariant_of-self-in-Err g c =
     let running = sym c.is_aborted.ensures ∙ c.if-is_aborted.false in
-    let may = allowed-here c.layout.ensures.layout c.home_blocks-home_blocks.ensures
-    (c.is_allowed.ensures.0 c.if-not-is_allowed.false) in
-    rw (← c.self.view_is) (ok-map c.read.result (λ ok. (running, may)) c.read.ensures.ok)
+    let may = allowed-here c.self.invariant.layout c.self.invariant.home_blocks (c.may_touch.ensures.0 c.if-not-may_touch.false) in
+    agrees-read_refused g.D.Device.state _ _ _ _ _ _ c.self.invariant running may c.abort.ensures c.in-Err.ensures.err
+
+-- the block may be touched where the engine reads too
+pub returns-in-Ok-clause-may : goal.returns-in-Ok-clause-may
+returns-in-Ok-clause-may g c =
+    let running = sym c.is_aborted.ensures ∙ c.if-is_aborted.false in
+    rw (← c.self.view_is) (running, c.may_touch.ensures.0 c.if-not-may_touch.false)
 
 -- where the front keeps no copy, what the engine reads is what the read answers
-pub returns-clause-seen : goal.returns-clause-seen
-returns-clause-seen g c =
+pub returns-in-Ok-clause-seen : goal.returns-in-Ok-clause-seen
+returns-in-Ok-clause-seen g c =
     let j : Journal = record { front = c.self.inside.front; engine = c.self.inside.engine.engine } in
     let disk = (g.D.Device.state c.self.inside.engine.device).disk in
     rw (← c.self.view_is)
-    (ok-map c.read.result
-    (λ ok honest. seen-read j c.self.invariant c.recall_invariant.ensures.plain disk c.args.block _ c.in_default.ensures.none (ok.0 honest))
-    c.read.ensures.ok)
+    (λ honest. seen-read j c.self.invariant c.recall_invariant.ensures.plain disk c.args.block _ c.in_default.ensures.none (c.in-Ok.ensures.ok.0 honest))
 
 -- a pending copy is read without a device call
-pub returns-clause-kept : goal.returns-clause-kept
-returns-clause-kept g c =
+pub returns-in-Ok-clause-kept : goal.returns-in-Ok-clause-kept
+returns-in-Ok-clause-kept g c =
     let j : Journal = record { front = c.self.inside.front; engine = c.self.inside.engine.engine } in
     rw (← c.self.view_is)
-    (ok-map c.read.result
-    (λ pending kept. kept-pending j c.args.block _ c.in_default.ensures.none
-    (λ i v is. ap (λ (x : EngineValue g.row.D.Denot). record { device = x.device; journal = record { front = c.self.inside.front; engine = x.engine } }) (pending i v is).1)
+    (λ kept. kept-pending j c.args.block _ c.in_default.ensures.none
+    (λ i v is. ap (λ (x : EngineValue g.row.D.Denot). record { device = x.device; journal = record { front = c.self.inside.front; engine = x.engine } }) (c.in-Ok.ensures.pending i v is).1)
     kept)
-    c.read.ensures.pending)
 
 -- the device failed
-pub returns-clause-err : goal.returns-clause-err
-returns-clause-err g c =
-    let e = c.self.inside.engine.engine in
+pub returns-in-Err-clause-err : goal.returns-in-Err-clause-err
+returns-in-Err-clause-err g c =
     let running = sym c.is_aborted.ensures ∙ c.if-is_aborted.false in
-    let may = allowed-here c.layout.ensures.layout c.home_blocks-home_blocks.ensures
-    (c.is_allowed.ensures.0 c.if-not-is_allowed.false) in
-    rw (← c.self.view_is) (err-map c.read.result (λ refusal. refused-read g.D.Device.state _ _ _ _ refusal running may c.in_default.ensures.none c.read.ensures.stays) c.read.ensures.err)
+    let may = c.may_touch.ensures.0 c.if-not-may_touch.false in
+    rw (← c.self.view_is)
+    (refused-read g.D.Device.state _ _ _ _ _ _ c.self.invariant running may c.in_default.ensures.none c.read.ensures.stays c.abort.ensures c.in-Err.ensures.err)

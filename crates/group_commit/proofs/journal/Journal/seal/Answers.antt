@@ -59,5 +59,4 @@ pub invariant_of-self-2 : goal.invariant_of-self-2
 invariant_of-self-2 g c =
     let taken = subst (λ (b : Batch). Accepts c.self.inside.engine.engine b c.accept.new.self.engine) c.in_ok-batch.ensures c.in_default.ensures.ok in
     subst (λ (f : Front). Agrees (record { front = f; engine = c.accept.new.self.engine })) (sym c.seal.ensures)
-    (agrees-sealed c.self.inside.front c.self.inside.engine.engine c.accept.new.self.engine c.self.invariant
-    (ap (λ (e : Engine). e.first) taken.after) (ap (λ (e : Engine). e.committed) taken.after) (ap (λ (e : Engine). e.accepted) taken.after))
+    (agrees-sealed c.self.inside.front c.self.inside.engine.engine c.accept.new.self.engine c.self.invariant taken.after)

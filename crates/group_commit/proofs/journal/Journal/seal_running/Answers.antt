@@ -14,7 +14,7 @@ returns-in_err-seal-clause-err g c =
     let running = subst (λ (v : JournalValue g.row.D.Denot). v.journal.engine.aborted ≡ false) (sym c.self.view_is) c.requires.running in
     let idle = subst (λ (v : JournalValue g.row.D.Denot). v.journal.engine.stage ≡ Idle) (sym c.self.view_is) c.requires.idle in
     let joined = subst (λ (v : JournalValue g.row.D.Denot). 0 < length v.journal.front.running.handles) (sym c.self.view_is) c.requires.joined in
-    let locked = ap (λ (f : Front). record { device = device; journal = record { front = f; engine = e } }) (c.lock.ensures.joined joined) in
+    let locked = ap (λ (f : Front). record { device = device; journal = record { front = f; engine = e } }) (c.lock.ensures.joined joined).after in
     let p = err_from_is_err_and c.from_residual.result c.from_residual.ensures.1 in
     rw (p.1, p.2, ← c.self.view_is) (seal-wrong g.D.Device.state _ _ _ _ locked running idle c.in_err-seal.ensures.err)
 

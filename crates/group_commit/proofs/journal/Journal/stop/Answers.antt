@@ -1,0 +1,16 @@
+use Rattle.std.proofs.Common.{ℕ, refl, sym, subst, ◌∙◌}
+use Rattle.std.proofs.lemmas.Bool.{true≢false}
+use Rattle.journal_world.specs.Front.{StopsHandle}
+use Rattle.group_commit.proofs.journal.Journal.stop.Goals as goal
+use Rattle.group_commit.proofs.journal.Journal.stop.Goals.{else-is_open, then-is_open}
+
+-- an open handle stops
+pub returns-clause-stops : goal.returns-clause-stops
+returns-clause-stops g c =
+    rw (← c.self.view_is)
+    (λ is. elim c.if-is_open.branch [
+      | then-is_open w ↦
+          rw (w.self-is)
+          (record { front = subst (λ (n : ℕ). StopsHandle c.self.inside.front n w.stop.new.self) w.number.ensures w.stop.ensures; engine = refl; disk_is = refl })
+      | else-is_open w ↦ absurd (true≢false (sym (c.is_open.ensures.1 is) ∙ w.if-is_open.false))
+    ])

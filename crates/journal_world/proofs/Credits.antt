@@ -1,0 +1,108 @@
+-- How many credits are held after each event of a front.
+use Rattle.std.proofs.Common.{refl, sym, ap, subst, ◌∙◌, arith, inl, inr}
+use Rattle.std.specs.Prelude.{◌≡◌, ℕ, ◌+◌, ◌-◌, ◌<◌, ◌≤◌, if◌then◌else◌, List, [], ◌∷◌, ◌++◌, length, is_some, Option, None}
+use Rattle.std.proofs.lemmas.List.{length-map, length_push}
+use Rattle.std.proofs.lemmas.List.Sums.{sum_by_push}
+use Rattle.journal_model.proofs.Effects.{entries-push_known, entries-push_new}
+use Rattle.journal_model.proofs.ListElements.{option-known}
+use Rattle.journal_model.specs.declared.entry.Entry.{Entry}
+use Rattle.journal_model.specs.declared.entry.Entry.TheVariants.{Copy}
+use Rattle.journal_model.specs.declared.transaction.Step.{Step}
+use Rattle.journal_model.specs.Transaction.{effect, entries}
+use Rattle.journal_world.specs.Front.{Front, FrontEvent, FrontHappens, GivesBack, HeldAfter, IsOpen, Joins, Reserves, StopsHandle, WritesBlock, giving_back, held, joining, left_after, left_in, reserving, stopping, write_step, writing}
+use Rattle.journal_world.specs.Front.FrontEvent.{Reserve, GiveBack, Join, WriteBlock, StopHandle, Lock}
+use Rattle.journal_world.proofs.OpenHandles.{left-among, left-without}
+
+-- a write takes a credit of the handle for the entry that it adds, or none
+written-credits : (f : Front) (h b left : ℕ) (v : List ℕ) → (effect b f.running.steps ≡ None → 0 < left) →
+    left_after f b left + length (entries (f.running.steps ++ write_step h b v ∷ [])) ≡ left + length (entries f.running.steps)
+written-credits f h b left v credit =
+    let ss : List Step = f.running.steps in
+    elim (option-known (effect b ss)) [
+      | inl none ↦
+          let more : length (entries (ss ++ write_step h b v ∷ [])) ≡ length (entries ss) + 1 =
+          ap (λ (es : List (ℕ × Entry)). length es) (entries-push_new ss (write_step h b v) (Copy v) refl none) ∙ length_push (entries ss) (b, Copy v) in
+          let some : 0 < left = credit none in
+          let spent : left_after f b left ≡ left - 1 = ap (λ (o : Option Entry). if is_some o then left else left - 1) none in
+          omega arith
+      | inr (e, known) ↦
+          let same : length (entries (ss ++ write_step h b v ∷ [])) ≡ length (entries ss) =
+          ap (λ (es : List (ℕ × Entry)). length es) (entries-push_known ss (write_step h b v) (Copy v) e refl known) ∙ length-map (entries ss) _ in
+          let kept : left_after f b left ≡ left = ap (λ (o : Option Entry). if is_some o then left else left - 1) known in
+          omega arith
+    ]
+
+-- credits are granted
+reserved-credits : (old new : Front) (n : ℕ) → Reserves old n new → held new ≡ held old + n
+reserved-credits old new n step =
+    let same : held new ≡ held (reserving old n) = ap (λ (f : Front). held f) step.after in omega arith
+
+-- credits come back
+given-credits : (old new : Front) (n : ℕ) → GivesBack old n new → held new + n ≡ held old
+given-credits old new n step =
+    let same : held new ≡ held (giving_back old n) = ap (λ (f : Front). held f) step.after in
+    let granted : n ≤ old.reserved = step.granted in
+    omega arith
+
+-- a handle joins
+joined-credits : (old new : Front) (n : ℕ) → Joins old n new → held new ≡ held old
+joined-credits old new n step =
+    let same : held new ≡ held (joining old n) = ap (λ (f : Front). held f) step.after in
+    let more : left_in (old.open_handles ++ (old.given + 1, n) ∷ []) ≡ left_in old.open_handles + n = sum_by_push (λ h. h.1) old.open_handles (old.given + 1, n) in
+    let granted : n ≤ old.reserved = step.credits in
+    omega arith
+
+-- a handle writes
+write-credits : (old new : Front) (h b : ℕ) (v : List ℕ) → WritesBlock old h b v new → held new ≡ held old
+write-credits old new h b v step =
+    let handle : IsOpen old h = step.handle in
+    let same : held new ≡ held (writing old h b v handle) = ap (λ (f : Front). held f) step.after in
+    let was : left_in old.open_handles ≡ left_in handle.before + handle.left + left_in handle.behind =
+    ap (λ (hs : List (ℕ × ℕ)). left_in hs) handle.stands ∙ left-among handle.before h handle.left handle.behind in
+    let now = left-among handle.before h (left_after old b handle.left) handle.behind in
+    let taken = written-credits old h b handle.left v step.credit in
+    omega arith
+
+-- a handle stops
+pub stopped-credits : (old new : Front) (h : ℕ) (step : StopsHandle old h new) → held new + step.handle.left ≡ held old
+stopped-credits old new h step =
+    let handle : IsOpen old h = step.handle in
+    let same : held new ≡ held (stopping old h handle) = ap (λ (f : Front). held f) step.after in
+    let was : left_in old.open_handles ≡ left_in handle.before + handle.left + left_in handle.behind =
+    ap (λ (hs : List (ℕ × ℕ)). left_in hs) handle.stands ∙ left-among handle.before h handle.left handle.behind in
+    let now = left-without handle.before handle.behind in
+    omega arith
+
+-- after each event
+pub event-held : (old new : Front) (event : FrontEvent) → FrontHappens old event new → HeldAfter old event (held new)
+event-held old new (Reserve n) step = reserved-credits old new n step
+event-held old new (GiveBack n) step = given-credits old new n step
+event-held old new (Join n) step = joined-credits old new n step
+event-held old new (WriteBlock h b v) step = write-credits old new h b v step
+event-held old new (StopHandle h) step = (step.handle, stopped-credits old new h step)
+event-held old new Lock step = ap (λ (f : Front). held f) step.after
+
+-- so no more are held than a transaction may have
+pub held-within : (old new : Front) (event : FrontEvent) → FrontHappens old event new → held old ≤ old.capacity → held new ≤ new.capacity
+held-within old new (Reserve n) step within =
+    let free : held old + n ≤ old.capacity = step.free in
+    let after = reserved-credits old new n step in
+    let same : new.capacity ≡ old.capacity = ap (λ (f : Front). f.capacity) step.after in
+    omega arith
+held-within old new (GiveBack n) step within =
+    let after = given-credits old new n step in
+    let same : new.capacity ≡ old.capacity = ap (λ (f : Front). f.capacity) step.after in
+    omega arith
+held-within old new (Join n) step within =
+    let after = joined-credits old new n step in
+    let same : new.capacity ≡ old.capacity = ap (λ (f : Front). f.capacity) step.after in
+    omega arith
+held-within old new (WriteBlock h b v) step within =
+    let after = write-credits old new h b v step in
+    let same : new.capacity ≡ old.capacity = ap (λ (f : Front). f.capacity) step.after in
+    omega arith
+held-within old new (StopHandle h) step within =
+    let after = stopped-credits old new h step in
+    let same : new.capacity ≡ old.capacity = ap (λ (f : Front). f.capacity) step.after in
+    omega arith
+held-within old new Lock step within = subst (λ (f : Front). held f ≤ f.capacity) (sym step.after) within
