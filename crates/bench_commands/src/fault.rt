@@ -28,11 +28,13 @@ impl From<Status> for ExitCode {
 
 /// Why a command can't go on.
 #[derive(Drop)]
-pub(crate) enum Fault {
+pub enum Fault {
     /// A file can't be opened or read.
     File,
     /// The script is no script.
     BadScript,
+    /// The files of an image can't be made.
+    ImageFile,
     /// The journal refused, or memory ran out.
     Refused(JournalError),
     /// The output can't be written.
@@ -47,9 +49,21 @@ impl Fault {
             _ => Fault::File,
         }
     }
+
+    /// Why the files of an image can't be made.
+    pub(crate) fn of_image(e: io::Error) -> Fault {
+        match e.kind() {
+            ErrorKind::OutOfMemory => Fault::Refused(JournalError::Memory),
+            _ => Fault::ImageFile,
+        }
+    }
 }
 
 impl From<io::Error> for Fault {
+    ghost use Rattle.bench_commands.specs.Images.{IsUnmade};
+
+    ghost from_gives = { λ _ fault. ¬ IsUnmade fault };
+
     fn from(e: io::Error) -> Fault {
         match e.kind() {
             ErrorKind::OutOfMemory => Fault::Refused(JournalError::Memory),
@@ -74,6 +88,10 @@ impl From<ScriptError> for Fault {
 }
 
 impl From<log_dump::Fault> for Fault {
+    ghost use Rattle.bench_commands.specs.Images.{IsUnmade};
+
+    ghost from_gives = { λ _ fault. ¬ IsUnmade fault };
+
     fn from(fault: log_dump::Fault) -> Fault {
         match fault {
             log_dump::Fault::Refused(e) => Fault::Refused(e),
@@ -90,7 +108,7 @@ impl From<log_dump::Fault> for Fault {
 /// The line can't be written.
 fn report(err: &mut impl Write, path: &str, fault: &Fault) -> io::Result<()> {
     match fault {
-        Fault::File => writeln!(err, "jbench: file {path}"),
+        Fault::File | Fault::ImageFile => writeln!(err, "jbench: file {path}"),
         Fault::BadScript => writeln!(err, "jbench: bad script"),
         Fault::Refused(e) => writeln!(err, "jbench: refusal {} {e}", e.number()),
         Fault::Output(_) => Ok(()),

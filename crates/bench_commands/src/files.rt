@@ -2,6 +2,8 @@
 ghost use Rattle.std.specs.Prelude.{IfOk};
 ghost use Rattle.log_format.specs.Size.{IsBlockSize};
 
+use crate::run::MakeImage;
+use crate::words::ImageWords;
 use bench_script::{Measures, is_block_size};
 use file_device::{Contents, FileDevice, UnknownContents};
 use std::fs::{File, Files, OpenOptions};
@@ -155,6 +157,71 @@ pub fn make_device(measures: &Measures, log: File, home: File) -> io::Result<Log
     clear(&home, measures.home_blocks.saturating_mul(size))?;
     let size = measures.block_size;
     Ok(FileDevice::new(UnknownContents, size, log, Some(home))?)
+}
+
+/// The two files that take what the stop of a run leaves.
+#[derive(Drop)]
+pub struct ImageFiles {
+    log: File,
+    home: File,
+}
+
+impl MakeImage for ImageFiles {
+    type Device = LogFiles;
+
+    fn make(self, measures: &Measures) -> io::Result<LogFiles> {
+        let ImageFiles { log, home } = self;
+        make_device(measures, log, home)
+    }
+}
+
+/// A file that can't be opened.
+#[derive(Drop)]
+pub struct Unopened<'a> {
+    /// Its path.
+    pub path: &'a str,
+    /// Why it can't.
+    pub error: io::Error,
+}
+
+/// Opens the two files of an image to be written, which are neither one file nor that of the script, and makes each where there is
+/// none. What they hold stays.
+///
+/// # Errors
+///
+/// The first of the two that can't be opened, or that is another one of the three.
+pub fn open_image<'a, R: Files<File = File>>(
+    rt: &R,
+    words: &ImageWords<'a>,
+    script: &File,
+) -> Result<ImageFiles, Unopened<'a>> {
+    let log = match open_home(rt, words.log, script) {
+        Ok(file) => file,
+        Err(error) => return Err(Unopened {
+            path: words.log,
+            error,
+        }),
+    };
+    match open_third(rt, words.home, script, &log) {
+        Ok(home) => Ok(ImageFiles { log, home }),
+        Err(error) => Err(Unopened {
+            path: words.home,
+            error,
+        }),
+    }
+}
+
+/// Opens a file to be written, which is neither of these, and makes it where there is none.
+fn open_third<R: Files<File = File>>(
+    rt: &R,
+    path: &str,
+    one: &File,
+    other: &File,
+) -> io::Result<File> {
+    match open_home(rt, path, one) {
+        Ok(file) => other_than(other, file),
+        Err(e) => Err(e),
+    }
 }
 
 /// Takes all that a file holds, gives it so many zero bytes, and makes that durable.

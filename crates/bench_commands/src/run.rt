@@ -1,7 +1,12 @@
 //! The command `run`: reads a script, and runs it.
+ghost use Rattle.std.specs.Prelude.{◌≡◌, IfErr};
+ghost use Rattle.bench_commands.specs.Images.{IsUnmade};
+
 use crate::fault::{self, Fault, Status};
 use crate::words::RunWords;
-use bench_script::Script;
+use bench_run::Stops;
+use bench_script::{Measures, Script};
+use block_device::Device;
 use std::alloc::Global;
 use std::io;
 use std::io::{BufWriter, Read, Write};
@@ -17,13 +22,98 @@ pub fn run<R: Read + Drop, W: Write + Drop, E: Write + Drop>(
     words: &RunWords<'_>,
     script: R,
     out: W,
+    err: E,
+) -> io::Result<Status> {
+    end(words, verdict_of(alloc, words, script, out), err)
+}
+
+/// Runs a script as `run` does, and also leaves an image: what the stop left is written to the device that `image` makes, durably,
+/// before that is opened. Where that device can't be made one line on `err` says so, and nothing else is printed.
+///
+/// # Errors
+///
+/// The output can't be written.
+pub fn run_with_image<R: Read + Drop, M: MakeImage + Drop, W: Write + Drop, E: Write + Drop>(
+    alloc: Global,
+    words: &RunWords<'_>,
+    script: R,
+    image: M,
+    out: W,
+    err: E,
+) -> io::Result<Status> {
+    let verdict = match read_script(alloc, script) {
+        Ok(script) => run_buffered(alloc, words, &script, image, out),
+        Err(fault) => Err(fault),
+    };
+    end(words, verdict, err)
+}
+
+/// Makes the device that takes an image.
+pub trait MakeImage {
+    /// The device.
+    type Device: Device + Drop;
+
+    /// Makes a device of these measures.
+    ///
+    /// # Errors
+    ///
+    /// It can't be made.
+    fn make(self, measures: &Measures) -> io::Result<Self::Device>;
+}
+
+/// How a run ends, and the line that says why it couldn't go on.
+fn end<E: Write + Drop>(
+    words: &RunWords<'_>,
+    verdict: Result<bool, Fault>,
     mut err: E,
 ) -> io::Result<Status> {
-    match verdict_of(alloc, words, script, out) {
+    match verdict {
         Ok(true) => Ok(Status::Fine),
         Ok(false) => Ok(Status::VerdictFalse),
         Err(Fault::Output(e)) => Err(e),
-        Err(fault) => fault::refuse(&mut err, words.script, &fault),
+        Err(fault) => fault::refuse(&mut err, path_of(words, &fault), &fault),
+    }
+}
+
+/// The file that a fault is of.
+fn path_of<'a>(words: &RunWords<'a>, fault: &Fault) -> &'a str {
+    match (&words.image, fault) {
+        (Some(image), Fault::ImageFile) => image.log,
+        _ => words.script,
+    }
+}
+
+/// Runs a script that leaves an image, by way of a buffer. The answer is the verdict.
+fn run_buffered<M: MakeImage + Drop, W: Write + Drop>(
+    alloc: Global,
+    words: &RunWords<'_>,
+    script: &Script,
+    image: M,
+    out: W,
+) -> Result<bool, Fault> {
+    let mut out = BufWriter::new(alloc, out)?;
+    let verdict = run_on(alloc, script, &words.stops(), image, &mut out)?;
+    out.flush()?;
+    Ok(verdict)
+}
+
+/// Makes the device that takes the image, and then runs a script. The answer is the verdict.
+///
+/// # Errors
+///
+/// `Fault::ImageFile`: the device can't be made, and nothing was printed. Else those of a run, and of the copy of its image.
+pub fn run_on<M: MakeImage, W: Write>(
+    alloc: Global,
+    script: &Script,
+    stops: &Stops<'_>,
+    image: M,
+    out: &mut W,
+) -> Result<bool, Fault>
+    ensures { IfErr result (λ fault. IsUnmade fault → out.new ≡ out.old) }
+{
+    match image.make(&script.measures) {
+        Ok(mut device) => Ok(bench_run::run_copied(alloc, script, stops, &mut device, out)?),
+        Err(e) => Err(Fault::of_image(e)),
     }
 }
 

@@ -38,9 +38,9 @@ const PROGRAM: Usage = Usage {
     name: "jbench",
     about: "Runs scripts of journal operations over a disk in memory that loses power and judges what is left; makes, prints and recovers logs",
     after_help: "\
-run SCRIPT [--stop K] [--keep LIST] [--stop2 K] [--keep2 LIST]: SCRIPT is a file, K a write number from 1 on (default: the device
-stops at the end, and the opening does not stop), LIST write numbers with commas (default: none). jbench run --help says what a
-script is.
+run SCRIPT [--stop K] [--keep LIST] [--stop2 K] [--keep2 LIST] [--image-log PATH --image-home PATH]: SCRIPT is a file, K a write
+number from 1 on (default: the device stops at the end, and the opening does not stop), LIST write numbers with commas (default:
+none), PATH a file that gets what the stop left. jbench run --help says what a script is.
 format LOG HOME [--block B] [--length M] [--home N] [--uuid DIGITS]: two files become an empty log of M blocks (default: 33) and
 a home area of N zero blocks (default: 64), of B bytes each (default: 1024).
 dump LOG: prints the log in a file.
@@ -63,6 +63,10 @@ refusal, and counts as done.
 
 With --stop2 the opening of the image is stopped at its own write K, counted from 1, and keeps of its unflushed writes those of
 --keep2. That is opened once more, and judged by what the image had. An opening that makes fewer writes is not stopped.
+
+With --image-log and --image-home the image is also written to two files before it is opened, byte for byte, so that other
+programs can judge it: jbench recover of them ends as the run's line 'open' says. Both files are made where there are none, and
+lose what they held once the script is taken. They are made before the script runs.
 
 A script is a JSON object with these keys, of which \"ops\" alone has to be there:
   \"block\"   bytes of a block: 1024, 2048 or 4096 [default: 1024]
@@ -115,6 +119,18 @@ Example: jbench run examples/one_write.json --stop 4 --keep 4",
             value: "LIST",
             is_option: true,
             help: "Unflushed writes that the stop of --stop2 keeps: numbers with commas [default: none]",
+        },
+        Word {
+            name: "image-log",
+            value: "PATH",
+            is_option: true,
+            help: "The file that gets the log of the image; with --image-home [default: none]",
+        },
+        Word {
+            name: "image-home",
+            value: "PATH",
+            is_option: true,
+            help: "The file that gets the home area of the image; with --image-log [default: none]",
         },
     ],
 };
@@ -261,6 +277,17 @@ pub struct RunWords<'a> {
     pub run: StopWords,
     /// The stop of the opening of what the run left.
     pub opening: StopWords,
+    /// The files that get what the run left, if any do.
+    pub image: Option<ImageWords<'a>>,
+}
+
+/// The files of an image.
+#[derive(Debug, Drop)]
+pub struct ImageWords<'a> {
+    /// The file that gets the log.
+    pub log: &'a str,
+    /// The file that gets the home area.
+    pub home: &'a str,
 }
 
 /// Where a device is to stop.
@@ -381,6 +408,8 @@ enum Wanted {
     OpeningNumber,
     /// Write numbers with commas behind `--keep2`.
     OpeningNumbers,
+    /// Both files of an image, or neither.
+    ImageFiles,
     /// The bytes of a block behind `--block`.
     BlockSize,
     /// The blocks of a log behind `--length`.
@@ -411,6 +440,9 @@ fn line_of(wanted: Wanted) -> &'static str {
         Wanted::OpeningNumber => "invalid value for '--stop2 <K>': a number from 1 on is wanted",
         Wanted::OpeningNumbers => {
             "invalid value for '--keep2 <LIST>': write numbers with commas are wanted"
+        }
+        Wanted::ImageFiles => {
+            "'--image-log <PATH>' and '--image-home <PATH>' are wanted together, or neither"
         }
         Wanted::BlockSize => "invalid value for '--block <B>': 1024, 2048 or 4096 is wanted",
         Wanted::LogBlocks => "invalid value for '--length <M>': 17 to 1048576 is wanted",
@@ -476,12 +508,22 @@ fn opening_stop(alloc: Global, matches: &ArgMatches<'_>) -> Result<StopWords, Wa
     })
 }
 
+/// The files of an image that `run` is told.
+fn image_words<'a>(matches: &ArgMatches<'a>) -> Result<Option<ImageWords<'a>>, Wanted> {
+    match (matches.get_str("image-log"), matches.get_str("image-home")) {
+        (Some(log), Some(home)) => Ok(Some(ImageWords { log, home })),
+        (None, None) => Ok(None),
+        _ => Err(Wanted::ImageFiles),
+    }
+}
+
 /// What `run` is told.
 fn run_words<'a>(alloc: Global, matches: &ArgMatches<'a>) -> Result<RunWords<'a>, Wanted> {
     Ok(RunWords {
         script: matches.get_str("script").unwrap_or(""),
         run: run_stop(alloc, matches)?,
         opening: opening_stop(alloc, matches)?,
+        image: image_words(matches)?,
     })
 }
 

@@ -1,5 +1,5 @@
 -- What a verdict counts and compares.
-use Rattle.std.proofs.Common.{◌≡◌, ◌↔◌, ◌∙◌, ℕ, List, [], IsTrue, Option, Some, Bool, true, false, nat_le, ◌||◌, refl, ap, subst}
+use Rattle.std.proofs.Common.{◌≡◌, ◌↔◌, ◌∙◌, ℕ, List, [], IsTrue, Option, Some, Bool, true, false, nat_le, ◌<◌, All, ◌||◌, refl, ap, subst}
 use Rattle.std.specs.List.{count_by}
 use Rattle.journal_model.specs.declared.entry.Entry.{Entry}
 use Rattle.journal_model.specs.declared.number.Area.TheVariants.{Home}
@@ -53,9 +53,10 @@ pub IsImageVerdict-from : (sealed : History) (shown : Option ℕ) (named : List 
     → OpensAs image.shape (reading (state_of image).disk) (reading (state_of opened).disk Home)
     → opened.shape ≡ image.shape
     → n ≡ numbered_below limit sealed
+    → All (λ b. b < opened.shape.home_blocks) named
     → (IsTrue right ↔ IsRight sealed shown named n opened.shape.block_size (reading (state_of opened).disk Home))
     → IsImageVerdict image.shape (reading (state_of image).disk) sealed shown named right
-IsImageVerdict-from sealed shown named right image opened limit n has_limit opens shape count right_is =
+IsImageVerdict-from sealed shown named right image opened limit n has_limit opens shape count there right_is =
     let on_shape : Shape → Type 0 = λ s. IsTrue right ↔ IsRight sealed shown named (numbered_below limit sealed) s.block_size (reading (state_of opened).disk Home) in
     let on_count : ℕ → Type 0 = λ m. IsTrue right ↔ IsRight sealed shown named m opened.shape.block_size (reading (state_of opened).disk Home) in
     record {
@@ -63,6 +64,7 @@ IsImageVerdict-from sealed shown named right image opened limit n has_limit open
       has_limit = has_limit;
       got = reading (state_of opened).disk Home;
       opens = opens;
+      there = subst (λ (s : Shape). All (λ b. b < s.home_blocks) named) shape there;
       right_is = subst on_shape shape (subst on_count count right_is);
     }
 

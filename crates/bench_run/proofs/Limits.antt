@@ -1,14 +1,15 @@
--- Where the transactions of a log end.
+-- What an opening of a log finds.
 use Rattle.std.proofs.Common.{◌∙◌, ap, ap₂, subst, sym, arith}
 use Rattle.std.specs.Prelude.{◌≡◌, ◌≢◌, ◌==◌, ℕ, ◌+◌, List, length, None, true, false}
 use Rattle.std.proofs.lemmas.Bool.Decides.{nat_tests}
 use Rattle.journal_model.specs.declared.log.Text.{Text}
 use Rattle.journal_model.specs.declared.number.Area.TheVariants.{Log}
 use Rattle.journal_model.specs.Disk.{Image}
-use Rattle.journal_model.specs.Opening.{HasChain, HasLimit, super_of}
-use Rattle.journal_model.specs.Opening.HasLimit.{OfClean, OfChain}
+use Rattle.journal_model.specs.Opening.{HasChain, super_of}
 use Rattle.journal_model.specs.Superblock.{Shape, Super, super_in, super_refusal}
 use Rattle.log_scan.specs.Scanning.{AreTextsOf, IsScanned}
+use Rattle.recovery.specs.Opening.{Tells}
+use Rattle.recovery.specs.Opening.Tells.{OfClean, OfChain}
 use Rattle.bench_run.specs.Limit.{IsReadLog}
 
 -- a superblock that was read and accepted for these measures, which are the device's
@@ -32,9 +33,9 @@ test-started start test = λ clean. grind (arith, nat_tests)
 
 module _ (shape : Shape) (image : Image) (s : Super) (read : IsReadLog shape image s) where
   -- those of a clean log
-  pub limit-clean : s.s_start ≡ 0 → HasLimit shape image s.s_sequence
-  limit-clean clean =
-      subst (λ (t : Super). HasLimit shape image t.s_sequence) (sym read.same)
+  pub tells-clean : s.s_start ≡ 0 → Tells shape image true s.s_sequence 0
+  tells-clean clean =
+      subst (λ (t : Super). Tells shape image true t.s_sequence 0) (sym read.same)
       (OfClean (record { accepted = read.accepted; clean = ap (λ (t : Super). t.s_start) (sym read.same) ∙ clean }))
 
   -- its texts are its chain
@@ -46,9 +47,9 @@ module _ (shape : Shape) (image : Image) (s : Super) (read : IsReadLog shape ima
   }
 
   -- those that a scan counted
-  pub limit-chain : s.s_start ≢ 0 → (count : ℕ) → IsScanned s shape.home_blocks image count → HasLimit shape image (s.s_sequence + count)
-  limit-chain started count scanned =
+  pub tells-chain : s.s_start ≢ 0 → (count : ℕ) → IsScanned s shape.home_blocks image count → Tells shape image false (s.s_sequence + count) count
+  tells-chain started count scanned =
       let are = subst (λ (t : Super). AreTextsOf t shape.home_blocks image scanned.texts) read.same scanned.are in
-      subst (λ (n : ℕ). HasLimit shape image (s.s_sequence + n)) (sym scanned.number)
-      (subst (λ (t : Super). HasLimit shape image (t.s_sequence + length scanned.texts)) (sym read.same)
+      subst (λ (n : ℕ). Tells shape image false (s.s_sequence + n) n) (sym scanned.number)
+      (subst (λ (t : Super). Tells shape image false (t.s_sequence + length scanned.texts) (length scanned.texts)) (sym read.same)
       (OfChain scanned.texts (chain-of started scanned.texts are)))

@@ -1,10 +1,10 @@
 -- Verdicts on images that were opened, once or twice.
 use Rattle.std.proofs.Common.{◌∙◌, ℕ, List, [], Bool, Option, ap, ap₂, refl, subst, sym}
-use Rattle.std.specs.Prelude.{◌≡◌, ◌↔◌, IsTrue}
+use Rattle.std.specs.Prelude.{◌≡◌, ◌↔◌, ◌<◌, All, IsTrue}
 use Rattle.journal_model.specs.declared.number.Area.{Area}
 use Rattle.journal_model.specs.declared.number.Area.TheVariants.{Home}
 use Rattle.journal_model.specs.Disk.{Disk, Image, reading}
-use Rattle.journal_model.specs.Opening.{HasLimit, OpensAs, numbered_below}
+use Rattle.journal_model.specs.Opening.{OpensAs, numbered_below}
 use Rattle.journal_model.specs.Superblock.{Shape}
 use Rattle.journal_model.specs.Transaction.{History}
 use Rattle.block_device.specs.Memory.{MemState, crashed, state_of}
@@ -16,7 +16,7 @@ use Rattle.log_epochs.specs.OpeningRun.{IsFoundOn, IsMoment}
 use Rattle.log_epochs.specs.OpeningSteps.{Found}
 use Rattle.log_scan.proofs.ScanSteps.{stays-joins}
 use Rattle.recovery.specs.declared.opening.Report.{Report}
-use Rattle.recovery.specs.Calls.{HasBegun, HasMade, IsInterrupted, disk_after, opening_calls, past_after}
+use Rattle.recovery.specs.Calls.{HasMade, IsInterrupted, disk_after, opening_calls, past_after}
 use Rattle.recovery.specs.Calls.IsInterrupted.{Before, Within}
 use Rattle.recovery.specs.Opening.{IsBroken, IsDone, Tells}
 use Rattle.recovery.specs.Opening.IsBroken.{Reading, Writing}
@@ -150,19 +150,21 @@ IsStoppedAt-stays k device old new s h =
 -- the verdict on an image that was opened
 pub image-verdict : (sealed : History) (shown : Option ℕ) (named : List ℕ) (right : Bool) (image : MemState) (opened : OpenedImage)
     → IsOpenedImage image.shape (state_of image).disk opened
+    → All (λ b. b < opened.device.shape.home_blocks) named
     → (IsTrue right ↔ IsRight sealed shown named (numbered_below opened.report.ends_at sealed) opened.device.shape.block_size (reading (state_of opened.device).disk Home))
     → IsImageVerdict image.shape (reading (state_of image).disk) sealed shown named right
-image-verdict sealed shown named right image opened is right_is =
+image-verdict sealed shown named right image opened is there right_is =
     IsImageVerdict-from sealed shown named right image opened.device opened.report.ends_at (numbered_below opened.report.ends_at sealed)
     (HasLimit-from_tells image.shape (reading (state_of image).disk) opened.report.clean opened.report.ends_at opened.report.transactions is.tells)
-    is.opens is.shape_is refl right_is
+    is.opens is.shape_is refl there right_is
 
 -- the verdict where the opening was not stopped
 pub verdict-once : (sealed : History) (shown : Option ℕ) (named : List ℕ) (k : ℕ) (keep : List ℕ) (right : Bool) (image mid : MemState) (opened : OpenedImage)
     → Stays (state_of image) (state_of mid) → IsAttempt (state_of mid) k (Whole opened)
+    → All (λ b. b < opened.device.shape.home_blocks) named
     → (IsTrue right ↔ IsRight sealed shown named (numbered_below opened.report.ends_at sealed) opened.device.shape.block_size (reading (state_of opened.device).disk Home))
     → IsOpeningVerdict (state_of image) k keep sealed shown named right
-verdict-once sealed shown named k keep right image mid opened stays is right_is =
+verdict-once sealed shown named k keep right image mid opened stays is there right_is =
     let here : DeviceState = state_of opened.device in
     Once (record {
       device = opened.device;
@@ -170,21 +172,21 @@ verdict-once sealed shown named k keep right image mid opened stays is right_is 
         calls = IsDone-between (state_of image) (state_of mid) here here stays is.1.calls (record { shape = refl; disk = refl; past = refl });
         fewer = is.1.fewer;
       };
-      verdict = image-verdict sealed shown named right image opened (IsOpenedImage-stays opened (state_of image) (state_of mid) stays is.0) right_is;
+      verdict = image-verdict sealed shown named right image opened (IsOpenedImage-stays opened (state_of image) (state_of mid) stays is.0) there right_is;
     })
 
 -- the verdict where it was: what a crash of the stopped device kept was opened
-pub verdict-twice : (sealed : History) (shown : Option ℕ) (named : List ℕ) (k : ℕ) (keep : List ℕ) (right : Bool) (limit : ℕ) (image mid device left : MemState)
-    → Stays (state_of image) (state_of mid) → HasLimit image.shape (reading (state_of image).disk) limit
+pub verdict-twice : (sealed : History) (shown : Option ℕ) (named : List ℕ) (k : ℕ) (keep : List ℕ) (right was_clean : Bool) (limit count : ℕ) (image mid device left : MemState)
+    → Stays (state_of image) (state_of mid) → Tells image.shape (reading (state_of image).disk) was_clean limit count
     → IsStoppedAt (state_of mid) k device
     → ((a : Area) (n : ℕ) → (state_of left).disk a n ≡ record { reads = crashed keep device a n; others = [] })
     → left.shape ≡ device.shape
-    → IsSecondVerdict left.shape (reading (state_of left).disk) limit sealed shown named right
+    → IsSecondVerdict left.shape (reading (state_of left).disk) was_clean limit sealed shown named right
     → IsOpeningVerdict (state_of image) k keep sealed shown named right
-verdict-twice sealed shown named k keep right limit image mid device left stays has_limit stopped crash left_shape verdict =
+verdict-twice sealed shown named k keep right was_clean limit count image mid device left stays first stopped crash left_shape verdict =
     let at : IsStoppedAt (state_of image) k device = IsStoppedAt-stays k device (state_of image) (state_of mid) stays stopped in
     let shape : left.shape ≡ image.shape = left_shape ∙ at.shape_is in
     let disk : reading (state_of left).disk ≡ crashed keep device = λ i a n. (crash a n i).reads in
-    let on_shape : Shape → Type 0 = λ s. IsSecondVerdict s (reading (state_of left).disk) limit sealed shown named right in
-    let on_disk : Image → Type 0 = λ m. IsSecondVerdict image.shape m limit sealed shown named right in
-    Twice (record { limit = limit; has_limit = has_limit; device = device; stopped = at; verdict = subst on_disk disk (subst on_shape shape verdict) })
+    let on_shape : Shape → Type 0 = λ s. IsSecondVerdict s (reading (state_of left).disk) was_clean limit sealed shown named right in
+    let on_disk : Image → Type 0 = λ m. IsSecondVerdict image.shape m was_clean limit sealed shown named right in
+    Twice (record { was_clean = was_clean; limit = limit; count = count; first = first; device = device; stopped = at; verdict = subst on_disk disk (subst on_shape shape verdict) })

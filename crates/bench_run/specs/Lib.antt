@@ -1,6 +1,11 @@
+pub mod Copying
+pub mod Disks
 pub mod LastEntries
 pub mod Left
 pub mod Limit
 pub mod OpenedImages
+pub mod Performed
 pub mod Reopening
+pub mod Shown
+pub mod Told
 pub mod Verdict

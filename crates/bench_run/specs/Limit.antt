@@ -1,5 +1,5 @@
 -- A log whose superblock was read and accepted.
-use Rattle.std.specs.Prelude.{◌≡◌, ℕ, None}
+use Rattle.std.specs.Prelude.{◌≡◌, None}
 use Rattle.journal_model.specs.declared.number.Area.TheVariants.{Log}
 use Rattle.journal_model.specs.Disk.{Image}
 use Rattle.journal_model.specs.Opening.{super_of}

@@ -1,7 +1,7 @@
 -- The verdict where the opening of an image is stopped, and what that left is opened.
-use Rattle.std.specs.Prelude.{◌≡◌, ◌↔◌, ℕ, ◌+◌, ◌<◌, Bool, true, false, IsTrue, List, Option}
+use Rattle.std.specs.Prelude.{◌≡◌, ◌↔◌, ℕ, ◌+◌, ◌<◌, Bool, true, false, IsTrue, List, Option, All}
 use Rattle.journal_model.specs.Disk.{Image, reading}
-use Rattle.journal_model.specs.Opening.{HasLimit, OpensAs, numbered_below}
+use Rattle.journal_model.specs.Opening.{OpensAs, numbered_below}
 use Rattle.journal_model.specs.Superblock.{Shape}
 use Rattle.journal_model.specs.Transaction.{History, Volume}
 use Rattle.block_device.specs.Memory.{MemState, crashed, state_of, writes_of}
@@ -14,11 +14,13 @@ use Rattle.bench_run.specs.declared.reopening.Attempt.TheVariants.{Whole, Stoppe
 use Rattle.bench_run.specs.OpenedImages.{IsOpenedImage}
 use Rattle.bench_run.specs.Verdict.{IsImageVerdict, IsRight}
 
--- the transactions of a log end at this limit; an opening of what a stop within its opening left finds the same end, or a
--- clean log that names the number behind it
-abbrev pub FollowsOn : (limit : ℕ) (clean : Bool) (ends_at : ℕ) → Type 0
-FollowsOn limit false ends_at = ends_at ≡ limit
-FollowsOn limit true ends_at = ends_at ≡ limit + 1
+-- the transactions of a log end at this limit; an opening of what a stop within its opening left finds the same end, or, where it
+-- was not clean, a clean log that names the number behind it
+abbrev pub FollowsOn : (was_clean : Bool) (limit : ℕ) (clean : Bool) (ends_at : ℕ) → Type 0
+FollowsOn false limit false ends_at = ends_at ≡ limit
+FollowsOn false limit true ends_at = ends_at ≡ limit + 1
+FollowsOn true limit true ends_at = ends_at ≡ limit
+FollowsOn true limit false ends_at = ⊥
 
 -- A device after an opening of this image that was stopped: some of the opening's calls were made, so that it is at one of
 -- the opening's moments. Its last write has the number k.
@@ -50,14 +52,15 @@ IsStoppedAttempt device k (Stopped same) = (same ≡ device) × (writes_of devic
 
 -- The verdict on what a stop within an opening left, where the transactions of what was opened first end at this limit: it was
 -- opened. The verdict is ok just where that found what such a stop can leave, and what it gave is right by the first count.
-pub record IsSecondVerdict (shape : Shape) (left : Image) (limit : ℕ) (sealed : History) (shown : Option ℕ) (named : List ℕ) (right : Bool) : Type 0 where
+pub record IsSecondVerdict (shape : Shape) (left : Image) (was_clean : Bool) (limit : ℕ) (sealed : History) (shown : Option ℕ) (named : List ℕ) (right : Bool) : Type 0 where
   pub clean : Bool
   pub ends_at : ℕ
   pub transactions : ℕ
   pub tells : Tells shape left clean ends_at transactions
   pub got : Volume
   pub opens : OpensAs shape left got
-  pub right_is : IsTrue right ↔ FollowsOn limit clean ends_at × IsRight sealed shown named (numbered_below limit sealed) shape.block_size got
+  pub there : All (λ b. b < shape.home_blocks) named
+  pub right_is : IsTrue right ↔ FollowsOn was_clean limit clean ends_at × IsRight sealed shown named (numbered_below limit sealed) shape.block_size got
 
 -- an opening of this image makes fewer writes than k, and this is the verdict on what it gave
 pub record IsVerdictWithoutStop (image : DeviceState) (k : ℕ) (sealed : History) (shown : Option ℕ) (named : List ℕ) (right : Bool) : Type 0 where
@@ -67,11 +70,13 @@ pub record IsVerdictWithoutStop (image : DeviceState) (k : ℕ) (sealed : Histor
 
 -- a device stopped at write k of an opening of this image, and this is the verdict on what it kept
 pub record IsVerdictBehindStop (image : DeviceState) (k : ℕ) (keep : List ℕ) (sealed : History) (shown : Option ℕ) (named : List ℕ) (right : Bool) : Type 0 where
+  pub was_clean : Bool
   pub limit : ℕ
-  pub has_limit : HasLimit image.shape (reading image.disk) limit
+  pub count : ℕ
+  pub first : Tells image.shape (reading image.disk) was_clean limit count
   pub device : MemState
   pub stopped : IsStoppedAt image k device
-  pub verdict : IsSecondVerdict image.shape (crashed keep device) limit sealed shown named right
+  pub verdict : IsSecondVerdict image.shape (crashed keep device) was_clean limit sealed shown named right
 
 -- the verdict on an image of which an opening stops at its write k: it made fewer writes, or it did stop there
 pub data IsOpeningVerdict (image : DeviceState) (k : ℕ) (keep : List ℕ) (sealed : History) (shown : Option ℕ) (named : List ℕ) (right : Bool) : Type 0 where

@@ -1,5 +1,5 @@
 -- What an opening owes after a run, and when it gave that back.
-use Rattle.std.specs.Prelude.{◌≡◌, ◌↔◌, ℕ, ◌≤◌, Bool, IsTrue, List, [], ◌∷◌, length, replicate, take, Option, Some, None, All, ⊤}
+use Rattle.std.specs.Prelude.{◌≡◌, ◌↔◌, ℕ, ◌<◌, ◌≤◌, Bool, IsTrue, List, [], ◌∷◌, length, replicate, take, Option, Some, None, All, ⊤}
 use Rattle.journal_model.specs.declared.entry.Entry.{Entry}
 use Rattle.journal_model.specs.declared.entry.Entry.TheVariants.{Copy, Revoke}
 use Rattle.journal_model.specs.Disk.{Image}
@@ -42,6 +42,7 @@ pub record IsImageVerdict (shape : Shape) (image : Image) (sealed : History) (sh
   pub has_limit : HasLimit shape image limit
   pub got : Volume
   pub opens : OpensAs shape image got
+  pub there : All (λ b. b < shape.home_blocks) named
   pub right_is : IsTrue right ↔ IsRight sealed shown named (numbered_below limit sealed) shape.block_size got
 
 -- the verdict on a device that stopped: what a crash of it left was opened, and what that gave is right, or it is not

@@ -1,33 +1,34 @@
 //! Runs the operations of a script on a journal.
-ghost use Rattle.std.specs.Prelude.{◌≡◌, ◌≤◌, IfOk, length};
+ghost use Rattle.std.specs.Prelude.{◌≡◌, ◌++◌, IfOk, OnOk, drop, length, min, take};
+ghost use Rattle.block_device.specs.Memory.{state_of};
+ghost use Rattle.block_device.specs.Stop.{stopping};
+ghost use Rattle.bench_run.specs.Performed.{block_from};
 
+use crate::client::{Client, HomeFact, Waited};
 use crate::outcome::{Outcome, PRINTED_BYTES};
 use crate::slots::{Slot, Slots};
 use bench_script::{HandleName, Operation};
 use block_device::{MemDevice, StopAt};
-use group_commit::{CheckTurn, Credits, Handle, Journal, Parts, Seat, Status, Ticket, Turn};
+use group_commit::{CheckTurn, Credits, Handle, Parts, Status, Ticket, Turn};
 use journal_model::{BlockNo, JournalError, Tid};
-use recovery::{Opened, open};
+use recovery::Opened;
 use std::alloc::{AllocError, Global};
 
 /// More turns than a commit can take: each is the seal or one device call, and there are few more of these than ring blocks,
 /// of which a log has fewer than 1,048,576.
 const MOST_TURNS: u32 = 2_000_000;
 
-/// A journal, and what the names of a script stand for.
+/// The client of a journal, and what the names of a script stand for.
 #[derive(Drop)]
-pub struct Interpreter {
+pub struct Interpreter<H: HomeFact> {
     alloc: Global,
-    journal: Journal<StopAt<MemDevice>>,
-    seat: Seat,
+    client: Client<H>,
     slots: Slots,
-    /// The greatest transaction that an operation showed committed.
-    acknowledged: Option<Tid>,
 }
 
 /// Copies bytes to the front of others, as many as both have.
 fn copy_front(to: &mut [u8], from: &[u8])
-    ensures { length to.new ≡ length to.old }
+    ensures { to.new ≡ take (min (length to.old) (length from.now)) from.now ++ drop (min (length to.old) (length from.now)) to.old }
 {
     let n = to.len().min(from.len());
     to[..n].copy_from_slice(&from[..n]);
@@ -42,57 +43,41 @@ fn front_of(bytes: &[u8]) -> [u8; PRINTED_BYTES] {
 
 /// A block of `size` bytes: these, at most one block of them, and zeros behind them.
 fn block_of(alloc: Global, size: usize, bytes: &[u8]) -> Result<Vec<u8>, AllocError>
-    ensures { IfOk result (λ block. length block.items ≡ size) }
+    ensures { IfOk result (λ block. block.items ≡ block_from size bytes.now) }
 {
     let mut block = vec![in alloc; 0; size]?;
     copy_front(&mut block, bytes);
     Ok(block)
 }
 
-/// Opens the log of a device.
-fn opened_on(
-    alloc: Global,
-    device: StopAt<MemDevice>,
-) -> Result<Opened<StopAt<MemDevice>>, JournalError> {
-    match open(alloc, device) {
-        Ok(opened) => Ok(opened),
-        Err((_, e)) => Err(e),
-    }
-}
+impl<H: HomeFact> Interpreter<H> {
+    ghost use Rattle.bench_run.specs.Performed.{HasDone, WritesBlock};
+    ghost use Rattle.bench_run.specs.Told.{IsLedTo};
+    ghost use Rattle.bench_run.specs.declared.outcome.Outcome.TheVariants.{Done};
 
-/// A journal on a device, whose log it opens, and the first seat.
-fn journal_on(
-    alloc: Global,
-    device: StopAt<MemDevice>,
-) -> Result<(Journal<StopAt<MemDevice>>, Seat), JournalError> {
-    match Journal::new(alloc, opened_on(alloc, device)?) {
-        Ok((journal, seat)) => Ok((journal, seat)),
-        Err((_, e)) => Err(e),
-    }
-}
-
-impl Interpreter {
-    /// An interpreter on a device, whose log it opens. Opening a clean log makes no write.
+    /// An interpreter on an opened log.
     ///
     /// # Errors
     ///
-    /// The log is refused, or memory runs out.
-    pub fn new(alloc: Global, device: StopAt<MemDevice>) -> Result<Self, JournalError> {
+    /// Memory runs out.
+    pub fn new(alloc: Global, opened: Opened<StopAt<MemDevice>>) -> Result<Self, JournalError>
+        requires { H.holds (stopping state_of opened.device).shape (stopping state_of opened.device).disk }
+    {
         let slots = Slots::new(alloc)?;
-        match journal_on(alloc, device) {
-            Ok((journal, seat)) => Ok(Interpreter {
+        match Client::new(alloc, opened) {
+            Ok(client) => Ok(Interpreter {
                 alloc,
-                journal,
-                seat,
+                client,
                 slots,
-                acknowledged: None,
             }),
             Err(e) => Err(e),
         }
     }
 
     /// Runs one operation.
-    pub fn perform(&mut self, operation: &Operation) -> Outcome {
+    pub fn perform(&mut self, operation: &Operation) -> Outcome
+        ensures { HasDone operation.now result self.old.client.journal self.new.client.journal }
+    {
         match operation {
             Operation::Start(name, credits) => self.start(*name, *credits),
             Operation::Write(name, block, bytes) => self.write(*name, *block, bytes),
@@ -110,20 +95,20 @@ impl Interpreter {
 
     /// Stops all open handles and ends the journal: its device with its record, and the greatest transaction that was shown
     /// committed.
-    pub fn finish(self) -> (Parts<StopAt<MemDevice>>, Option<Tid>) {
+    pub fn finish(self) -> (Parts<StopAt<MemDevice>>, Option<Tid>)
+        ensures { IsLedTo H.holds (stopping state_of result.0.device) result.0.sealed.items result.1 }
+    {
         let Interpreter {
             alloc: _,
-            mut journal,
-            seat: _,
+            mut client,
             slots,
-            acknowledged,
         } = self;
         for slot in slots.into_slots() {
             if let Slot::Open(handle) = slot {
-                let _ = journal.stop(handle);
+                let _ = client.stop(handle);
             }
         }
-        (journal.into_parts(), acknowledged)
+        client.finish()
     }
 
     /// Starts a handle. Where it is refused the name stands for nothing.
@@ -143,7 +128,7 @@ impl Interpreter {
 
     /// Reserves credits and makes a handle of them.
     fn join(&mut self, credits: u64) -> Result<Handle, JournalError> {
-        match self.journal.reserve(&mut self.seat, credits) {
+        match self.client.reserve(credits) {
             Ok(credits) => self.join_with(credits),
             Err(e) => Err(e),
         }
@@ -151,17 +136,19 @@ impl Interpreter {
 
     /// Makes a handle of these credits; where that is refused they are given back.
     fn join_with(&mut self, credits: Credits) -> Result<Handle, JournalError> {
-        match self.journal.try_join(credits) {
+        match self.client.try_join(credits) {
             Ok(handle) => Ok(handle),
             Err((credits, e)) => {
-                self.journal.give_back(credits);
+                self.client.give_back(credits);
                 Err(e)
             }
         }
     }
 
     /// Writes these bytes, with zeros behind them.
-    fn write(&mut self, name: HandleName, block: BlockNo, bytes: &[u8]) -> Outcome {
+    fn write(&mut self, name: HandleName, block: BlockNo, bytes: &[u8]) -> Outcome
+        ensures { result ≡ Done → WritesBlock block bytes.now self.old.client.journal self.new.client.journal }
+    {
         match self.slots.take(name) {
             Slot::Open(mut handle) => {
                 let answer = self.write_block(&mut handle, block, bytes);
@@ -184,9 +171,11 @@ impl Interpreter {
         handle: &mut Handle,
         block: BlockNo,
         bytes: &[u8],
-    ) -> Result<(), JournalError> {
-        let bytes = block_of(self.alloc, self.journal.block_size(), bytes)?;
-        self.journal.write(handle, block, &bytes)
+    ) -> Result<(), JournalError>
+        ensures { OnOk result (WritesBlock block bytes.now self.old.client.journal self.new.client.journal) }
+    {
+        let bytes = block_of(self.alloc, self.client.block_size(), bytes)?;
+        self.client.write(handle, block, &bytes)
     }
 
     /// Reads a block through a handle.
@@ -213,8 +202,8 @@ impl Interpreter {
         handle: &mut Handle,
         block: BlockNo,
     ) -> Result<[u8; PRINTED_BYTES], JournalError> {
-        let mut bytes = vec![in self.alloc; 0; self.journal.block_size()]?;
-        self.journal.read(handle, block, &mut bytes)?;
+        let mut bytes = vec![in self.alloc; 0; self.client.block_size()]?;
+        self.client.read(handle, block, &mut bytes)?;
         Ok(front_of(&bytes))
     }
 
@@ -222,7 +211,7 @@ impl Interpreter {
     fn stop(&mut self, name: HandleName) -> Outcome {
         match self.slots.take(name) {
             Slot::Open(handle) => {
-                let ticket = self.journal.stop(handle);
+                let ticket = self.client.stop(handle);
                 let tid = ticket.tid();
                 self.slots.put(name, Slot::Stopped(ticket));
                 Outcome::Transaction(tid)
@@ -237,7 +226,7 @@ impl Interpreter {
     /// Asks for a commit. The transaction of a receipt is committed already, so nothing is left to ask for.
     fn request(&mut self, name: HandleName) -> Outcome {
         match self.slots.get(name) {
-            Some(Slot::Stopped(ticket)) => match self.journal.request(ticket) {
+            Some(Slot::Stopped(ticket)) => match self.client.request(ticket) {
                 Ok(()) => Outcome::Done,
                 Err(e) => Outcome::Refused(e),
             },
@@ -248,7 +237,7 @@ impl Interpreter {
 
     /// Takes one commit turn.
     fn turn(&mut self) -> Outcome {
-        match self.journal.commit_turn() {
+        match self.client.commit_turn() {
             Ok(turn) => Outcome::Turn(turn),
             Err(e) => Outcome::Refused(e),
         }
@@ -256,7 +245,7 @@ impl Interpreter {
 
     /// Takes one checkpoint turn.
     fn checkpoint_turn(&mut self) -> Outcome {
-        match self.journal.checkpoint_turn() {
+        match self.client.checkpoint_turn() {
             Ok(turn) => Outcome::CheckTurn(turn),
             Err(e) => Outcome::Refused(e),
         }
@@ -265,7 +254,7 @@ impl Interpreter {
     /// Takes checkpoint turns until one has nothing to do.
     fn check(&mut self) -> Outcome {
         for _ in 0..MOST_TURNS {
-            match self.journal.checkpoint_turn() {
+            match self.client.checkpoint_turn() {
                 Ok(CheckTurn::Idle) => break,
                 Ok(CheckTurn::Step | CheckTurn::Released(_)) => {}
                 Err(e) => return Outcome::Refused(e),
@@ -277,39 +266,31 @@ impl Interpreter {
     /// Takes commit turns until one has nothing to do.
     fn commit(&mut self) -> Outcome {
         for _ in 0..MOST_TURNS {
-            match self.journal.commit_turn() {
+            match self.client.commit_turn() {
                 Ok(Turn::Idle | Turn::Waiting) => break,
                 Ok(Turn::Step | Turn::Sealed(_) | Turn::Committed(_)) => {}
                 Err(e) => return Outcome::Refused(e),
             }
         }
-        Outcome::Transaction(self.journal.mark())
+        Outcome::Transaction(self.client.mark())
     }
 
-    /// Says whether a transaction is committed.
+    /// Says whether a transaction is committed. That of a receipt is, as was noted when it was taken.
     fn status(&mut self, name: HandleName) -> Outcome {
-        let tid = match self.slots.get(name) {
-            Some(Slot::Stopped(ticket)) => match self.journal.status(ticket, &mut self.seat) {
-                Status::Committed => ticket.tid(),
-                Status::Open => return Outcome::Open,
+        match self.slots.get(name) {
+            Some(Slot::Stopped(ticket)) => match self.client.status(ticket) {
+                Status::Committed => Outcome::Committed,
+                Status::Open => Outcome::Open,
             },
-            Some(Slot::Waited(receipt)) => receipt.tid(),
-            _ => return Outcome::Skipped,
-        };
-        self.acknowledge(tid);
-        Outcome::Committed
+            Some(Slot::Waited(_)) => Outcome::Committed,
+            _ => Outcome::Skipped,
+        }
     }
 
     /// Takes the receipt of a committed transaction. Of any other nothing is awaited.
     fn wait(&mut self, name: HandleName) -> Outcome {
         match self.slots.take(name) {
-            Slot::Stopped(ticket) => match self.journal.status(&ticket, &mut self.seat) {
-                Status::Committed => self.wait_for(name, ticket),
-                Status::Open => {
-                    self.slots.put(name, Slot::Stopped(ticket));
-                    Outcome::Open
-                }
-            },
+            Slot::Stopped(ticket) => self.wait_for(name, ticket),
             Slot::Waited(receipt) => {
                 let tid = receipt.tid();
                 self.slots.put(name, Slot::Waited(receipt));
@@ -322,29 +303,22 @@ impl Interpreter {
         }
     }
 
-    /// Takes the receipt for the ticket of a committed transaction.
-    fn wait_for(&mut self, name: HandleName, ticket: Ticket) -> Outcome
-        requires { ticket.tid ≤ self.old.journal.journal.front.mark }
-    {
-        match self.journal.wait(ticket, &mut self.seat) {
-            Ok(receipt) => {
+    /// Takes the receipt for a ticket, where its transaction is committed.
+    fn wait_for(&mut self, name: HandleName, ticket: Ticket) -> Outcome {
+        match self.client.wait(ticket) {
+            Waited::Committed(receipt) => {
                 let tid = receipt.tid();
                 self.slots.put(name, Slot::Waited(receipt));
-                self.acknowledge(tid);
                 Outcome::Transaction(tid)
             }
-            Err((ticket, e)) => {
+            Waited::Open(ticket) => {
+                self.slots.put(name, Slot::Stopped(ticket));
+                Outcome::Open
+            }
+            Waited::Refused(ticket, e) => {
                 self.slots.put(name, Slot::Stopped(ticket));
                 Outcome::Refused(e)
             }
         }
-    }
-
-    /// Notes that a transaction was shown committed.
-    fn acknowledge(&mut self, tid: Tid) {
-        self.acknowledged = match self.acknowledged {
-            Some(other) => Some(other.max(tid)),
-            None => Some(tid),
-        };
     }
 }

@@ -1,9 +1,9 @@
-//! How far the transactions of a log go.
+//! What an opening of a log would find.
 ghost use Rattle.std.specs.Prelude.{◌≡◌, IfOk};
 ghost use Rattle.journal_model.specs.Disk.{reading};
-ghost use Rattle.journal_model.specs.Opening.{HasLimit};
 ghost use Rattle.block_device.specs.State.{Stays};
 ghost use Rattle.log_format.specs.Accepted.{IsAccepted};
+ghost use Rattle.recovery.specs.Opening.{Tells};
 ghost use Rattle.bench_run.specs.Limit.{IsReadLog};
 
 use crate::blocks::read_block;
@@ -11,28 +11,38 @@ use block_device::Device;
 use journal_model::{Area, JournalError};
 use log_format::Super;
 use log_scan::{Finder, Log, scan};
+use recovery::Report;
 use std::alloc::Global;
 
-/// The number behind the last complete transaction of the log of a device, which is read and not written; of a clean log its
-/// s_sequence.
+/// What an opening of the log of a device finds, which is read and not written: where its transactions end, and how many there
+/// are. (Whether a block is ahead is not tested.)
 ///
 /// # Errors
 ///
 /// `BadMagic` to `ErrnoSet` and `BadLength`: the superblock is refused, or there is none. `Damage`: a block of the ring is.
 /// `Device` and `Memory`.
-pub(crate) fn limit_of<D: Device>(alloc: Global, device: &mut D) -> Result<u64, JournalError>
-    ensures limit { IfOk result (λ limit. D.honest device.new → HasLimit (D.state device.old).shape (reading (D.state device.old).disk) limit) }
+pub(crate) fn report_of<D: Device>(alloc: Global, device: &mut D) -> Result<Report, JournalError>
+    ensures tells { IfOk result (λ report. D.honest device.new →
+        Tells (D.state device.old).shape (reading (D.state device.old).disk) report.clean report.ends_at report.transactions) }
     ensures stays { Stays (D.state device.old) (D.state device.new) }
     ensures honest { D.honest device.new → D.honest device.old }
 {
     let log = read_log(alloc, device)?;
     if log.is_clean() {
-        return Ok(log.first_number());
+        return Ok(Report {
+            clean: true,
+            ends_at: log.first_number(),
+            transactions: 0,
+        });
     }
     let home_blocks = device.blocks(Area::Home);
     let mut finder = Finder::new(log.layout());
     let transactions = scan(device, &log, Some(home_blocks), &mut finder)?;
-    Ok(log.first_number() + transactions)
+    Ok(Report {
+        clean: false,
+        ends_at: log.first_number() + transactions,
+        transactions,
+    })
 }
 
 /// Reads and tests the superblock.

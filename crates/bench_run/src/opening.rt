@@ -1,5 +1,5 @@
 //! Openings of what a stop left, and the verdict on what they give back.
-ghost use Rattle.std.specs.Prelude.{◌↔◌, IfOk, IsTrue};
+ghost use Rattle.std.specs.Prelude.{◌↔◌, ◌<◌, All, IfOk, IsTrue, OnOk};
 ghost use Rattle.std.specs.BTreeSet.{keys};
 ghost use Rattle.journal_model.specs.declared.number.Area.TheVariants.{Home};
 ghost use Rattle.journal_model.specs.Disk.{reading};
@@ -54,9 +54,9 @@ pub(crate) fn judge_opened(
     named: &BTreeSet<u64>,
     out: &mut impl Write,
 ) -> Result<bool, Fault>
-    ensures { IfOk result (λ right. IsTrue right ↔
+    ensures { IfOk result (λ right. All (λ b. b < opened.device.shape.home_blocks) (keys named.now) × (IsTrue right ↔
         IsRight recorded.now.sealed.items recorded.now.acknowledged (keys named.now) (numbered_below opened.report.ends_at recorded.now.sealed.items)
-        opened.device.shape.block_size (reading (state_of opened.device).disk Home)) }
+        opened.device.shape.block_size (reading (state_of opened.device).disk Home))) }
 {
     let n = recorded.count_below(opened.report.ends_at);
     write_opening(out, "open", opened.report, opened.next, n)?;
@@ -76,8 +76,8 @@ pub(crate) fn judge_home<D: Device>(
     n: usize,
     out: &mut impl Write,
 ) -> Result<bool, Fault>
-    ensures { IfOk result (λ right. D.honest device.new → IsTrue right ↔
-        IsRight recorded.now.sealed.items recorded.now.acknowledged (keys named.now) n (D.state device.old).shape.block_size (reading (D.state device.old).disk Home)) }
+    ensures { IfOk result (λ right. D.honest device.new → All (λ b. b < (D.state device.old).shape.home_blocks) (keys named.now) × (IsTrue right ↔
+        IsRight recorded.now.sealed.items recorded.now.acknowledged (keys named.now) n (D.state device.old).shape.block_size (reading (D.state device.old).disk Home))) }
 {
     write_home(alloc, device, named, out)?;
     Ok(recorded.judge(alloc, device, named, n)?)
@@ -125,7 +125,8 @@ fn write_home<D: Device>(
     named: &BTreeSet<u64>,
     out: &mut impl Write,
 ) -> Result<(), Fault>
-    ensures { Stays (D.state device.old) (D.state device.new) }
+    ensures stays { Stays (D.state device.old) (D.state device.new) }
+    ensures there { OnOk result (All (λ b. b < (D.state device.old).shape.home_blocks) (keys named.now)) }
 {
     for block in named {
         write_block(alloc, device, *block, out)?;
@@ -140,10 +141,14 @@ fn write_block<D: Device>(
     block: u64,
     out: &mut impl Write,
 ) -> Result<(), Fault>
-    ensures { Stays (D.state device.old) (D.state device.new) }
+    ensures stays { Stays (D.state device.old) (D.state device.new) }
+    ensures there { OnOk result (block < (D.state device.old).shape.home_blocks) }
 {
     let home = read_block(alloc, device, Area::Home, block)?;
-    write_home_line(out, block, home.bytes()).map_err(Fault::Output)
+    match write_home_line(out, block, home.bytes()) {
+        Ok(()) => Ok(()),
+        Err(e) => Err(Fault::Output(e)),
+    }
 }
 
 /// Prints the line of a block with these bytes.

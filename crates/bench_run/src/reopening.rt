@@ -2,11 +2,10 @@
 ghost use Rattle.std.specs.Prelude.{◌≡◌, ◌↔◌, IfOk, IsTrue};
 ghost use Rattle.std.specs.BTreeSet.{keys};
 ghost use Rattle.journal_model.specs.Disk.{reading};
-ghost use Rattle.journal_model.specs.Opening.{HasLimit};
 ghost use Rattle.block_device.specs.Memory.{state_of};
 ghost use Rattle.bench_run.specs.Reopening.{FollowsOn, IsAttempt, IsOpeningVerdict, IsSecondVerdict, IsStoppedAttempt, IsWholeAttempt};
 
-use crate::limit::limit_of;
+use crate::limit::report_of;
 use crate::opening::{
     OpenedImage, judge_home, judge_opened, open_image, write_opening, write_verdict,
 };
@@ -43,12 +42,12 @@ pub(crate) fn judge_stopped_opening(
     ensures { IfOk result (IsOpeningVerdict (state_of image) k keep.now recorded.now.sealed.items recorded.now.acknowledged (keys named.now)) }
 {
     let mut image = image;
-    let limit = limit_of(alloc, &mut image)?;
+    let first = report_of(alloc, &mut image)?;
     match open_to(alloc, image, k)? {
         Attempt::Whole(opened) => judge_opened(alloc, opened, recorded, named, out),
         Attempt::Stopped(device) => {
             writeln!(out, "stopped again {k}")?;
-            judge_second(alloc, device.crash(keep), limit, recorded, named, out)
+            judge_second(alloc, device.crash(keep), first, recorded, named, out)
         }
     }
 }
@@ -93,36 +92,36 @@ fn stopped(device: MemDevice, k: u64, e: JournalError) -> Result<Attempt, Journa
     }
 }
 
-/// Opens what a stop within an opening left, where the transactions of the image that was opened first end at `limit`, and prints
-/// what the second opening found, how the named blocks of home then begin, and the verdict.
+/// Opens what a stop within an opening left, where this stood in the image that was opened first, and prints what the second
+/// opening found, how the named blocks of home then begin, and the verdict.
 fn judge_second(
     alloc: Global,
     left: MemDevice,
-    limit: u64,
+    first: Report,
     recorded: &Record,
     named: &BTreeSet<u64>,
     out: &mut impl Write,
 ) -> Result<bool, Fault>
-    ensures { IfOk result (IsSecondVerdict left.shape (reading (state_of left).disk) limit recorded.now.sealed.items recorded.now.acknowledged (keys named.now)) }
+    ensures { IfOk result (IsSecondVerdict left.shape (reading (state_of left).disk) first.clean first.ends_at recorded.now.sealed.items recorded.now.acknowledged (keys named.now)) }
 {
     let opened = open_image(alloc, left)?;
-    let n = recorded.count_below(limit);
+    let n = recorded.count_below(first.ends_at);
     write_opening(out, "reopen", opened.report, opened.next, n)?;
     let mut device = opened.device;
     let right = judge_home(alloc, &mut device, recorded, named, n, out)?;
-    let verdict = follows_on(limit, opened.report) && right;
+    let verdict = follows_on(first, opened.report) && right;
     write_verdict(out, verdict)?;
     Ok(verdict)
 }
 
-/// Whether a second opening found what a stop within the first one can leave, where the transactions end at `limit`: the same end;
-/// or a clean log, whose last number is the one behind that.
-fn follows_on(limit: u64, report: Report) -> bool
-    ensures { IsTrue result ↔ FollowsOn limit report.clean report.ends_at }
+/// Whether a second opening found what a stop within the first one can leave: the same end, in a clean log where that was clean; or
+/// else a clean log, whose last number is the one behind that end.
+fn follows_on(first: Report, second: Report) -> bool
+    ensures { IsTrue result ↔ FollowsOn first.clean first.ends_at second.clean second.ends_at }
 {
-    if report.clean {
-        limit.checked_add(1) == Some(report.ends_at)
+    if first.clean == second.clean {
+        second.ends_at == first.ends_at
     } else {
-        report.ends_at == limit
+        second.clean && first.ends_at.checked_add(1) == Some(second.ends_at)
     }
 }

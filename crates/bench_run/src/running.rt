@@ -1,12 +1,15 @@
 //! A script's operations over a device that stops, and then the verdict on what openings give back.
-ghost use Rattle.std.specs.Prelude.{◌≡◌, ℕ, [], IfOk};
+ghost use Rattle.std.specs.Prelude.{◌≡◌, ℕ, [], IfOk, true};
 ghost use Rattle.std.specs.BTreeSet.{keys};
 ghost use Rattle.journal_model.specs.declared.number.Area.{Area};
 ghost use Rattle.block_device.specs.Memory.{crashed, state_of, writes_of};
-ghost use Rattle.bench_run.specs.Left.{IsLeftVerdict};
+ghost use Rattle.block_device.specs.Stop.{stopping};
+ghost use Rattle.bench_run.specs.Left.{IsEndOf, IsLeftVerdict, IsRunOf};
+ghost use Rattle.bench_run.specs.Told.{IsLedTo, IsZeroHome};
 ghost use Rattle.bench_run.specs.Verdict.{IsVerdict};
 
-use crate::disk::empty_disk;
+use crate::client::{HomeFact, ZeroHome};
+use crate::disk::empty_log;
 use crate::interpreter::Interpreter;
 use crate::opening::judge_image;
 use crate::outcome::Outcome;
@@ -17,6 +20,7 @@ use bench_script::{Operation, Script};
 use block_device::{MemDevice, StopAt};
 use journal_model::JournalError;
 use log_dump::{Fault, dump};
+use recovery::Opened;
 use std::alloc::Global;
 use std::collections::BTreeSet;
 use std::io;
@@ -80,16 +84,46 @@ pub fn run(
     script: &Script,
     stops: &Stops<'_>,
     out: &mut impl Write,
-) -> Result<bool, Fault> {
-    let named = script.named_blocks(alloc).map_err(JournalError::from)?;
-    let stopped = run_operations(alloc, script, stops.run.at_write, out)?;
-    judge_left(
-        alloc,
-        stopped.crash(stops.run.keep),
-        stops.opening,
-        &named,
-        out,
-    )
+) -> Result<bool, Fault>
+    ensures run { IfOk result (IsRunOf script.now stops.now) }
+    ensures right { IfOk result (λ right. right ≡ true) }
+{
+    let ended = end_of_run(alloc, script, stops.run, out)?;
+    judge_left(alloc, ended.left, stops.opening, &ended.named, out)
+}
+
+/// What the stop of a script's run left, and the home blocks that the script names.
+#[derive(Drop)]
+pub(crate) struct Ended {
+    /// What the stop left.
+    pub(crate) left: Left,
+    /// The home blocks that are judged.
+    pub(crate) named: BTreeSet<u64>,
+}
+
+/// Runs a script's operations up to its stop, and prints a line for each.
+///
+/// # Errors
+///
+/// `Fault::Refused` where memory runs out; `Fault::Output` where the output can't be written. Some of the lines may have been
+/// written.
+pub(crate) fn end_of_run(
+    alloc: Global,
+    script: &Script,
+    stop: Stop<'_>,
+    out: &mut impl Write,
+) -> Result<Ended, Fault>
+    ensures { IfOk result (λ ended. IsEndOf script.now stop.entry ended.left.image ended.left.recorded.sealed.items ended.left.recorded.acknowledged (keys ended.named)) }
+{
+    let named = match script.named_blocks(alloc) {
+        Ok(named) => named,
+        Err(e) => return Err(Fault::Refused(JournalError::from(e))),
+    };
+    let stopped = run_operations(alloc, script, stop.at_write, out)?;
+    Ok(Ended {
+        left: stopped.crash(stop.keep),
+        named,
+    })
 }
 
 /// Runs a script's operations over a device in memory that stops at write `stop`, or at the end, and prints a line for each.
@@ -103,26 +137,31 @@ pub fn run_operations(
     script: &Script,
     stop: Option<u64>,
     out: &mut impl Write,
-) -> Result<Stopped, Fault> {
-    let device = empty_disk(alloc, &script.measures, stop)?;
-    run_operations_over(alloc, device, &script.operations, stop, out)
+) -> Result<Stopped, Fault>
+    ensures { IfOk result (λ stopped. IsLedTo IsZeroHome (state_of stopped.device) stopped.recorded.sealed.items stopped.recorded.acknowledged) }
+{
+    let opened = empty_log(alloc, &script.measures, stop)?;
+    run_operations_over::<ZeroHome>(alloc, opened, &script.operations, stop, out)
 }
 
-/// Runs operations over a device in memory with a log, which it opens, and prints a line for each. The device stops at write
+/// Runs operations over an opened log in memory, of whose disk `H` is known, and prints a line for each. The device stops at write
 /// `stop` of its own, or at the end.
 ///
 /// # Errors
 ///
-/// `Fault::Refused` where the log is refused, or memory runs out; `Fault::Output` where the output can't be written. Some of the
-/// lines may have been written.
-pub fn run_operations_over(
+/// `Fault::Refused` where memory runs out; `Fault::Output` where the output can't be written. Some of the lines may have been
+/// written.
+pub fn run_operations_over<H: HomeFact>(
     alloc: Global,
-    device: StopAt<MemDevice>,
+    opened: Opened<StopAt<MemDevice>>,
     operations: &[Operation],
     stop: Option<u64>,
     out: &mut impl Write,
-) -> Result<Stopped, Fault> {
-    let mut interpreter = Interpreter::new(alloc, device)?;
+) -> Result<Stopped, Fault>
+    requires { H.holds (stopping state_of opened.device).shape (stopping state_of opened.device).disk }
+    ensures { IfOk result (λ stopped. IsLedTo H.holds (state_of stopped.device) stopped.recorded.sealed.items stopped.recorded.acknowledged) }
+{
+    let mut interpreter = Interpreter::<H>::new(alloc, opened)?;
     let performed = perform_all(&mut interpreter, operations, out);
     let stopped = stopped_of(interpreter, stop);
     match performed {
@@ -132,8 +171,8 @@ pub fn run_operations_over(
 }
 
 /// Performs operations up to the first that the device refuses, and prints a line for each.
-fn perform_all(
-    interpreter: &mut Interpreter,
+fn perform_all<H: HomeFact>(
+    interpreter: &mut Interpreter<H>,
     operations: &[Operation],
     out: &mut impl Write,
 ) -> io::Result<()> {
@@ -148,7 +187,9 @@ fn perform_all(
 }
 
 /// What the performed operations leave.
-fn stopped_of(interpreter: Interpreter, stop: Option<u64>) -> Stopped {
+fn stopped_of<H: HomeFact>(interpreter: Interpreter<H>, stop: Option<u64>) -> Stopped
+    ensures { IsLedTo H.holds (state_of result.device) result.recorded.sealed.items result.recorded.acknowledged }
+{
     let (parts, acknowledged) = interpreter.finish();
     let at_write = if parts.device.is_stopped() {
         stop

@@ -1,5 +1,5 @@
 //! What a script is: its operations, and the line that each begins.
-ghost use Rattle.std.specs.Prelude.{ℕ, ◌≡◌, ◌<◌, ◌↔◌, IfSome, IsSome};
+ghost use Rattle.std.specs.Prelude.{ℕ, ◌≡◌, ◌<◌, ◌↔◌, Contains, IfOk, IfSome, IsSome, OnOk, Some};
 
 use crate::measures::Measures;
 use journal_model::BlockNo;
@@ -83,6 +83,9 @@ impl HandleName {
 }
 
 impl Operation {
+    ghost use Rattle.std.specs.BTreeSet.{keys};
+    ghost use Rattle.bench_script.specs.Named.{block_in};
+
     /// The handle that it names.
     pub fn handle(&self) -> Option<HandleName> {
         match self {
@@ -99,10 +102,26 @@ impl Operation {
     }
 
     /// The home block that it names.
-    pub fn block(&self) -> Option<BlockNo> {
+    pub fn block(&self) -> Option<BlockNo>
+        ensures { result ≡ block_in self.now }
+    {
         match self {
             Operation::Write(_, block, _) | Operation::Read(_, block) => Some(*block),
             _ => None,
+        }
+    }
+
+    /// Notes the block of home that it names, where there is one.
+    fn note_block(&self, home_blocks: u64, named: &mut BTreeSet<u64>) -> Result<(), AllocError>
+        ensures keeps { OnOk result ((b : ℕ) → Contains (keys named.old) b → Contains (keys named.new) b) }
+        ensures notes { OnOk result ((b : ℕ) → block_in self.now ≡ Some b → b < home_blocks → Contains (keys named.new) b) }
+    {
+        match self.block() {
+            Some(BlockNo(block)) if block < home_blocks => {
+                named.insert(block)?;
+                Ok(())
+            }
+            _ => Ok(()),
         }
     }
 
@@ -136,15 +155,16 @@ impl Operation {
 }
 
 impl Script {
+    ghost use Rattle.std.specs.BTreeSet.{keys};
+    ghost use Rattle.bench_script.specs.Named.{HasAllNamed};
+
     /// The home blocks that its operations name, whether these will run or not.
-    pub fn named_blocks(&self, alloc: Global) -> Result<BTreeSet<u64>, AllocError> {
+    pub fn named_blocks(&self, alloc: Global) -> Result<BTreeSet<u64>, AllocError>
+        ensures { IfOk result (λ named. HasAllNamed self.now (keys named)) }
+    {
         let mut named = BTreeSet::new(alloc);
         for operation in &self.operations {
-            if let Some(BlockNo(block)) = operation.block()
-                && block < self.measures.home_blocks
-            {
-                named.insert(block)?;
-            }
+            operation.note_block(self.measures.home_blocks, &mut named)?;
         }
         Ok(named)
     }

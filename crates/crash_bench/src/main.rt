@@ -12,6 +12,7 @@ use bench_commands::words::{FormatWords, RecoverWords, RunWords, Words};
 use bench_commands::{files, logs, run, words};
 use file_device::UnknownContents;
 use progress::Progress;
+use std::fs::File;
 use std::process::ExitCode;
 use std::{env, fs, io};
 
@@ -38,8 +39,26 @@ fn jbench(rt: &HostRuntime) -> io::Result<Status> {
 /// Runs the script in a file.
 fn run_file(rt: &HostRuntime, words: &RunWords<'_>) -> io::Result<Status> {
     match fs::open(rt, words.script) {
-        Ok(file) => run::run(rt.alloc(), words, file, io::writer(rt), rt.stderr()),
+        Ok(file) => run_opened(rt, words, file),
         Err(e) => refuse_file(&mut rt.stderr(), words.script, e),
+    }
+}
+
+/// Runs the script in this file. The files of an image are opened before it is read.
+fn run_opened(rt: &HostRuntime, words: &RunWords<'_>, script: File) -> io::Result<Status> {
+    let Some(image) = &words.image else {
+        return run::run(rt.alloc(), words, script, io::writer(rt), rt.stderr());
+    };
+    match files::open_image(rt, image, &script) {
+        Ok(image) => run::run_with_image(
+            rt.alloc(),
+            words,
+            script,
+            image,
+            io::writer(rt),
+            rt.stderr(),
+        ),
+        Err(unopened) => refuse_file(&mut rt.stderr(), unopened.path, unopened.error),
     }
 }
 

@@ -25,6 +25,7 @@ fn words(alloc: Global) -> RunWords<'static> {
         script: "a.json",
         run: no_stop(alloc),
         opening: no_stop(alloc),
+        image: None,
     }
 }
 

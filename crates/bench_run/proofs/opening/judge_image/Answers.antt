@@ -1,4 +1,4 @@
-use Rattle.std.specs.Prelude.{◌↔◌, IsTrue}
+use Rattle.std.specs.Prelude.{◌↔◌, ◌<◌, All, IsTrue}
 use Rattle.std.specs.BTreeSet.{keys}
 use Rattle.std.proofs.lemmas.Result.{IfOk-weaker}
 use Rattle.journal_model.specs.declared.number.Area.TheVariants.{Home}
@@ -15,7 +15,8 @@ returns g c =
     let opened = c.in_ok-opened.opened in
     let named = keys c.args.named.now in
     IfOk-weaker c.judge_opened.result
-    (λ right. IsTrue right ↔ IsRight recorded.sealed.items recorded.acknowledged named (numbered_below opened.report.ends_at recorded.sealed.items) opened.device.shape.block_size (reading (state_of opened.device).disk Home))
+    (λ right. All (λ b. b < opened.device.shape.home_blocks) named
+    × (IsTrue right ↔ IsRight recorded.sealed.items recorded.acknowledged named (numbered_below opened.report.ends_at recorded.sealed.items) opened.device.shape.block_size (reading (state_of opened.device).disk Home)))
     (IsImageVerdict c.args.image.shape (reading (state_of c.args.image).disk) recorded.sealed.items recorded.acknowledged named)
-    (λ right is. image-verdict recorded.sealed.items recorded.acknowledged named right c.args.image opened c.in_ok-opened.ensures is)
+    (λ right is. image-verdict recorded.sealed.items recorded.acknowledged named right c.args.image opened c.in_ok-opened.ensures is.0 is.1)
     c.judge_opened.ensures

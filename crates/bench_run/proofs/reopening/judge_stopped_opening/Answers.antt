@@ -1,4 +1,4 @@
-use Rattle.std.specs.Prelude.{◌↔◌, IsTrue}
+use Rattle.std.specs.Prelude.{◌↔◌, ◌<◌, All, IsTrue}
 use Rattle.std.specs.BTreeSet.{keys}
 use Rattle.std.proofs.lemmas.Result.{IfOk-weaker}
 use Rattle.journal_model.specs.declared.number.Area.TheVariants.{Home}
@@ -17,11 +17,12 @@ returns-in-Whole g c =
     let opened = c.in-Whole.opened in
     let named = keys c.args.named.now in
     IfOk-weaker c.judge_opened.result
-    (λ right. IsTrue right ↔ IsRight recorded.sealed.items recorded.acknowledged named (numbered_below opened.report.ends_at recorded.sealed.items) opened.device.shape.block_size (reading (state_of opened.device).disk Home))
+    (λ right. All (λ b. b < opened.device.shape.home_blocks) named
+    × (IsTrue right ↔ IsRight recorded.sealed.items recorded.acknowledged named (numbered_below opened.report.ends_at recorded.sealed.items) opened.device.shape.block_size (reading (state_of opened.device).disk Home)))
     (IsOpeningVerdict (state_of c.args.image) c.args.k c.args.keep.now recorded.sealed.items recorded.acknowledged named)
     (λ right is.
-    verdict-once recorded.sealed.items recorded.acknowledged named c.args.k c.args.keep.now right c.args.image c.limit_of.new.device opened
-    c.in_ok-limit.ensures.stays (rw c.in-Whole.is at c.in_ok-opened.ensures) is)
+    verdict-once recorded.sealed.items recorded.acknowledged named c.args.k c.args.keep.now right c.args.image c.report_of.new.device opened
+    c.in_ok-first.ensures.stays (rw c.in-Whole.is at c.in_ok-opened.ensures) is.0 is.1)
     c.judge_opened.ensures
 
 -- it was
@@ -30,11 +31,11 @@ returns-in_ok-writeln-in-Stopped g c =
     let recorded = c.args.recorded.now in
     let left = c.crash.result in
     let named = keys c.args.named.now in
-    let limit = c.in_ok-limit.limit in
+    let first = c.in_ok-first.first in
     IfOk-weaker c.judge_second.result
-    (IsSecondVerdict left.shape (reading (state_of left).disk) limit recorded.sealed.items recorded.acknowledged named)
+    (IsSecondVerdict left.shape (reading (state_of left).disk) first.clean first.ends_at recorded.sealed.items recorded.acknowledged named)
     (IsOpeningVerdict (state_of c.args.image) c.args.k c.args.keep.now recorded.sealed.items recorded.acknowledged named)
     (λ right is.
-    verdict-twice recorded.sealed.items recorded.acknowledged named c.args.k c.args.keep.now right limit c.args.image c.limit_of.new.device c.in-Stopped.device left
-    c.in_ok-limit.ensures.stays (c.in_ok-limit.ensures.limit tt) (rw c.in-Stopped.is at c.in_ok-opened.ensures) c.crash.ensures.image c.crash.ensures.shape is)
+    verdict-twice recorded.sealed.items recorded.acknowledged named c.args.k c.args.keep.now right first.clean first.ends_at first.transactions c.args.image c.report_of.new.device c.in-Stopped.device left
+    c.in_ok-first.ensures.stays (c.in_ok-first.ensures.tells tt) (rw c.in-Stopped.is at c.in_ok-opened.ensures) c.crash.ensures.image c.crash.ensures.shape is)
     c.judge_second.ensures

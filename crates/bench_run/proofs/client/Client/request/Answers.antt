@@ -1,0 +1,14 @@
+use Rattle.std.specs.Prelude.{◌≡◌}
+use Rattle.std.proofs.lemmas.Result.{IfErr-weaker}
+use Rattle.block_device.specs.Memory.{state_of}
+use Rattle.block_device.specs.Stop.{stopping}
+use Rattle.bench_run.proofs.Telling.{request-comes}
+use Rattle.bench_run.proofs.client.Client.request.Goals as goal
+
+-- the running transaction is locked, or nothing changed
+pub invariant_of-self : goal.invariant_of-self
+invariant_of-self g c =
+    let new = c.request.new.self in
+    let old = c.self.inside.journal in
+    request-comes g.H.HomeFact.holds (stopping state_of) old new c.self.inside.acknowledged c.args.ticket.now.tid c.request.result
+    c.request.ensures.ok (IfErr-weaker c.request.result _ (λ e. new ≡ old) (λ e is. is.2) c.request.ensures.err) c.request.ensures.device c.self.invariant
