@@ -1,6 +1,6 @@
 -- A device that fails once. This project's own.
-use Rattle.std.specs.Prelude.{◌≡◌, ℕ, ◌+◌, ◌-◌, ◌^◌, min, Result, IsErr}
-use Rattle.block_device.specs.State.{DeviceState, with_own_faults, one_more_fault}
+use Rattle.std.specs.Prelude.{◌≡◌, ℕ, ◌+◌, Result, IsErr}
+use Rattle.block_device.specs.State.{DeviceState, with_own_counts, one_more_call, one_more_fault}
 use Rattle.block_device.specs.declared.fail.FailOnce.{FailOnce}
 
 -- the device behind it
@@ -11,17 +11,13 @@ inner_of s = s.device
 abbrev pub calls_of : {D : Type 0} → FailOnce D → ℕ
 calls_of s = s.calls
 
--- the count of calls after one more: the greatest count stays
-abbrev pub one_more_call : ℕ → ℕ
-one_more_call calls = min (calls + 1) (2 ^ 64 - 1)
-
 -- the next call is the one that fails
 abbrev pub FailsNext : {D : Type 0} → FailOnce D → Type 0
 FailsNext s = s.calls + 1 ≡ s.fails_at
 
--- its state: that of the device behind it, with the failure of its own
+-- its state: that of the device behind it, with the failure of its own, and with the calls that were made of it
 abbrev pub failing : {D : Type 0} → (D → DeviceState) → FailOnce D → DeviceState
-failing state s = with_own_faults (state s.device) s.faults
+failing state s = with_own_counts (state s.device) s.faults s.calls
 
 -- the call failed and did nothing: it is counted, and so is the failure
 abbrev pub IsLost : {D T E : Type 0} → Result T E → FailOnce D → FailOnce D → Type 0

@@ -13,7 +13,7 @@ use Rattle.block_device.specs.declared.memory.MemDevice.TheInside.{Inside}
 
 -- the device without its index and its counters
 abbrev pub mem_view : Inside → MemState
-mem_view d = record { shape = record { block_size = d.size; log_blocks = d.log; home_blocks = d.home }; calls = d.calls.items; faults = d.faults }
+mem_view d = record { shape = record { block_size = d.size; log_blocks = d.log; home_blocks = d.home }; calls = d.calls.items; faults = d.faults; calls_made = d.calls_made }
 
 -- whether a call wrote this block
 abbrev pub wrote_block : Area → ℕ → Call → Bool

@@ -8,11 +8,13 @@ use Rattle.block_device.specs.State.{DeviceState}
 use Rattle.block_device.specs.declared.memory.Call.{Call}
 use Rattle.block_device.specs.declared.memory.Call.TheVariants.{Wrote, Flushed}
 
--- a device in memory: its measures, the calls that it took, oldest first, and how often it has failed
+-- a device in memory: its measures, the calls that it took, oldest first, how often it has failed, and how many calls were made
+-- of it
 pub record MemState : Type 0 where
   pub shape : Shape
   pub calls : List Call
   pub faults : ℕ
+  pub calls_made : ℕ
 
 -- the disk at one moment, and the disks before, newest first
 pub record Moments : Type 0 where
@@ -39,7 +41,7 @@ after_calls size calls = fold after_call (blank size) calls
 abbrev pub state_of : MemState → DeviceState
 state_of s =
     let m = after_calls s.shape.block_size s.calls in
-    record { shape = s.shape; disk = m.disk; past = m.past; faults = s.faults }
+    record { shape = s.shape; disk = m.disk; past = m.past; faults = s.faults; calls = s.calls_made }
 
 -- how many numbered writes there are: the last write's number
 abbrev pub counted : ℕ → Call → ℕ

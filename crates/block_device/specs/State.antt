@@ -1,6 +1,6 @@
 -- A device as contracts see it, and what a call does to it. Source: a disk with a volatile write cache, as flush
 -- requests suppose (the kernel's writeback_cache_control.rst); that a block is written whole or not at all is a premise.
-use Rattle.std.specs.Prelude.{◌≡◌, ◌⊎◌, ℕ, ◌+◌, ◌-◌, ◌^◌, ◌<◌, min, List, ◌∷◌, ◌++◌, length, Result, MatchResult}
+use Rattle.std.specs.Prelude.{◌≡◌, ◌⊎◌, ℕ, ◌+◌, ◌-◌, ◌^◌, ◌<◌, ◌≤◌, min, List, ◌∷◌, ◌++◌, length, Result, MatchResult}
 use Rattle.std.specs.List.{AllByRecursion}
 use Rattle.journal_model.specs.declared.number.Area.{Area}
 use Rattle.journal_model.specs.declared.number.Area.TheVariants.{Log, Home}
@@ -15,19 +15,35 @@ pub record DeviceState : Type 0 where
   pub disk : Disk  -- what each block reads, and what a crash may leave there
   pub past : List Disk  -- the disks before, newest first
   pub faults : ℕ  -- how often the device has failed
+  pub calls : ℕ  -- how many calls were made of it: reads, writes and flushes, whatever they answered
 
 -- how many blocks an area has
 abbrev pub blocks_in : Shape → Area → ℕ
 blocks_in shape Log = shape.log_blocks
 blocks_in shape Home = shape.home_blocks
 
--- the greatest count of failures: the count stays there
+-- the greatest count of failures, and of calls: a count stays there
 abbrev pub most_faults : ℕ
 most_faults = 2 ^ 64 - 1
+
+abbrev pub most_calls : ℕ
+most_calls = 2 ^ 64 - 1
 
 -- the count after one more failure
 abbrev pub one_more_fault : ℕ → ℕ
 one_more_fault faults = min (faults + 1) most_faults
+
+-- the count after one more call
+abbrev pub one_more_call : ℕ → ℕ
+one_more_call calls = min (calls + 1) most_calls
+
+-- the call is counted, once
+abbrev pub CountsCall : DeviceState → DeviceState → Type 0
+CountsCall old new = new.calls ≡ one_more_call old.calls
+
+-- no call of the device was made, or one: a second one would be counted too
+abbrev pub MakesAtMostOneCall : DeviceState → DeviceState → Type 0
+MakesAtMostOneCall old new = new.calls ≤ old.calls + 1
 
 -- a call that answers Ok has not failed, and one that answers a fault has failed once
 abbrev pub CountsFaults : {T E : Type 0} → Result T E → DeviceState → DeviceState → Type 0
@@ -41,11 +57,11 @@ IsDeviceFailure old new e = (e ≡ Device) × (new.faults ≡ one_more_fault old
 abbrev pub IsFailure : DeviceState → DeviceState → JournalError → Type 0
 IsFailure old new e = IsDeviceFailure old new e ⊎ ((e ≡ Memory) × (new.faults ≡ old.faults))
 
--- the state of a device that has failures of its own beside those of the one behind it
-abbrev pub with_own_faults : DeviceState → ℕ → DeviceState
-with_own_faults s own = record { shape = s.shape; disk = s.disk; past = s.past; faults = min (s.faults + own) most_faults }
+-- the state of a device that has failures of its own beside those of the one behind it, and counts its calls itself
+abbrev pub with_own_counts : DeviceState → ℕ → ℕ → DeviceState
+with_own_counts s own calls = record { shape = s.shape; disk = s.disk; past = s.past; faults = min (s.faults + own) most_faults; calls = calls }
 
--- nothing that a crash or a read could tell has changed
+-- nothing that a crash or a read could tell has changed; the counts may have
 pub record Stays (old new : DeviceState) : Type 0 where
   pub shape : new.shape ≡ old.shape
   pub disk : new.disk ≡ old.disk

@@ -1,6 +1,6 @@
 //! The trait of devices, and their fault.
 ghost use Rattle.std.specs.Prelude.{◌≡◌, ◌<◌, ℕ, length, OnOk, OnErr};
-ghost use Rattle.block_device.specs.State.{DeviceState, blocks_in, CountsFaults, HoldsWholeBlocks, Stays, Moves, Writes};
+ghost use Rattle.block_device.specs.State.{DeviceState, blocks_in, CountsCall, CountsFaults, HoldsWholeBlocks, Stays, Moves, Writes};
 ghost use Rattle.journal_model.specs.Disk.{written, flushed};
 
 use journal_model::{Area, JournalError};
@@ -32,9 +32,9 @@ impl From<DeviceFault> for JournalError {
 
 /// A disk with a log area and a home area, and a volatile cache. Blocks are numbered from 0 in each area. Each block of
 /// each area is written whole or not at all, and survives a loss of power independently of all others. Each call is at
-/// most one moment: the disk before it is noted in the past.
+/// most one moment: the disk before it is noted in the past. Each read, write and flush is counted, whatever it answers.
 pub trait Device {
-    /// What each block reads, what a crash may leave, the moments before, and the count of failures.
+    /// What each block reads, what a crash may leave, the moments before, and the counts of failures and of calls.
     ghost state: { Self → DeviceState };
 
     /// Each read so far gave what the disk reads. It is trivial for a device of its own; over files it may be lost, where
@@ -49,6 +49,7 @@ pub trait Device {
         ensures bytes { OnOk result (honest self.new → into.new ≡ ((state self.old).disk area n).reads) }
         ensures stays { Stays (state self.old) (state self.new) }
         ensures faults { CountsFaults result (state self.old) (state self.new) }
+        ensures calls { CountsCall (state self.old) (state self.new) }
         ensures honest { honest self.new → honest self.old };
 
     /// Writes block `n` of an area. After a fault the block reads as before or as the bytes, and a crash may keep either.
@@ -58,6 +59,7 @@ pub trait Device {
         ensures ok { OnOk result (Moves (state self.old) (state self.new) (written (state self.old).disk area n bytes.now)) }
         ensures writes { Writes (state self.old) (state self.new) area n bytes.now }
         ensures faults { CountsFaults result (state self.old) (state self.new) }
+        ensures calls { CountsCall (state self.old) (state self.new) }
         ensures honest { honest self.new → honest self.old };
 
     /// Makes every block of an area durable as it reads. After a fault nothing is durable that was not before.
@@ -65,6 +67,7 @@ pub trait Device {
         ensures ok { OnOk result (Moves (state self.old) (state self.new) (flushed (state self.old).disk area)) }
         ensures err { OnErr result (Stays (state self.old) (state self.new)) }
         ensures faults { CountsFaults result (state self.old) (state self.new) }
+        ensures calls { CountsCall (state self.old) (state self.new) }
         ensures honest { honest self.new → honest self.old };
 
     /// How many blocks an area has.

@@ -1,6 +1,6 @@
 //! A device of which one call fails.
 ghost use Rattle.std.specs.Prelude.{◌≡◌, ◌<◌, ◌↔◌, length, IsErr, OnOk, OnErr};
-ghost use Rattle.block_device.specs.State.{one_more_fault};
+ghost use Rattle.block_device.specs.State.{one_more_call, one_more_fault};
 
 use crate::{Device, DeviceFault};
 use journal_model::Area;
@@ -16,7 +16,7 @@ pub struct FailOnce<D> {
 }
 
 impl<D: Device> FailOnce<D> {
-    ghost use Rattle.block_device.specs.Fail.{FailsNext, inner_of, calls_of, one_more_call};
+    ghost use Rattle.block_device.specs.Fail.{FailsNext, inner_of, calls_of};
 
     /// Lets call `k` of the device fail, counted from 1 among all calls from now on. With 0 none fails.
     pub fn new(device: D, k: u64) -> Self
@@ -68,7 +68,7 @@ impl<D: Device> FailOnce<D> {
 
 impl<D: Device> Device for FailOnce<D> {
     ghost use Rattle.block_device.specs.Fail.{FailsNext, IsLost, PassesOn, inner_of, failing};
-    ghost use Rattle.block_device.specs.State.{blocks_in, CountsFaults, Stays, Moves, Writes};
+    ghost use Rattle.block_device.specs.State.{blocks_in, CountsCall, CountsFaults, Stays, Moves, Writes};
     ghost use Rattle.journal_model.specs.Disk.{written, flushed};
 
     ghost state = { failing D.state };
@@ -81,6 +81,7 @@ impl<D: Device> Device for FailOnce<D> {
         ensures bytes { OnOk result (D.honest (inner_of self.new) → into.new ≡ ((D.state (inner_of self.old)).disk area n).reads) }
         ensures stays { Stays (failing D.state self.old) (failing D.state self.new) }
         ensures faults { CountsFaults result (failing D.state self.old) (failing D.state self.new) }
+        ensures calls { CountsCall (failing D.state self.old) (failing D.state self.new) }
         ensures honest { D.honest (inner_of self.new) → D.honest (inner_of self.old) }
 
         // The call that fails does nothing, to the buffer either.
@@ -99,6 +100,7 @@ impl<D: Device> Device for FailOnce<D> {
         ensures ok { OnOk result (Moves (failing D.state self.old) (failing D.state self.new) (written (D.state (inner_of self.old)).disk area n bytes.now)) }
         ensures writes { Writes (failing D.state self.old) (failing D.state self.new) area n bytes.now }
         ensures faults { CountsFaults result (failing D.state self.old) (failing D.state self.new) }
+        ensures calls { CountsCall (failing D.state self.old) (failing D.state self.new) }
         ensures honest { D.honest (inner_of self.new) → D.honest (inner_of self.old) }
 
         ensures lost { FailsNext self.old → IsLost result self.old self.new }
@@ -113,6 +115,7 @@ impl<D: Device> Device for FailOnce<D> {
         ensures ok { OnOk result (Moves (failing D.state self.old) (failing D.state self.new) (flushed (D.state (inner_of self.old)).disk area)) }
         ensures err { OnErr result (Stays (failing D.state self.old) (failing D.state self.new)) }
         ensures faults { CountsFaults result (failing D.state self.old) (failing D.state self.new) }
+        ensures calls { CountsCall (failing D.state self.old) (failing D.state self.new) }
         ensures honest { D.honest (inner_of self.new) → D.honest (inner_of self.old) }
 
         ensures lost { FailsNext self.old → IsLost result self.old self.new }

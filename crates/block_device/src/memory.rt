@@ -45,6 +45,7 @@ pub struct MemDevice {
     home_flushed: u64,
     writes: u64,
     faults: u64,
+    calls_made: u64,
 }
 
 impl Model for MemDevice {
@@ -62,14 +63,14 @@ impl Model for MemDevice {
 impl MemDevice {
     ghost use Rattle.std.specs.Prelude.{◌≡◌, ◌<◌, ◌+◌, ◌-◌, ◌^◌, ℕ, length, [], ◌∷◌, ◌++◌, OnOk, OnErr};
     ghost use Rattle.block_device.specs.declared.memory.Call.TheVariants.{Wrote, Flushed};
-    ghost use Rattle.block_device.specs.State.{one_more_fault};
+    ghost use Rattle.block_device.specs.State.{one_more_call, one_more_fault};
     ghost use Rattle.journal_model.specs.declared.number.Area.{Area};
     ghost use Rattle.journal_model.specs.Disk.{Leaves, reading};
     ghost use Rattle.block_device.specs.Memory.{state_of, writes_of, crashed};
 
     /// A device of `log` and `home` blocks of `size` bytes, all of them zeros. It takes no memory.
     pub fn new(alloc: Global, size: usize, log: u64, home: u64) -> Self
-        ensures { result ≡ record { shape = record { block_size = size; log_blocks = log; home_blocks = home }; calls = []; faults = 0 } }
+        ensures { result ≡ record { shape = record { block_size = size; log_blocks = log; home_blocks = home }; calls = []; faults = 0; calls_made = 0 } }
     {
         MemDevice {
             alloc,
@@ -82,6 +83,7 @@ impl MemDevice {
             home_flushed: 0,
             writes: 0,
             faults: 0,
+            calls_made: 0,
         }
     }
 
@@ -101,6 +103,7 @@ impl MemDevice {
         ensures numbers { writes_of result.calls ≡ 0 }
         ensures shape { result.shape ≡ self.shape }
         ensures faults { result.faults ≡ self.faults }
+        ensures calls { result.calls_made ≡ self.calls_made }
     {
         let MemDevice {
             alloc,
@@ -113,6 +116,7 @@ impl MemDevice {
             home_flushed,
             writes: _,
             faults,
+            calls_made,
         } = self;
         forget(&calls, &mut index);
         keep_survivors(&mut calls, keep, log_flushed, home_flushed);
@@ -128,7 +132,15 @@ impl MemDevice {
             home_flushed: 0,
             writes: 0,
             faults,
+            calls_made,
         }
+    }
+
+    /// Counts a call.
+    fn count_call(&mut self)
+        ensures { self.new ≡ record self.old { calls_made = one_more_call self.old.calls_made } }
+    {
+        self.calls_made = self.calls_made.saturating_add(1);
     }
 
     /// Counts a failure.
@@ -181,7 +193,7 @@ impl Device for MemDevice {
     ghost use Rattle.journal_model.specs.Disk.{written, flushed};
     ghost use Rattle.block_device.specs.declared.memory.Call.TheVariants.{Wrote, Flushed};
     ghost use Rattle.block_device.specs.Memory.{state_of, writes_of};
-    ghost use Rattle.block_device.specs.State.{blocks_in, one_more_fault, CountsFaults, HoldsWholeBlocks, Stays, Moves, Writes};
+    ghost use Rattle.block_device.specs.State.{blocks_in, one_more_call, one_more_fault, CountsCall, CountsFaults, HoldsWholeBlocks, Stays, Moves, Writes};
 
     ghost state = { λ d. state_of d };
 
@@ -193,10 +205,11 @@ impl Device for MemDevice {
         ensures bytes { OnOk result (Unit {0} → into.new ≡ ((state_of self.old).disk area n).reads) }
         ensures stays { Stays (state_of self.old) (state_of self.new) }
         ensures faults { CountsFaults result (state_of self.old) (state_of self.new) }
+        ensures calls { CountsCall (state_of self.old) (state_of self.new) }
         ensures honest { Unit {0} → Unit {0} }
 
         // It takes no memory, so it never fails.
-        ensures read { IsOk result × (self.new ≡ self.old) }
+        ensures read { IsOk result × (self.new ≡ record self.old { calls_made = one_more_call self.old.calls_made }) }
     {
         match self.index.newest(area, n) {
             Some(i) => match &self.calls[i] {
@@ -205,6 +218,7 @@ impl Device for MemDevice {
             },
             None => into.fill(0),
         }
+        self.count_call();
         Ok(())
     }
 
@@ -214,17 +228,23 @@ impl Device for MemDevice {
         ensures ok { OnOk result (Moves (state_of self.old) (state_of self.new) (written (state_of self.old).disk area n bytes.now)) }
         ensures writes { Writes (state_of self.old) (state_of self.new) area n bytes.now }
         ensures faults { CountsFaults result (state_of self.old) (state_of self.new) }
+        ensures calls { CountsCall (state_of self.old) (state_of self.new) }
         ensures honest { Unit {0} → Unit {0} }
 
-        // A write that was taken has the next number; one that was not has changed nothing.
+        // A write that was taken has the next number; one that was not has changed nothing but the counts.
         ensures taken { OnOk result (self.new ≡ record self.old {
           calls = self.old.calls
               ++ Wrote (record { area = area; block = n; number = writes_of self.old.calls + 1; bytes = bytes.now }) ∷ [];
+          calls_made = one_more_call self.old.calls_made;
         }) }
-        ensures refused { OnErr result (self.new ≡ record self.old { faults = one_more_fault self.old.faults }) }
+        ensures refused { OnErr result (self.new ≡ record self.old {
+          faults = one_more_fault self.old.faults;
+          calls_made = one_more_call self.old.calls_made;
+        }) }
         // No number is left.
         ensures full { writes_of self.old.calls ≡ 2 ^ 64 - 1 → IsErr result }
     {
+        self.count_call();
         if self.writes == u64::MAX {
             return Err(self.fault());
         }
@@ -238,11 +258,19 @@ impl Device for MemDevice {
         ensures ok { OnOk result (Moves (state_of self.old) (state_of self.new) (flushed (state_of self.old).disk area)) }
         ensures err { OnErr result (Stays (state_of self.old) (state_of self.new)) }
         ensures faults { CountsFaults result (state_of self.old) (state_of self.new) }
+        ensures calls { CountsCall (state_of self.old) (state_of self.new) }
         ensures honest { Unit {0} → Unit {0} }
 
-        ensures taken { OnOk result (self.new ≡ record self.old { calls = self.old.calls ++ Flushed area ∷ [] }) }
-        ensures refused { OnErr result (self.new ≡ record self.old { faults = one_more_fault self.old.faults }) }
+        ensures taken { OnOk result (self.new ≡ record self.old {
+          calls = self.old.calls ++ Flushed area ∷ [];
+          calls_made = one_more_call self.old.calls_made;
+        }) }
+        ensures refused { OnErr result (self.new ≡ record self.old {
+          faults = one_more_fault self.old.faults;
+          calls_made = one_more_call self.old.calls_made;
+        }) }
     {
+        self.count_call();
         match self.note_flush(area) {
             Ok(()) => Ok(()),
             Err(_) => Err(self.fault()),

@@ -1,6 +1,6 @@
 //! A device that loses power at one of its writes.
 ghost use Rattle.std.specs.Prelude.{◌≡◌, ◌≢◌, ◌<◌, ◌-◌, ◌↔◌, false, true, length, IsOk, IsErr, OnOk, OnErr};
-ghost use Rattle.block_device.specs.State.{one_more_fault};
+ghost use Rattle.block_device.specs.State.{one_more_call, one_more_fault};
 
 use crate::{Device, DeviceFault};
 use journal_model::Area;
@@ -13,6 +13,7 @@ pub struct StopAt<D> {
     left: u64,
     stopped: bool,
     faults: u64,
+    calls: u64,
 }
 
 impl<D: Device> StopAt<D> {
@@ -20,13 +21,14 @@ impl<D: Device> StopAt<D> {
 
     /// Stops the device at write `k`, counted from 1 among the writes that succeed from now on. With 0 it never stops.
     pub fn new(device: D, k: u64) -> Self
-        ensures { result ≡ record { device = device; left = k; stopped = false; faults = 0 } }
+        ensures { result ≡ record { device = device; left = k; stopped = false; faults = 0; calls = 0 } }
     {
         StopAt {
             device,
             left: k,
             stopped: false,
             faults: 0,
+            calls: 0,
         }
     }
 
@@ -39,6 +41,7 @@ impl<D: Device> StopAt<D> {
             left: _,
             stopped: _,
             faults: _,
+            calls: _,
         } = self;
         device
     }
@@ -50,12 +53,13 @@ impl<D: Device> StopAt<D> {
         self.stopped
     }
 
-    /// Answers a fault where the power is gone.
+    /// Counts a call, and answers a fault where the power is gone.
     fn running(&mut self) -> Result<(), DeviceFault>
         ensures ok { IsOk result ↔ (is_stopped self.old ≡ false) }
-        ensures running { OnOk result (self.new ≡ self.old) }
-        ensures stopped { OnErr result (self.new ≡ record self.old { faults = one_more_fault self.old.faults }) }
+        ensures running { OnOk result (self.new ≡ record self.old { calls = one_more_call self.old.calls }) }
+        ensures stopped { OnErr result (self.new ≡ record self.old { faults = one_more_fault self.old.faults; calls = one_more_call self.old.calls }) }
     {
+        self.calls = self.calls.saturating_add(1);
         if self.stopped {
             return Err(self.fault());
         }
@@ -87,7 +91,7 @@ impl<D: Device> StopAt<D> {
 
 impl<D: Device> Device for StopAt<D> {
     ghost use Rattle.block_device.specs.Stop.{inner_of, left_of, is_stopped, stopping, PassesOn, UsesWrite, IsSilent};
-    ghost use Rattle.block_device.specs.State.{blocks_in, CountsFaults, Stays, Moves, Writes};
+    ghost use Rattle.block_device.specs.State.{blocks_in, CountsCall, CountsFaults, Stays, Moves, Writes};
     ghost use Rattle.journal_model.specs.Disk.{written, flushed};
 
     ghost state = { stopping D.state };
@@ -100,6 +104,7 @@ impl<D: Device> Device for StopAt<D> {
         ensures bytes { OnOk result (D.honest (inner_of self.new) → into.new ≡ ((D.state (inner_of self.old)).disk area n).reads) }
         ensures stays { Stays (stopping D.state self.old) (stopping D.state self.new) }
         ensures faults { CountsFaults result (stopping D.state self.old) (stopping D.state self.new) }
+        ensures calls { CountsCall (stopping D.state self.old) (stopping D.state self.new) }
         ensures honest { D.honest (inner_of self.new) → D.honest (inner_of self.old) }
 
         ensures silent { IsSilent result self.old self.new }
@@ -116,6 +121,7 @@ impl<D: Device> Device for StopAt<D> {
         ensures ok { OnOk result (Moves (stopping D.state self.old) (stopping D.state self.new) (written (D.state (inner_of self.old)).disk area n bytes.now)) }
         ensures writes { Writes (stopping D.state self.old) (stopping D.state self.new) area n bytes.now }
         ensures faults { CountsFaults result (stopping D.state self.old) (stopping D.state self.new) }
+        ensures calls { CountsCall (stopping D.state self.old) (stopping D.state self.new) }
         ensures honest { D.honest (inner_of self.new) → D.honest (inner_of self.old) }
 
         ensures silent { IsSilent result self.old self.new }
@@ -138,6 +144,7 @@ impl<D: Device> Device for StopAt<D> {
         ensures ok { OnOk result (Moves (stopping D.state self.old) (stopping D.state self.new) (flushed (D.state (inner_of self.old)).disk area)) }
         ensures err { OnErr result (Stays (stopping D.state self.old) (stopping D.state self.new)) }
         ensures faults { CountsFaults result (stopping D.state self.old) (stopping D.state self.new) }
+        ensures calls { CountsCall (stopping D.state self.old) (stopping D.state self.new) }
         ensures honest { D.honest (inner_of self.new) → D.honest (inner_of self.old) }
 
         ensures silent { IsSilent result self.old self.new }
