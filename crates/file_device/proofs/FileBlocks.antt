@@ -7,7 +7,7 @@ use Rattle.std.proofs.lemmas.List.{length-append, length-replicate, length-take-
 use Rattle.std.proofs.Math.Nat.{mul-div_cancel}
 use Rattle.journal_model.specs.declared.number.Area.{Area}
 use Rattle.journal_model.specs.Disk.{Disk, Cell, IsOneOf, held, same_area, written, handed_over, flushed}
-use Rattle.block_device.specs.State.{DeviceState, Moves, Writes, Whole, HandedOver}
+use Rattle.block_device.specs.State.{DeviceState, Moves, Writes, Undone, Whole, HandedOver}
 use Rattle.file_device.specs.Calls.{FileCall, Measured, Read, ReadFailed, Wrote, WriteFailed, Synced, SyncFailed}
 use Rattle.file_device.specs.Files.{FileContents, FileState, FileMoments, fitted, after_call, after_calls, AgreesEach, HandsBlock, file_state}
 use Rattle.block_device.proofs.WholeCells.{IsWhole, one_of_two, alone, over}
@@ -40,11 +40,11 @@ either_way : (b : Bool) (old new : DeviceState) (area : Area) (n : ℕ) (bytes :
 either_way true old new area n bytes moves = Whole moves
 either_way false old new area n bytes moves = HandedOver moves
 
-pub failed_writes : (contents : FileContents) {s now new : FileState} (log : File) (home : Option File) (calls : List FileCall) (faults at n : ℕ) (area : Area) (bytes : List ℕ) → s ≡ now → 0 < s.block_size → at ≡ n * s.block_size →
-    calls ≡ WriteFailed area at bytes ∷ s.calls → new ≡ record s { log_file = log; home_file = home; calls = calls; has_failed = true; faults = faults } → Writes (file_state contents now) (file_state contents new) area n bytes
-failed_writes contents {s = s} {new = new} log home calls faults at n area bytes same some place noted failed =
+pub failed_writes : (contents : FileContents) {s now new : FileState} (log : File) (home : Option File) (calls : List FileCall) (faults made at n : ℕ) (area : Area) (bytes : List ℕ) → s ≡ now → 0 < s.block_size → at ≡ n * s.block_size →
+    calls ≡ WriteFailed area at bytes ∷ s.calls → new ≡ record s { log_file = log; home_file = home; calls = calls; has_failed = true; faults = faults; calls_made = made } → Writes (file_state contents now) (file_state contents new) area n bytes
+failed_writes contents {s = s} {new = new} log home calls faults made at n area bytes same some place noted failed =
     let old : DeviceState = file_state contents s in
-    let New : List FileCall → DeviceState = λ cs. file_state contents (record s { log_file = log; home_file = home; calls = cs; has_failed = true; faults = faults }) in
+    let New : List FileCall → DeviceState = λ cs. file_state contents (record s { log_file = log; home_file = home; calls = cs; has_failed = true; faults = faults; calls_made = made }) in
     let then_new : file_state contents new ≡ New (WriteFailed area at bytes ∷ s.calls) = ap (file_state contents) failed ∙ ap New noted in
     subst (λ t. Writes (file_state contents t) (file_state contents new) area n bytes) same (
     either_way contents.failed_write_reads old (file_state contents new) area n bytes (record {
@@ -53,6 +53,13 @@ failed_writes contents {s = s} {new = new} log home calls faults at n area bytes
           ∙ ap (λ b. if contents.failed_write_reads then written old.disk area b bytes else handed_over old.disk area b bytes) (block_at at n s.block_size some place);
       past = ap (λ d. d.past) then_new;
     }))
+
+-- that the call was counted first changes nothing of what a write may leave
+pub counted_writes : (contents : FileContents) (s : FileState) (made : ℕ) (new : DeviceState) (area : Area) (n : ℕ) (bytes : List ℕ) →
+    Writes (file_state contents (record s { calls_made = made })) new area n bytes → Writes (file_state contents s) new area n bytes
+counted_writes contents s made new area n bytes (Undone stays) = Undone (record { shape = stays.shape; disk = stays.disk; past = stays.past })
+counted_writes contents s made new area n bytes (Whole moves) = Whole (record { shape = moves.shape; now = moves.now; past = moves.past })
+counted_writes contents s made new area n bytes (HandedOver moves) = HandedOver (record { shape = moves.shape; now = moves.now; past = moves.past })
 
 -- each value that may be held in a block of the disk has this length
 abbrev pub AreWhole : ℕ → Disk → Type 0

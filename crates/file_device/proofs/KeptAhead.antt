@@ -11,7 +11,7 @@ use Rattle.journal_model.specs.declared.number.Area.TheVariants.{Log}
 use Rattle.file_device.specs.declared.ahead.Ahead.{Ahead}
 use Rattle.file_device.specs.Ahead.{HasFailedRead, HasRead, IsReading, KeepsAhead, block_of, reads_of}
 use Rattle.file_device.specs.Calls.{FileCall, Measured, Read, ReadFailed, Wrote, WriteFailed, Synced, SyncFailed}
-use Rattle.file_device.specs.Files.{AgreesEach, FileContents, FileMoments, FileState, HandsBlock, HasAgreed, KeepsBlocks, after_call, after_calls, file_state}
+use Rattle.file_device.specs.Files.{AgreesEach, FileContents, FileMoments, FileState, HandsBlock, HasAgreed, KeepsBlocks, after_call, after_calls, counted, file_state}
 
 -- a call that asks for bytes alone leaves the disk
 reading-leaves : (contents : FileContents) (size : ℕ) (m : FileMoments) (c : FileCall) → IsReading c → after_call contents size m c ≡ m
@@ -220,13 +220,19 @@ pub failed-agreed : (contents : FileContents) {old new : FileState} {area : Area
 failed-agreed contents {old} {new} read agrees =
     read-agreed contents read.asked_before (subst (HasAgreed contents) read.after agrees).1
 
--- either way
-pub answer-stays : {T E : Type 0} (r : Result T E) (contents : FileContents) (old new : FileState) (area : Area) (at : ℕ) → OnOk r (HasRead old new) → OnErr r (HasFailedRead old new area at) →
-    Stays (file_state contents old) (file_state contents new)
-answer-stays (Ok v) contents old new area at ok err = read-stays contents ok
-answer-stays (Err e) contents old new area at ok err = failed-stays contents err
+-- that a call was counted first changes nothing of the disk
+counted-stays : (contents : FileContents) {old mid : FileState} {new : DeviceState} → mid ≡ counted old → Stays (file_state contents mid) new → Stays (file_state contents old) new
+counted-stays contents {old} {mid} {new} same stays =
+    let since : Stays (file_state contents (counted old)) new = subst (λ (s : FileState). Stays (file_state contents s) new) same stays in
+    record { shape = since.shape; disk = since.disk; past = since.past }
 
-pub answer-agreed : {T E : Type 0} (r : Result T E) (contents : FileContents) (old new : FileState) (area : Area) (at : ℕ) → OnOk r (HasRead old new) → OnErr r (HasFailedRead old new area at) →
+-- either way
+pub answer-stays : {T E : Type 0} (r : Result T E) (contents : FileContents) (old mid new : FileState) (area : Area) (at : ℕ) → mid ≡ counted old → OnOk r (HasRead mid new) → OnErr r (HasFailedRead mid new area at) →
+    Stays (file_state contents old) (file_state contents new)
+answer-stays (Ok v) contents old mid new area at same ok err = counted-stays contents same (read-stays contents ok)
+answer-stays (Err e) contents old mid new area at same ok err = counted-stays contents same (failed-stays contents err)
+
+pub answer-agreed : {T E : Type 0} (r : Result T E) (contents : FileContents) (old mid new : FileState) (area : Area) (at : ℕ) → mid ≡ counted old → OnOk r (HasRead mid new) → OnErr r (HasFailedRead mid new area at) →
     HasAgreed contents new → HasAgreed contents old
-answer-agreed (Ok v) contents old new area at ok err = read-agreed contents ok
-answer-agreed (Err e) contents old new area at ok err = failed-agreed contents err
+answer-agreed (Ok v) contents old mid new area at same ok err agrees = subst (HasAgreed contents) same (read-agreed contents ok agrees)
+answer-agreed (Err e) contents old mid new area at same ok err agrees = subst (HasAgreed contents) same (failed-agreed contents err agrees)

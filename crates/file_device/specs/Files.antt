@@ -6,7 +6,7 @@ use Rattle.journal_model.specs.declared.number.Area.{Area}
 use Rattle.journal_model.specs.declared.number.Area.TheVariants.{Log, Home}
 use Rattle.journal_model.specs.Disk.{Disk, Cell, written, handed_over, flushed}
 use Rattle.journal_model.specs.Superblock.{Shape}
-use Rattle.block_device.specs.State.{DeviceState, one_more_fault}
+use Rattle.block_device.specs.State.{DeviceState, one_more_call, one_more_fault}
 use Rattle.file_device.specs.Calls.{FileCall, Measured, Read, ReadFailed, Wrote, WriteFailed, Synced, SyncFailed}
 
 -- what is supposed of the files of one device
@@ -21,9 +21,10 @@ pub record FileState : Type 0 where
   pub home_file : Option File
   pub log_bytes : ℕ  -- the lengths of the files when the device was made; 0 where there is no home file
   pub home_bytes : ℕ
-  pub calls : List FileCall  -- newest first
+  pub calls : List FileCall  -- those on its files, newest first
   pub has_failed : Bool  -- a write or a flush has failed
   pub faults : ℕ
+  pub calls_made : ℕ  -- of the device, those that it refused too
 
 -- a value of a block, cut or filled up with zeros to the size of one
 abbrev pub fitted : ℕ → List ℕ → List ℕ
@@ -85,7 +86,7 @@ file_shape s = record { block_size = s.block_size; log_blocks = s.log_bytes / s.
 abbrev pub file_state : FileContents → FileState → DeviceState
 file_state contents s =
     let m = after_calls contents s.block_size s.calls in
-    record { shape = file_shape s; disk = m.disk; past = m.past; faults = s.faults }
+    record { shape = file_shape s; disk = m.disk; past = m.past; faults = s.faults; calls = s.calls_made }
 
 -- the premise: nobody else wrote the files, and they gave what they had
 abbrev pub HasAgreed : FileContents → FileState → Type 0
@@ -118,16 +119,23 @@ new_device size log home log_bytes home_bytes =
       calls = Measured Home home_bytes ∷ Measured Log log_bytes ∷ [];
       has_failed = false;
       faults = 0;
+      calls_made = 0;
     }
 
--- the device after one more call of the system
+-- a call of the device is counted
+abbrev pub counted : FileState → FileState
+counted s = record s { calls_made = one_more_call s.calls_made }
+
+-- the device after one more call of it, which made this one of the system
 abbrev pub asked : FileState → FileCall → FileState
-asked s call = record s { calls = call ∷ s.calls }
+asked s call = record (counted s) { calls = call ∷ s.calls }
 
 -- the device after a write or a flush that failed, the last that it tried
 abbrev pub failed_for_good : FileState → FileCall → FileState
-failed_for_good s call = record s { calls = call ∷ s.calls; has_failed = true; faults = one_more_fault s.faults }
+failed_for_good s call =
+    record (counted s) { calls = call ∷ s.calls; has_failed = true; faults = one_more_fault s.faults }
 
--- once a write or a flush has failed, a call answers a fault, and only the count of failures has changed
+-- once a write or a flush has failed, a call answers a fault, and only the counts of failures and of calls have changed
 abbrev pub IsRefused : {T E : Type 0} → Result T E → FileState → FileState → Type 0
-IsRefused result old new = old.has_failed ≡ true → IsErr result × (new ≡ record old { faults = one_more_fault old.faults })
+IsRefused result old new =
+    old.has_failed ≡ true → IsErr result × (new ≡ record (counted old) { faults = one_more_fault old.faults })

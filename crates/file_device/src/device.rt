@@ -13,7 +13,7 @@
 //! - A value of a `Contents` type stands for one pair of files.
 ghost use Rattle.std.specs.Prelude.{◌≡◌, ◌<◌, ◌*◌, ◌/◌, ◌↔◌, false, true, IsOk, OnOk, OnErr};
 ghost use Rattle.block_device.specs.State.{one_more_fault};
-ghost use Rattle.file_device.specs.Files.{FileContents};
+ghost use Rattle.file_device.specs.Files.{FileContents, counted};
 
 use crate::ahead::{Ahead, MOST_BYTES, copy_block};
 use crate::calls::NotedFiles;
@@ -64,6 +64,7 @@ pub struct FileDevice<C: Contents> {
     home_bytes: u64,
     has_failed: bool,
     faults: u64,
+    calls_made: u64,
     ahead: Ahead,
 }
 
@@ -85,6 +86,7 @@ impl<C: Contents> Model for FileDevice<C> {
       calls = calls_of d.files;
       has_failed = d.has_failed;
       faults = d.faults;
+      calls_made = d.calls_made;
     } };
 
     ghost invariant = { λ d. KeepsBlocks d.size (calls_of d.files) × KeepsAhead C.contents d.size (calls_of d.files) d.ahead };
@@ -136,6 +138,7 @@ impl<C: Contents> FileDevice<C> {
             home_bytes,
             has_failed: false,
             faults: 0,
+            calls_made: 0,
             ahead: Ahead::new(),
         })
     }
@@ -230,12 +233,20 @@ impl<C: Contents> FileDevice<C> {
         }
     }
 
-    /// Answers a fault where a write or a flush has failed.
+    /// Counts a call.
+    fn count_call(&mut self)
+        ensures { self.new ≡ counted self.old }
+    {
+        self.calls_made = self.calls_made.saturating_add(1);
+    }
+
+    /// Counts a call, and answers a fault where a write or a flush has failed.
     fn check_usable(&mut self) -> Result<(), DeviceFault>
         ensures ok { IsOk result ↔ (self.old.has_failed ≡ false) }
-        ensures usable { OnOk result (self.new ≡ self.old) }
-        ensures failed { OnErr result (self.new ≡ record self.old { faults = one_more_fault self.old.faults }) }
+        ensures usable { OnOk result (self.new ≡ counted self.old) }
+        ensures failed { OnErr result (self.new ≡ record (counted self.old) { faults = one_more_fault self.old.faults }) }
     {
+        self.count_call();
         if self.has_failed {
             return Err(self.fault());
         }
@@ -265,7 +276,7 @@ impl<C: Contents> Device for FileDevice<C> {
     ghost use Rattle.file_device.specs.Ahead.{HasRead, HasFailedRead};
     ghost use Rattle.file_device.specs.Calls.{Wrote, WriteFailed, Synced, SyncFailed};
     ghost use Rattle.file_device.specs.Files.{asked, failed_for_good, file_state, HasAgreed, IsRefused};
-    ghost use Rattle.block_device.specs.State.{blocks_in, CountsFaults, Stays, Moves, Writes};
+    ghost use Rattle.block_device.specs.State.{blocks_in, CountsCall, CountsFaults, Stays, Moves, Writes};
 
     ghost state = { λ d. file_state C.contents d };
 
@@ -277,12 +288,14 @@ impl<C: Contents> Device for FileDevice<C> {
         ensures bytes { OnOk result (HasAgreed C.contents self.new → into.new ≡ ((file_state C.contents self.old).disk area n).reads) }
         ensures stays { Stays (file_state C.contents self.old) (file_state C.contents self.new) }
         ensures faults { CountsFaults result (file_state C.contents self.old) (file_state C.contents self.new) }
+        ensures calls { CountsCall (file_state C.contents self.old) (file_state C.contents self.new) }
         ensures honest { HasAgreed C.contents self.new → HasAgreed C.contents self.old }
 
         // The files were asked for bytes, or for none. A read that fails leaves the device as usable.
-        ensures gave { OnOk result (HasRead self.old self.new) }
-        ensures failed { OnErr result (HasFailedRead self.old self.new area (n * self.old.block_size)) }
+        ensures gave { OnOk result (HasRead (counted self.old) self.new) }
+        ensures failed { OnErr result (HasFailedRead (counted self.old) self.new area (n * self.old.block_size)) }
     {
+        self.count_call();
         match area {
             Area::Log => self.read_log(n, into),
             Area::Home => self.read_block(Area::Home, n, into),
@@ -295,6 +308,7 @@ impl<C: Contents> Device for FileDevice<C> {
         ensures ok { OnOk result (Moves (file_state C.contents self.old) (file_state C.contents self.new) (written (file_state C.contents self.old).disk area n bytes.now)) }
         ensures writes { Writes (file_state C.contents self.old) (file_state C.contents self.new) area n bytes.now }
         ensures faults { CountsFaults result (file_state C.contents self.old) (file_state C.contents self.new) }
+        ensures calls { CountsCall (file_state C.contents self.old) (file_state C.contents self.new) }
         ensures honest { HasAgreed C.contents self.new → HasAgreed C.contents self.old }
 
         // The file took the bytes at the block's place; or it was handed them there and failed, and nothing is written
@@ -319,6 +333,7 @@ impl<C: Contents> Device for FileDevice<C> {
         ensures ok { OnOk result (Moves (file_state C.contents self.old) (file_state C.contents self.new) (flushed (file_state C.contents self.old).disk area)) }
         ensures err { OnErr result (Stays (file_state C.contents self.old) (file_state C.contents self.new)) }
         ensures faults { CountsFaults result (file_state C.contents self.old) (file_state C.contents self.new) }
+        ensures calls { CountsCall (file_state C.contents self.old) (file_state C.contents self.new) }
         ensures honest { HasAgreed C.contents self.new → HasAgreed C.contents self.old }
 
         // The file was synced; or the sync failed, and nothing is written or flushed from then on.

@@ -50,7 +50,7 @@ invariant_of-self g c =
 pub returns : goal.returns
 returns g c =
     let d = c.self.inside in
-    let View : NotedFiles → FileState = λ f. record { block_size = d.size; log_file = f.log; home_file = f.home; log_bytes = d.log_bytes; home_bytes = d.home_bytes; calls = calls_of f; has_failed = d.has_failed; faults = d.faults } in
+    let View : NotedFiles → FileState = λ f. record { block_size = d.size; log_file = f.log; home_file = f.home; log_bytes = d.log_bytes; home_bytes = d.home_bytes; calls = calls_of f; has_failed = d.has_failed; faults = d.faults; calls_made = d.calls_made } in
     let reads : List FileCall = reads_of Log c.place_of-at.result d.size c.read_blocks.new.into (length c.read_blocks.new.into / d.size) in
     elim c.match-read_blocks.branch [
       | in-Ok w ↦ record {

@@ -17,7 +17,7 @@ returns-in-Ok-clause-bytes g c agrees =
 pub returns-in-Ok-clause-ok : goal.returns-in-Ok-clause-ok
 returns-in-Ok-clause-ok g c =
     let d = c.self.inside in
-    let View : NotedFiles → FileState = λ f. record { block_size = d.size; log_file = f.log; home_file = f.home; log_bytes = d.log_bytes; home_bytes = d.home_bytes; calls = calls_of f; has_failed = d.has_failed; faults = d.faults } in
+    let View : NotedFiles → FileState = λ f. record { block_size = d.size; log_file = f.log; home_file = f.home; log_bytes = d.log_bytes; home_bytes = d.home_bytes; calls = calls_of f; has_failed = d.has_failed; faults = d.faults; calls_made = d.calls_made } in
     record {
       calls = Read c.args.area c.place_of-at.result c.read.new.into ∷ [];
       readings = (tt, tt);
@@ -28,7 +28,7 @@ returns-in-Ok-clause-ok g c =
 pub returns-in-Err-clause-err : goal.returns-in-Err-clause-err
 returns-in-Err-clause-err g c =
     let d = c.self.inside in
-    let View : NotedFiles → FileState = λ f. record { block_size = d.size; log_file = f.log; home_file = f.home; log_bytes = d.log_bytes; home_bytes = d.home_bytes; calls = calls_of f; has_failed = d.has_failed; faults = one_more_fault d.faults } in
+    let View : NotedFiles → FileState = λ f. record { block_size = d.size; log_file = f.log; home_file = f.home; log_bytes = d.log_bytes; home_bytes = d.home_bytes; calls = calls_of f; has_failed = d.has_failed; faults = one_more_fault d.faults; calls_made = d.calls_made } in
     record {
       before = c.args.self.now;
       asked_before = record { calls = []; readings = tt; after = refl };
