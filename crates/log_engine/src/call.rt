@@ -1,6 +1,6 @@
 //! The device call of a step.
 ghost use Rattle.std.specs.Prelude.{◌≡◌, Some, OnOk, OnErr};
-ghost use Rattle.block_device.specs.State.{CountsFaults};
+ghost use Rattle.block_device.specs.State.{CountsFaults, MakesAtMostOneCall};
 ghost use Rattle.journal_world.specs.Call.{Call, IsAfterFault, after_success};
 ghost use Rattle.log_engine.specs.Call.{Fits, IsOneMoment, call_of};
 
@@ -28,6 +28,7 @@ pub(crate) fn make_call<D: Device>(
     ensures ok { (call : Call) → call_of due bytes.now ≡ Some call → OnOk result ((D.state device.new).disk ≡ after_success call (D.state device.old).disk) }
     ensures err { (call : Call) → call_of due bytes.now ≡ Some call → OnErr result (IsAfterFault call (D.state device.old).disk (D.state device.new).disk) }
     ensures moment { IsOneMoment (D.state device.old) (D.state device.new) }
+    ensures calls { MakesAtMostOneCall (D.state device.old) (D.state device.new) }
     ensures shape { (D.state device.new).shape ≡ (D.state device.old).shape }
     ensures faults { CountsFaults result (D.state device.old) (D.state device.new) }
     ensures honest { D.honest device.new → D.honest device.old }

@@ -5,7 +5,7 @@ ghost use Rattle.journal_model.specs.Layout.{IsTaken};
 ghost use Rattle.journal_model.specs.Opening.{ring_of};
 ghost use Rattle.journal_model.specs.Room.{need};
 ghost use Rattle.journal_model.specs.Superblock.{super_in};
-ghost use Rattle.block_device.specs.State.{EachMoment, Stays};
+ghost use Rattle.block_device.specs.State.{EachMoment, MakesAtMostOneCall, Stays};
 ghost use Rattle.journal_world.specs.declared.stage.Stage.TheVariants.{Idle};
 ghost use Rattle.journal_world.specs.Checkpoint.{IsPending, IsRead};
 ghost use Rattle.journal_world.specs.Engine.{Accepts};
@@ -198,6 +198,7 @@ impl<D: Device> Engine<D> {
             EachMoment (IsDuringCommit self.old.engine (D.state self.old.device).disk) (D.state self.old.device) (D.state self.new.device) }
         ensures fewer { IfOk result (λ p. LeavesFewer commit_calls p self.old.engine self.new.engine) }
         ensures one { IsOneMoment (D.state self.old.device) (D.state self.new.device) }
+        ensures calls { MakesAtMostOneCall (D.state self.old.device) (D.state self.new.device) }
         ensures honest { D.honest self.new.device → D.honest self.old.device }
     {
         if self.ledger.aborted {
@@ -230,6 +231,7 @@ impl<D: Device> Engine<D> {
             EachMoment (IsDuringRound self.old.engine (D.state self.old.device).disk) (D.state self.old.device) (D.state self.new.device) }
         ensures fewer { IfOk result (λ p. LeavesFewer round_calls p self.old.engine self.new.engine) }
         ensures one { IsOneMoment (D.state self.old.device) (D.state self.new.device) }
+        ensures calls { MakesAtMostOneCall (D.state self.old.device) (D.state self.new.device) }
         ensures honest { D.honest self.new.device → D.honest self.old.device }
     {
         if self.ledger.aborted {
@@ -261,6 +263,7 @@ impl<D: Device> Engine<D> {
         ensures err { IfErr result (λ e. ReadRefused D.state self.old block self.new e) }
         ensures untouched { IfErr result (λ e. e ≢ DeviceFailed → into.new ≡ into.old) }
         ensures stays { Stays (D.state self.old.device) (D.state self.new.device) }
+        ensures calls { MakesAtMostOneCall (D.state self.old.device) (D.state self.new.device) }
         ensures no_fault { OnOk result ((D.state self.new.device).faults ≡ (D.state self.old.device).faults) }
         ensures honest { D.honest self.new.device → D.honest self.old.device }
         ensures length { length into.new ≡ length into.old }

@@ -69,6 +69,7 @@ returns-then-is_err g c =
       shape = c.make_call.ensures.shape;
       moments = λ honest. each-round-fault e _ before after c.make_call.ensures.moment (c.self.invariant.2 honest) fault;
       one = c.make_call.ensures.moment;
+      calls = c.make_call.ensures.calls;
       honest = c.make_call.ensures.honest;
     })
 
@@ -120,5 +121,6 @@ returns g c =
       shape = c.make_call.ensures.shape;
       moments = λ honest. each-round e _ before after c.make_call.ensures.moment (c.self.invariant.2 honest) steps;
       one = c.make_call.ensures.moment;
+      calls = c.make_call.ensures.calls;
       honest = c.make_call.ensures.honest;
     })

@@ -73,6 +73,7 @@ returns-then-is_err g c =
       shape = c.make_call.ensures.shape;
       moments = λ honest. each-fault e _ before after c.make_call.ensures.moment (c.self.invariant.2 honest) fault;
       one = c.make_call.ensures.moment;
+      calls = c.make_call.ensures.calls;
       honest = c.make_call.ensures.honest;
     })
 
@@ -125,5 +126,6 @@ returns g c =
       shape = c.make_call.ensures.shape;
       moments = λ honest. each-step e new before after c.make_call.ensures.moment (c.self.invariant.2 honest) step;
       one = c.make_call.ensures.moment;
+      calls = c.make_call.ensures.calls;
       honest = c.make_call.ensures.honest;
     })
