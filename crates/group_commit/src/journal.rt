@@ -2,7 +2,7 @@
 ghost use Rattle.std.specs.Prelude.{◌≡◌, ◌<◌, ◌≤◌, ◌≢◌, ◌↔◌, true, false, length, [], IfOk, IfErr, MatchResult, OnOk, IsTrue, Some, None};
 ghost use Rattle.journal_model.specs.declared.refusal.JournalError.TheVariants.{Aborted, Device as DeviceFailed, Memory};
 ghost use Rattle.journal_model.specs.Disk.{Image, Leaves};
-ghost use Rattle.block_device.specs.State.{EachMoment, Stays, one_more_fault};
+ghost use Rattle.block_device.specs.State.{EachMoment, MakesAtMostOneCall, Stays, one_more_fault};
 ghost use Rattle.journal_world.specs.declared.stage.Stage.TheVariants.{Idle};
 ghost use Rattle.journal_world.specs.Front.{next_handle};
 ghost use Rattle.journal_world.specs.Front.FrontEvent.{GiveBack, Join, Reserve, StopHandle, WriteBlock};
@@ -237,6 +237,7 @@ impl<D: Device> Journal<D> {
         ensures err { IfErr result (λ e. ReadRefused D.state self.old block self.new e) }
         ensures untouched { IfErr result (λ e. e ≢ DeviceFailed → into.new ≡ into.old) }
         ensures stays { Stays (D.state self.old.device) (D.state self.new.device) }
+        ensures calls { MakesAtMostOneCall (D.state self.old.device) (D.state self.new.device) }
         ensures no_fault { OnOk result ((D.state self.new.device).faults ≡ (D.state self.old.device).faults) }
         ensures honest { D.honest self.new.device → D.honest self.old.device }
         ensures length { length into.new ≡ length into.old }
@@ -355,6 +356,7 @@ impl<D: Device> Journal<D> {
         ensures moments { D.honest self.old.device →
             EachMoment (IsDuringTurn self.old.journal (D.state self.old.device).disk) (D.state self.old.device) (D.state self.new.device) }
         ensures one { IsOneMoment (D.state self.old.device) (D.state self.new.device) }
+        ensures calls { MakesAtMostOneCall (D.state self.old.device) (D.state self.new.device) }
         ensures honest { D.honest self.new.device → D.honest self.old.device }
     {
         self.engine.recall_invariant();
@@ -386,6 +388,7 @@ impl<D: Device> Journal<D> {
         ensures moments { D.honest self.old.device →
             EachMoment (IsDuringTurn self.old.journal (D.state self.old.device).disk) (D.state self.old.device) (D.state self.new.device) }
         ensures one { IsOneMoment (D.state self.old.device) (D.state self.new.device) }
+        ensures calls { MakesAtMostOneCall (D.state self.old.device) (D.state self.new.device) }
         ensures honest { D.honest self.new.device → D.honest self.old.device }
     {
         let progress = match self.engine.commit_step() {
@@ -442,6 +445,7 @@ impl<D: Device> Journal<D> {
         ensures moments { D.honest self.old.device →
             EachMoment (IsDuringCheckTurn self.old.journal (D.state self.old.device).disk) (D.state self.old.device) (D.state self.new.device) }
         ensures one { IsOneMoment (D.state self.old.device) (D.state self.new.device) }
+        ensures calls { MakesAtMostOneCall (D.state self.old.device) (D.state self.new.device) }
         ensures honest { D.honest self.new.device → D.honest self.old.device }
     {
         let progress = match self.engine.checkpoint_step() {
