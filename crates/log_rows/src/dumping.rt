@@ -1,6 +1,6 @@
 //! Rows of dumps.
 ghost use Rattle.std.specs.Prelude.{◌≡◌, OnOk, OnErr};
-ghost use Rattle.block_device.specs.State.{one_more_fault, with_own_faults};
+ghost use Rattle.block_device.specs.State.{one_more_call, one_more_fault, with_own_counts};
 
 use crate::logs::{device_of, log_of};
 use block_device::{Device, DeviceFault};
@@ -70,14 +70,17 @@ struct CountedReads<D> {
     counts: [u8; 40],
     fails_at: u64,
     faults: u64,
+    calls: u64,
 }
 
 impl<D: Device> CountedReads<D> {
-    /// Fails where its time has come.
+    /// Counts a call, and fails where its time has come.
     fn running(&mut self) -> Result<(), DeviceFault>
         ensures ok { OnOk result ((self.new.device ≡ self.old.device) × (self.new.faults ≡ self.old.faults)) }
         ensures err { OnErr result ((self.new.device ≡ self.old.device) × (self.new.faults ≡ one_more_fault self.old.faults)) }
+        ensures calls { self.new.calls ≡ one_more_call self.old.calls }
     {
+        self.calls = self.calls.saturating_add(1);
         if self.fails_at == 1 {
             self.faults = self.faults.saturating_add(1);
             return Err(DeviceFault);
@@ -88,7 +91,7 @@ impl<D: Device> CountedReads<D> {
 }
 
 impl<D: Device> Device for CountedReads<D> {
-    ghost state = { λ r. with_own_faults (D.state r.device) r.faults };
+    ghost state = { λ r. with_own_counts (D.state r.device) r.faults r.calls };
 
     ghost honest = { λ r. D.honest r.device };
 
@@ -101,10 +104,12 @@ impl<D: Device> Device for CountedReads<D> {
     }
 
     fn write(&mut self, area: Area, n: u64, bytes: &[u8]) -> Result<(), DeviceFault> {
+        self.calls = self.calls.saturating_add(1);
         self.device.write(area, n, bytes)
     }
 
     fn flush(&mut self, area: Area) -> Result<(), DeviceFault> {
+        self.calls = self.calls.saturating_add(1);
         self.device.flush(area)
     }
 
@@ -139,6 +144,7 @@ pub fn counted_dumps(alloc: Global, given: &str) -> Result<String, RowError> {
         counts: [0; 40],
         fails_at,
         faults: 0,
+        calls: 0,
     };
     let mut told = dumped(alloc, &mut device)?;
     add_counts(&mut told, &device.counts)?;
