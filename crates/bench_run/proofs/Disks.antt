@@ -30,7 +30,7 @@ small n most = omega (arith, most)
 
 -- what a crash leaves of a device that was blank, and then formatted
 pub empty-log : (shape : Shape) (maxlen : ℕ) (uuid : List ℕ) (blank formatted left : MemState)
-    → blank ≡ record { shape = shape; calls = []; faults = 0 } → formatted.shape ≡ blank.shape
+    → blank ≡ record { shape = shape; calls = []; faults = 0; calls_made = 0 } → formatted.shape ≡ blank.shape
     → IsFormatted blank.shape maxlen uuid (state_of blank).disk (state_of formatted).disk → length uuid ≡ 16
     → ((a : Area) (n : ℕ) → (state_of left).disk a n ≡ record { reads = crashed [] formatted a n; others = [] })
     → left.shape ≡ formatted.shape
@@ -57,7 +57,7 @@ opened-zero old new superblock next empty is shape =
     λ b. ap (λ (d : Disk). d Home b) still ∙ empty.home b ∙ ap (λ (s : Shape). durable_cell (replicate s.block_size 0)) (sym shape)
 
 -- a device that stops has the disk of the one behind it
-pub empty-stopping : (left : MemState) (device : StopAt MemState) (k : ℕ) → device ≡ record { device = left; left = k; stopped = false; faults = 0 } → IsEmptyLog (state_of left)
+pub empty-stopping : (left : MemState) (device : StopAt MemState) (k : ℕ) → device ≡ record { device = left; left = k; stopped = false; faults = 0; calls = 0 } → IsEmptyLog (state_of left)
     → IsEmptyLog (stopping state_of device)
 empty-stopping left device k is empty =
     let inside : device.device ≡ left = ap (λ (s : StopAt MemState). s.device) is in

@@ -1,14 +1,15 @@
 -- Verdicts on images that were opened, once or twice.
 use Rattle.std.proofs.Common.{◌∙◌, ℕ, List, [], Bool, Option, ap, ap₂, refl, subst, sym}
-use Rattle.std.specs.Prelude.{◌≡◌, ◌↔◌, ◌<◌, All, IsTrue}
+use Rattle.std.specs.Prelude.{◌≡◌, ◌↔◌, ◌<◌, All, IsTrue, Some, None}
 use Rattle.journal_model.specs.declared.number.Area.{Area}
 use Rattle.journal_model.specs.declared.number.Area.TheVariants.{Home}
 use Rattle.journal_model.specs.Disk.{Disk, Image, reading}
 use Rattle.journal_model.specs.Opening.{OpensAs, numbered_below}
 use Rattle.journal_model.specs.Superblock.{Shape}
 use Rattle.journal_model.specs.Transaction.{History}
-use Rattle.block_device.specs.Memory.{MemState, crashed, state_of}
+use Rattle.block_device.specs.Memory.{MemState, after_calls, crashed, state_of}
 use Rattle.block_device.specs.State.{DeviceState, Stays}
+use Rattle.block_device.specs.declared.memory.Call.{Call as MemCall}
 use Rattle.block_device.specs.declared.stop.StopAt.{StopAt}
 use Rattle.block_device.specs.Stop.{inner_of, stopping}
 use Rattle.journal_world.specs.Call.{Call}
@@ -23,6 +24,8 @@ use Rattle.recovery.specs.Opening.IsBroken.{Reading, Writing}
 use Rattle.bench_run.specs.declared.opening.OpenedImage.{OpenedImage}
 use Rattle.bench_run.specs.declared.reopening.Attempt.{Attempt}
 use Rattle.bench_run.specs.declared.reopening.Attempt.TheVariants.{Whole, Stopped}
+use Rattle.bench_run.specs.Copying.{IsOnlyRead}
+use Rattle.bench_run.specs.Left.{IsVerdictBy}
 use Rattle.bench_run.specs.OpenedImages.{IsOpenedImage}
 use Rattle.bench_run.specs.Reopening.{IsAttempt, IsBefore, IsOpeningVerdict, IsSecondVerdict, IsStoppedAt, IsStoppedAttempt, IsWholeAttempt}
 use Rattle.bench_run.specs.Reopening.IsOpeningVerdict.{Once, Twice}
@@ -190,3 +193,46 @@ verdict-twice sealed shown named k keep right was_clean limit count image mid de
     let on_shape : Shape → Type 0 = λ s. IsSecondVerdict s (reading (state_of left).disk) was_clean limit sealed shown named right in
     let on_disk : Image → Type 0 = λ m. IsSecondVerdict image.shape m was_clean limit sealed shown named right in
     Twice (record { was_clean = was_clean; limit = limit; count = count; first = first; device = device; stopped = at; verdict = subst on_disk disk (subst on_shape shape verdict) })
+
+-- a verdict does not hang on the counts of a device
+verdict-stays : (sealed : History) (shown : Option ℕ) (named : List ℕ) (k : ℕ) (keep : List ℕ) (right : Bool) (image mid : DeviceState)
+    → Stays image mid → IsOpeningVerdict mid k keep sealed shown named right → IsOpeningVerdict image k keep sealed shown named right
+verdict-stays sealed shown named k keep right image mid stays (Once v) =
+    let here : DeviceState = state_of v.device in
+    let on_shape : Shape → Type 0 = λ s. IsImageVerdict s (reading mid.disk) sealed shown named right in
+    let on_disk : Disk → Type 0 = λ d. IsImageVerdict image.shape (reading d) sealed shown named right in
+    Once (record {
+      device = v.device;
+      before = record { calls = IsDone-between image mid here here stays v.before.calls (record { shape = refl; disk = refl; past = refl }); fewer = v.before.fewer };
+      verdict = subst on_disk stays.disk (subst on_shape stays.shape v.verdict);
+    })
+verdict-stays sealed shown named k keep right image mid stays (Twice v) =
+    let on_shape : Shape → Type 0 = λ s. Tells s (reading mid.disk) v.was_clean v.limit v.count in
+    let on_disk : Disk → Type 0 = λ d. Tells image.shape (reading d) v.was_clean v.limit v.count in
+    let second : Shape → Type 0 = λ s. IsSecondVerdict s (crashed keep v.device) v.was_clean v.limit sealed shown named right in
+    Twice (record {
+      was_clean = v.was_clean;
+      limit = v.limit;
+      count = v.count;
+      first = subst on_disk stays.disk (subst on_shape stays.shape v.first);
+      device = v.device;
+      stopped = IsStoppedAt-stays k v.device image mid stays v.stopped;
+      verdict = subst second stays.shape v.verdict;
+    })
+
+-- so an image that was only read has the same verdict
+pub left-verdict : (at_write : Option ℕ) (keep : List ℕ) (image mid : MemState) (sealed : History) (shown : Option ℕ) (named : List ℕ) (right : Bool)
+    → Stays (state_of image) (state_of mid) → IsVerdictBy at_write keep mid sealed shown named right → IsVerdictBy at_write keep image sealed shown named right
+left-verdict None keep image mid sealed shown named right stays is =
+    let on_shape : Shape → Type 0 = λ s. IsImageVerdict s (reading (state_of mid).disk) sealed shown named right in
+    let on_disk : Disk → Type 0 = λ d. IsImageVerdict image.shape (reading d) sealed shown named right in
+    subst on_disk stays.disk (subst on_shape stays.shape is)
+left-verdict (Some k) keep image mid sealed shown named right stays is =
+    verdict-stays sealed shown named k keep right (state_of image) (state_of mid) stays is
+
+pub only-read-stays : (image mid : MemState) → IsOnlyRead image mid → Stays (state_of image) (state_of mid)
+only-read-stays image mid read = record {
+  shape = read.0;
+  disk = ap₂ (λ (s : Shape) (calls : List MemCall). (after_calls s.block_size calls).disk) read.0 read.1;
+  past = ap₂ (λ (s : Shape) (calls : List MemCall). (after_calls s.block_size calls).past) read.0 read.1;
+}

@@ -57,7 +57,7 @@ goes Fact event old new before after shown led happens shape = record {
         now = refl;
         journal = new;
         happens = happens;
-        after = ap (λ (s : Shape). running_world led.opening new (record { shape = s; disk = after.disk; past = after.past; faults = after.faults }) led.answered) shape;
+        after = ap (λ (s : Shape). running_world led.opening new (record { shape = s; disk = after.disk; past = after.past; faults = after.faults; calls = after.calls }) led.answered) shape;
       });
   greatest = led.greatest;
 }
@@ -68,7 +68,7 @@ pub stays : (Fact : Shape → Disk → Type 0) (old new : Journal) (before after
 stays Fact old new before after shown led journal shape disk =
     let same : running_world led.opening new after led.answered ≡ running_world led.opening old before led.answered =
     ap (λ (j : Journal). running_world led.opening j after led.answered) journal
-    ∙ ap₂ (λ (s : Shape) (d : Disk). running_world led.opening old (record { shape = s; disk = d; past = after.past; faults = after.faults }) led.answered) shape disk in
+    ∙ ap₂ (λ (s : Shape) (d : Disk). running_world led.opening old (record { shape = s; disk = d; past = after.past; faults = after.faults; calls = after.calls }) led.answered) shape disk in
     record {
       opening = led.opening;
       fact = subst (λ (s : Shape). Fact s led.opening) (sym shape) led.fact;

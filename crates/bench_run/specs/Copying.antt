@@ -15,6 +15,11 @@ pub record IsCopy (image : MemState) (to : DeviceState) : Type 0 where
   pub shape_is : to.shape ≡ image.shape
   pub each : (a : Area) (n : ℕ) → n < blocks_in image.shape a → to.disk a n ≡ record { reads = ((state_of image).disk a n).reads; others = [] }
 
+-- the image was only read: the calls that changed it and its failures are as they were, so that its blocks and what a crash of it
+-- leaves are
+abbrev pub IsOnlyRead : MemState → MemState → Type 0
+IsOnlyRead old new = (new.shape ≡ old.shape) × (new.calls ≡ old.calls) × (new.faults ≡ old.faults)
+
 -- the first k blocks of an area read as the image's, and the blocks of the other area are as they were
 pub record HasCopied (area : Area) (k : ℕ) (image old new : Disk) : Type 0 where
   pub copied : (n : ℕ) → n < k → (new area n).reads ≡ (image area n).reads

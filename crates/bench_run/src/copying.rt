@@ -4,7 +4,7 @@ ghost use Rattle.std.specs.BTreeSet.{keys};
 ghost use Rattle.journal_model.specs.Disk.{written};
 ghost use Rattle.block_device.specs.Memory.{state_of};
 ghost use Rattle.block_device.specs.State.{CountsFaults, blocks_in};
-ghost use Rattle.bench_run.specs.Copying.{CopyRefused, HasCopied, IsCopiedRun, IsCopy, IsCopyTried};
+ghost use Rattle.bench_run.specs.Copying.{CopyRefused, HasCopied, IsCopiedRun, IsCopy, IsCopyTried, IsOnlyRead};
 ghost use Rattle.bench_run.specs.Left.{IsLeftVerdict};
 
 use crate::running::{Left, end_of_run, judge_left};
@@ -71,7 +71,7 @@ pub fn copy_image<D: Device>(
     image: &mut MemDevice,
     to: &mut D,
 ) -> Result<(), JournalError>
-    ensures same { image.new ≡ image.old }
+    ensures same { IsOnlyRead image.old image.new }
     ensures copy { OnOk result (IsCopy image.old (D.state to.new)) }
     ensures refused { IfErr result (CopyRefused image.old (D.state to.old) (D.state to.new)) }
     ensures no_fault { OnOk result ((D.state to.new).faults ≡ (D.state to.old).faults) }
@@ -103,7 +103,7 @@ fn copy_areas<D: Device>(
 ) -> Result<(), DeviceFault>
     requires block { length block.old ≡ image.old.shape.block_size }
     requires shape { (D.state to.old).shape ≡ image.old.shape }
-    ensures same { image.new ≡ image.old }
+    ensures same { IsOnlyRead image.old image.new }
     ensures copy { OnOk result (IsCopy image.old (D.state to.new)) }
     ensures faults { CountsFaults result (D.state to.old) (D.state to.new) }
     ensures shape { (D.state to.new).shape ≡ (D.state to.old).shape }
@@ -124,7 +124,7 @@ fn copy_area<D: Device>(
 ) -> Result<(), DeviceFault>
     requires block { length block.old ≡ image.old.shape.block_size }
     requires shape { (D.state to.old).shape ≡ image.old.shape }
-    ensures same { image.new ≡ image.old }
+    ensures same { IsOnlyRead image.old image.new }
     ensures copied { OnOk result (HasCopied area (blocks_in image.old.shape area) (state_of image.old).disk (D.state to.old).disk (D.state to.new).disk) }
     ensures faults { CountsFaults result (D.state to.old) (D.state to.new) }
     ensures shape { (D.state to.new).shape ≡ (D.state to.old).shape }
@@ -147,7 +147,7 @@ fn copy_block<D: Device>(
     requires block { length block.old ≡ image.old.shape.block_size }
     requires shape { (D.state to.old).shape ≡ image.old.shape }
     requires there { n < blocks_in image.old.shape area }
-    ensures same { image.new ≡ image.old }
+    ensures same { IsOnlyRead image.old image.new }
     ensures copied { OnOk result ((D.state to.new).disk ≡ written (D.state to.old).disk area n ((state_of image.old).disk area n).reads) }
     ensures faults { CountsFaults result (D.state to.old) (D.state to.new) }
     ensures shape { (D.state to.new).shape ≡ (D.state to.old).shape }
