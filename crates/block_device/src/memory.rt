@@ -1,5 +1,5 @@
 //! A device in memory: the list of its calls.
-ghost use Rattle.std.specs.Prelude.{◌≡◌, map};
+ghost use Rattle.std.specs.Prelude.{◌≡◌, IfOk, map};
 ghost use Rattle.block_device.specs.MemInvariant.{survives_crash, settled, survivors, Forgets, Remembers};
 
 use crate::memory_index::MemIndex;
@@ -29,6 +29,23 @@ pub enum Call {
     Wrote(Write),
     /// A flush that succeeded, of one area.
     Flushed(Area),
+}
+
+impl Call {
+    /// The same call once more. It fails where memory runs out.
+    fn try_clone(&self, alloc: Global) -> Result<Self, AllocError>
+        ensures { IfOk result (λ copy. copy ≡ self.now) }
+    {
+        match self {
+            Call::Wrote(write) => Ok(Call::Wrote(Write {
+                area: write.area,
+                block: write.block,
+                number: write.number,
+                bytes: write.bytes.try_clone(alloc)?,
+            })),
+            Call::Flushed(area) => Ok(Call::Flushed(*area)),
+        }
+    }
 }
 
 /// A device in memory, with a volatile cache. Blocks that were never written read as zeros and take no memory, and a write
@@ -85,6 +102,31 @@ impl MemDevice {
             faults: 0,
             calls_made: 0,
         }
+    }
+
+    /// A device of its own with the same blocks, cache and counts, so that power may be taken away from each in its own way.
+    ///
+    /// # Errors
+    ///
+    /// Memory runs out.
+    pub fn try_clone(&self) -> Result<Self, AllocError>
+        ensures { IfOk result (λ copy. copy ≡ self.now) }
+    {
+        let calls = copy_of_calls(self.alloc, &self.calls)?;
+        let index = self.index.try_clone()?;
+        Ok(MemDevice {
+            alloc: self.alloc,
+            size: self.size,
+            log: self.log,
+            home: self.home,
+            calls,
+            index,
+            log_flushed: self.log_flushed,
+            home_flushed: self.home_flushed,
+            writes: self.writes,
+            faults: self.faults,
+            calls_made: self.calls_made,
+        })
     }
 
     /// The number of the last write, or 0 where none was made since the device was made or crashed.
@@ -287,6 +329,17 @@ impl Device for MemDevice {
     fn block_size(&self) -> usize {
         self.size
     }
+}
+
+/// The same calls once more. It fails where memory runs out.
+fn copy_of_calls(alloc: Global, calls: &[Call]) -> Result<Vec<Call>, AllocError>
+    ensures { IfOk result (λ copies. copies.items ≡ calls.now) }
+{
+    let mut copies = Vec::new(alloc);
+    for call in calls {
+        copies.push(call.try_clone(alloc)?)?;
+    }
+    Ok(copies)
 }
 
 /// Whether a call is a write that survives a crash: it was flushed, or its number is kept.

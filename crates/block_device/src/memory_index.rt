@@ -1,5 +1,5 @@
 //! Finds the newest write of a block of a device in memory.
-ghost use Rattle.std.specs.Prelude.{◌≡◌, ℕ, ◌==◌, if◌then◌else◌, Some, None, option_map, OnOk, OnErr};
+ghost use Rattle.std.specs.Prelude.{◌≡◌, ℕ, ◌==◌, if◌then◌else◌, Some, None, option_map, IfOk, OnOk, OnErr};
 ghost use Rattle.std.specs.Ordering.{nat_cmp};
 ghost use Rattle.std.specs.BTreeMap.{get};
 ghost use Rattle.journal_model.specs.declared.number.Area.{Area};
@@ -26,6 +26,16 @@ impl MemIndex {
             log: BTreeMap::new(alloc),
             home: BTreeMap::new(alloc),
         }
+    }
+
+    /// An index of its own in which each block is noted as in this one. It fails where memory runs out.
+    pub fn try_clone(&self) -> Result<Self, AllocError>
+        ensures { IfOk result (λ copy. NotesSame self.now copy) }
+    {
+        Ok(MemIndex {
+            log: self.log.clone()?,
+            home: self.home.clone()?,
+        })
     }
 
     /// The call that wrote a block last.

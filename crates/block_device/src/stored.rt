@@ -43,6 +43,17 @@ impl StoredBlock {
         Ok(StoredBlock { form })
     }
 
+    /// These bytes once more. Zeros take no memory; else it fails where memory runs out.
+    pub(crate) fn try_clone(&self, alloc: Global) -> Result<Self, AllocError>
+        ensures { IfOk result (λ copy. copy ≡ self.now) }
+    {
+        let form = match &self.form {
+            Form::Zeros(size) => Form::Zeros(*size),
+            Form::Bytes(block) => Form::Bytes(block.try_clone(alloc)?),
+        };
+        Ok(StoredBlock { form })
+    }
+
     /// Copies the bytes into a buffer of as many.
     pub(crate) fn copy_to(&self, into: &mut [u8])
         requires { length into.old ≡ length self.now }
