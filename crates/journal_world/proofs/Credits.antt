@@ -10,7 +10,7 @@ use Rattle.journal_model.specs.declared.entry.Entry.TheVariants.{Copy}
 use Rattle.journal_model.specs.declared.transaction.Step.{Step}
 use Rattle.journal_model.specs.Transaction.{effect, entries}
 use Rattle.journal_world.specs.Front.{Front, FrontEvent, FrontHappens, GivesBack, HeldAfter, IsOpen, Joins, Reserves, StopsHandle, WritesBlock, giving_back, held, joining, left_after, left_in, reserving, stopping, write_step, writing}
-use Rattle.journal_world.specs.Front.FrontEvent.{Reserve, GiveBack, Join, WriteBlock, StopHandle, Lock}
+use Rattle.journal_world.specs.Front.FrontEvent.{Reserve, GiveBack, Join, WriteBlock, StopHandle, Lock, Raise}
 use Rattle.journal_world.proofs.OpenHandles.{left-among, left-without}
 
 -- a write takes a credit of the handle for the entry that it adds, or none
@@ -81,6 +81,7 @@ event-held old new (Join n) step = joined-credits old new n step
 event-held old new (WriteBlock h b v) step = write-credits old new h b v step
 event-held old new (StopHandle h) step = (step.handle, stopped-credits old new h step)
 event-held old new Lock step = ap (λ (f : Front). held f) step.after
+event-held old new (Raise t) step = ap (λ (f : Front). held f) step.after
 
 -- so no more are held than a transaction may have
 pub held-within : (old new : Front) (event : FrontEvent) → FrontHappens old event new → held old ≤ old.capacity → held new ≤ new.capacity
@@ -106,3 +107,4 @@ held-within old new (StopHandle h) step within =
     let same : new.capacity ≡ old.capacity = ap (λ (f : Front). f.capacity) step.after in
     omega arith
 held-within old new Lock step within = subst (λ (f : Front). held f ≤ f.capacity) (sym step.after) within
+held-within old new (Raise t) step within = subst (λ (f : Front). held f ≤ f.capacity) (sym step.after) within

@@ -1,7 +1,8 @@
 -- The front agrees with the engine, and each step of the front keeps that, as does whatever step the engine goes on by.
 use Rattle.std.proofs.Common.{refl, sym, ap, subst, ◌∙◌, arith, length-append}
-use Rattle.std.specs.Prelude.{◌≡◌, ℕ, suc, ◌+◌, ◌<◌, ◌≤◌, nat_eq, Bool, true, false, List, [], ◌∷◌, ◌++◌, length, map, Contains}
+use Rattle.std.specs.Prelude.{◌≡◌, ℕ, suc, ◌+◌, ◌<◌, ◌≤◌, max, nat_eq, Bool, true, false, List, [], ◌∷◌, ◌++◌, length, map, Contains}
 use Rattle.std.specs.List.{AllByRecursion, IsDistinct, list_any}
+use Rattle.std.proofs.Math.Nat.{le-max_left, max-le}
 use Rattle.std.proofs.lemmas.Bool.Decides.{nat_tests}
 use Rattle.std.proofs.lemmas.Cmp.{nat_eq_equiv}
 use Rattle.std.proofs.lemmas.List.{map-append}
@@ -13,8 +14,8 @@ use Rattle.journal_model.specs.Chain.{Ring}
 use Rattle.journal_model.specs.Room.{IsCapacity}
 use Rattle.journal_model.specs.Superblock.{Shape}
 use Rattle.journal_world.specs.Engine.{Engine, Accepts, AreBatchesOf}
-use Rattle.journal_world.specs.Front.{Front, FrontEvent, FrontHappens, IsOpen, MaySeal, aborting, finishing, fresh_front, held, joining, left_after, next_handle, sealing, stopping, write_step, writing}
-use Rattle.journal_world.specs.Front.FrontEvent.{Reserve, GiveBack, Join, WriteBlock, StopHandle, Lock}
+use Rattle.journal_world.specs.Front.{Front, FrontEvent, FrontHappens, IsOpen, MaySeal, aborting, finishing, fresh_front, held, joining, left_after, next_handle, raising, sealing, stopping, write_step, writing}
+use Rattle.journal_world.specs.Front.FrontEvent.{Reserve, GiveBack, Join, WriteBlock, StopHandle, Lock, Raise}
 use Rattle.journal_world.specs.Journal.{KeepsFront, batch_of, fresh_engine}
 use Rattle.journal_world.proofs.Batches.{batches-last}
 use Rattle.journal_world.proofs.Credits.{held-within}
@@ -24,12 +25,11 @@ use Rattle.journal_world.proofs.Onward.{GoesOn}
 use Rattle.journal_world.proofs.OpenHandles.{all-changed, all-without, distinct-without, same-numbers}
 
 -- What the front keeps true beside the engine: the sealed transactions are those that the engine has, the running one
--- has the next number, and none is told committed that is not. (With number 0 for the first one nothing is ever sealed.)
--- No open handle has a number that is still to be given.
+-- has the next number, and answers tell of no transaction above the mark. (With number 0 for the first one nothing is ever
+-- sealed.) No open handle has a number that is still to be given.
 pub record FrontAgrees (f : Front) (e : Engine) (answered : List ℕ) : Type 0 where
   pub batches : AreBatchesOf f.sealed e.accepted
   pub number : f.running.tid ≡ e.first + length e.accepted
-  pub marked : 0 < length e.accepted → f.mark < e.first + e.committed
   pub told : AllByRecursion (λ n. n ≤ f.mark) answered
   pub handles : HasHandles f.given (f.sealed ++ f.running ∷ [])
   pub keeps : KeepsFront f e
@@ -45,13 +45,14 @@ fresh-agrees capacity shape superblock next e is fits =
     record {
       batches = subst (AreBatchesOf []) (sym accepted) tt;
       number = omega arith;
-      marked = λ some. absurd (omega arith);
       told = tt;
       handles = handles-empty next;
       keeps = record {
         layout = refl;
         home_blocks = refl;
         aborted = sym (ap (λ (x : Engine). x.aborted) is);
+        committed = λ some. absurd (omega arith);
+        marked = omega arith;
         capacity = fits;
         credits = omega arith;
         joined = tt;
@@ -67,13 +68,14 @@ credits-agree : (f : Front) (e : Engine) (answered : List ℕ) (reserved : ℕ) 
 credits-agree f e answered reserved locked within agrees = record {
   batches = agrees.batches;
   number = agrees.number;
-  marked = agrees.marked;
   told = agrees.told;
   handles = agrees.handles;
   keeps = record {
     layout = agrees.keeps.layout;
     home_blocks = agrees.keeps.home_blocks;
     aborted = agrees.keeps.aborted;
+    committed = agrees.keeps.committed;
+    marked = agrees.keeps.marked;
     capacity = agrees.keeps.capacity;
     credits = within;
     joined = agrees.keeps.joined;
@@ -92,13 +94,14 @@ join-agrees f e answered n within agrees =
     record {
       batches = agrees.batches;
       number = agrees.number;
-      marked = agrees.marked;
       told = agrees.told;
       handles = handles-join f.given f.sealed f.running agrees.handles;
       keeps = record {
         layout = agrees.keeps.layout;
         home_blocks = agrees.keeps.home_blocks;
         aborted = agrees.keeps.aborted;
+        committed = agrees.keeps.committed;
+        marked = agrees.keeps.marked;
         capacity = agrees.keeps.capacity;
         credits = within;
         joined =
@@ -133,13 +136,14 @@ write-agrees f e answered h b v handle within agrees =
     record {
       batches = agrees.batches;
       number = agrees.number;
-      marked = agrees.marked;
       told = agrees.told;
       handles = handles-step f.given f.sealed f.running (write_step h b v) (own handle.before handle.behind all) agrees.handles;
       keeps = record {
         layout = agrees.keeps.layout;
         home_blocks = agrees.keeps.home_blocks;
         aborted = agrees.keeps.aborted;
+        committed = agrees.keeps.committed;
+        marked = agrees.keeps.marked;
         capacity = agrees.keeps.capacity;
         credits = within;
         joined = all-changed (λ o. Contains f.running.handles o.0) handle.before (h, handle.left) (h, left_after f b handle.left) handle.behind (λ one. one) all;
@@ -161,13 +165,14 @@ stop-agrees : (f : Front) (e : Engine) (answered : List ℕ) (h : ℕ) (handle :
 stop-agrees f e answered h handle within agrees = record {
   batches = agrees.batches;
   number = agrees.number;
-  marked = agrees.marked;
   told = agrees.told;
   handles = agrees.handles;
   keeps = record {
     layout = agrees.keeps.layout;
     home_blocks = agrees.keeps.home_blocks;
     aborted = agrees.keeps.aborted;
+    committed = agrees.keeps.committed;
+    marked = agrees.keeps.marked;
     capacity = agrees.keeps.capacity;
     credits = within;
     joined =
@@ -179,6 +184,29 @@ stop-agrees f e answered h handle within agrees = record {
   };
   least = all-without (λ o. o.0 ≤ f.given) handle.before (h, handle.left) handle.behind (subst (AllByRecursion (λ o. o.0 ≤ f.given)) handle.stands agrees.least);
 }
+
+-- the mark is raised to a number that is finished
+raise-agrees : (f : Front) (e : Engine) (answered : List ℕ) (t : ℕ) → t ≤ f.finished → FrontAgrees f e answered → FrontAgrees (raising f t) e answered
+raise-agrees f e answered t finished agrees =
+    let higher = le-max_left f.mark t in
+    record {
+      batches = agrees.batches;
+      number = agrees.number;
+      told = all-weaker (λ n. n ≤ f.mark) (λ n. n ≤ max f.mark t) (λ n low. omega arith) answered agrees.told;
+      handles = agrees.handles;
+      keeps = record {
+        layout = agrees.keeps.layout;
+        home_blocks = agrees.keeps.home_blocks;
+        aborted = agrees.keeps.aborted;
+        committed = agrees.keeps.committed;
+        marked = max-le agrees.keeps.marked finished;
+        capacity = agrees.keeps.capacity;
+        credits = agrees.keeps.credits;
+        joined = agrees.keeps.joined;
+        once = agrees.keeps.once;
+      };
+      least = agrees.least;
+    }
 
 -- a step of the front alone
 pub front-agrees : (old new : Front) (e : Engine) (answered : List ℕ) (event : FrontEvent) → FrontHappens old event new → FrontAgrees old e answered →
@@ -206,20 +234,23 @@ front-agrees old new e answered event step agrees = by event step (held-within o
     by Lock step within =
         subst (λ (f : Front). FrontAgrees f e answered) (sym step.after)
         (credits-agree old e answered _ _ (with _ step.after refl within) agrees)
+    by (Raise t) step within =
+        subst (λ (f : Front). FrontAgrees f e answered) (sym step.after) (raise-agrees old e answered t step.finished agrees)
 
--- the front tells that one more transaction is committed
-pub finish-agrees : (f : Front) (e : Engine) (answered : List ℕ) → f.mark + 1 < e.first + e.committed → FrontAgrees f e answered →
+-- the front knows that one more transaction is committed
+pub finish-agrees : (f : Front) (e : Engine) (answered : List ℕ) → f.finished + 1 < e.first + e.committed → FrontAgrees f e answered →
     FrontAgrees (finishing f) e answered
 finish-agrees f e answered committed agrees = record {
   batches = agrees.batches;
   number = agrees.number;
-  marked = λ some. committed;
-  told = all-weaker (λ n. n ≤ f.mark) (λ n. n ≤ f.mark + 1) (λ n low. omega arith) answered agrees.told;
+  told = agrees.told;
   handles = agrees.handles;
   keeps = record {
     layout = agrees.keeps.layout;
     home_blocks = agrees.keeps.home_blocks;
     aborted = agrees.keeps.aborted;
+    committed = λ some. committed;
+    marked = let marked = agrees.keeps.marked in omega arith;
     capacity = agrees.keeps.capacity;
     credits = agrees.keeps.credits;
     joined = agrees.keeps.joined;
@@ -233,7 +264,6 @@ pub answer-agrees : (f : Front) (e : Engine) (answered : List ℕ) (tid : ℕ) �
 answer-agrees f e answered tid marked agrees = record {
   batches = agrees.batches;
   number = agrees.number;
-  marked = agrees.marked;
   told = (marked, agrees.told);
   handles = agrees.handles;
   keeps = agrees.keeps;
@@ -242,13 +272,15 @@ answer-agrees f e answered tid marked agrees = record {
 
 -- what a sealed front keeps beside an engine of the same measures that has not failed either
 sealed-keeps : (f : Front) (old new : Engine) → f.open_handles ≡ [] → new.shape ≡ old.shape → new.layout ≡ old.layout → new.ring ≡ old.ring →
-    new.aborted ≡ old.aborted → KeepsFront f old → KeepsFront (sealing f) new
-sealed-keeps f old new none shape layout ring aborted keeps =
+    new.aborted ≡ old.aborted → f.finished < new.first + new.committed → KeepsFront f old → KeepsFront (sealing f) new
+sealed-keeps f old new none shape layout ring aborted committed keeps =
     let within : held f ≤ f.capacity = keeps.credits in
     record {
       layout = keeps.layout ∙ sym layout;
       home_blocks = keeps.home_blocks ∙ sym (ap (λ (s : Shape). s.home_blocks) shape);
       aborted = keeps.aborted ∙ sym aborted;
+      committed = λ some. committed;
+      marked = keeps.marked;
       capacity = subst (λ (r : Ring). IsCapacity f.layout r.blocks f.capacity) (sym ring) keeps.capacity;
       credits = omega arith;
       joined = subst (AllByRecursion (λ h. Contains [] h.0)) (sym none) tt;
@@ -260,32 +292,37 @@ pub seal-agrees : (f : Front) (old new : Engine) (answered : List ℕ) → MaySe
     FrontAgrees (sealing f) new answered
 seal-agrees f old new answered may accepts agrees =
     let one = length-append old.accepted (batch_of f.running ∷ []) in
-    let finished : f.mark + 1 ≡ f.running.tid = may.finished in
+    let finished : f.finished + 1 ≡ f.running.tid = may.finished in
     let next : f.running.tid ≡ old.first + old.committed = accepts.number in
     let number : f.running.tid ≡ old.first + length old.accepted = agrees.number in
     subst (λ (e : Engine). FrontAgrees (sealing f) e answered) (sym accepts.after)
     (record {
       batches = batches-last f.sealed old.accepted f.running agrees.batches;
       number = omega arith;
-      marked = λ some. omega arith;
       told = agrees.told;
       handles = handles-begin f.given (f.sealed ++ f.running ∷ []) (suc f.running.tid) agrees.handles;
-      keeps = sealed-keeps f old _ may.stopped refl refl refl refl agrees.keeps;
+      keeps = sealed-keeps f old _ may.stopped refl refl refl refl (omega arith) agrees.keeps;
       least = agrees.least;
     })
 
 -- what a front keeps beside an engine that goes on, where it knows whether that has failed
 keeps-on : (f : Front) (old new : Engine) (aborted : Bool) → GoesOn old new → new.aborted ≡ aborted → KeepsFront f old →
     KeepsFront (record f { aborted = aborted }) new
-keeps-on f old new aborted on told keeps = record {
-  layout = keeps.layout ∙ sym on.layout;
-  home_blocks = keeps.home_blocks ∙ sym (ap (λ (s : Shape). s.home_blocks) on.shape);
-  aborted = sym told;
-  capacity = subst (λ (r : Ring). IsCapacity f.layout r.blocks f.capacity) (sym on.ring) keeps.capacity;
-  credits = keeps.credits;
-  joined = keeps.joined;
-  once = keeps.once;
-}
+keeps-on f old new aborted on told keeps =
+    let first : new.first ≡ old.first = on.first in
+    let size : length new.accepted ≡ length old.accepted = ap (λ (bs : List Batch). length bs) on.accepted in
+    let committed : old.committed ≤ new.committed = on.committed in
+    record {
+      layout = keeps.layout ∙ sym on.layout;
+      home_blocks = keeps.home_blocks ∙ sym (ap (λ (s : Shape). s.home_blocks) on.shape);
+      aborted = sym told;
+      committed = λ some. let finished = keeps.committed (omega arith) in omega arith;
+      marked = keeps.marked;
+      capacity = subst (λ (r : Ring). IsCapacity f.layout r.blocks f.capacity) (sym on.ring) keeps.capacity;
+      credits = keeps.credits;
+      joined = keeps.joined;
+      once = keeps.once;
+    }
 
 -- a front agrees with an engine that goes on, once it knows whether that has failed
 told-on : (f : Front) (old new : Engine) (answered : List ℕ) (aborted : Bool) → GoesOn old new → new.aborted ≡ aborted → FrontAgrees f old answered →
@@ -293,11 +330,9 @@ told-on : (f : Front) (old new : Engine) (answered : List ℕ) (aborted : Bool) 
 told-on f old new answered aborted on told agrees =
     let first : new.first ≡ old.first = on.first in
     let size : length new.accepted ≡ length old.accepted = ap (λ (bs : List Batch). length bs) on.accepted in
-    let committed : old.committed ≤ new.committed = on.committed in
     record {
       batches = subst (AreBatchesOf f.sealed) (sym on.accepted) agrees.batches;
       number = let number = agrees.number in omega arith;
-      marked = λ some. let marked = agrees.marked (omega arith) in omega arith;
       told = agrees.told;
       handles = agrees.handles;
       keeps = keeps-on f old new aborted on told agrees.keeps;

@@ -1,7 +1,7 @@
 -- The front: the transaction that handles join and write to, the ones that are sealed, the handles that are open, and the
 -- credits; and each step of it alone, none of which reads the engine. Source: journalling.rst (handles, transactions,
 -- credits), fs/jbd2/transaction.c by behaviour.
-use Rattle.std.specs.Prelude.{◌≡◌, ℕ, suc, ◌+◌, ◌-◌, ◌^◌, ◌<◌, ◌≤◌, Bool, true, false, if◌then◌else◌, List, [], ◌∷◌, ◌++◌, length, is_some, None}
+use Rattle.std.specs.Prelude.{◌≡◌, ℕ, suc, ◌+◌, ◌-◌, ◌^◌, ◌<◌, ◌≤◌, Bool, true, false, if◌then◌else◌, max, List, [], ◌∷◌, ◌++◌, length, is_some, None}
 use Rattle.std.specs.List.{sum_by}
 use Rattle.journal_model.specs.declared.transaction.Op.TheVariants.{Write}
 use Rattle.journal_model.specs.declared.transaction.Step.{Step}
@@ -15,7 +15,8 @@ pub record Front : Type 0 where
   pub home_blocks : ℕ  -- of the device
   pub capacity : ℕ  -- the most credits that are held
   pub reserved : ℕ  -- the credits granted that no handle was made of, and that were not given back
-  pub mark : ℕ  -- callers are told that transactions up to this number are committed
+  pub finished : ℕ  -- the front knows that transactions up to this number are committed
+  pub mark : ℕ  -- callers are told so of those up to this one
   pub sealed : History  -- since the opening
   pub running : Transaction  -- the one that handles join and write to, until it is sealed
   pub open_handles : List (ℕ × ℕ)  -- those of its handles that have not stopped, each with the credits that it has left
@@ -34,6 +35,7 @@ fresh_front layout home_blocks capacity first = record {
   home_blocks = home_blocks;
   capacity = capacity;
   reserved = 0;
+  finished = first - 1;
   mark = first - 1;
   sealed = [];
   running = empty_transaction first;
@@ -88,6 +90,7 @@ pub data FrontEvent : Type 0 where
   WriteBlock : (handle block : ℕ) → (bytes : List ℕ) → FrontEvent
   StopHandle : (handle : ℕ) → FrontEvent
   Lock : FrontEvent
+  Raise : (tid : ℕ) → FrontEvent
 
 abbrev pub reserving : Front → ℕ → Front
 reserving f n = record f { reserved = f.reserved + n }
@@ -152,6 +155,14 @@ pub record Locks (old new : Front) : Type 0 where
   pub joined : 0 < length old.running.handles
   pub after : new ≡ locking old
 
+abbrev pub raising : Front → ℕ → Front
+raising f t = record f { mark = max f.mark t }
+
+-- The mark is raised to a number that is finished, where it was lower.
+pub record Raises (old : Front) (t : ℕ) (new : Front) : Type 0 where
+  pub finished : t ≤ old.finished
+  pub after : new ≡ raising old t
+
 -- what each event does
 abbrev pub FrontHappens : Front → FrontEvent → Front → Type 0
 FrontHappens old (Reserve n) new = Reserves old n new
@@ -160,6 +171,7 @@ FrontHappens old (Join n) new = Joins old n new
 FrontHappens old (WriteBlock h b v) new = WritesBlock old h b v new
 FrontHappens old (StopHandle h) new = StopsHandle old h new
 FrontHappens old Lock new = Locks old new
+FrontHappens old (Raise t) new = Raises old t new
 
 -- how many credits are held after an event: those that are granted are more, those that come back fewer
 abbrev pub HeldAfter : Front → FrontEvent → ℕ → Type 0
@@ -169,12 +181,13 @@ HeldAfter old (Join n) after = after ≡ held old
 HeldAfter old (WriteBlock h b v) after = after ≡ held old
 HeldAfter old (StopHandle h) after = (handle : IsOpen old h) × (after + handle.left ≡ held old)
 HeldAfter old Lock after = after ≡ held old
+HeldAfter old (Raise t) after = after ≡ held old
 
 -- the transaction may be sealed: it is locked, has no open handle, and the one before is finished
 pub record MaySeal (f : Front) : Type 0 where
   pub locked : f.locked ≡ true
   pub stopped : f.open_handles ≡ []
-  pub finished : f.mark + 1 ≡ f.running.tid
+  pub finished : f.finished + 1 ≡ f.running.tid
 
 -- it is sealed, and the credits of its entries are held by nobody
 abbrev pub sealing : Front → Front
@@ -184,9 +197,9 @@ sealing f = record f {
   locked = false;
 }
 
--- the front tells that one more transaction is committed
+-- the front knows that one more transaction is committed; nobody is told yet
 abbrev pub finishing : Front → Front
-finishing f = record f { mark = f.mark + 1 }
+finishing f = record f { finished = f.finished + 1 }
 
 -- it is told that the device has failed
 abbrev pub aborting : Front → Front

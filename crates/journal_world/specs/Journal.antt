@@ -1,5 +1,5 @@
 -- The journal: a front and an engine, and the atomic steps of both. Source: journalling.rst, fs/jbd2 by behaviour.
-use Rattle.std.specs.Prelude.{◌≡◌, ℕ, ◌+◌, ◌<◌, ◌≤◌, nat_eq, true, false, List, [], map, Contains}
+use Rattle.std.specs.Prelude.{◌≡◌, ℕ, ◌+◌, ◌<◌, ◌≤◌, nat_eq, true, false, List, [], length, map, Contains}
 use Rattle.std.specs.List.{AllByRecursion, IsDistinct}
 use Rattle.journal_model.specs.declared.entry.Batch.{Batch}
 use Rattle.journal_model.specs.Disk.{Disk}
@@ -69,9 +69,9 @@ pub record ReadFails (old : Journal) (disk : Disk) (new : Journal) (after : Disk
   pub engine : new.engine ≡ record old.engine { aborted = true }
   pub disk_is : after ≡ disk
 
--- The front tells of a transaction that the engine has committed.
+-- The front is told of a transaction that the engine has committed.
 pub record Finishes (old : Journal) (disk : Disk) (new : Journal) (after : Disk) : Type 0 where
-  pub committed : old.front.mark + 1 < old.engine.first + old.engine.committed
+  pub committed : old.front.finished + 1 < old.engine.first + old.engine.committed
   pub front : new.front ≡ finishing old.front
   pub engine : new.engine ≡ old.engine
   pub disk_is : after ≡ disk
@@ -88,12 +88,14 @@ Happens old disk ReadFault new after = ReadFails old disk new after
 Happens old disk Finish new after = Finishes old disk new after
 
 -- What a front keeps beside its engine. It knows the layout of the log, how many home blocks there are and whether the
--- device has failed; no more credits are held than a transaction may have; and its open handles are different ones that
--- joined the running transaction.
+-- device has failed; what it knows to be committed is so, and callers are told no more than that; no more credits are held
+-- than a transaction may have; and its open handles are different ones that joined the running transaction.
 pub record KeepsFront (f : Front) (e : Engine) : Type 0 where
   pub layout : f.layout ≡ e.layout
   pub home_blocks : f.home_blocks ≡ e.shape.home_blocks
   pub aborted : f.aborted ≡ e.aborted
+  pub committed : 0 < length e.accepted → f.finished < e.first + e.committed
+  pub marked : f.mark ≤ f.finished
   pub capacity : IsCapacity f.layout e.ring.blocks f.capacity
   pub credits : held f ≤ f.capacity
   pub joined : AllByRecursion (λ h. Contains f.running.handles h.0) f.open_handles

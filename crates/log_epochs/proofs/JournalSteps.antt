@@ -4,7 +4,7 @@ use Rattle.std.specs.Prelude.{◌≡◌, ℕ, true, List}
 use Rattle.journal_model.specs.Disk.{Disk}
 use Rattle.journal_world.specs.Engine.{Engine}
 use Rattle.journal_world.specs.Front.{Front, FrontEvent, FrontHappens, aborting}
-use Rattle.journal_world.specs.Front.FrontEvent.{Reserve, GiveBack, Join, WriteBlock, StopHandle, Lock}
+use Rattle.journal_world.specs.Front.FrontEvent.{Reserve, GiveBack, Join, WriteBlock, StopHandle, Lock, Raise}
 use Rattle.journal_world.specs.Journal.{Event, Happens, Journal, batch_of}
 use Rattle.journal_world.specs.Journal.Event.{FrontStep, Seal, CommitStep, CommitFault, CheckpointStep, CheckpointFault, ReadFault, Finish}
 use Rattle.journal_world.proofs.Fronts.{FrontAgrees, fails-on, finish-agrees, front-agrees, goes-on, seal-agrees}
@@ -92,6 +92,7 @@ front-steps old new (WriteBlock h b v) step =
     OneStep h b v refl step.handle (ap (λ (f : Front). f.sealed) step.after) (ap (λ (f : Front). f.running.steps) step.after)
 front-steps old new (StopHandle h) step = NoStep (ap (λ (f : Front). f.sealed) step.after) (ap (λ (f : Front). f.running.steps) step.after)
 front-steps old new Lock step = NoStep (ap (λ (f : Front). f.sealed) step.after) (ap (λ (f : Front). f.running.steps) step.after)
+front-steps old new (Raise t) step = NoStep (ap (λ (f : Front). f.sealed) step.after) (ap (λ (f : Front). f.running.steps) step.after)
 
 -- what is told of the device, or of a commit, makes none
 same-steps : (move : Move) (old new front : Front) → new ≡ front → front.sealed ≡ old.sealed → front.running.steps ≡ old.running.steps → MakesSteps move old new

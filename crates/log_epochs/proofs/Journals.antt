@@ -226,7 +226,8 @@ image-kept shape epoch told image agrees keeps =
     let e : Engine = epoch.engine in
     let kept : BelowKept shape epoch told.front.sealed image = keeps told.front.sealed agrees.batches in
     let few =
-    acknowledged-few e.first e.committed told.front.mark told.answered told.front.sealed e.accepted agrees.told agrees.marked
+    acknowledged-few e.first e.committed told.front.mark told.answered told.front.sealed e.accepted agrees.told
+    (λ some. let committed = agrees.keeps.committed some in let marked = agrees.keeps.marked in omega arith)
     (numbered-batches e.first told.front.sealed e.accepted kept.numbered agrees.batches) agrees.batches in
     let low : e.committed ≤ kept.n = kept.low in
     let high : kept.n ≤ length e.accepted = kept.high in
