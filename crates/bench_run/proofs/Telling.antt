@@ -13,7 +13,7 @@ use Rattle.block_device.specs.State.{DeviceState, Stays}
 use Rattle.block_device.specs.Stop.{inner_of, stopping}
 use Rattle.block_device.specs.declared.stop.StopAt.{StopAt}
 use Rattle.journal_world.specs.Front.{Front}
-use Rattle.journal_world.specs.Front.FrontEvent.{GiveBack, Lock, StopHandle}
+use Rattle.journal_world.specs.Front.FrontEvent.{GiveBack, Lock, Raise, StopHandle}
 use Rattle.journal_world.specs.Journal.{Event, Happens, Journal}
 use Rattle.journal_world.specs.Journal.Event.{CheckpointFault, CheckpointStep, CommitFault, CommitStep, Finish, FrontStep, ReadFault, Seal}
 use Rattle.log_epochs.specs.JournalWorld.{JournalWorld, Leads, Move, Moves}
@@ -106,7 +106,7 @@ pub does : (Fact : Shape → Disk → Type 0) {D : Type 0} (state : D → Device
     → (state new.device).shape ≡ (state old.device).shape → HasComeTo Fact state old shown → HasComeTo Fact state new shown
 does Fact state old new shown event is shape led = goes Fact event old.journal new.journal (state old.device) (state new.device) shown led is shape
 
--- a commit turn is one step, or two, or none
+-- a commit turn is one step, or three, or none
 turn-comes : (Fact : Shape → Disk → Type 0) {D : Type 0} (state : D → DeviceState) (old new : JournalValue D) (shown : Option ℕ) (turn : Turn) → TurnDid state turn old new
     → (state new.device).shape ≡ (state old.device).shape → HasComeTo Fact state old shown → HasComeTo Fact state new shown
 turn-comes Fact state old new shown IdleTurn did shape led = same Fact state old new shown did.1 led
@@ -114,8 +114,9 @@ turn-comes Fact state old new shown Waiting did shape led = same Fact state old 
 turn-comes Fact state old new shown StepTurn did shape led = does Fact state old new shown CommitStep did.commits shape led
 turn-comes Fact state old new shown (Sealed tid) did shape led = does Fact state old new shown Seal did.0 shape led
 turn-comes Fact state old new shown (Committed tid) did shape led =
-    goes Fact Finish did.mid new.journal (state new.device) (state new.device) shown
-    (goes Fact CommitStep old.journal did.mid (state old.device) (state new.device) shown led did.commits shape) did.finishes refl
+    goes Fact (FrontStep (Raise tid)) did.done new.journal (state new.device) (state new.device) shown
+    (goes Fact Finish did.mid did.done (state new.device) (state new.device) shown
+    (goes Fact CommitStep old.journal did.mid (state old.device) (state new.device) shown led did.commits shape) did.finishes refl) did.raises refl
 
 refused-comes : (Fact : Shape → Disk → Type 0) {D : Type 0} (state : D → DeviceState) (old new : JournalValue D) (shown : Option ℕ) (e : JournalError) → TurnRefused state old new e
     → (state new.device).shape ≡ (state old.device).shape → HasComeTo Fact state old shown → HasComeTo Fact state new shown

@@ -20,7 +20,7 @@ use Rattle.journal_world.specs.Checkpoint.{RoundCall, RoundSteps, begun, begun_f
 use Rattle.journal_world.specs.Checkpoint.RoundCall.{CopyHome, FlushHome, WriteTail, FlushTail}
 use Rattle.journal_world.specs.Engine.{CommitSteps, Engine, call_in, stepped_from}
 use Rattle.journal_world.specs.Front.{Front}
-use Rattle.journal_world.specs.Front.FrontEvent.{Lock}
+use Rattle.journal_world.specs.Front.FrontEvent.{Lock, Raise}
 use Rattle.journal_world.specs.Journal.{Event, Journal}
 use Rattle.journal_world.specs.Journal.Event.{CheckpointFault, CheckpointStep, CommitFault, CommitStep, Finish, FrontStep, Seal}
 use Rattle.journal_world.specs.Sound.{IsPlain, StageAgrees, position}
@@ -187,27 +187,30 @@ module _ {D : Type 0} (state : D → DeviceState) where
       }
   commit-went (Sealed tid) old new running busy did shape faults = absurd (busy did.0.engine.idle)
   commit-went (Committed tid) old new running busy did shape faults =
-      let made = did.finishes.front in
       let front = did.commits.front in
-      let engine : new.journal.engine ≡ did.mid.engine = did.finishes.engine in
+      let made = did.finishes.front in
+      let told = did.raises.front.after in
+      let engine : new.journal.engine ≡ did.mid.engine = did.raises.engine ∙ did.finishes.engine in
       let log : KeepsLog old.journal.engine new.journal.engine =
       subst (KeepsLog old.journal.engine) (sym engine)
       (commit-log old.journal.engine did.mid.engine (state old.device).disk (state new.device).disk did.commits.engine) in
       record {
         on = record {
-          sealed = ap (λ (f : Front). f.sealed) made ∙ ap (λ (f : Front). f.sealed) front;
-          transaction = ap (λ (f : Front). f.running) made ∙ ap (λ (f : Front). f.running) front;
-          locked = ap (λ (f : Front). f.locked) made ∙ ap (λ (f : Front). f.locked) front;
-          open_handles = ap (λ (f : Front). f.open_handles) made ∙ ap (λ (f : Front). f.open_handles) front;
+          sealed = ap (λ (f : Front). f.sealed) told ∙ ap (λ (f : Front). f.sealed) made ∙ ap (λ (f : Front). f.sealed) front;
+          transaction = ap (λ (f : Front). f.running) told ∙ ap (λ (f : Front). f.running) made ∙ ap (λ (f : Front). f.running) front;
+          locked = ap (λ (f : Front). f.locked) told ∙ ap (λ (f : Front). f.locked) made ∙ ap (λ (f : Front). f.locked) front;
+          open_handles = ap (λ (f : Front). f.open_handles) told ∙ ap (λ (f : Front). f.open_handles) made ∙ ap (λ (f : Front). f.open_handles) front;
           measures = log.measures;
           layout = log.layout;
           ring = log.ring;
           committed = log.committed;
           shape = shape;
           path =
-              comes-behind old.journal did.mid new.journal (state old.device).disk (state new.device).disk (state new.device).disk Running
+              comes-behind old.journal did.done new.journal (state old.device).disk (state new.device).disk (state new.device).disk Running
+              (comes-behind old.journal did.mid did.done (state old.device).disk (state new.device).disk (state new.device).disk Running
               (comes-step old.journal did.mid (state old.device).disk (state new.device).disk CommitStep did.commits)
-              (comes-step did.mid new.journal (state new.device).disk (state new.device).disk Finish did.finishes);
+              (comes-step did.mid did.done (state new.device).disk (state new.device).disk Finish did.finishes))
+              (comes-step did.done new.journal (state new.device).disk (state new.device).disk (FrontStep (Raise tid)) did.raises);
         };
         running = log.aborted ∙ running;
         faults = faults;

@@ -14,7 +14,7 @@ use Rattle.journal_model.specs.declared.entry.Entry.{Entry}
 use Rattle.journal_model.specs.Transaction.{History, effect}
 use Rattle.journal_model.proofs.ListElements.{option-known}
 use Rattle.journal_world.specs.Front.{Front, FrontEvent, FrontHappens, IsFirstTouch, IsOpen, Joins, MayJoin, StopsHandle, WritesBlock, held, left_after, left_in, next_handle, write_step}
-use Rattle.journal_world.specs.Front.FrontEvent.{Reserve, GiveBack, Join, WriteBlock, StopHandle, Lock}
+use Rattle.journal_world.specs.Front.FrontEvent.{Reserve, GiveBack, Join, WriteBlock, StopHandle, Lock, Raise}
 use Rattle.journal_world.proofs.Credits.{held-within, stopped-credits}
 use Rattle.journal_world.proofs.Elements.{all-weaker}
 use Rattle.journal_world.proofs.OpenHandles.{all-changed, all-without, left-among}
@@ -129,6 +129,8 @@ is-front old new event step front = by event step (held-within old new event ste
         front.given front.joined refl) within
     by Lock step within =
         on _ step.after (λ fits. like-front old _ front refl fits front.numbers front.given (λ is. step.joined) refl) within
+    by (Raise t) step within =
+        on _ step.after (λ fits. like-front old _ front refl fits front.numbers front.given front.joined refl) within
 
 -- a handle that a look-up finds stops, where it is taken out
 pub stops : (f : Front) (h left : ℕ) (hs : List (ℕ × ℕ)) → lookup (nat_eq h) f.open_handles ≡ Some left → hs ≡ remove_entry (nat_eq h) f.open_handles →

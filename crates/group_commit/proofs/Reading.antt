@@ -116,9 +116,9 @@ module _ (e : Engine) (ts : History) (b : ℕ) (plain : IsPlain e) (are : AreBat
       by-entry Revoke i l = ap Ok (sym (read.other (revoked-newest i l)))
 
 module _ (j : Journal) (agrees : Agrees j) (plain : IsPlain j.engine) where
-  -- as many transactions are told to be committed as are
+  -- as many transactions are finished as are committed
   finished-is : finished j ≡ j.engine.committed
-  finished-is = let mark = agrees.mark in omega arith
+  finished-is = let told = agrees.finished in omega arith
 
   -- they are among the sealed ones
   few : j.engine.committed ≤ length j.front.sealed
@@ -136,8 +136,8 @@ module _ (j : Journal) (agrees : Agrees j) (plain : IsPlain j.engine) where
   unfinished-is =
       let same = same-length j.front.sealed j.engine.accepted agrees.batches in
       let number = agrees.number in
-      let mark = agrees.mark in
-      ap (λ (n : ℕ). drop n all) {x = j.front.mark + 1 + length j.front.sealed - j.front.running.tid} {y = finished j} (omega arith)
+      let told = agrees.finished in
+      ap (λ (n : ℕ). drop n all) {x = j.front.finished + 1 + length j.front.sealed - j.front.running.tid} {y = finished j} (omega arith)
 
   -- their last effect on a block is that of all
   pub last-of : (b : ℕ) (e : Entry) → last_effect b (unfinished j.front) ≡ Some e → last_effect b all ≡ Some e

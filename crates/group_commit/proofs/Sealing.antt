@@ -1,7 +1,8 @@
 -- The batch of a transaction whose steps are good ones, and a front and an engine that still agree after each step.
 use Rattle.std.proofs.Common.{arith, refl, sym, ap, ap₂, subst, ◌∙◌, length-append}
-use Rattle.std.specs.Prelude.{◌≡◌, ◌≢◌, ⊤, ℕ, suc, ◌+◌, ◌<◌, ◌≤◌, ◌==◌, Bool, true, false, if◌then◌else◌, List, [], ◌∷◌, ◌++◌, length, Option, Some, None, option_map, option_to_list, nat_eq}
+use Rattle.std.specs.Prelude.{◌≡◌, ◌≢◌, ⊤, ℕ, suc, ◌+◌, ◌<◌, ◌≤◌, ◌==◌, max, Bool, true, false, if◌then◌else◌, List, [], ◌∷◌, ◌++◌, length, Option, Some, None, option_map, option_to_list, nat_eq}
 use Rattle.std.specs.List.{AllByRecursion, IsDistinct, filter_map}
+use Rattle.std.proofs.Math.Nat.{max-eq_left, max-eq_right}
 use Rattle.std.proofs.lemmas.Bool.Decides.{nat_tests}
 use Rattle.std.proofs.lemmas.List.Elements.{All-from_recursion}
 use Rattle.std.proofs.lemmas.Option.{none-some, same_Some}
@@ -30,8 +31,8 @@ use Rattle.journal_world.specs.declared.stage.Stage.TheVariants.{Idle, Superbloc
 use Rattle.block_device.specs.State.{DeviceState}
 use Rattle.journal_world.specs.Call.{Call}
 use Rattle.journal_world.specs.Engine.{AreBatchesOf, CommitSteps, Engine, HasRoom, IsBatch, accepting, call_due, call_in, stepped_from, text_of}
-use Rattle.journal_world.specs.Front.{Front, FrontEvent, FrontHappens, WritesBlock, aborting, finishing, next_handle, sealing, write_step}
-use Rattle.journal_world.specs.Front.FrontEvent.{Reserve, GiveBack, Join, WriteBlock, StopHandle, Lock}
+use Rattle.journal_world.specs.Front.{Front, FrontEvent, FrontHappens, Raises, WritesBlock, aborting, finishing, next_handle, raising, sealing, write_step}
+use Rattle.journal_world.specs.Front.FrontEvent.{Reserve, GiveBack, Join, WriteBlock, StopHandle, Lock, Raise}
 use Rattle.journal_world.specs.Journal.{batch_of}
 use Rattle.journal_world.proofs.Batches.{batches-last}
 use Rattle.journal_world.proofs.Onward.{step-unfailed}
@@ -229,7 +230,8 @@ module _ (f : Front) (old new : Engine) (agrees : Agrees (record { front = f; en
     aborted = sym told;
     batches = batches-kept;
     number = number-kept;
-    mark = agrees.mark ∙ ap₂ (λ (a b : ℕ). a + b) (sym keeps.first) (sym same);
+    finished = agrees.finished ∙ ap₂ (λ (a b : ℕ). a + b) (sym keeps.first) (sym same);
+    mark = agrees.mark;
     steps = steps-kept;
     joined = agrees.joined;
     locked = agrees.locked;
@@ -239,15 +241,17 @@ module _ (f : Front) (old new : Engine) (agrees : Agrees (record { front = f; en
   pub agrees-moved : new.committed ≡ old.committed → new.aborted ≡ old.aborted → Agrees (record { front = f; engine = new })
   agrees-moved same unfailed = agrees-told f.aborted same (unfailed ∙ sym agrees.aborted)
 
-  -- and after one that commits, where the front tells of it
-  pub agrees-done : new.committed ≡ old.committed + 1 → new.aborted ≡ old.aborted → Agrees (record { front = finishing f; engine = new })
+  -- and after one that commits, where the front knows it and tells of it
+  pub agrees-done : new.committed ≡ old.committed + 1 → new.aborted ≡ old.aborted →
+      Agrees (record { front = raising (finishing f) (finishing f).finished; engine = new })
   agrees-done more unfailed = record {
     layout = agrees.layout ∙ sym keeps.layout;
     home_blocks = agrees.home_blocks ∙ sym (ap (λ (s : Shape). s.home_blocks) keeps.shape);
     aborted = agrees.aborted ∙ sym unfailed;
     batches = batches-kept;
     number = number-kept;
-    mark = let mark = agrees.mark in let first = keeps.first in omega arith;
+    finished = let told = agrees.finished in let first = keeps.first in omega arith;
+    mark = max-eq_right (let mark = agrees.mark in omega arith);
     steps = steps-kept;
     joined = agrees.joined;
     locked = agrees.locked;
@@ -268,7 +272,8 @@ agrees-sealed f old new agrees after =
           let number = agrees.number in
           let size : length new.accepted ≡ length old.accepted + 1 = ap length accepted ∙ omega (arith, length-append old.accepted (batch_of f.running ∷ [])) in
           omega arith;
-      mark = agrees.mark ∙ ap₂ (λ (a b : ℕ). a + b) (sym first) (sym (ap (λ (e : Engine). e.committed) after));
+      finished = agrees.finished ∙ ap₂ (λ (a b : ℕ). a + b) (sym first) (sym (ap (λ (e : Engine). e.committed) after));
+      mark = agrees.mark;
       steps = tt;
       joined = λ some. absurd (omega arith);
       locked = λ is. absurd (true≢false (sym is));
@@ -286,11 +291,11 @@ may-hand_over f e agrees plain due room = record {
   few = let order : e.tail ≤ e.start = tail-start e plain in omega arith;
 }
 
--- such a transaction is the first that is not told to be committed
-pub all-told : (f : Front) (e : Engine) → Agrees (record { front = f; engine = e }) → IsPlain e → e.stage ≡ Idle → f.mark + 1 ≡ f.running.tid
+-- such a transaction is the first that is not finished
+pub all-told : (f : Front) (e : Engine) → Agrees (record { front = f; engine = e }) → IsPlain e → e.stage ≡ Idle → f.finished + 1 ≡ f.running.tid
 all-told f e agrees plain idle =
     let count = idle-all e plain idle in
-    let mark = agrees.mark in
+    let told = agrees.finished in
     let number = agrees.number in
     omega arith
 
@@ -329,11 +334,24 @@ one-more old new disk after step idle =
     ap (λ (x : Engine). x.committed) step.engine
     ∙ counts-one old old.stage (busy old step.call step.due) (sym (ap (λ (x : Engine). x.stage) step.engine) ∙ idle)
 
--- after it they agree, where the front tells of it
-pub agrees-last : (f front : Front) (old new : Engine) (disk after : Disk) → Agrees (record { front = f; engine = old }) → CommitSteps old disk new after →
-    new.stage ≡ Idle → front ≡ finishing f → Agrees (record { front = front; engine = new })
-agrees-last f front old new disk after agrees step idle told =
-    subst (λ (x : Front). Agrees (record { front = x; engine = new })) (sym told)
+-- its number is the one that the front comes to
+committed-number : (f : Front) (old : Engine) (tid : ℕ) → Agrees (record { front = f; engine = old }) → tid ≡ old.first + old.committed → tid ≡ (finishing f).finished
+committed-number f old tid agrees number = number ∙ sym agrees.finished
+
+-- which it is then told of
+pub may-raise : (f done : Front) (old : Engine) (tid : ℕ) → Agrees (record { front = f; engine = old }) → tid ≡ old.first + old.committed → done ≡ finishing f →
+    tid ≤ done.finished
+may-raise f done old tid agrees number finished =
+    let same : tid ≡ f.finished + 1 = committed-number f old tid agrees number in
+    subst (λ (x : Front). tid ≤ x.finished) (sym finished) (omega arith)
+
+-- after it they agree, where the front knows it and tells of it
+pub agrees-last : (f done front : Front) (old new : Engine) (disk after : Disk) (tid : ℕ) → Agrees (record { front = f; engine = old }) →
+    CommitSteps old disk new after → new.stage ≡ Idle → tid ≡ old.first + old.committed → done ≡ finishing f → front ≡ raising done tid →
+    Agrees (record { front = front; engine = new })
+agrees-last f done front old new disk after tid agrees step idle number finished told =
+    subst (λ (x : Front). Agrees (record { front = x; engine = new }))
+    (sym (told ∙ ap₂ (λ (x : Front) (t : ℕ). raising x t) finished (committed-number f old tid agrees number)))
     (agrees-done f old new agrees (step-keeps old new disk after step) (one-more old new disk after step idle) (step-unfailed old new disk after step))
 
 -- a commit step that is refused refuses the turn
@@ -343,34 +361,39 @@ pub refused-turn : {D : Type 0} (state : D → DeviceState) (f front : Front) (d
 refused-turn state f front d other old new e running told (WasAborted is same stays counted) = absurd (true≢false (sym is ∙ running))
 refused-turn state f front d other old new e running told (DeviceFailed fault counted) = FailedTurn (record { front = told; engine = fault }) counted
 
--- the last step of a commit, with what the front tells
-pub finishes-commit : {D : Type 0} (state : D → DeviceState) (f front : Front) (d other : D) (old new : Engine) (tid : ℕ) →
+-- the last step of a commit, with what the front knows and tells
+pub finishes-commit : {D : Type 0} (state : D → DeviceState) (f done front : Front) (d other : D) (old new : Engine) (tid : ℕ) →
     Agrees (record { front = f; engine = old }) → CommitSteps old (state d).disk new (state other).disk → new.stage ≡ Idle →
-    tid ≡ old.first + old.committed → front ≡ finishing f →
+    tid ≡ old.first + old.committed → done ≡ finishing f → Raises done tid front →
     FinishesCommit state tid (record { device = d; journal = record { front = f; engine = old } })
     (record { device = other; journal = record { front = front; engine = new } })
-finishes-commit state f front d other old new tid agrees step idle number told = record {
+finishes-commit state f done front d other old new tid agrees step idle number finished raises = record {
   mid = record { front = f; engine = new };
+  done = record { front = done; engine = new };
   commits = record { front = refl; engine = step };
   idle = idle;
   finishes = record {
     committed =
-        let mark = agrees.mark in
+        let told = agrees.finished in
         let first : new.first ≡ old.first = (step-keeps old new (state d).disk (state other).disk step).first in
         let more = one-more old new (state d).disk (state other).disk step idle in
         omega arith;
-    front = told;
+    front = finished;
     engine = refl;
     disk_is = refl;
   };
-  number = number ∙ sym agrees.mark ∙ sym (ap (λ (x : Front). x.mark) told);
+  number = committed-number f old tid agrees number ∙ sym (ap (λ (x : Front). x.finished) finished);
+  raises = record { front = raises; engine = refl; disk_is = refl };
+  told =
+      ap (λ (x : Front). x.mark) raises.after ∙ ap (λ (x : Front). max x.mark tid) finished
+      ∙ max-eq_right (let same : tid ≡ f.finished + 1 = committed-number f old tid agrees number in let mark = agrees.mark in omega arith);
 }
 
 -- a transaction that is being committed lies before the running one
-pub mark-below : (f : Front) (e : Engine) → Agrees (record { front = f; engine = e }) → IsPlain e → e.stage ≢ Idle → f.mark + 1 < f.running.tid
-mark-below f e agrees plain going =
+pub finished-below : (f : Front) (e : Engine) → Agrees (record { front = f; engine = e }) → IsPlain e → e.stage ≢ Idle → f.finished + 1 < f.running.tid
+finished-below f e agrees plain going =
     let one = due-one e e.stage plain.stage going in
-    let mark = agrees.mark in
+    let told = agrees.finished in
     let number = agrees.number in
     omega arith
 
@@ -382,19 +405,21 @@ IsWrite (Join n) = ⊥
 IsWrite (WriteBlock h b v) = ⊤
 IsWrite (StopHandle h) = ⊥
 IsWrite Lock = ⊥
+IsWrite (Raise t) = ⊥
 
 -- a front of the same measures and the same transactions agrees with the same engine
 agrees-like : (f made : Front) (e : Engine) → Agrees (record { front = f; engine = e }) → made.layout ≡ f.layout → made.home_blocks ≡ f.home_blocks →
-    made.aborted ≡ f.aborted → made.sealed ≡ f.sealed → made.running.tid ≡ f.running.tid → made.mark ≡ f.mark →
+    made.aborted ≡ f.aborted → made.sealed ≡ f.sealed → made.running.tid ≡ f.running.tid → made.finished ≡ f.finished → made.mark ≡ f.mark →
     AllByRecursion (IsGoodStep e.layout e.shape) made.running.steps → (0 < length made.running.handles → made.running.tid ≤ greatest_number) →
     (made.locked ≡ true → 0 < length made.running.handles) → Agrees (record { front = made; engine = e })
-agrees-like f made e agrees layout home_blocks aborted sealed tid mark steps joined locked = record {
+agrees-like f made e agrees layout home_blocks aborted sealed tid finished mark steps joined locked = record {
   layout = layout ∙ agrees.layout;
   home_blocks = home_blocks ∙ agrees.home_blocks;
   aborted = aborted ∙ agrees.aborted;
   batches = subst (λ (ts : History). AreBatchesOf ts e.accepted) (sym sealed) agrees.batches;
   number = tid ∙ agrees.number;
-  mark = ap (λ (n : ℕ). n + 1) mark ∙ agrees.mark;
+  finished = ap (λ (n : ℕ). n + 1) finished ∙ agrees.finished;
+  mark = mark ∙ agrees.mark ∙ sym finished;
   steps = steps;
   joined = joined;
   locked = locked;
@@ -405,21 +430,24 @@ pub agrees-unwritten : (f front : Front) (e : Engine) (event : FrontEvent) → (
     Agrees (record { front = f; engine = e }) → Agrees (record { front = front; engine = e })
 agrees-unwritten f front e (Reserve n) other step agrees =
     subst (λ (x : Front). Agrees (record { front = x; engine = e })) (sym step.after)
-    (agrees-like f _ e agrees refl refl refl refl refl refl agrees.steps agrees.joined agrees.locked)
+    (agrees-like f _ e agrees refl refl refl refl refl refl refl agrees.steps agrees.joined agrees.locked)
 agrees-unwritten f front e (GiveBack n) other step agrees =
     subst (λ (x : Front). Agrees (record { front = x; engine = e })) (sym step.after)
-    (agrees-like f _ e agrees refl refl refl refl refl refl agrees.steps agrees.joined agrees.locked)
+    (agrees-like f _ e agrees refl refl refl refl refl refl refl agrees.steps agrees.joined agrees.locked)
 agrees-unwritten f front e (Join n) other step agrees =
     let one = length-append f.running.handles (next_handle f ∷ []) in
     subst (λ (x : Front). Agrees (record { front = x; engine = e })) (sym step.after)
-    (agrees-like f _ e agrees refl refl refl refl refl refl agrees.steps (λ some. step.may.number) (λ is. omega arith))
+    (agrees-like f _ e agrees refl refl refl refl refl refl refl agrees.steps (λ some. step.may.number) (λ is. omega arith))
 agrees-unwritten f front e (WriteBlock h b v) other step agrees = absurd (other tt)
 agrees-unwritten f front e (StopHandle h) other step agrees =
     subst (λ (x : Front). Agrees (record { front = x; engine = e })) (sym step.after)
-    (agrees-like f _ e agrees refl refl refl refl refl refl agrees.steps agrees.joined agrees.locked)
+    (agrees-like f _ e agrees refl refl refl refl refl refl refl agrees.steps agrees.joined agrees.locked)
 agrees-unwritten f front e Lock other step agrees =
     subst (λ (x : Front). Agrees (record { front = x; engine = e })) (sym step.after)
-    (agrees-like f _ e agrees refl refl refl refl refl refl agrees.steps agrees.joined (λ is. step.joined))
+    (agrees-like f _ e agrees refl refl refl refl refl refl refl agrees.steps agrees.joined (λ is. step.joined))
+agrees-unwritten f front e (Raise t) other step agrees =
+    subst (λ (x : Front). Agrees (record { front = x; engine = e })) (sym step.after)
+    (agrees-like f _ e agrees refl refl refl refl refl refl (max-eq_left (let mark = agrees.mark in let low = step.finished in omega arith)) agrees.steps agrees.joined agrees.locked)
 
 -- and after a write
 pub agrees-written : (f front : Front) (e : Engine) (h b : ℕ) (v : List ℕ) → Agrees (record { front = f; engine = e }) →
@@ -430,5 +458,5 @@ agrees-written f front e h b v agrees size step =
       allowed = allowed-here agrees.layout agrees.home_blocks step.allowed;
     } in
     subst (λ (x : Front). Agrees (record { front = x; engine = e })) (sym step.after)
-    (agrees-like f _ e agrees refl refl refl refl refl refl
+    (agrees-like f _ e agrees refl refl refl refl refl refl refl
     (each-append (IsGoodStep e.layout e.shape) f.running.steps (write_step h b v ∷ []) agrees.steps (good, tt)) agrees.joined agrees.locked)

@@ -1,4 +1,4 @@
--- The transactions that are not told to be committed: their last effect on a block, from the entries that the front keeps.
+-- The transactions that are not finished: their last effect on a block, from the entries that the front keeps.
 use Rattle.std.proofs.Common.{◌≡◌, inl, inr, ℕ, ◌+◌, ◌-◌, ◌<◌, List, [], ◌∷◌, ◌++◌, length, drop, Option, Some, None, false, eq-eqb, refl, sym, ap, ap₂, subst, ◌∙◌, arith, nat_eq, append_assoc, length-append}
 use Rattle.std.specs.List.{AllByRecursion}
 use Rattle.std.specs.Map.{lookup}
@@ -44,30 +44,30 @@ insert-copies b v ((c, f) ∷ es) all =
           rw apart (all.0, insert-copies b v es all.1)
     ]
 
--- where all sealed transactions are told to be committed, the running one is left
-left-one : (f : Front) → f.mark + 1 ≡ f.running.tid → unfinished f ≡ f.running ∷ []
+-- where all sealed transactions are finished, the running one is left
+left-one : (f : Front) → f.finished + 1 ≡ f.running.tid → unfinished f ≡ f.running ∷ []
 left-one f told =
-    ap (λ (n : ℕ). drop n (f.sealed ++ f.running ∷ [])) {x = f.mark + 1 + length f.sealed - f.running.tid} {y = length f.sealed} (omega arith)
+    ap (λ (n : ℕ). drop n (f.sealed ++ f.running ∷ [])) {x = f.finished + 1 + length f.sealed - f.running.tid} {y = length f.sealed} (omega arith)
     ∙ drop-append_seam f.sealed (f.running ∷ [])
 
 -- else the last sealed one is left too
-left-two : (f : Front) (before : History) (last : Transaction) → f.sealed ≡ before ++ last ∷ [] → f.mark + 2 ≡ f.running.tid →
+left-two : (f : Front) (before : History) (last : Transaction) → f.sealed ≡ before ++ last ∷ [] → f.finished + 2 ≡ f.running.tid →
     unfinished f ≡ last ∷ f.running ∷ []
 left-two f before last are told =
     let size : length f.sealed ≡ length before + 1 = ap length are ∙ length-append before (last ∷ []) in
-    ap₂ (λ (n : ℕ) (ts : History). drop n ts) {x = f.mark + 1 + length f.sealed - f.running.tid} {y = length before} (omega arith)
+    ap₂ (λ (n : ℕ) (ts : History). drop n ts) {x = f.finished + 1 + length f.sealed - f.running.tid} {y = length before} (omega arith)
     (ap (λ (ts : History). ts ++ f.running ∷ []) are ∙ append_assoc before (last ∷ []) (f.running ∷ []))
     ∙ drop-append_seam before (last ∷ f.running ∷ [])
 
 -- their last effect on a block is what the entries have
-unfinished-effect : (f : Front) (es : List (ℕ × Entry)) (b : ℕ) → AreCommitting f.sealed f.mark f.running.tid es →
+unfinished-effect : (f : Front) (es : List (ℕ × Entry)) (b : ℕ) → AreCommitting f.sealed f.finished f.running.tid es →
     last_effect b (unfinished f) ≡ later (lookup (nat_eq b) es) (effect b f.running.steps)
 unfinished-effect f es b (AllFinished told) = ap (last_effect b) (left-one f told) ∙ sym (later-none (effect b f.running.steps))
 unfinished-effect f es b (LastUnfinished before last are told) =
     ap (last_effect b) (left-two f before last are told)
     ∙ ap (λ (o : Option Entry). later o (effect b f.running.steps)) (sym (lookup-effect b last.steps))
 
-module _ (f : Front) (es cs : List (ℕ × Entry)) (b : ℕ) (are : es ≡ entries f.running.steps) (committing : AreCommitting f.sealed f.mark f.running.tid cs) where
+module _ (f : Front) (es cs : List (ℕ × Entry)) (b : ℕ) (are : es ≡ entries f.running.steps) (committing : AreCommitting f.sealed f.finished f.running.tid cs) where
   -- by what look-ups in both find
   by-lookups : (one other : Option Entry) → lookup (nat_eq b) es ≡ one → lookup (nat_eq b) cs ≡ other → last_effect b (unfinished f) ≡ later other one
   by-lookups one other ones others =
@@ -86,23 +86,23 @@ module _ (f : Front) (es cs : List (ℕ × Entry)) (b : ℕ) (are : es ≡ entri
   pub none-last : lookup (nat_eq b) es ≡ None → lookup (nat_eq b) cs ≡ None → last_effect b (unfinished f) ≡ None
   none-last none neither = by-lookups None None none neither
 
--- where all are told to be committed, no entries are kept
-pub committing-none : (sealed : History) (mark running : ℕ) (es : List (ℕ × Entry)) → es ≡ [] → mark + 1 ≡ running → AreCommitting sealed mark running es
-committing-none sealed mark running es none told = subst (AreCommitting sealed mark running) (sym none) (AllFinished told)
+-- where all are finished, no entries are kept
+pub committing-none : (sealed : History) (finished running : ℕ) (es : List (ℕ × Entry)) → es ≡ [] → finished + 1 ≡ running → AreCommitting sealed finished running es
+committing-none sealed finished running es none told = subst (AreCommitting sealed finished running) (sym none) (AllFinished told)
 
 -- behind a seal those of the sealed transaction are
-pub committing-sealed : (old sealed : History) (t : Transaction) (mark running : ℕ) (es : List (ℕ × Entry)) → sealed ≡ old ++ t ∷ [] → es ≡ entries t.steps →
-    mark + 2 ≡ running → AreCommitting sealed mark running es
-committing-sealed old sealed t mark running es are same told = subst (AreCommitting sealed mark running) (sym same) (LastUnfinished old t are told)
+pub committing-sealed : (old sealed : History) (t : Transaction) (finished running : ℕ) (es : List (ℕ × Entry)) → sealed ≡ old ++ t ∷ [] → es ≡ entries t.steps →
+    finished + 2 ≡ running → AreCommitting sealed finished running es
+committing-sealed old sealed t finished running es are same told = subst (AreCommitting sealed finished running) (sym same) (LastUnfinished old t are told)
 
 -- no entries are copies
 pub copies-none : (es : List (ℕ × Entry)) → es ≡ [] → AllByRecursion IsCopy es
 copies-none es none = subst (AllByRecursion IsCopy) (sym none) tt
 
--- one sealed transaction at most is not told to be committed
-pub one-untold : (sealed : History) (mark running : ℕ) (es : List (ℕ × Entry)) → AreCommitting sealed mark running es → mark + 1 < running → mark + 2 ≡ running
-one-untold sealed mark running es (AllFinished told) less = absurd (omega arith)
-one-untold sealed mark running es (LastUnfinished before last are told) less = told
+-- one sealed transaction at most is not finished
+pub one-untold : (sealed : History) (finished running : ℕ) (es : List (ℕ × Entry)) → AreCommitting sealed finished running es → finished + 1 < running → finished + 2 ≡ running
+one-untold sealed finished running es (AllFinished told) less = absurd (omega arith)
+one-untold sealed finished running es (LastUnfinished before last are told) less = told
 
 -- so does a write, where the map's entries are known by equations
 pub inserted-copies : (b : ℕ) (v : List ℕ) (old es new : List (ℕ × Entry)) → es ≡ old → new ≡ insert_entry nat_eq es b (Copy v) → AllByRecursion IsCopy old →

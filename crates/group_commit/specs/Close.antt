@@ -62,8 +62,8 @@ pub data CloseDid (old : Journal) (disk : Disk) (sealed : History) (committed : 
   ClosesLog : EndsWith old disk sealed committed after Closed → CloseDid old disk sealed committed after
   StaysClean : sealed ≡ [] → EndsWith old disk sealed committed after Shut → CloseDid old disk sealed committed after
 
--- steps of commits and of rounds alone were made: of the front nothing but the mark has changed, and whether it knows of a
--- failure, and no fewer are committed
+-- steps of commits and of rounds alone were made: of the front nothing has changed but how far it is finished, the mark, and
+-- whether it knows of a failure, and no fewer are committed
 pub record GoesOn {D : Type 0} (state : D → DeviceState) (old new : JournalValue D) : Type 0 where
   pub sealed : new.journal.front.sealed ≡ old.journal.front.sealed
   pub transaction : new.journal.front.running ≡ old.journal.front.running

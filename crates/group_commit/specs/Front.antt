@@ -30,9 +30,9 @@ pub record IsOpenHandle (f : Front) (h : HandleValue) : Type 0 where
 abbrev pub MayTouch : Front → ℕ → Type 0
 MayTouch f b = IsAllowedBlock f.layout f.home_blocks b
 
--- the transactions that are not told to be committed, the running one last
+-- the transactions that are not finished, the running one last
 abbrev pub unfinished : Front → History
-unfinished f = drop (f.mark + 1 + length f.sealed - f.running.tid) (f.sealed ++ f.running ∷ [])
+unfinished f = drop (f.finished + 1 + length f.sealed - f.running.tid) (f.sealed ++ f.running ∷ [])
 
 -- why credits are not granted: a transaction can never have so many, or the credits held leave fewer
 pub data ReserveRefused (f : Front) (n : ℕ) : JournalError → Type 0 where

@@ -14,6 +14,7 @@ front_of f = record {
   home_blocks = f.home_blocks;
   capacity = f.capacity;
   reserved = f.reserved;
+  finished = f.finished;
   mark = f.mark;
   sealed = f.sealed.items;
   running = f.running;
@@ -28,20 +29,19 @@ abbrev pub IsCopy : ℕ × Entry → Type 0
 IsCopy (b, Copy v) = ⊤
 IsCopy (b, Revoke) = ⊥
 
--- the entries that are kept of sealed transactions: those of the last one while it is not told to be committed, and none
--- where all are
-pub data AreCommitting (sealed : History) (mark running : ℕ) : List (ℕ × Entry) → Type 0 where
-  AllFinished : mark + 1 ≡ running → AreCommitting sealed mark running []
-  LastUnfinished : (before : History) (last : Transaction) → sealed ≡ before ++ last ∷ [] → mark + 2 ≡ running →
-      AreCommitting sealed mark running (entries last.steps)
+-- the entries that are kept of sealed transactions: those of the last one while it is not finished, and none where all are
+pub data AreCommitting (sealed : History) (finished running : ℕ) : List (ℕ × Entry) → Type 0 where
+  AllFinished : finished + 1 ≡ running → AreCommitting sealed finished running []
+  LastUnfinished : (before : History) (last : Transaction) → sealed ≡ before ++ last ∷ [] → finished + 2 ≡ running →
+      AreCommitting sealed finished running (entries last.steps)
 
 -- the count of credits is that of those held; the entries are those of the running transaction's steps, all of them copies,
--- as those of the sealed one that is not told to be committed are; and once a handle has joined it there is room to seal it
+-- as those of the sealed one that is not finished are; and once a handle has joined it there is room to seal it
 pub record KeepsFront (f : Inside) : Type 0 where
   pub front : IsFront (front_of f)
   pub held_are : f.held ≡ held (front_of f)
   pub entries_are : f.entries.entries ≡ entries f.running.steps
-  pub committing_are : AreCommitting f.sealed.items f.mark f.running.tid f.committing.entries
+  pub committing_are : AreCommitting f.sealed.items f.finished f.running.tid f.committing.entries
   pub copies : AllByRecursion IsCopy f.entries.entries
   pub committing_copies : AllByRecursion IsCopy f.committing.entries
   pub room : 0 < length f.running.handles → length f.sealed.items < vec_capacity f.sealed

@@ -22,7 +22,7 @@ use Rattle.journal_world.specs.declared.stage.Stage.TheVariants.{Idle}
 use Rattle.journal_world.specs.Checkpoint.{IsPending}
 use Rattle.journal_world.specs.Engine.{AreBatchesOf, Engine}
 use Rattle.journal_world.specs.Front.{Front, IsFirstTouch}
-use Rattle.journal_world.specs.Front.FrontEvent.{Lock}
+use Rattle.journal_world.specs.Front.FrontEvent.{Lock, Raise}
 use Rattle.journal_world.specs.Journal.{Event, Happens, Journal}
 use Rattle.journal_world.specs.Journal.Event.{CheckpointFault, CheckpointStep, CommitFault, CommitStep, Finish, FrontStep, ReadFault, Seal}
 use Rattle.journal_world.specs.Sound.{CopiesHome, KeepsHome}
@@ -49,28 +49,29 @@ pub record IsGoodStep (l : Layout) (shape : Shape) (s : HandleStep) : Type 0 whe
   pub whole : IsWholeWrite shape.block_size s.op
   pub allowed : IsAllowedBlock l shape.home_blocks s.block
 
--- front and engine agree: what is sealed is what is accepted, what is told to be committed is what is committed, and the
--- front knows the measures of log and device, and whether the device has failed
+-- front and engine agree: what is sealed is what is accepted, what is finished is what is committed, and callers are told
+-- just that; and the front knows the measures of log and device, and whether the device has failed
 pub record Agrees (j : Journal) : Type 0 where
   pub layout : j.front.layout ≡ j.engine.layout
   pub home_blocks : j.front.home_blocks ≡ j.engine.shape.home_blocks
   pub aborted : j.front.aborted ≡ j.engine.aborted
   pub batches : AreBatchesOf j.front.sealed j.engine.accepted
   pub number : j.front.running.tid ≡ j.engine.first + length j.engine.accepted
-  pub mark : j.front.mark + 1 ≡ j.engine.first + j.engine.committed
+  pub finished : j.front.finished + 1 ≡ j.engine.first + j.engine.committed
+  pub mark : j.front.mark ≡ j.front.finished
   pub steps : AllByRecursion (IsGoodStep j.engine.layout j.engine.shape) j.front.running.steps
   pub joined : 0 < length j.front.running.handles → j.front.running.tid ≤ greatest_number
   pub locked : j.front.locked ≡ true → 0 < length j.front.running.handles
 
--- how many transactions since the opening are told to be committed
+-- how many transactions since the opening are finished
 abbrev pub finished : Journal → ℕ
-finished j = j.front.mark + 1 - j.engine.first
+finished j = j.front.finished + 1 - j.engine.first
 
 -- a read of the block answers these bytes
 abbrev pub IsSeen : Journal → Disk → ℕ → List ℕ → Type 0
 IsSeen j disk b v = seen (j.front.sealed ++ j.front.running ∷ []) (finished j) b (disk Home b).reads ≡ Ok v
 
--- a copy of the block is kept: a transaction that is not told to be committed has an entry of it, or one is pending
+-- a copy of the block is kept: a transaction that is not finished has an entry of it, or one is pending
 pub data HasCopyKept (j : Journal) (b : ℕ) : Type 0 where
   OfUnfinished : (e : Entry) → last_effect b (unfinished j.front) ≡ Some e → HasCopyKept j b
   OfPending : (i : ℕ) (v : List ℕ) → IsPending j.engine i b v → HasCopyKept j b
@@ -112,13 +113,16 @@ pub record SealIsDue (j : Journal) : Type 0 where
   pub locked : j.front.locked ≡ true
   pub stopped : j.front.open_handles ≡ []
 
--- The commit step was the last one of its transaction: it is committed, and told to be so.
+-- The commit step was the last one of its transaction: it is committed, the front knows it, and then it is told.
 pub record FinishesCommit {D : Type 0} (state : D → DeviceState) (tid : ℕ) (old new : JournalValue D) : Type 0 where
   pub mid : Journal
+  pub done : Journal
   pub commits : Happens old.journal (state old.device).disk CommitStep mid (state new.device).disk
   pub idle : mid.engine.stage ≡ Idle
-  pub finishes : Happens mid (state new.device).disk Finish new.journal (state new.device).disk
-  pub number : tid ≡ new.journal.front.mark
+  pub finishes : Happens mid (state new.device).disk Finish done (state new.device).disk
+  pub number : tid ≡ done.front.finished
+  pub raises : Happens done (state new.device).disk (FrontStep (Raise tid)) new.journal (state new.device).disk
+  pub told : new.journal.front.mark ≡ tid
 
 -- a commit step that is not the last one
 pub record StepsCommit {D : Type 0} (state : D → DeviceState) (old new : JournalValue D) : Type 0 where

@@ -7,7 +7,7 @@ ghost use Rattle.journal_model.specs.Layout.{IsTaken};
 ghost use Rattle.journal_model.specs.Opening.{greatest_number};
 ghost use Rattle.journal_model.specs.Transaction.{entries, last_effect};
 ghost use Rattle.journal_world.specs.Front.{FrontHappens, IsFirstTouch, aborting, empty_transaction, finishing, fresh_front, left_after, next_handle, sealing};
-ghost use Rattle.journal_world.specs.Front.FrontEvent.{GiveBack, Join, Lock, Reserve, StopHandle, WriteBlock};
+ghost use Rattle.journal_world.specs.Front.FrontEvent.{GiveBack, Join, Lock, Raise, Reserve, StopHandle, WriteBlock};
 ghost use Rattle.journal_world.specs.Journal.{batch_of};
 ghost use Rattle.group_commit.specs.Front.{IsOpenHandle, JoinRefused, MayTouch, ReserveRefused, unfinished};
 
@@ -34,6 +34,8 @@ pub(crate) struct Front {
     held: u64,
     /// Those of them that no handle was made of.
     reserved: u64,
+    /// The number of the last transaction that the front knows to be committed.
+    finished: u32,
     /// The number of the last transaction that callers are told is committed.
     mark: u32,
     /// The transactions sealed since the opening.
@@ -42,7 +44,7 @@ pub(crate) struct Front {
     running: Sealed,
     /// What its steps leave of each block that they touch, in the order of the first touches.
     entries: IndexMap<BlockNo, Entry>,
-    /// The entries of the last sealed transaction, while it is not told to be committed.
+    /// The entries of the last sealed transaction, while it is not finished.
     committing: IndexMap<BlockNo, Entry>,
     /// Those of its handles that have not stopped, in the order in which they joined, with the credits that each has left.
     open_handles: IndexMap<HandleNo, u64>,
@@ -99,6 +101,7 @@ impl Front {
             capacity,
             held: 0,
             reserved: 0,
+            finished: first.0 - 1,
             mark: first.0 - 1,
             sealed: Vec::new(alloc),
             running: empty_transaction(alloc, first),
@@ -208,8 +211,7 @@ impl Front {
         self.entries.get(&block).is_none()
     }
 
-    /// The last copy of a block in the running transaction or, where that has none, in the sealed one that is not told to
-    /// be committed.
+    /// The last copy of a block in the running transaction or, where that has none, in the sealed one that is not finished.
     pub(crate) fn copy_of(&self, block: BlockNo) -> Option<&[u8]>
         ensures copy { IfSome result (λ copy. last_effect block (unfinished self.now) ≡ Some (Copy copy.now)) }
         ensures none { IfNone result (last_effect block (unfinished self.now) ≡ None) }
@@ -351,7 +353,7 @@ impl Front {
     pub(crate) fn seal(&mut self)
         requires locked { self.old.locked ≡ true }
         requires number { self.old.running.tid ≤ greatest_number }
-        requires finished { self.old.mark + 1 ≡ self.old.running.tid }
+        requires finished { self.old.finished + 1 ≡ self.old.running.tid }
         ensures { self.new ≡ sealing self.old }
     {
         let next = Tid(self.running.tid.0 + 1);
@@ -363,13 +365,23 @@ impl Front {
         self.locked = false;
     }
 
-    /// One more transaction is told to be committed.
+    /// One more transaction is committed. No caller is told yet.
     pub(crate) fn finish(&mut self)
-        requires { self.old.mark + 1 < self.old.running.tid }
+        requires { self.old.finished + 1 < self.old.running.tid }
         ensures { self.new ≡ finishing self.old }
     {
-        self.mark += 1;
+        self.finished += 1;
         self.committing.clear();
+    }
+
+    /// Callers are told that the transactions up to this one are committed, which are finished. The mark never falls.
+    pub(crate) fn raise(&mut self, tid: Tid)
+        requires { tid ≤ self.old.finished }
+        ensures { FrontHappens self.old (Raise tid) self.new }
+    {
+        if self.mark < tid.0 {
+            self.mark = tid.0;
+        }
     }
 
     /// The sealed transactions.
@@ -383,6 +395,7 @@ impl Front {
             capacity: _,
             held: _,
             reserved: _,
+            finished: _,
             mark: _,
             sealed,
             running: _,

@@ -48,7 +48,7 @@ pub enum Turn {
     Step,
     /// This transaction was sealed, and is to be committed.
     Sealed(Tid),
-    /// The last step of a commit: this transaction is committed.
+    /// The last step of a commit: this transaction is committed, and told to be so.
     Committed(Tid),
 }
 
@@ -403,6 +403,7 @@ impl<D: Device> Journal<D> {
             Progress::Step => Ok(Turn::Step),
             Progress::Done(tid) => {
                 self.front.finish();
+                self.front.raise(tid);
                 Ok(Turn::Committed(tid))
             }
         }

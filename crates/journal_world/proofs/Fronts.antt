@@ -292,7 +292,7 @@ pub seal-agrees : (f : Front) (old new : Engine) (answered : List ℕ) → MaySe
     FrontAgrees (sealing f) new answered
 seal-agrees f old new answered may accepts agrees =
     let one = length-append old.accepted (batch_of f.running ∷ []) in
-    let finished : f.finished + 1 ≡ f.running.tid = may.finished in
+    let finished = may.finished in
     let next : f.running.tid ≡ old.first + old.committed = accepts.number in
     let number : f.running.tid ≡ old.first + length old.accepted = agrees.number in
     subst (λ (e : Engine). FrontAgrees (sealing f) e answered) (sym accepts.after)

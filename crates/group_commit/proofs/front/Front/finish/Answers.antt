@@ -7,8 +7,8 @@ pub invariant_of-self : goal.invariant_of-self
 invariant_of-self c =
     let f = c.self.inside in
     let front = c.self.invariant.front in
-    let less : f.mark + 1 < f.running.tid = rw (← c.self.view_is) at c.requires in
-    let told = one-untold f.sealed.items f.mark f.running.tid f.committing.entries c.self.invariant.committing_are less in
+    let less : f.finished + 1 < f.running.tid = rw (← c.self.view_is) at c.requires in
+    let told = one-untold f.sealed.items f.finished f.running.tid f.committing.entries c.self.invariant.committing_are less in
     record {
       front = record {
         layout = front.layout;
@@ -20,7 +20,7 @@ invariant_of-self c =
       };
       held_are = c.self.invariant.held_are;
       entries_are = c.self.invariant.entries_are;
-      committing_are = committing-none f.sealed.items (f.mark + 1) f.running.tid c.clear.new.self.entries c.clear.ensures.empty (omega arith);
+      committing_are = committing-none f.sealed.items (f.finished + 1) f.running.tid c.clear.new.self.entries c.clear.ensures.empty (omega arith);
       copies = c.self.invariant.copies;
       committing_copies = copies-none c.clear.new.self.entries c.clear.ensures.empty;
       room = c.self.invariant.room;

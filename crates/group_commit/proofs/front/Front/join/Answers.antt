@@ -107,7 +107,7 @@ invariant_of-self-2 c =
       held_are = c.self.invariant.held_are ∙ sym same;
       entries_are = c.self.invariant.entries_are;
       committing_are =
-          subst (λ (ts : List Sealed). AreCommitting ts c.self.inside.mark c.self.inside.running.tid c.self.inside.committing.entries)
+          subst (λ (ts : List Sealed). AreCommitting ts c.self.inside.finished c.self.inside.running.tid c.self.inside.committing.entries)
           (sym c.try_reserve.ensures.items) c.self.invariant.committing_are;
       copies = c.self.invariant.copies;
       committing_copies = c.self.invariant.committing_copies;

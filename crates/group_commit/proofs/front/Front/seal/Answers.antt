@@ -21,7 +21,7 @@ invariant_of-self c =
     let held_are = c.self.invariant.held_are in
     let count : length f.entries.entries ≡ length (entries f.running.steps) = ap length c.self.invariant.entries_are in
     let none : length (entries c.replace-sealed.new.dest.steps) ≡ 0 = ap (λ (t : Transaction). length (entries t.steps)) next in
-    let told : f.mark + 1 ≡ f.running.tid = rw (← c.self.view_is) at c.requires.finished in
+    let told : f.finished + 1 ≡ f.running.tid = rw (← c.self.view_is) at c.requires.finished in
     record {
       front = record {
         layout = front.layout;
@@ -34,7 +34,7 @@ invariant_of-self c =
       held_are = omega arith;
       entries_are = c.clear.ensures.empty ∙ ap (λ (t : Transaction). entries t.steps) (sym next);
       committing_are =
-          committing-sealed f.sealed.items _ f.running f.mark _ _
+          committing-sealed f.sealed.items _ f.running f.finished _ _
           (c.push_reserved.ensures.items ∙ ap (λ (t : Transaction). f.sealed.items ++ t ∷ []) c.replace-sealed.ensures.value)
           (ap (λ m. m.entries) swapped ∙ c.self.invariant.entries_are) (omega arith);
       copies = copies-none _ c.clear.ensures.empty;

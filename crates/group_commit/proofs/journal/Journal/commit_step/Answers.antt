@@ -4,7 +4,7 @@ use Rattle.std.proofs.lemmas.Result.{err_from_is_err_and}
 use Rattle.log_engine.specs.declared.engine.Progress.{Progress}
 use Rattle.log_engine.specs.Engine.{StepDid}
 use Rattle.group_commit.specs.Values.{JournalValue}
-use Rattle.group_commit.proofs.Sealing.{agrees-last, agrees-refused, finishes-commit, refused-turn}
+use Rattle.group_commit.proofs.Sealing.{agrees-last, agrees-refused, finishes-commit, may-raise, refused-turn}
 use Rattle.group_commit.proofs.Turning.{each-turn}
 use Rattle.group_commit.proofs.journal.Journal.commit_step.Goals as goal
 
@@ -28,23 +28,32 @@ pub returns-in-Step-clause-moments : goal.returns-in-Step-clause-moments
 returns-in-Step-clause-moments g c =
     rw (← c.self.view_is) (λ honest. each-turn _ _ _ c.self.invariant (c.commit_step.ensures.moments honest))
 
--- after the last step front and engine agree, for the front tells of it
+-- what is finished may be told
+pub raise-requires : goal.raise-requires
+raise-requires g c =
+    let old = c.self.inside.engine in
+    let new = c.commit_step.new.self in
+    let did = subst (λ (p : Progress). StepDid p old.engine (g.D.Device.state old.device).disk new.engine (g.D.Device.state new.device).disk)
+    c.in-Done.is c.in-Ok.ensures.ok in
+    may-raise _ _ _ _ c.self.invariant did.2 c.finish.ensures
+
+-- after the last step front and engine agree, for the front knows it and tells of it
 pub invariant_of-self-in-Done : goal.invariant_of-self-in-Done
 invariant_of-self-in-Done g c =
     let old = c.self.inside.engine in
     let new = c.commit_step.new.self in
     let did = subst (λ (p : Progress). StepDid p old.engine (g.D.Device.state old.device).disk new.engine (g.D.Device.state new.device).disk)
     c.in-Done.is c.in-Ok.ensures.ok in
-    agrees-last _ _ _ _ _ _ c.self.invariant did.0 did.1 cc
+    agrees-last _ _ _ _ _ _ _ _ c.self.invariant did.0 did.1 did.2 c.finish.ensures c.raise.ensures.after
 
--- the last step commits the transaction, and the front tells of it
+-- the last step commits the transaction, and the front knows it and tells of it
 pub returns-in-Done-clause-ok : goal.returns-in-Done-clause-ok
 returns-in-Done-clause-ok g c =
     let old = c.self.inside.engine in
     let new = c.commit_step.new.self in
     let did = subst (λ (p : Progress). StepDid p old.engine (g.D.Device.state old.device).disk new.engine (g.D.Device.state new.device).disk)
     c.in-Done.is c.in-Ok.ensures.ok in
-    rw (← c.self.view_is) (finishes-commit g.D.Device.state _ _ _ _ _ _ _ c.self.invariant did.0 did.1 did.2 cc)
+    rw (← c.self.view_is) (finishes-commit g.D.Device.state _ _ _ _ _ _ _ _ c.self.invariant did.0 did.1 did.2 c.finish.ensures c.raise.ensures)
 
 -- each of its moments is one of the turn
 pub returns-in-Done-clause-moments : goal.returns-in-Done-clause-moments
