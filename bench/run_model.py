@@ -1,0 +1,446 @@
+#!/usr/bin/env -S python3 -B
+"""What `jbench run` prints of a script, by the documents alone: a model of a whole run that shares nothing with the journal.
+
+usage: run_model.py SCRIPT [--stop K] [--keep LIST] [--stop2 K] [--keep2 LIST]
+
+It prints what a run of this file should print. It takes no bad scripts: what it is given is not tested. The rules are those of
+docs/FORMATS.md: scripts and runs, the bytes of the log, device calls and their order, dumps; what an opening finds is said by
+openings.py. `runs.py` has random scripts, and compares them with the program.
+"""
+import json
+import sys
+from pathlib import Path
+
+from openings import COMMIT, DESCRIPTOR, MAGIC, SUPERBLOCK, has_magic, opening, tags_of, word, words_of
+
+DEFAULTS = {"block": 1024, "length": 33, "home": 64, "uuid": "aa" * 16}
+TAGS = {1024: 122, 2048: 250, 4096: 506}
+ESCAPED, SAME_UUID, LAST_TAG = 1, 2, 8
+
+
+# ---- the device
+
+
+class Stopped(Exception):
+    """A device call failed."""
+
+
+class Refused(Exception):
+    """A call of the journal is refused, with this number and name."""
+
+
+class Device:
+    """Two areas of blocks behind a volatile cache. Its writes are numbered from 1; that of the number `stop` fails, and all behind."""
+
+    def __init__(self, size, counts, flushed, stop=None):
+        self.size, self.counts, self.stop = size, counts, stop
+        self.flushed = flushed  # by area and place; every other block is zeros
+        self.unflushed = {"log": [], "home": []}  # number, place and bytes
+        self.writes, self.is_stopped = 0, False
+
+    def read(self, area, place):
+        self.test()
+        newest = [block for _, at, block in self.unflushed[area] if at == place][-1:]
+        return newest[0] if newest else self.flushed[area].get(place, bytes(self.size))
+
+    def write(self, area, place, block):
+        self.test()
+        assert len(block) == self.size and place < self.counts[area]
+        self.writes += 1
+        self.unflushed[area].append((self.writes, place, block))
+        self.is_stopped = self.writes == self.stop
+        self.test()
+
+    def flush(self, area):
+        self.test()
+        for _, place, block in self.unflushed[area]:
+            self.flushed[area][place] = block
+        self.unflushed[area] = []
+
+    def test(self):
+        if self.is_stopped:
+            raise Stopped
+
+    def unflushed_numbers(self):
+        return [number for area in ("log", "home") for number, _, _ in self.unflushed[area]]
+
+    def image(self, keep, stop=None):
+        """What a stop leaves, where these writes are kept, as a device with all that flushed."""
+        left = {}
+        for area in ("log", "home"):
+            left[area] = dict(self.flushed[area])
+            left[area].update((place, block) for number, place, block in self.unflushed[area] if number in keep)
+        return Device(self.size, self.counts, left, stop)
+
+    def blocks(self, area):
+        """All flushed blocks of an area."""
+        return [self.flushed[area].get(place, bytes(self.size)) for place in range(self.counts[area])]
+
+
+# ---- the bytes of the log
+
+
+def formatted(script):
+    """The superblock of an empty log."""
+    size, length = script["block"], script["length"]
+    fields = words_of([MAGIC, SUPERBLOCK, 0, size, length, 1, 1, 0, 0, 0, 1, 0])
+    return (fields + bytes.fromhex(script["uuid"]) + words_of([1])).ljust(size, b"\0")
+
+
+def with_start(superblock, sequence, start):
+    return superblock[:0x18] + words_of([sequence, start]) + superblock[0x20:]
+
+
+def text_of(tid, copies, size, uuid):
+    """The log blocks of a transaction that copies these home blocks: descriptors, each before its copies, and a commit block."""
+    blocks, left = [], list(copies.items())
+    while left:
+        descriptor, stored = words_of([MAGIC, DESCRIPTOR, tid]), []
+        while left and size - len(descriptor) >= 24:
+            number, copy = left.pop(0)
+            flags = SAME_UUID if stored else 0
+            if has_magic(copy):
+                flags, copy = flags | ESCAPED, bytes(4) + copy[4:]
+            stored.append(copy)
+            last = LAST_TAG if not left or size - len(descriptor) - (8 if flags & SAME_UUID else 24) < 24 else 0
+            descriptor += words_of([number, flags | last]) + (b"" if flags & SAME_UUID else uuid)
+        blocks += [descriptor.ljust(size, b"\0")] + stored
+    return blocks + [words_of([MAGIC, COMMIT, tid]).ljust(size, b"\0")]
+
+
+def need(count, size):
+    return count + -(-count // TAGS[size]) + 1
+
+
+def capacity(size, ring):
+    """The most credits that are held at any time."""
+    greatest = 0
+    while greatest + 1 + -(-(greatest + 1) // TAGS[size]) + 1 <= ring // 4:
+        greatest += 1
+    return greatest
+
+
+# ---- the journal
+
+
+class Handle:
+    """A handle from its start on; once it is stopped it is a ticket."""
+
+    def __init__(self, tid, credits):
+        self.tid, self.left, self.is_open = tid, credits, True
+
+
+class Journal:
+    """A journal on a device that was just formatted and opened. A transaction's copies are a dict, in first-touch order."""
+
+    def __init__(self, device):
+        self.device = device
+        self.superblock = device.read("log", 0)
+        self.ring = device.counts["log"] - 1
+        self.capacity = capacity(device.size, self.ring)
+        self.sealed = []  # number and copies of each
+        self.number, self.copies, self.handles, self.is_locked = 2, {}, [], False  # of the running transaction
+        self.committing, self.calls = {}, []  # the copies of the transaction that is being committed, and the calls that are left
+        self.mark = self.released = 1
+        self.ends = {1: 0}  # the position behind each transaction's blocks, over all laps
+        self.pending = {}  # by home block: transaction and bytes of its newest committed copy that is not released
+        self.is_home = set()  # which of these are written home
+        self.bound, self.round = None, []  # the last transaction of the round that is under way, and the calls behind its copies
+
+    def place(self, position):
+        return 1 + position % self.ring
+
+    def held(self):
+        return len(self.copies) + sum(handle.left for handle in self.handles if handle.is_open)
+
+    def start(self, credits):
+        if credits > self.capacity:
+            raise Refused("6 TooMany")
+        if self.held() + credits > self.capacity:
+            raise Refused("5 Full")
+        if self.is_locked:
+            raise Refused("7 NotRunning")
+        self.handles.append(Handle(self.number, credits))
+        return self.handles[-1]
+
+    def test_block(self, number):
+        if number >= self.device.counts["home"] or number >= 2**32:
+            raise Refused("8 BadBlock")
+
+    def write(self, handle, number, block):
+        self.test_block(number)
+        if number not in self.copies:
+            if handle.left == 0:
+                raise Refused("4 NoCredit")
+            handle.left -= 1
+        self.copies[number] = block
+
+    def read(self, number):
+        self.test_block(number)
+        for copies in (self.copies, self.committing):
+            if number in copies:
+                return copies[number]
+        return self.pending[number][1] if number in self.pending else self.device.read("home", number)
+
+    def request(self, ticket):
+        if ticket.tid == self.number:
+            self.is_locked = True
+
+    def turn(self):
+        if self.calls:
+            call, *words = self.calls.pop(0)
+            call(*words)
+            return "step" if self.calls else self.finish()
+        if not self.is_locked:
+            return "idle"
+        if any(handle.is_open for handle in self.handles):
+            return "waiting"
+        return self.seal()
+
+    def seal(self):
+        """Seals the running transaction, and lists the device calls of its commit."""
+        device, tid, position = self.device, self.number, self.ends[self.number - 1]
+        if need(len(self.copies), device.size) > self.ring - (position - self.ends[self.released]):
+            raise Refused("11 NeedSpace")
+        *blocks, commit_block = text_of(tid, self.copies, device.size, self.superblock[0x30:0x40])
+        if word(self.superblock, 0x1C) == 0:
+            self.calls = [(self.write_superblock, tid, self.place(position)), (device.flush, "log")]
+        for i, block in enumerate(blocks):
+            self.calls.append((device.write, "log", self.place(position + i), block))
+        end = position + len(blocks)
+        self.calls += [(device.flush, "log"), (device.write, "log", self.place(end), commit_block), (device.flush, "log")]
+        self.ends[tid] = end + 1
+        self.sealed.append((tid, self.copies))
+        self.committing = self.copies
+        self.number, self.copies, self.handles, self.is_locked = tid + 1, {}, [], False
+        return f"sealed {tid}"
+
+    def finish(self):
+        self.mark += 1
+        for number, block in self.committing.items():
+            self.pending[number] = (self.mark, block)
+            self.is_home.discard(number)
+        self.committing = {}
+        return f"committed {self.mark}"
+
+    def write_superblock(self, sequence, start):
+        self.superblock = with_start(self.superblock, sequence, start)
+        self.device.write("log", 0, self.superblock)
+
+    def check_turn(self):
+        if not self.round:
+            if self.released == self.mark:
+                return "idle"
+            self.bound = self.mark
+            start = self.place(self.ends[self.bound])
+            self.round = [(self.device.flush, "home"), (self.write_superblock, self.bound + 1, start), (self.device.flush, "log")]
+        left = [(tid, number) for number, (tid, _) in self.pending.items() if tid <= self.bound and number not in self.is_home]
+        if left:
+            _, number = min(left)
+            self.is_home.add(number)
+            self.device.write("home", number, self.pending[number][1])
+            return "step"
+        call, *words = self.round.pop(0)
+        call(*words)
+        return "step" if self.round else self.release()
+
+    def release(self):
+        self.released = self.bound
+        self.pending = {number: copy for number, copy in self.pending.items() if copy[0] > self.bound}
+        self.is_home &= set(self.pending)
+        return f"released {self.bound}"
+
+
+# ---- a run
+
+
+class Run:
+    """A run of a script up to its stop: its lines, and what has to be known to judge it."""
+
+    def __init__(self, text, stop=None):
+        self.script = {**DEFAULTS, **json.loads(text)}
+        counts = {"log": self.script["length"], "home": self.script["home"]}
+        self.device = Device(self.script["block"], counts, {"log": {0: formatted(self.script)}, "home": {}}, stop)
+        self.journal = Journal(self.device)
+        self.names, self.lines, self.shown = {}, [], 0
+        for operation in self.script["ops"]:
+            self.lines.append(self.line(operation))
+            if self.lines[-1].endswith("refused 2 Device"):
+                break
+        self.lines.append(f"stopped {stop}" if self.device.is_stopped else "stopped at end")
+
+    def line(self, operation):
+        name, *words = operation
+        left = " ".join(map(str, operation[:3]))
+        if words and name != "start" and self.names[words[0]] is None:
+            return f"{left} = skipped"
+        try:
+            return f"{left} = {getattr(self, 'do_' + name)(*words)}"
+        except Stopped:
+            return f"{left} = refused 2 Device"
+        except Refused as refused:
+            return f"{left} = refused {refused}"
+
+    def do_start(self, name, credits):
+        self.names[name] = None
+        self.names[name] = self.journal.start(credits)
+        return self.names[name].tid
+
+    def do_write(self, name, number, data):
+        self.journal.write(self.names[name], number, bytes.fromhex(data).ljust(self.device.size, b"\0"))
+        return "ok"
+
+    def do_read(self, _, number):
+        return self.journal.read(number)[:8].hex()
+
+    def do_stop(self, name):
+        self.names[name].is_open = False
+        return self.names[name].tid
+
+    def do_request(self, name):
+        self.journal.request(self.names[name])
+        return "ok"
+
+    def do_turn(self):
+        return self.journal.turn()
+
+    def do_commit(self):
+        while self.journal.turn() not in ("idle", "waiting"):
+            pass
+        return self.journal.mark
+
+    def do_ckturn(self):
+        return self.journal.check_turn()
+
+    def do_check(self):
+        while self.journal.check_turn() != "idle":
+            pass
+        return "idle"
+
+    def do_status(self, name):
+        return "committed" if self.show(name) else "open"
+
+    def do_wait(self, name):
+        return self.names[name].tid if self.show(name) else "open"
+
+    def show(self, name):
+        """Whether the transaction of a ticket is committed; the greatest that is shown so is noted."""
+        tid = self.names[name].tid
+        if tid <= self.journal.mark:
+            self.shown = max(self.shown, tid)
+        return tid <= self.journal.mark
+
+
+class Outcome:
+    """What comes of a run: all its lines, and its image before the openings and behind them."""
+
+    def __init__(self, run, keep, stop2=None, keep2=()):
+        self.run, self.image = run, run.device.image(keep)
+        log = self.image.blocks("log")
+        self.line, _, self.writes, _ = opening(log, self.image.counts["home"])
+        self.next = number_behind("next=", self.line)
+        self.n = sum(tid < self.next - 1 for tid, _ in run.journal.sealed)
+        self.lines = run.lines + dump_lines(log)
+        self.left, follows_on = self.open_image(stop2, keep2)
+        self.named = sorted({operation[2] for operation in run.script["ops"] if operation[0] in ("write", "read")})
+        for number in self.named_blocks():
+            self.lines.append(f"home {number} {self.home(number)[:8].hex()}")
+        self.lines.append(f"verdict {'ok' if follows_on and self.is_right() else 'false'}")
+
+    def open_image(self, stop2, keep2):
+        """Adds the lines of the openings; answers the device that they leave, and whether a second one follows on the first."""
+        device = self.image.image((), stop2)
+        try:
+            open_device(device)
+            self.lines.append(opening_line("open", self.line, self.n))
+            return device.image(()), True
+        except Stopped:
+            device = device.image(keep2)
+            line = open_device(device)
+            self.lines += [f"stopped again {stop2}", opening_line("reopen", line, self.n)]
+            return device.image(()), number_behind("next=", line) - ("clean" in line) == self.next
+
+    def named_blocks(self):
+        return [number for number in self.named if number < self.image.counts["home"]]
+
+    def home(self, number):
+        return self.left.flushed["home"].get(number, bytes(self.image.size))
+
+    def is_right(self):
+        """Whether n and the named blocks are as the record asks."""
+        sealed = self.run.journal.sealed
+        if not sum(tid <= self.run.shown for tid, _ in sealed) <= self.n <= len(sealed):
+            return False
+        copies = {number: block for _, copies in sealed[: self.n] for number, block in copies.items()}
+        return all(self.home(number) == copies.get(number, bytes(self.image.size)) for number in self.named_blocks())
+
+    def recovered(self):
+        """The line of `jbench recover` of the image, and what it leaves."""
+        _, home, _, superblock = opening(self.image.blocks("log"), self.image.counts["home"])
+        flushed = self.image.flushed
+        flushed = {"log": {**flushed["log"], 0: superblock}, "home": {**flushed["home"], **home}}
+        return self.line, Device(self.image.size, self.image.counts, flushed)
+
+
+def number_behind(name, line):
+    return int(line.partition(name)[2].split()[0])
+
+
+def opening_line(name, line, n):
+    """A run's line for an opening, from that of `recover`."""
+    found = line.removeprefix("recovered ").partition(" transactions=")[0]
+    return f"{name} {found} n={n}"
+
+
+def open_device(device):
+    """Makes the device calls of an opening, and answers its line."""
+    line, home, writes, superblock = opening(device.blocks("log"), device.counts["home"])
+    device.flush("log")
+    if writes:
+        for number, copy in home.items():
+            device.write("home", number, copy)
+        device.flush("home")
+        device.write("log", 0, superblock)
+        device.flush("log")
+    return line
+
+
+def dump_lines(log):
+    size, length, first, due, start = (word(log[0], at) for at in (0x0C, 0x10, 0x14, 0x18, 0x1C))
+    lines = [f"super blocksize={size} maxlen={length} first={first} sequence={due} start={start}"]
+    if start == 0:
+        return lines + [f"empty sequence={due}"]
+    ring, taken, begin, of_due = length - first, 0, due, []
+    place = lambda position: first + (start - first + position) % ring
+    while taken < ring:
+        block = log[place(taken)]
+        if not has_magic(block) or word(block, 8) != due or word(block, 4) not in (DESCRIPTOR, COMMIT):
+            break
+        if word(block, 4) == COMMIT:
+            lines += of_due + [f"{place(taken)} commit {due}"]
+            taken, of_due, due = taken + 1, [], due + 1
+            continue
+        tags = tags_of(block, 2**32)
+        if taken + 1 + len(tags) > ring:
+            break
+        of_due.append(f"{place(taken)} descriptor {due} tags={len(tags)}")
+        for i, (number, is_escaped) in enumerate(tags, taken + 1):
+            of_due.append(f"{place(i)} copy {due} block={number}" + " escaped" * is_escaped)
+        taken += 1 + len(tags)
+    return lines + [f"end sequence={due} transactions={due - begin}"]
+
+
+# ---- words
+
+
+def main():
+    path, *words = sys.argv[1:]
+    options = dict(zip(words[::2], words[1::2]))
+    number = lambda name: int(options[name]) if name in options else None
+    numbers = lambda name: [int(text) for text in options.get(name, "").split(",") if text]
+    run = Run(Path(path).read_text(), number("--stop"))
+    print("\n".join(Outcome(run, numbers("--keep"), number("--stop2"), numbers("--keep2")).lines))
+
+
+if __name__ == "__main__":
+    main()
