@@ -30,7 +30,7 @@ class Refused(Exception):
 
 
 class Device:
-    """Two areas of blocks behind a volatile cache. Its writes are numbered from 1; that of the number `stop` fails, and all behind."""
+    """Two areas of blocks behind a volatile cache. Writes are numbered from 1; the one of the number `stop` fails, and all behind it."""
 
     def __init__(self, size, counts, flushed, stop=None):
         self.size, self.counts, self.stop = size, counts, stop

@@ -3,6 +3,7 @@
 
 usage: runs.py [--program PATH] [COUNT] [SEED]             runs of so many random scripts (default: 200 from seed 1)
        runs.py [--program PATH] --e2fsck [COUNT] [SEED]    images of such runs, recovered by e2fsck (default: 40 from seed 1)
+       runs.py [--program PATH] --kernel [COUNT] [SEED]    the same by the running kernel
 
 The model is run_model.py, which shares nothing with the journal. Each script is run to its end, with stops at random writes, and
 one in six with a stop at each write; the writes that an image keeps are drawn too. Of one image in three the opening is stopped as
@@ -10,12 +11,13 @@ well, and of some at each of its writes. Now and then the image also goes to two
 `jbench dump` has to print what the run printed of the log, and `jbench recover` has to end as the run's own opening does and to
 leave the model's bytes. One script in twenty is made a bad one, which has to be refused before anything runs.
 
-With --e2fsck the blocks of an image's log are put into the journal of an ext4 file system, and those of its home area in the place
-of blocks that no file has. e2fsck then brings home what the log has; these blocks have to read as the model says, and no block
-but those of the journal and the file system's superblock may have changed.
+With --e2fsck and --kernel the blocks of an image's log are put into the journal of an ext4 file system, and those of its home area
+in the place of blocks that no file has. e2fsck, or the kernel that mounts the file system, then brings home what the log has, and
+these blocks have to read as the model says. By e2fsck no other block may change, but those of the journal and the file system's
+superblock. The kernel takes no log of fewer than 1024 blocks, so the scripts are made for that length; it needs root.
 
 At the first difference the script, the options and both texts are printed, and nothing more is run (exit status 1). The program is
-`./jbench`, which is built first, or the one at PATH. Run it by hand; --e2fsck needs e2fsprogs (mke2fs, debugfs, e2fsck).
+`./jbench`, which is built first, or the one at PATH. Run it by hand; file systems need e2fsprogs (mke2fs, debugfs, e2fsck).
 """
 import json
 import os
@@ -41,29 +43,33 @@ class RandomScript:
 
     MIXED = {"start": 5, "write": 12, "read": 4, "stop": 4, "request": 4, "turn": 8, "commit": 3, "ckturn": 6, "check": 1,
              "status": 2, "wait": 2, "transaction": 6}
-    STEADY = {"transaction": 12, "read": 1, "ckturn": 2, "check": 1, "status": 1, "wait": 1}
+    STEADY = {"transaction": 20, "read": 2, "commit": 2, "ckturn": 1, "status": 1, "wait": 1}
 
-    def __init__(self, draw, blocks=None, home=None):
+    def __init__(self, draw, blocks=None, home=None, length=None):
         self.draw, self.ops = draw, []
         is_wide = not blocks and draw.random() < 0.03
         self.size = draw.choice((1024,) * 8 + (2048, 4096))
-        self.length = draw.choice((4 * TAGS[self.size] + 40, 5 * TAGS[self.size])) if is_wide else self.draw_length()
+        self.length = length or self.draw_length(is_wide)
         self.home = home or (2 * TAGS[self.size] if is_wide else draw.choice((64, 64, 64, 1, 5, 1000)))
         self.uuid = draw.choice(("aa" * 16, draw.randbytes(16).hex(), "C03B3998" * 4))
         self.blocks = blocks or self.draw_blocks()
         self.capacity = capacity(self.size, self.length - 1)
         names = draw.sample(range(10000), draw.choice((1, 2, 3, 5)))
         self.names = dict.fromkeys(names, "new")  # then "open" or "stopped", as if each start were accepted
-        self.draw_phrases(draw.choice((self.MIXED, self.STEADY)), is_wide)
+        self.checks = draw.choice((0, 0.1, 0.1, 0.3))  # how often a round follows a transaction
+        self.draw_phrases(self.STEADY if blocks else draw.choice((self.MIXED, self.STEADY)), is_wide)
 
     def draw_phrases(self, phrases, is_wide):
         weights = [weight * self.draw.choice((0.2, 1, 1, 4)) for weight in phrases.values()]
-        for _ in range(self.draw.choice((3, 10, 30, 60))):
+        for _ in range(self.draw.choice((3, 10, 30, 60) if self.length < 1000 else (30, 300))):
             getattr(self, "draw_" + self.draw.choices(list(phrases), weights)[0])()
-            if is_wide and self.draw.random() < 0.1:
-                self.draw_transaction(self.capacity, self.draw.sample(range(self.home), self.draw_wide_count()))
+        for _ in range(self.draw.choice((1, 2, 5)) if is_wide else 0):
+            self.draw_transaction(self.capacity, self.draw.sample(range(self.home), self.draw_wide_count()))
+            getattr(self, "draw_" + self.draw.choices(list(phrases), weights)[0])()
 
-    def draw_length(self):
+    def draw_length(self, is_wide):
+        if is_wide:
+            return self.draw.choice((4 * TAGS[self.size] + 40, 5 * TAGS[self.size]))
         return self.draw.choice((17, 17, 18, 20, 24, 33, 33, 33, 40, 64, 100, self.draw.randrange(17, 300)))
 
     def draw_blocks(self):
@@ -88,7 +94,7 @@ class RandomScript:
         usual = self.draw.randrange(min(self.capacity, 7) + 1)
         if self.draw.random() < 0.05:
             return self.draw.choice((self.capacity, self.capacity + 1, 2**64 - 1))
-        return self.draw.choice((0, 1, 1, 2, usual, usual))
+        return self.draw.choice((0, 1, 2, usual, usual, usual))
 
     def add_with(self, states, operation, *words):
         """Adds an operation on a handle in one of these states, where there is one, and answers its name."""
@@ -148,11 +154,12 @@ class RandomScript:
 
     def draw_turns(self):
         """A commit, or commit turns with turns of a round between them, and perhaps a whole round."""
-        if self.draw.random() < 0.5:
+        if self.draw.random() < 0.6:
             self.ops.append(["commit"])
         else:
-            self.ops += [[self.draw.choice(("turn", "turn", "ckturn"))] for _ in range(self.draw.randrange(12))]
-        if self.draw.random() < 0.3:
+            turns = ["turn", "turn", "ckturn" if self.checks else "turn"]
+            self.ops += [[self.draw.choice(turns)] for _ in range(self.draw.randrange(14))]
+        if self.draw.random() < self.checks:
             self.ops.append(["check"])
 
     def draw_wide_count(self):
@@ -163,7 +170,7 @@ class RandomScript:
         """The script, in which a key that has its default may be missing, and a key may stand twice, of which the last counts."""
         usual = {**DEFAULTS, "ops": [["turn"]]}
         given = {"block": self.size, "length": self.length, "home": self.home, "uuid": self.uuid, "ops": self.ops}
-        keys = [key for key, value in given.items() if value != usual[key] or self.draw.random() < 0.3]
+        keys = [key for key, value in given.items() if key == "ops" or value != usual[key] or self.draw.random() < 0.3]
         self.draw.shuffle(keys)
         pairs = [(key, given[key]) for key in keys]
         if self.draw.random() < 0.1:
@@ -372,7 +379,7 @@ def compare_scripts(comparison, count, seed):
             comparison.compare(text, options, draw.random() < 1 / 10)
 
 
-# ---- e2fsck
+# ---- e2fsck and the kernel
 
 
 def command(*words, text=None, statuses=(0,)):
@@ -381,10 +388,22 @@ def command(*words, text=None, statuses=(0,)):
     return done.stdout
 
 
+def recover_by_e2fsck(image, _):
+    told = command("e2fsck", "-f", "-y", "-E", "journal_only", image, statuses=(0, 1))
+    assert "recovering journal" in told, told
+
+
+def recover_by_kernel(image, folder):
+    mounted = folder / "mounted"
+    mounted.mkdir(exist_ok=True)
+    command("mount", "-o", "loop,noinit_itable", image, mounted)
+    command("umount", mounted)
+
+
 class FileSystems:
     """File systems of so many blocks, one for each block size, with a journal of 1024 blocks that is still to be recovered."""
 
-    BLOCKS, FREE = 4096, range(3000, 3040)
+    BLOCKS, JOURNAL, FREE = 4096, 1024, range(3000, 3040)
 
     def __init__(self, folder):
         self.folder, self.made = folder, {}
@@ -396,17 +415,17 @@ class FileSystems:
             image.write_bytes(b"")
             os.truncate(image, self.BLOCKS * size)
             command("mke2fs", "-q", "-F", "-t", "ext4", "-b", size, "-O", "^metadata_csum,^64bit,^resize_inode,has_journal",
-                    "-J", f"size={size // 1024}", "-N", 64, image)
+                    "-J", f"size={self.JOURNAL * size // 2**20}", "-N", 64, image)
             command("debugfs", "-w", "-R", "feature needs_recovery", image)
-            told = command("debugfs", image, text="".join(f"bmap <8> {i}\n" for i in range(1024)))
+            told = command("debugfs", image, text="".join(f"bmap <8> {i}\n" for i in range(self.JOURNAL)))
             places = [int(line) for line in told.splitlines() if line.isdigit()]
             told = command("debugfs", "-R", f"testb {self.FREE[0]} {len(self.FREE)}", image)
-            assert len(places) == 1024 and told.count("not in use") == len(self.FREE)
+            assert len(places) == self.JOURNAL and told.count("not in use") == len(self.FREE)
             self.made[size] = blocks_of(image, size), places
         return self.made[size]
 
-    def recovered(self, log, home):
-        """The blocks of a file system with this log, and with those of this home area that no file has, once e2fsck was there."""
+    def recovered(self, log, home, recover):
+        """What these home blocks, in the place of those that no file has, become where a file system's journal is this log."""
         size = len(log[0])
         blocks, places = self.of_size(size)
         before = list(blocks)
@@ -414,44 +433,47 @@ class FileSystems:
             before[place] = block
         image = self.folder / "image"
         image.write_bytes(b"".join(before))
-        told = command("e2fsck", "-f", "-y", "-E", "journal_only", image, statuses=(0, 1))
+        recover(image, self.folder)
         behind = blocks_of(image, size)
-        if "recovering journal" not in told or word(behind[places[0]], 0x1C) != 0:
-            raise Difference(f"e2fsck recovers nothing: {told}")
-        own = {*places, *self.FREE, 1 if size == 1024 else 0}  # the last is its superblock, which says that e2fsck was there
+        assert word(behind[places[0]], 0x1C) == 0, "the log is left as it was"
+        own = {*places, *self.FREE, 1 if size == 1024 else 0}  # the last is the file system's superblock
         others = [place for place, block in enumerate(behind) if place not in own and block != before[place]]
-        if others:
+        if others and recover == recover_by_e2fsck:
             raise Difference(f"e2fsck changes the blocks {others}")
-        return behind
+        return {number: behind[number] for number in self.FREE}
 
 
-def compare_by_e2fsck(comparison, count, seed):
-    systems = FileSystems(comparison.folder)
-    for each in range(seed, seed + count):
-        draw = random.Random(each)
-        blocks = draw.sample(FileSystems.FREE, draw.choice((1, 3, 8, 20)))
-        text = RandomScript(draw, blocks, FileSystems.BLOCKS).text()
-        comparison.cases["scripts"] += 1
-        writes = Run(text).device.writes
-        for _ in range(3):
-            options = stopped_at(draw, text, draw.choice((None, draw.randrange(1, writes + 2))), writes)
-            outcome = comparison.compare(text, options, with_files=True)
-            if outcome.line.startswith("recovered"):
-                compare_recovered(comparison, systems, outcome, f"script: {text}\noptions: {options}")
+def compare_by(recover, length):
+    """Compares what e2fsck or the kernel makes of images with what their openings leave."""
+
+    def compare_images(comparison, count, seed):
+        systems = FileSystems(comparison.folder)
+        for each in range(seed, seed + count):
+            draw = random.Random(each)
+            blocks = draw.sample(FileSystems.FREE, draw.choice((1, 3, 8, 20)))
+            text = RandomScript(draw, blocks, FileSystems.BLOCKS, length).text()
+            comparison.cases["scripts"] += 1
+            writes = Run(text).device.writes
+            for _ in range(3):
+                options = stopped_at(draw, text, draw.choice((None, draw.randrange(1, writes + 2))), writes)
+                outcome = comparison.compare(text, options, with_files=True)
+                if outcome.line.startswith("recovered"):
+                    compare_recovered(comparison, systems, outcome, recover, f"script: {text}\noptions: {options}")
+
+    return compare_images
 
 
-def compare_recovered(comparison, systems, outcome, given):
-    """Compares what e2fsck makes of the blocks of an image with what its opening leaves."""
+def compare_recovered(comparison, systems, outcome, recover, given):
     home = outcome.image.blocks("home")
     try:
-        found = systems.recovered(outcome.image.blocks("log"), home)
+        found = systems.recovered(outcome.image.blocks("log"), home, recover)
     except Difference as difference:
         raise Difference(f"{given}\n{difference}") from None
-    others = [number for number in systems.FREE if found[number] != outcome.home(number)]
+    others = [number for number, block in found.items() if block != outcome.home(number)]
     if others:
-        raise Difference(f"{given}\nby e2fsck these blocks are others: {others}")
-    comparison.cases["recovered by e2fsck"] += 1
-    comparison.answers["blocks changed by e2fsck"] += sum(found[number] != home[number] for number in systems.FREE)
+        raise Difference(f"{given}\nby others these blocks are not as the model says: {others}")
+    comparison.cases["recovered by others"] += 1
+    comparison.answers["blocks that others brought home"] += sum(block != home[number] for number, block in found.items())
 
 
 # ---- words
@@ -466,7 +488,9 @@ def main():
         subprocess.run([program, "--help"], capture_output=True)
     comparing, usual = compare_scripts, 200
     if words[:1] == ["--e2fsck"]:
-        comparing, usual, words = compare_by_e2fsck, 40, words[1:]
+        comparing, usual, words = compare_by(recover_by_e2fsck, None), 40, words[1:]
+    elif words[:1] == ["--kernel"]:
+        comparing, usual, words = compare_by(recover_by_kernel, FileSystems.JOURNAL), 40, words[1:]
     count, seed = [int(text) for text in words] + [usual, 1][len(words) :]
     with tempfile.TemporaryDirectory() as folder:
         comparison = Comparison(program, Path(folder))
