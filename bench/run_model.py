@@ -30,7 +30,7 @@ class Refused(Exception):
 
 
 class Device:
-    """Two areas of blocks behind a volatile cache. Writes are numbered from 1; the one of the number `stop` fails, and all behind it."""
+    """Two areas of blocks behind a volatile cache. Writes count from 1; the one of number `stop` fails, as do all later calls."""
 
     def __init__(self, size, counts, flushed, stop=None):
         self.size, self.counts, self.stop = size, counts, stop
@@ -95,15 +95,14 @@ def text_of(tid, copies, size, uuid):
     """The log blocks of a transaction that copies these home blocks: descriptors, each before its copies, and a commit block."""
     blocks, left = [], list(copies.items())
     while left:
-        descriptor, stored = words_of([MAGIC, DESCRIPTOR, tid]), []
-        while left and size - len(descriptor) >= 24:
+        descriptor, stored, is_last = words_of([MAGIC, DESCRIPTOR, tid]), [], False
+        while not is_last:
             number, copy = left.pop(0)
-            flags = SAME_UUID if stored else 0
-            if has_magic(copy):
-                flags, copy = flags | ESCAPED, bytes(4) + copy[4:]
-            stored.append(copy)
-            last = LAST_TAG if not left or size - len(descriptor) - (8 if flags & SAME_UUID else 24) < 24 else 0
-            descriptor += words_of([number, flags | last]) + (b"" if flags & SAME_UUID else uuid)
+            more = b"" if stored else uuid
+            is_last = not left or size - len(descriptor) - 8 - len(more) < 24
+            flags = (SAME_UUID if stored else 0) + (LAST_TAG if is_last else 0) + (ESCAPED if has_magic(copy) else 0)
+            descriptor += words_of([number, flags]) + more
+            stored.append(bytes(4) + copy[4:] if has_magic(copy) else copy)
         blocks += [descriptor.ljust(size, b"\0")] + stored
     return blocks + [words_of([MAGIC, COMMIT, tid]).ljust(size, b"\0")]
 

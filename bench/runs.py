@@ -61,10 +61,9 @@ class RandomScript:
 
     def draw_phrases(self, phrases, is_wide):
         weights = [weight * self.draw.choice((0.2, 1, 1, 4)) for weight in phrases.values()]
-        for _ in range(self.draw.choice((3, 10, 30, 60) if self.length < 1000 else (30, 300))):
-            getattr(self, "draw_" + self.draw.choices(list(phrases), weights)[0])()
         for _ in range(self.draw.choice((1, 2, 5)) if is_wide else 0):
             self.draw_transaction(self.capacity, self.draw.sample(range(self.home), self.draw_wide_count()))
+        for _ in range(self.draw.choice((3, 10, 30, 60) if self.length < 1000 else (30, 600))):
             getattr(self, "draw_" + self.draw.choices(list(phrases), weights)[0])()
 
     def draw_length(self, is_wide):
@@ -147,7 +146,10 @@ class RandomScript:
             return
         if blocks is None:
             blocks = self.draw.choices(self.blocks, k=max(min(credits, 9) + self.draw.choice((-1, 0, 0, 0, 0, 2)), 0))
-        self.ops += [["write", name, number, self.draw_data()] for number in blocks]
+        for number in blocks:
+            if self.draw.random() < 0.15:
+                self.ops.append(["read", name, self.draw.choice(self.blocks)])
+            self.ops.append(["write", name, number, self.draw_data()])
         self.ops += [["stop", name], ["request", name]]
         self.names[name] = "stopped"
         self.draw_turns()
