@@ -38,9 +38,10 @@ const PROGRAM: Usage = Usage {
     name: "jbench",
     about: "Runs scripts of journal operations over a disk in memory that loses power and judges what is left; makes, prints and recovers logs",
     after_help: "\
-run SCRIPT [--stop K] [--keep LIST] [--stop2 K] [--keep2 LIST] [--image-log PATH --image-home PATH]: SCRIPT is a file, K a write
-number from 1 on (default: the device stops at the end, and the opening does not stop), LIST write numbers with commas (default:
-none), PATH a file that gets what the stop left. jbench run --help says what a script is.
+run SCRIPT [--stop K | --fail K] [--keep LIST] [--stop2 K] [--keep2 LIST] [--image-log PATH --image-home PATH]: SCRIPT is a file, K
+a write number from 1 on (default: the device stops at the end, and the opening does not stop), or with --fail the number of a call
+that fails, LIST write numbers with commas (default: none), PATH a file that gets what the stop left. jbench run --help says what a
+script is.
 format LOG HOME [--block B] [--length M] [--home N] [--uuid DIGITS]: two files become an empty log of M blocks (default: 33) and
 a home area of N zero blocks (default: 64), of B bytes each (default: 1024).
 dump LOG: prints the log in a file.
@@ -57,9 +58,10 @@ const RUN: Usage = Usage {
     name: "run",
     about: "Runs a script, stops the device, opens what the stop left, and judges it",
     after_help: "\
-The device is formatted and opened before the first operation; its writes are numbered from 1 after that. The image has of
-each block the greatest unflushed write that --keep names, else what was flushed last. A refused operation prints its
-refusal, and counts as done.
+The device is formatted and opened before the first operation; its writes and its calls are numbered from 1 after that. The
+image has of each block the greatest unflushed write that --keep names, else what was flushed last. A refused operation prints
+its refusal, and counts as done. The script ends with the first operation that is refused because the device failed, but with
+--fail it goes on: call K fails and does nothing, and from then on the journal refuses operations with 'refused 3 Aborted'.
 
 With --stop2 the opening of the image is stopped at its own write K, counted from 1, and keeps of its unflushed writes those of
 --keep2. That is opened once more, and judged by what the image had. An opening that makes fewer writes is not stopped.
@@ -101,6 +103,12 @@ Example: jbench run examples/one_write.json --stop 4 --keep 4",
             value: "K",
             is_option: true,
             help: "Stop the device at write K, at least 1 [default: at the end]",
+        },
+        Word {
+            name: "fail",
+            value: "K",
+            is_option: true,
+            help: "Let call K of the device fail, at least 1: reads, writes and flushes count; not with --stop",
         },
         Word {
             name: "keep",
@@ -273,6 +281,8 @@ pub struct FormatWords<'a> {
 pub struct RunWords<'a> {
     /// The script's file.
     pub script: &'a str,
+    /// The call of the run that fails, if one is told.
+    pub failing_call: Option<u64>,
     /// The stop of the run.
     pub run: StopWords,
     /// The stop of the opening of what the run left.
@@ -310,9 +320,10 @@ impl StopWords {
 }
 
 impl RunWords<'_> {
-    /// Where the run and the opening stop.
+    /// Where the run and the opening stop, and which call of the run fails.
     pub fn stops(&self) -> Stops<'_> {
         Stops {
+            failing_call: self.failing_call,
             run: self.run.stop(),
             opening: self.opening.stop(),
         }
@@ -402,6 +413,10 @@ fn list_of(alloc: Global, text: &str) -> Result<Option<Vec<u64>>, AllocError> {
 enum Wanted {
     /// A write number behind `--stop`.
     WriteNumber,
+    /// The number of a call behind `--fail`.
+    CallNumber,
+    /// Only one of `--stop` and `--fail`.
+    StopOrFail,
     /// Write numbers with commas behind `--keep`.
     WriteNumbers,
     /// A write number behind `--stop2`.
@@ -434,6 +449,8 @@ impl From<AllocError> for Wanted {
 fn line_of(wanted: Wanted) -> &'static str {
     match wanted {
         Wanted::WriteNumber => "invalid value for '--stop <K>': a number from 1 on is wanted",
+        Wanted::CallNumber => "invalid value for '--fail <K>': a number from 1 on is wanted",
+        Wanted::StopOrFail => "the argument '--stop <K>' cannot be used with '--fail <K>'",
         Wanted::WriteNumbers => {
             "invalid value for '--keep <LIST>': write numbers with commas are wanted"
         }
@@ -453,12 +470,20 @@ fn line_of(wanted: Wanted) -> &'static str {
     }
 }
 
+/// The kind of the fault that says what is wanted.
+fn kind_of(wanted: Wanted) -> ErrorKind {
+    match wanted {
+        Wanted::StopOrFail => ErrorKind::ArgumentConflict,
+        _ => ErrorKind::ValueValidation,
+    }
+}
+
 /// The fault that says what is wanted.
 fn fault_of(program: &mut Command<'_>, wanted: Wanted) -> Error {
     match wanted {
         Wanted::Memory => Error::from(AllocError),
         _ => program
-            .error(ErrorKind::ValueValidation, line_of(wanted))
+            .error(kind_of(wanted), line_of(wanted))
             .unwrap_or_else(Error::from),
     }
 }
@@ -517,11 +542,22 @@ fn image_words<'a>(matches: &ArgMatches<'a>) -> Result<Option<ImageWords<'a>>, W
     }
 }
 
+/// The call that `run` is told to let fail, where it is told no stop.
+fn failing_call(matches: &ArgMatches<'_>) -> Result<Option<u64>, Wanted> {
+    let call = number_of(matches, "fail", (1, u64::MAX), Wanted::CallNumber)?;
+    if call.is_some() && matches.get_str("stop").is_some() {
+        return Err(Wanted::StopOrFail);
+    }
+    Ok(call)
+}
+
 /// What `run` is told.
 fn run_words<'a>(alloc: Global, matches: &ArgMatches<'a>) -> Result<RunWords<'a>, Wanted> {
+    let run = run_stop(alloc, matches)?;
     Ok(RunWords {
         script: matches.get_str("script").unwrap_or(""),
-        run: run_stop(alloc, matches)?,
+        failing_call: failing_call(matches)?,
+        run,
         opening: opening_stop(alloc, matches)?,
         image: image_words(matches)?,
     })

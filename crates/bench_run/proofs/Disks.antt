@@ -7,14 +7,14 @@ use Rattle.journal_model.specs.Disk.{Cell, Disk, flushed}
 use Rattle.journal_model.specs.Superblock.{Shape, Super, formatted_super, greatest_length, super_in}
 use Rattle.block_device.specs.Memory.{MemState, crashed, durable, kept_value, state_of, unflushed}
 use Rattle.block_device.specs.State.{DeviceState}
-use Rattle.block_device.specs.Stop.{stopping}
+use Rattle.block_device.specs.declared.fail.FailOnce.{FailOnce}
 use Rattle.block_device.specs.declared.stop.StopAt.{StopAt}
 use Rattle.journal_world.specs.Opening.{IsOpening}
 use Rattle.journal_world.specs.Sound.{durable_cell}
 use Rattle.log_format.proofs.Formatted.{formatted_says}
 use Rattle.recovery.specs.Opening.{IsFormatted}
-use Rattle.bench_run.specs.Disks.{IsEmptyLog}
-use Rattle.bench_run.specs.Told.{IsZeroHome}
+use Rattle.bench_client.specs.Told.{IsZeroHome}
+use Rattle.bench_run.specs.Disks.{IsEmptyLog, disk_behind, run_state}
 
 -- a crash that keeps no write leaves what was flushed
 kept-none : (v : List ℕ) (ws : List (ℕ × List ℕ)) → kept_value [] v ws ≡ v
@@ -56,10 +56,8 @@ opened-zero old new superblock next empty is shape =
     let still : new.disk ≡ flushed old.disk Log = is.untouched empty.clean in
     λ b. ap (λ (d : Disk). d Home b) still ∙ empty.home b ∙ ap (λ (s : Shape). durable_cell (replicate s.block_size 0)) (sym shape)
 
--- a device that stops has the disk of the one behind it
-pub empty-stopping : (left : MemState) (device : StopAt MemState) (k : ℕ) → device ≡ record { device = left; left = k; stopped = false; faults = 0; calls = 0 } → IsEmptyLog (state_of left)
-    → IsEmptyLog (stopping state_of device)
-empty-stopping left device k is empty =
-    let inside : device.device ≡ left = ap (λ (s : StopAt MemState). s.device) is in
-    let moved : IsEmptyLog (state_of device.device) = subst (λ (m : MemState). IsEmptyLog (state_of m)) (sym inside) empty in
+-- the device of a run has the disk of the one behind it
+pub empty-run : (disk : MemState) (device : FailOnce (StopAt MemState)) → disk_behind device ≡ disk → IsEmptyLog (state_of disk) → IsEmptyLog (run_state device)
+empty-run disk device is empty =
+    let moved : IsEmptyLog (state_of (disk_behind device)) = subst (λ (m : MemState). IsEmptyLog (state_of m)) (sym is) empty in
     record { home = moved.home; clean = moved.clean }

@@ -17,8 +17,8 @@ use Rattle.log_epochs.specs.OpeningRun.IsMoment.{At, Fault, Unread}
 use Rattle.log_epochs.specs.OpeningRun.Reached.{Called, Tested}
 use Rattle.log_epochs.specs.OpeningSteps.{Found, OpeningCall, OpeningStage}
 use Rattle.log_epochs.specs.OpeningSteps.OpeningStage.{Copies, Done, LogFlush, SuperblockFlush, SuperblockWrite}
-use Rattle.bench_run.specs.Told.{running_world}
-use Rattle.bench_run.proofs.Telling.{leads-more}
+use Rattle.bench_client.specs.Told.{running_world}
+use Rattle.log_epochs.proofs.Leading.{leads-more}
 
 -- the world behind a stop that left this image, with this disk now, in this phase
 abbrev pub stopped_world : (opening : Disk) → Journal → Shape → (answered : List ℕ) → (pin : Image) → Disk → Phase → JournalWorld

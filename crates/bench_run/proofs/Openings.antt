@@ -6,7 +6,7 @@ use Rattle.journal_model.specs.declared.number.Area.TheVariants.{Home}
 use Rattle.journal_model.specs.Disk.{Disk, Image, reading}
 use Rattle.journal_model.specs.Opening.{OpensAs, numbered_below}
 use Rattle.journal_model.specs.Superblock.{Shape}
-use Rattle.journal_model.specs.Transaction.{History}
+use Rattle.journal_model.specs.Transaction.{History, Volume}
 use Rattle.block_device.specs.Memory.{MemState, after_calls, crashed, state_of}
 use Rattle.block_device.specs.State.{DeviceState, Stays}
 use Rattle.block_device.specs.declared.memory.Call.{Call as MemCall}
@@ -27,7 +27,7 @@ use Rattle.bench_run.specs.declared.reopening.Attempt.TheVariants.{Whole, Stoppe
 use Rattle.bench_run.specs.Copying.{IsOnlyRead}
 use Rattle.bench_run.specs.Left.{IsVerdictBy}
 use Rattle.bench_run.specs.OpenedImages.{IsOpenedImage}
-use Rattle.bench_run.specs.Reopening.{IsAttempt, IsBefore, IsOpeningVerdict, IsSecondVerdict, IsStoppedAt, IsStoppedAttempt, IsWholeAttempt}
+use Rattle.bench_run.specs.Reopening.{FollowsOn, IsAttempt, IsBefore, IsOpeningVerdict, IsSecondVerdict, IsStoppedAt, IsStoppedAttempt, IsWholeAttempt}
 use Rattle.bench_run.specs.Reopening.IsOpeningVerdict.{Once, Twice}
 use Rattle.bench_run.specs.Verdict.{IsImageVerdict, IsRight}
 use Rattle.bench_run.proofs.Judging.{HasLimit-from_tells, IsImageVerdict-from}
@@ -160,6 +160,29 @@ image-verdict sealed shown named right image opened is there right_is =
     IsImageVerdict-from sealed shown named right image opened.device opened.report.ends_at (numbered_below opened.report.ends_at sealed)
     (HasLimit-from_tells image.shape (reading (state_of image).disk) opened.report.clean opened.report.ends_at opened.report.transactions is.tells)
     is.opens is.shape_is refl there right_is
+
+-- the verdict on what a stop within an opening left, which was opened
+pub second-verdict : (sealed : History) (shown : Option ℕ) (named : List ℕ) (right : Bool) (left : MemState) (opened : OpenedImage) (first : Report)
+    → IsOpenedImage left.shape (state_of left).disk opened
+    → All (λ b. b < opened.device.shape.home_blocks) named
+    → (IsTrue right ↔ FollowsOn first.clean first.ends_at opened.report.clean opened.report.ends_at
+    × IsRight sealed shown named (numbered_below first.ends_at sealed) opened.device.shape.block_size (reading (state_of opened.device).disk Home))
+    → IsSecondVerdict left.shape (reading (state_of left).disk) first.clean first.ends_at sealed shown named right
+second-verdict sealed shown named right left opened first is there right_is =
+    let got : Volume = reading (state_of opened.device).disk Home in
+    let P : Shape → Type 0 = λ s. All (λ b. b < s.home_blocks) named × (IsTrue right ↔ FollowsOn first.clean first.ends_at opened.report.clean opened.report.ends_at
+    × IsRight sealed shown named (numbered_below first.ends_at sealed) s.block_size got) in
+    let both : P left.shape = subst P is.shape_is (there, right_is) in
+    record {
+      clean = opened.report.clean;
+      ends_at = opened.report.ends_at;
+      transactions = opened.report.transactions;
+      tells = is.tells;
+      got = got;
+      opens = is.opens;
+      there = both.0;
+      right_is = both.1;
+    }
 
 -- the verdict where the opening was not stopped
 pub verdict-once : (sealed : History) (shown : Option ℕ) (named : List ℕ) (k : ℕ) (keep : List ℕ) (right : Bool) (image mid : MemState) (opened : OpenedImage)

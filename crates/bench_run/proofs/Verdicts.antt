@@ -19,6 +19,7 @@ use Rattle.journal_world.proofs.Suffixes.{get-take}
 use Rattle.block_device.specs.Memory.{MemState, crashed, state_of}
 use Rattle.block_device.specs.State.{DeviceState}
 use Rattle.block_device.proofs.Crash.{crash_leaves_held}
+use Rattle.journal_world.proofs.Lasts.{none-both}
 use Rattle.journal_world.proofs.Promises.{opens-same}
 use Rattle.log_epochs.specs.Epoch.{Epoch}
 use Rattle.log_epochs.specs.JournalPromise.{KeepsPromise, Kept}
@@ -31,11 +32,11 @@ use Rattle.log_epochs.proofs.Moments.{moment-keeps}
 use Rattle.log_epochs.proofs.Replaying.{durable-one}
 use Rattle.recovery.specs.Opening.{Tells}
 use Rattle.bench_script.specs.declared.script.Script.{Script}
+use Rattle.bench_client.specs.Told.{IsLedTo, IsZeroHome, greatest_of, running_world, with_told}
 use Rattle.bench_run.specs.declared.stops.Stops.{Stops}
 use Rattle.bench_run.specs.Left.{IsCrashOf, IsRunTo, IsVerdictBy}
 use Rattle.bench_run.specs.Reopening.{IsOpeningVerdict, IsSecondVerdict, IsVerdictBehindStop}
 use Rattle.bench_run.specs.Reopening.IsOpeningVerdict.{Once, Twice}
-use Rattle.bench_run.specs.Told.{IsLedTo, IsZeroHome, greatest_of, running_world, with_told}
 use Rattle.bench_run.specs.Verdict.{IsAsLeft, IsImageVerdict, IsLeftBy, IsRight, owed}
 use Rattle.bench_run.proofs.Judging.{HasLimit-from_tells}
 use Rattle.bench_run.proofs.OpeningMoves.{moment-reaches, stop-reaches, stopped_world}
@@ -67,16 +68,11 @@ owed-told (Some n) ts = refl
 pub owed-answered : (answered : List ℕ) (ts : History) → owed (greatest_of answered) ts ≡ acknowledged answered ts
 owed-answered answered ts = owed-told (greatest_of answered) ts ∙ (λ i. count_by (λ (t : Transaction). told-any t.tid answered i) ts)
 
--- the last of two is none where both are
-later-none : (x y : Option Entry) → later x y ≡ None → (x ≡ None) × (y ≡ None)
-later-none x None is = (is, refl)
-later-none x (Some e) is = absurd (none-some e (sym is))
-
 -- where the last entry is none, no transaction has one
 none-each : (b : ℕ) (ts : History) (i : ℕ) (t : Transaction) → last_effect b ts ≡ None → slice_get ts i ≡ Some t → effect b t.steps ≡ None
 none-each b [] i t none at = absurd (none-some t at)
-none-each b (x ∷ xs) zero t none at = ap (λ (s : Transaction). effect b s.steps) (sym (same_Some x t at)) ∙ (later-none (effect b x.steps) (last_effect b xs) none).0
-none-each b (x ∷ xs) (suc i) t none at = none-each b xs i t (later-none (effect b x.steps) (last_effect b xs) none).1 at
+none-each b (x ∷ xs) zero t none at = ap (λ (s : Transaction). effect b s.steps) (sym (same_Some x t at)) ∙ (none-both (effect b x.steps) (last_effect b xs) none).0
+none-each b (x ∷ xs) (suc i) t none at = none-each b xs i t (none-both (effect b x.steps) (last_effect b xs) none).1 at
 
 -- bytes that stand at a block whose last entry this is, over what home held: zeros where there is none
 left-by : (e : Option Entry) (size : ℕ) (got home : List ℕ) → got ≡ bytes_of (content_of e) home → (e ≡ None → home ≡ replicate size 0) → IsLeftBy e size got
@@ -194,7 +190,7 @@ opening-right device keep sealed shown image k keep_again named right to leaves 
     twice-right device keep sealed shown image k keep_again named right to leaves crash twice
 
 -- the verdict on what a crash of the run left is ok
-by-right : (device : MemState) (keep : List ℕ) (sealed : History) (shown : Option ℕ) (image : MemState) (at_write : Option ℕ) (keep_again : List ℕ) (named : List ℕ) (right : Bool)
+pub by-right : (device : MemState) (keep : List ℕ) (sealed : History) (shown : Option ℕ) (image : MemState) (at_write : Option ℕ) (keep_again : List ℕ) (named : List ℕ) (right : Bool)
     → IsLedTo IsZeroHome (state_of device) sealed shown → IsCrashOf device keep image → IsVerdictBy at_write keep_again image sealed shown named right → right ≡ true
 by-right device keep sealed shown image None keep_again named right to crash verdict =
     once-right device keep sealed shown image named right to (crash-leaves device keep) crash verdict

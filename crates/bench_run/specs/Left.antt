@@ -10,7 +10,7 @@ use Rattle.bench_run.specs.Reopening.{IsOpeningVerdict}
 use Rattle.bench_run.specs.Verdict.{IsImageVerdict}
 use Rattle.bench_run.specs.declared.stops.Stop.{Stop}
 use Rattle.bench_run.specs.declared.stops.Stops.{Stops}
-use Rattle.bench_run.specs.Told.{IsLedTo, IsZeroHome}
+use Rattle.bench_client.specs.Told.{IsLedTo, IsZeroHome}
 
 -- the verdict on an image, by the write at which its opening stops, where one is named, and what it then keeps
 abbrev pub IsVerdictBy : Option ℕ → (keep : List ℕ) → MemState → History → Option ℕ → List ℕ → Bool → Type 0

@@ -4,8 +4,5 @@ pub mod LastEntries
 pub mod Left
 pub mod Limit
 pub mod OpenedImages
-pub mod Performed
 pub mod Reopening
-pub mod Shown
-pub mod Told
 pub mod Verdict

@@ -34,7 +34,7 @@ pub fn run_copied<D: Device>(
     ensures run { IfOk result (IsCopiedRun script.now stops.now (D.state to.new)) }
     ensures right { IfOk result (λ right. right ≡ true) }
 {
-    let ended = end_of_run(alloc, script, stops.run, out)?;
+    let ended = end_of_run(alloc, script, stops.run, stops.failing_call, out)?;
     judge_copied(alloc, ended.left, to, stops.opening, &ended.named, out)
 }
 

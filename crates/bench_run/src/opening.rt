@@ -10,8 +10,8 @@ ghost use Rattle.bench_run.specs.OpenedImages.{IsOpenedImage};
 ghost use Rattle.bench_run.specs.Verdict.{IsImageVerdict, IsRight};
 
 use crate::blocks::read_block;
-use crate::outcome::{Hex, PRINTED_BYTES};
 use crate::verdict::Record;
+use bench_client::{Hex, PRINTED_BYTES};
 use block_device::{Device, MemDevice};
 use journal_model::{Area, JournalError, Tid};
 use log_dump::Fault;
@@ -23,13 +23,13 @@ use std::io::Write;
 
 /// An image that was opened.
 #[derive(Drop)]
-pub(crate) struct OpenedImage {
+pub struct OpenedImage {
     /// The device, whose log is clean.
-    pub(crate) device: MemDevice,
+    pub device: MemDevice,
     /// What the opening found.
-    pub(crate) report: Report,
+    pub report: Report,
     /// The number that the next transaction would have.
-    pub(crate) next: Tid,
+    pub next: Tid,
 }
 
 /// Opens an image, and prints what the opening found, how the named blocks of home then begin, and the verdict.
@@ -46,8 +46,13 @@ pub(crate) fn judge_image(
     judge_opened(alloc, opened, recorded, named, out)
 }
 
-/// Prints what an opening found, how the named blocks of home then begin, and the verdict.
-pub(crate) fn judge_opened(
+/// Prints what an opening found, how the named blocks of home then begin, and the verdict, which is also the answer.
+///
+/// # Errors
+///
+/// `Fault::Refused` where memory runs out, or home lacks a named block; `Fault::Output` where the output can't be written. Some of
+/// the lines may have been written.
+pub fn judge_opened(
     alloc: Global,
     opened: OpenedImage,
     recorded: &Record,
@@ -84,7 +89,11 @@ pub(crate) fn judge_home<D: Device>(
 }
 
 /// Opens what a crash left.
-pub(crate) fn open_image(alloc: Global, image: MemDevice) -> Result<OpenedImage, JournalError>
+///
+/// # Errors
+///
+/// Those of an opening.
+pub fn open_image(alloc: Global, image: MemDevice) -> Result<OpenedImage, JournalError>
     ensures { IfOk result (IsOpenedImage image.shape (state_of image).disk) }
 {
     match open(alloc, image) {

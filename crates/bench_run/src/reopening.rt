@@ -1,9 +1,12 @@
 //! Openings that stop at one of their writes, and the verdict on what the next opening gives back.
-ghost use Rattle.std.specs.Prelude.{◌≡◌, ◌↔◌, IfOk, IsTrue};
+ghost use Rattle.std.specs.Prelude.{◌≡◌, ◌↔◌, ◌<◌, All, IfOk, IsTrue};
 ghost use Rattle.std.specs.BTreeSet.{keys};
+ghost use Rattle.journal_model.specs.declared.number.Area.TheVariants.{Home};
 ghost use Rattle.journal_model.specs.Disk.{reading};
+ghost use Rattle.journal_model.specs.Opening.{numbered_below};
 ghost use Rattle.block_device.specs.Memory.{state_of};
 ghost use Rattle.bench_run.specs.Reopening.{FollowsOn, IsAttempt, IsOpeningVerdict, IsSecondVerdict, IsStoppedAttempt, IsWholeAttempt};
+ghost use Rattle.bench_run.specs.Verdict.{IsRight};
 
 use crate::limit::report_of;
 use crate::opening::{
@@ -20,7 +23,7 @@ use std::io::Write;
 
 /// What came of an opening over a device that stops at one of its writes.
 #[derive(Drop)]
-pub(crate) enum Attempt {
+pub enum Attempt {
     /// It ended before that write.
     Whole(OpenedImage),
     /// The device stopped, and this is left of it, with its cache.
@@ -52,8 +55,12 @@ pub(crate) fn judge_stopped_opening(
     }
 }
 
-/// Opens an image over a device that stops at write `k`.
-fn open_to(alloc: Global, image: MemDevice, k: u64) -> Result<Attempt, JournalError>
+/// Opens an image over a device that stops at write `k` of the opening, counted from 1.
+///
+/// # Errors
+///
+/// Those of an opening, where it failed before that write.
+pub fn open_to(alloc: Global, image: MemDevice, k: u64) -> Result<Attempt, JournalError>
     ensures { IfOk result (IsAttempt (state_of image) k) }
 {
     match open(alloc, StopAt::new(image, k)) {
@@ -105,6 +112,29 @@ fn judge_second(
     ensures { IfOk result (IsSecondVerdict left.shape (reading (state_of left).disk) first.clean first.ends_at recorded.now.sealed.items recorded.now.acknowledged (keys named.now)) }
 {
     let opened = open_image(alloc, left)?;
+    judge_reopened(alloc, opened, first, recorded, named, out)
+}
+
+/// Prints what a second opening found, where this stood in the image that was opened first, how the named blocks of home then
+/// begin, and the verdict, which is also the answer.
+///
+/// # Errors
+///
+/// `Fault::Refused` where memory runs out, or home lacks a named block; `Fault::Output` where the output can't be written. Some of
+/// the lines may have been written.
+pub fn judge_reopened(
+    alloc: Global,
+    opened: OpenedImage,
+    first: Report,
+    recorded: &Record,
+    named: &BTreeSet<u64>,
+    out: &mut impl Write,
+) -> Result<bool, Fault>
+    ensures { IfOk result (λ right. All (λ b. b < opened.device.shape.home_blocks) (keys named.now) × (IsTrue right ↔
+        FollowsOn first.clean first.ends_at opened.report.clean opened.report.ends_at
+        × IsRight recorded.now.sealed.items recorded.now.acknowledged (keys named.now) (numbered_below first.ends_at recorded.now.sealed.items)
+        opened.device.shape.block_size (reading (state_of opened.device).disk Home))) }
+{
     let n = recorded.count_below(first.ends_at);
     write_opening(out, "reopen", opened.report, opened.next, n)?;
     let mut device = opened.device;

@@ -1,23 +1,21 @@
-//! A script's operations over a device that stops, and then the verdict on what openings give back.
+//! A script's operations over a device that stops, or of which a call fails, and then the verdict on what openings give back.
 ghost use Rattle.std.specs.Prelude.{◌≡◌, ℕ, [], IfOk, true};
 ghost use Rattle.std.specs.BTreeSet.{keys};
 ghost use Rattle.journal_model.specs.declared.number.Area.{Area};
 ghost use Rattle.block_device.specs.Memory.{crashed, state_of, writes_of};
-ghost use Rattle.block_device.specs.Stop.{stopping};
+ghost use Rattle.bench_client.specs.Told.{IsLedTo, IsZeroHome};
+ghost use Rattle.bench_run.specs.Disks.{run_state};
 ghost use Rattle.bench_run.specs.Left.{IsEndOf, IsLeftVerdict, IsRunOf};
-ghost use Rattle.bench_run.specs.Told.{IsLedTo, IsZeroHome};
 ghost use Rattle.bench_run.specs.Verdict.{IsVerdict};
 
-use crate::client::{HomeFact, ZeroHome};
-use crate::disk::empty_log;
-use crate::interpreter::Interpreter;
+use crate::disk::{RunDevice, empty_log};
 use crate::opening::judge_image;
-use crate::outcome::Outcome;
 use crate::reopening::judge_stopped_opening;
 use crate::stops::{Stop, Stops};
 use crate::verdict::Record;
+use bench_client::{AfterFailure, HomeFact, Performed, ZeroHome, perform};
 use bench_script::{Operation, Script};
-use block_device::{MemDevice, StopAt};
+use block_device::MemDevice;
 use journal_model::JournalError;
 use log_dump::{Fault, dump};
 use recovery::Opened;
@@ -72,8 +70,9 @@ impl Stopped {
 }
 
 /// Runs a script over a device in memory, and prints a line for each operation, the dump of what the stop left, and the
-/// verdict on what openings of that give back, which is also the answer. The writes of the run are numbered from 1 once the device
-/// is formatted and opened, and those of the opening from 1 again.
+/// verdict on what openings of that give back, which is also the answer. The writes and the calls of the run are numbered from 1
+/// once the device is formatted and opened, and the writes of the opening from 1 again. Where a call is to fail the script goes on
+/// behind it; else it ends with the first operation that the device refuses.
 ///
 /// # Errors
 ///
@@ -88,7 +87,7 @@ pub fn run(
     ensures run { IfOk result (IsRunOf script.now stops.now) }
     ensures right { IfOk result (λ right. right ≡ true) }
 {
-    let ended = end_of_run(alloc, script, stops.run, out)?;
+    let ended = end_of_run(alloc, script, stops.run, stops.failing_call, out)?;
     judge_left(alloc, ended.left, stops.opening, &ended.named, out)
 }
 
@@ -111,6 +110,7 @@ pub(crate) fn end_of_run(
     alloc: Global,
     script: &Script,
     stop: Stop<'_>,
+    failing_call: Option<u64>,
     out: &mut impl Write,
 ) -> Result<Ended, Fault>
     ensures { IfOk result (λ ended. IsEndOf script.now stop.entry ended.left.image ended.left.recorded.sealed.items ended.left.recorded.acknowledged (keys ended.named)) }
@@ -119,14 +119,15 @@ pub(crate) fn end_of_run(
         Ok(named) => named,
         Err(e) => return Err(Fault::Refused(JournalError::from(e))),
     };
-    let stopped = run_operations(alloc, script, stop.at_write, out)?;
+    let stopped = run_operations(alloc, script, stop.at_write, failing_call, out)?;
     Ok(Ended {
         left: stopped.crash(stop.keep),
         named,
     })
 }
 
-/// Runs a script's operations over a device in memory that stops at write `stop`, or at the end, and prints a line for each.
+/// Runs a script's operations over a device in memory that stops at write `stop`, or at the end, and prints a line for each. Where
+/// `failing_call` is a call, that one fails, and the operations behind it are performed too.
 ///
 /// # Errors
 ///
@@ -136,12 +137,18 @@ pub fn run_operations(
     alloc: Global,
     script: &Script,
     stop: Option<u64>,
+    failing_call: Option<u64>,
     out: &mut impl Write,
 ) -> Result<Stopped, Fault>
     ensures { IfOk result (λ stopped. IsLedTo IsZeroHome (state_of stopped.device) stopped.recorded.sealed.items stopped.recorded.acknowledged) }
 {
-    let opened = empty_log(alloc, &script.measures, stop)?;
-    run_operations_over::<ZeroHome>(alloc, opened, &script.operations, stop, out)
+    let after = if failing_call.is_some() {
+        AfterFailure::GoOn
+    } else {
+        AfterFailure::End
+    };
+    let opened = empty_log(alloc, &script.measures, stop, failing_call)?;
+    run_operations_over::<ZeroHome>(alloc, opened, &script.operations, after, stop, out)
 }
 
 /// Runs operations over an opened log in memory, of whose disk `H` is known, and prints a line for each. The device stops at write
@@ -153,55 +160,31 @@ pub fn run_operations(
 /// written.
 pub fn run_operations_over<H: HomeFact>(
     alloc: Global,
-    opened: Opened<StopAt<MemDevice>>,
+    opened: Opened<RunDevice>,
     operations: &[Operation],
+    after: AfterFailure,
     stop: Option<u64>,
     out: &mut impl Write,
 ) -> Result<Stopped, Fault>
-    requires { H.holds (stopping state_of opened.device).shape (stopping state_of opened.device).disk }
+    requires { H.holds (run_state opened.device).shape (run_state opened.device).disk }
     ensures { IfOk result (λ stopped. IsLedTo H.holds (state_of stopped.device) stopped.recorded.sealed.items stopped.recorded.acknowledged) }
 {
-    let mut interpreter = Interpreter::<H>::new(alloc, opened)?;
-    let performed = perform_all(&mut interpreter, operations, out);
-    let stopped = stopped_of(interpreter, stop);
-    match performed {
-        Ok(()) => Ok(stopped),
-        Err(e) => Err(Fault::Output(e)),
-    }
-}
-
-/// Performs operations up to the first that the device refuses, and prints a line for each.
-fn perform_all<H: HomeFact>(
-    interpreter: &mut Interpreter<H>,
-    operations: &[Operation],
-    out: &mut impl Write,
-) -> io::Result<()> {
-    for operation in operations {
-        let outcome = interpreter.perform(operation);
-        writeln!(out, "{operation} = {outcome}")?;
-        if matches!(outcome, Outcome::Refused(JournalError::Device)) {
-            break;
-        }
-    }
-    Ok(())
+    let performed = perform::<RunDevice, H>(alloc, opened, operations, after, out)?;
+    Ok(stopped_of::<H>(performed, stop))
 }
 
 /// What the performed operations leave.
-fn stopped_of<H: HomeFact>(interpreter: Interpreter<H>, stop: Option<u64>) -> Stopped
+fn stopped_of<H: HomeFact>(performed: Performed<RunDevice>, stop: Option<u64>) -> Stopped
+    requires { IsLedTo H.holds (run_state performed.device) performed.sealed.items performed.acknowledged }
     ensures { IsLedTo H.holds (state_of result.device) result.recorded.sealed.items result.recorded.acknowledged }
 {
-    let (parts, acknowledged) = interpreter.finish();
-    let at_write = if parts.device.is_stopped() {
-        stop
-    } else {
-        None
-    };
+    let device = performed.device.into_inner();
     Stopped {
-        at_write,
-        device: parts.device.into_inner(),
+        at_write: if device.is_stopped() { stop } else { None },
+        device: device.into_inner(),
         recorded: Record {
-            sealed: parts.sealed,
-            acknowledged,
+            sealed: performed.sealed,
+            acknowledged: performed.acknowledged,
         },
     }
 }

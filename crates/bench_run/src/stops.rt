@@ -1,4 +1,4 @@
-//! Where devices stop.
+//! Where devices stop, and which call of a run fails.
 
 /// Where a device stops, and what it then keeps.
 #[derive(Clone, Copy, Debug)]
@@ -9,9 +9,11 @@ pub struct Stop<'a> {
     pub keep: &'a [u64],
 }
 
-/// Where a run stops, and where the opening of what it left does.
+/// What is done to the device of a run, and to that of the opening of what the run left.
 #[derive(Clone, Copy, Debug)]
 pub struct Stops<'a> {
+    /// The call of the run that fails and does nothing, counted from 1 among its reads, writes and flushes, if there is one.
+    pub failing_call: Option<u64>,
     /// The stop of the run: where no write is named, or fewer are made, it comes at the end.
     pub run: Stop<'a>,
     /// The stop of the opening: where no write is named, or fewer are made, there is none.

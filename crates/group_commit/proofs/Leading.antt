@@ -6,14 +6,10 @@ use Rattle.journal_world.specs.Journal.{Event, Happens, Journal}
 use Rattle.log_epochs.specs.EngineWorld.{Phase, World}
 use Rattle.log_epochs.specs.EngineWorld.Move.{CloseStep, CloseFault, GiveUp}
 use Rattle.log_epochs.specs.EngineWorld.Phase.{Closed, Running, Shut}
-use Rattle.log_epochs.specs.JournalWorld.{JournalWorld, Leads, Move}
 use Rattle.log_epochs.specs.JournalWorld.Move.{Step, Below}
+use Rattle.log_epochs.proofs.Leading.{leads-behind}
 use Rattle.log_engine.specs.Close.{ClosesBy}
 use Rattle.group_commit.specs.Close.{ComesTo, world_with}
-
-leads-behind : (a b c : JournalWorld) (ms ns : List Move) → Leads a ms b → Leads b ns c → Leads a (ms ++ ns) c
-leads-behind a b c [] ns one two = subst (λ (w : JournalWorld). Leads w ns c) one two
-leads-behind a b c (m ∷ ms) ns one two = (one.0, one.1, leads-behind one.0 b c ms ns one.2 two)
 
 -- none
 pub comes-nowhere : (j : Journal) (disk : Disk) → ComesTo j disk j disk Running

@@ -37,7 +37,7 @@ none-entered b ss es are none m =
     none-some made.0 (sym none ∙ made.1)
 
 -- where the later of two is nothing, both are
-none-both : (x y : Option Entry) → later x y ≡ None → (x ≡ None) × (y ≡ None)
+pub none-both : (x y : Option Entry) → later x y ≡ None → (x ≡ None) × (y ≡ None)
 none-both x None none = (none, refl)
 none-both x (Some f) none = absurd (none-some f (sym none))
 

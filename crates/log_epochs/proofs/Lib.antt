@@ -8,6 +8,7 @@ pub mod Homes
 pub mod JournalSteps
 pub mod Journals
 pub mod Keeping
+pub mod Leading
 pub mod Lives
 pub mod Moments
 pub mod ReplayMoments

@@ -23,6 +23,7 @@ fn no_stop(alloc: Global) -> StopWords {
 fn words(alloc: Global) -> RunWords<'static> {
     RunWords {
         script: "a.json",
+        failing_call: None,
         run: no_stop(alloc),
         opening: no_stop(alloc),
         image: None,

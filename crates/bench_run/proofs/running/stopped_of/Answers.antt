@@ -1,5 +1,9 @@
-use Rattle.bench_run.proofs.Telling.{led-inside}
+use Rattle.std.proofs.Common.{◌∙◌, ap}
+use Rattle.block_device.specs.Stop.{inner_of}
+use Rattle.bench_run.proofs.Ends.{led-behind}
 use Rattle.bench_run.proofs.running.stopped_of.Goals as goal
 
 pub returns : goal.returns
-returns g c = led-inside g.H.HomeFact.holds c.finish-parts.result.0.sealed.items c.finish-parts.result.1 c.finish-parts.result.0.device c.into_inner.result c.into_inner.ensures c.finish-parts.ensures
+returns g c =
+    led-behind g.H.HomeFact.holds c.args.performed.sealed.items c.args.performed.acknowledged c.args.performed.device c.into_inner.result
+    (c.into_inner.ensures ∙ ap inner_of c.into_inner-device.ensures) c.requires

@@ -1,0 +1,3 @@
+pub mod Performed
+pub mod Shown
+pub mod Told

@@ -1,0 +1,34 @@
+-- What the operations of a script do to a journal.
+use Rattle.std.specs.Prelude.{◌≡◌, ⊤, ℕ, ◌-◌, ◌++◌, List, length, replicate, take}
+use Rattle.block_device.specs.State.{DeviceState}
+use Rattle.bench_script.specs.declared.script.Operation.{Operation}
+use Rattle.bench_script.specs.declared.script.Operation.TheVariants.{Start, Write, Read, Stop, Request, Turn, Commit, CheckpointTurn, Check, Status, Wait}
+use Rattle.journal_world.specs.Front.FrontEvent.{WriteBlock}
+use Rattle.journal_world.specs.Journal.Event.{FrontStep}
+use Rattle.group_commit.specs.Journal.{Does}
+use Rattle.group_commit.specs.Values.{JournalValue}
+use Rattle.bench_client.specs.declared.outcome.Outcome.{Outcome}
+use Rattle.bench_client.specs.declared.outcome.Outcome.TheVariants.{Done}
+
+-- a block of so many bytes: these, at most one block of them, and zeros behind them
+abbrev pub block_from : ℕ → List ℕ → List ℕ
+block_from size bytes = take size bytes ++ replicate (size - length bytes) 0
+
+-- a handle wrote the block, with these bytes and zeros behind them
+pub record WritesBlock {D : Type 0} (state : D → DeviceState) (block : ℕ) (bytes : List ℕ) (old new : JournalValue D) : Type 0 where
+  pub handle : ℕ
+  pub writes : Does state old (FrontStep (WriteBlock handle block (block_from (state old.device).shape.block_size bytes))) new
+
+-- a write of a script that came to 'ok' was one
+abbrev pub HasDone : {D : Type 0} → (D → DeviceState) → Operation → Outcome → JournalValue D → JournalValue D → Type 0
+HasDone state (Write name block bytes) outcome old new = outcome ≡ Done → WritesBlock state block bytes.items old new
+HasDone state (Start name credits) outcome old new = ⊤
+HasDone state (Read name block) outcome old new = ⊤
+HasDone state (Stop name) outcome old new = ⊤
+HasDone state (Request name) outcome old new = ⊤
+HasDone state Turn outcome old new = ⊤
+HasDone state Commit outcome old new = ⊤
+HasDone state CheckpointTurn outcome old new = ⊤
+HasDone state Check outcome old new = ⊤
+HasDone state (Status name) outcome old new = ⊤
+HasDone state (Wait name) outcome old new = ⊤

@@ -1,0 +1,254 @@
+//! The client of a journal: it calls it, and records what it is shown.
+ghost use Rattle.std.specs.Prelude.{◌≡◌, ◌≤◌, length, OnOk};
+ghost use Rattle.journal_model.specs.Disk.{Disk};
+ghost use Rattle.journal_model.specs.Superblock.{Shape};
+ghost use Rattle.journal_world.specs.Front.FrontEvent.{WriteBlock};
+ghost use Rattle.journal_world.specs.Journal.Event.{FrontStep};
+ghost use Rattle.group_commit.specs.Journal.{Does};
+
+use block_device::Device;
+use group_commit::{
+    CheckTurn, Credits, Handle, Journal, Parts, Receipt, Seat, Status, Ticket, Turn,
+};
+use journal_model::{BlockNo, JournalError, Tid};
+use recovery::Opened;
+use std::alloc::Global;
+use std::marker::{Model, PhantomData};
+
+/// What is known of the disk on which a run begins.
+pub trait HomeFact {
+    /// A fact about the measures of a device, and about its disk as the opening of its log left it.
+    ghost holds: { Shape → Disk → Type 0 };
+}
+
+/// Nothing is known.
+pub struct AnyHome;
+
+impl HomeFact for AnyHome {
+    ghost holds = { λ shape disk. Unit {0} };
+}
+
+/// Every block of home is zeros, durably.
+pub struct ZeroHome;
+
+impl HomeFact for ZeroHome {
+    ghost use Rattle.bench_client.specs.Told.{IsZeroHome};
+
+    ghost holds = { IsZeroHome };
+}
+
+/// A journal on a device, and what its client was shown.
+#[derive(Drop)]
+pub struct Client<D: Device, H: HomeFact> {
+    journal: Journal<D>,
+    seat: Seat,
+    /// The greatest transaction that a wait or a status answered committed.
+    acknowledged: Option<Tid>,
+    of: PhantomData<H>,
+}
+
+impl<D: Device, H: HomeFact> Model for Client<D, H> {
+    ghost use Rattle.bench_client.specs.Told.{ClientValue, HasLedTo};
+
+    ghost Value = { ClientValue D };
+
+    ghost view = { λ c. record { journal = c.journal; shown = c.acknowledged } };
+
+    ghost invariant = { λ c. HasLedTo H.holds c.journal.journal (D.state c.journal.device) c.acknowledged };
+}
+
+/// What a wait came to.
+pub enum Waited {
+    /// The transaction is committed.
+    Committed(Receipt),
+    /// It is not: the ticket comes back.
+    Open(Ticket),
+    /// The wait is refused: the ticket comes back.
+    Refused(Ticket, JournalError),
+}
+
+impl<D: Device + Drop, H: HomeFact> Client<D, H> {
+    ghost use Rattle.bench_client.specs.Shown.{IsNoted, IsShown};
+    ghost use Rattle.bench_client.specs.Told.{IsLedTo, with_told};
+
+    /// A client of a new journal on an opened log, who was shown nothing.
+    ///
+    /// # Errors
+    ///
+    /// `Memory`.
+    pub fn new(alloc: Global, opened: Opened<D>) -> Result<Self, JournalError>
+        requires honest { D.honest opened.device }
+        requires fact { H.holds (D.state opened.device).shape (D.state opened.device).disk }
+    {
+        match Journal::new(alloc, opened) {
+            Ok((journal, seat)) => Ok(Client {
+                journal,
+                seat,
+                acknowledged: None,
+                of: PhantomData,
+            }),
+            Err((_, e)) => Err(e),
+        }
+    }
+
+    /// How many bytes a block has.
+    pub fn block_size(&self) -> usize
+        ensures { result ≡ (D.state self.now.journal.device).shape.block_size }
+    {
+        self.journal.block_size()
+    }
+
+    /// Grants credits.
+    ///
+    /// # Errors
+    ///
+    /// `TooMany` and `Full`.
+    pub fn reserve(&mut self, credits: u64) -> Result<Credits, JournalError> {
+        self.journal.reserve(&mut self.seat, credits)
+    }
+
+    /// Takes back credits that no handle was made of.
+    pub fn give_back(&mut self, credits: Credits) {
+        self.journal.give_back(credits);
+    }
+
+    /// Makes a handle of these credits.
+    ///
+    /// # Errors
+    ///
+    /// Those of a join: the credits come back.
+    pub fn try_join(&mut self, credits: Credits) -> Result<Handle, (Credits, JournalError)> {
+        self.journal.try_join(credits)
+    }
+
+    /// Writes a block through a handle.
+    ///
+    /// # Errors
+    ///
+    /// Those of a write: nothing changes.
+    pub fn write(
+        &mut self,
+        handle: &mut Handle,
+        block: BlockNo,
+        bytes: &[u8],
+    ) -> Result<(), JournalError>
+        requires { length bytes.now ≡ (D.state self.old.journal.device).shape.block_size }
+        ensures { OnOk result (Does D.state self.old.journal (FrontStep (WriteBlock handle.old.number block bytes.now)) self.new.journal) }
+    {
+        self.journal.write(handle, block, bytes)
+    }
+
+    /// Reads a block through a handle.
+    ///
+    /// # Errors
+    ///
+    /// Those of a read.
+    pub fn read(
+        &mut self,
+        handle: &mut Handle,
+        block: BlockNo,
+        into: &mut [u8],
+    ) -> Result<(), JournalError>
+        requires { length into.old ≡ (D.state self.old.journal.device).shape.block_size }
+        ensures { length into.new ≡ length into.old }
+    {
+        self.journal.read(handle, block, into)
+    }
+
+    /// Ends a handle.
+    pub fn stop(&mut self, handle: Handle) -> Ticket {
+        self.journal.stop(handle)
+    }
+
+    /// Asks for the commit of a ticket's transaction.
+    ///
+    /// # Errors
+    ///
+    /// `Aborted`.
+    pub fn request(&mut self, ticket: &Ticket) -> Result<(), JournalError> {
+        self.journal.request(ticket)
+    }
+
+    /// Takes one commit turn.
+    ///
+    /// # Errors
+    ///
+    /// Those of a commit turn.
+    pub fn commit_turn(&mut self) -> Result<Turn, JournalError> {
+        self.journal.commit_turn()
+    }
+
+    /// Takes one checkpoint turn.
+    ///
+    /// # Errors
+    ///
+    /// Those of a checkpoint turn.
+    pub fn checkpoint_turn(&mut self) -> Result<CheckTurn, JournalError> {
+        self.journal.checkpoint_turn()
+    }
+
+    /// The last transaction that is told to be committed.
+    pub fn mark(&self) -> Tid {
+        self.journal.mark()
+    }
+
+    /// Whether a ticket's transaction is committed. Where it is, that is noted.
+    pub fn status(&mut self, ticket: &Ticket) -> Status
+        ensures { IsShown result ticket.now.tid self.old.shown self.new.shown }
+    {
+        let status = self.journal.status(ticket, &mut self.seat);
+        if matches!(status, Status::Committed) {
+            self.acknowledge(ticket.tid());
+        }
+        status
+    }
+
+    /// Takes the receipt of a committed transaction, which is noted. Of any other nothing is awaited.
+    pub fn wait(&mut self, ticket: Ticket) -> Waited
+        ensures { IsNoted result self.old.shown self.new.shown }
+    {
+        match self.journal.status(&ticket, &mut self.seat) {
+            Status::Committed => self.wait_for(ticket),
+            Status::Open => Waited::Open(ticket),
+        }
+    }
+
+    /// Takes the receipt for the ticket of a committed transaction.
+    fn wait_for(&mut self, ticket: Ticket) -> Waited
+        requires { ticket.tid ≤ self.old.journal.journal.front.mark }
+        ensures { IsNoted result self.old.shown self.new.shown }
+    {
+        match self.journal.wait(ticket, &mut self.seat) {
+            Ok(receipt) => {
+                self.acknowledge(receipt.tid());
+                Waited::Committed(receipt)
+            }
+            Err((ticket, e)) => Waited::Refused(ticket, e),
+        }
+    }
+
+    /// Notes that a transaction was shown committed.
+    fn acknowledge(&mut self, tid: Tid)
+        requires { tid ≤ self.old.journal.journal.front.mark }
+        ensures journal { self.new.journal ≡ self.old.journal }
+        ensures shown { self.new.shown ≡ with_told tid self.old.shown }
+    {
+        self.acknowledged = match self.acknowledged {
+            Some(other) => Some(Tid(other.0.max(tid.0))),
+            None => Some(tid),
+        };
+    }
+
+    /// Ends the journal: its device with what was sealed, and the greatest transaction that was shown committed.
+    pub fn finish(self) -> (Parts<D>, Option<Tid>)
+        ensures { IsLedTo H.holds (D.state result.0.device) result.0.sealed.items result.1 }
+    {
+        let Client {
+            journal,
+            seat: _,
+            acknowledged,
+            of: PhantomData,
+        } = self;
+        (journal.into_parts(), acknowledged)
+    }
+}

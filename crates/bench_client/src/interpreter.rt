@@ -1,0 +1,347 @@
+//! Runs the operations of a script on a journal.
+ghost use Rattle.std.specs.Prelude.{◌≡◌, ◌++◌, IfOk, OnOk, drop, length, min, take};
+ghost use Rattle.bench_client.specs.Performed.{block_from};
+
+use crate::client::{Client, HomeFact, Waited};
+use crate::outcome::{Outcome, PRINTED_BYTES};
+use crate::slots::{Slot, Slots};
+use bench_script::{HandleName, Operation};
+use block_device::Device;
+use group_commit::{CheckTurn, Credits, Handle, Parts, Status, Ticket, Turn};
+use journal_model::{BlockNo, JournalError, Tid};
+use recovery::Opened;
+use std::alloc::{AllocError, Global};
+
+/// More turns than a commit can take: each is the seal or one device call, and there are few more of these than ring blocks,
+/// of which a log has fewer than 1,048,576.
+const MOST_TURNS: u32 = 2_000_000;
+
+/// The client of a journal, and what the names of a script stand for.
+#[derive(Drop)]
+pub struct Interpreter<D: Device, H: HomeFact> {
+    alloc: Global,
+    client: Client<D, H>,
+    slots: Slots,
+    /// Whether an operation was refused because the device failed, so that the journal is aborted.
+    aborted: bool,
+}
+
+/// Copies bytes to the front of others, as many as both have.
+fn copy_front(to: &mut [u8], from: &[u8])
+    ensures { to.new ≡ take (min (length to.old) (length from.now)) from.now ++ drop (min (length to.old) (length from.now)) to.old }
+{
+    let n = to.len().min(from.len());
+    to[..n].copy_from_slice(&from[..n]);
+}
+
+/// How these bytes begin.
+fn front_of(bytes: &[u8]) -> [u8; PRINTED_BYTES] {
+    let mut begins = [0; PRINTED_BYTES];
+    copy_front(&mut begins, bytes);
+    begins
+}
+
+/// A block of `size` bytes: these, at most one block of them, and zeros behind them.
+fn block_of(alloc: Global, size: usize, bytes: &[u8]) -> Result<Vec<u8>, AllocError>
+    ensures { IfOk result (λ block. block.items ≡ block_from size bytes.now) }
+{
+    let mut block = vec![in alloc; 0; size]?;
+    copy_front(&mut block, bytes);
+    Ok(block)
+}
+
+impl<D: Device + Drop, H: HomeFact> Interpreter<D, H> {
+    ghost use Rattle.bench_client.specs.Performed.{HasDone, WritesBlock};
+    ghost use Rattle.bench_client.specs.Told.{IsLedTo};
+    ghost use Rattle.bench_client.specs.declared.outcome.Outcome.TheVariants.{Done};
+
+    /// An interpreter on an opened log.
+    ///
+    /// # Errors
+    ///
+    /// Memory runs out.
+    pub fn new(alloc: Global, opened: Opened<D>) -> Result<Self, JournalError>
+        requires honest { D.honest opened.device }
+        requires fact { H.holds (D.state opened.device).shape (D.state opened.device).disk }
+    {
+        let slots = Slots::new(alloc)?;
+        match Client::new(alloc, opened) {
+            Ok(client) => Ok(Interpreter {
+                alloc,
+                client,
+                slots,
+                aborted: false,
+            }),
+            Err(e) => Err(e),
+        }
+    }
+
+    /// Runs one operation.
+    pub fn perform(&mut self, operation: &Operation) -> Outcome
+        ensures { HasDone D.state operation.now result self.old.client.journal self.new.client.journal }
+    {
+        let outcome = self.outcome_of(operation);
+        if matches!(outcome, Outcome::Refused(JournalError::Device)) {
+            self.aborted = true;
+        }
+        outcome
+    }
+
+    /// Runs one operation, and tells what it came to.
+    fn outcome_of(&mut self, operation: &Operation) -> Outcome
+        ensures { HasDone D.state operation.now result self.old.client.journal self.new.client.journal }
+    {
+        match operation {
+            Operation::Start(name, credits) => self.start(*name, *credits),
+            Operation::Write(name, block, bytes) => self.write(*name, *block, bytes),
+            Operation::Read(name, block) => self.read(*name, *block),
+            Operation::Stop(name) => self.stop(*name),
+            Operation::Request(name) => self.request(*name),
+            Operation::Turn => self.turn(),
+            Operation::Commit => self.commit(),
+            Operation::CheckpointTurn => self.checkpoint_turn(),
+            Operation::Check => self.check(),
+            Operation::Status(name) => self.status(*name),
+            Operation::Wait(name) => self.wait(*name),
+        }
+    }
+
+    /// Stops all open handles and ends the journal: its device with its record, and the greatest transaction that was shown
+    /// committed.
+    pub fn finish(self) -> (Parts<D>, Option<Tid>)
+        ensures { IsLedTo H.holds (D.state result.0.device) result.0.sealed.items result.1 }
+    {
+        let Interpreter {
+            alloc: _,
+            mut client,
+            slots,
+            aborted: _,
+        } = self;
+        for slot in slots.into_slots() {
+            if let Slot::Open(handle) = slot {
+                let _ = client.stop(handle);
+            }
+        }
+        client.finish()
+    }
+
+    /// Starts a handle. Where it is refused the name stands for nothing.
+    fn start(&mut self, name: HandleName, credits: u64) -> Outcome {
+        match self.join(credits) {
+            Ok(handle) => {
+                let tid = handle.tid();
+                self.slots.put(name, Slot::Open(handle));
+                Outcome::Transaction(tid)
+            }
+            Err(e) => {
+                self.slots.put(name, Slot::Empty);
+                Outcome::Refused(e)
+            }
+        }
+    }
+
+    /// Reserves credits and makes a handle of them.
+    fn join(&mut self, credits: u64) -> Result<Handle, JournalError> {
+        match self.client.reserve(credits) {
+            Ok(credits) => self.join_with(credits),
+            Err(e) => Err(e),
+        }
+    }
+
+    /// Makes a handle of these credits; where that is refused they are given back.
+    fn join_with(&mut self, credits: Credits) -> Result<Handle, JournalError> {
+        match self.client.try_join(credits) {
+            Ok(handle) => Ok(handle),
+            Err((credits, e)) => {
+                self.client.give_back(credits);
+                Err(e)
+            }
+        }
+    }
+
+    /// Writes these bytes, with zeros behind them.
+    fn write(&mut self, name: HandleName, block: BlockNo, bytes: &[u8]) -> Outcome
+        ensures { result ≡ Done → WritesBlock D.state block bytes.now self.old.client.journal self.new.client.journal }
+    {
+        match self.slots.take(name) {
+            Slot::Open(mut handle) => {
+                let answer = self.write_block(&mut handle, block, bytes);
+                self.slots.put(name, Slot::Open(handle));
+                match answer {
+                    Ok(()) => Outcome::Done,
+                    Err(e) => Outcome::Refused(e),
+                }
+            }
+            other => {
+                self.slots.put(name, other);
+                Outcome::Skipped
+            }
+        }
+    }
+
+    /// Writes a block of these bytes, with zeros behind them.
+    fn write_block(
+        &mut self,
+        handle: &mut Handle,
+        block: BlockNo,
+        bytes: &[u8],
+    ) -> Result<(), JournalError>
+        ensures { OnOk result (WritesBlock D.state block bytes.now self.old.client.journal self.new.client.journal) }
+    {
+        let bytes = block_of(self.alloc, self.client.block_size(), bytes)?;
+        self.client.write(handle, block, &bytes)
+    }
+
+    /// Reads a block through a handle.
+    fn read(&mut self, name: HandleName, block: BlockNo) -> Outcome {
+        match self.slots.take(name) {
+            Slot::Open(mut handle) => {
+                let answer = self.read_block(&mut handle, block);
+                self.slots.put(name, Slot::Open(handle));
+                match answer {
+                    Ok(bytes) => Outcome::Begins(bytes),
+                    Err(e) => Outcome::Refused(e),
+                }
+            }
+            other => {
+                self.slots.put(name, other);
+                Outcome::Skipped
+            }
+        }
+    }
+
+    /// How a block begins that a handle reads.
+    fn read_block(
+        &mut self,
+        handle: &mut Handle,
+        block: BlockNo,
+    ) -> Result<[u8; PRINTED_BYTES], JournalError> {
+        let mut bytes = vec![in self.alloc; 0; self.client.block_size()]?;
+        self.client.read(handle, block, &mut bytes)?;
+        Ok(front_of(&bytes))
+    }
+
+    /// Stops a handle.
+    fn stop(&mut self, name: HandleName) -> Outcome {
+        match self.slots.take(name) {
+            Slot::Open(handle) => {
+                let ticket = self.client.stop(handle);
+                let tid = ticket.tid();
+                self.slots.put(name, Slot::Stopped(ticket));
+                Outcome::Transaction(tid)
+            }
+            other => {
+                self.slots.put(name, other);
+                Outcome::Skipped
+            }
+        }
+    }
+
+    /// Asks for a commit. The transaction of a receipt is committed already, so nothing is left to ask the journal for.
+    fn request(&mut self, name: HandleName) -> Outcome {
+        match self.slots.get(name) {
+            Some(Slot::Stopped(ticket)) => match self.client.request(ticket) {
+                Ok(()) => Outcome::Done,
+                Err(e) => Outcome::Refused(e),
+            },
+            Some(Slot::Waited(_)) => self.unless_aborted(Outcome::Done),
+            _ => Outcome::Skipped,
+        }
+    }
+
+    /// Takes one commit turn.
+    fn turn(&mut self) -> Outcome {
+        match self.client.commit_turn() {
+            Ok(turn) => Outcome::Turn(turn),
+            Err(e) => Outcome::Refused(e),
+        }
+    }
+
+    /// Takes one checkpoint turn.
+    fn checkpoint_turn(&mut self) -> Outcome {
+        match self.client.checkpoint_turn() {
+            Ok(turn) => Outcome::CheckTurn(turn),
+            Err(e) => Outcome::Refused(e),
+        }
+    }
+
+    /// Takes checkpoint turns until one has nothing to do.
+    fn check(&mut self) -> Outcome {
+        for _ in 0..MOST_TURNS {
+            match self.client.checkpoint_turn() {
+                Ok(CheckTurn::Idle) => break,
+                Ok(CheckTurn::Step | CheckTurn::Released(_)) => {}
+                Err(e) => return Outcome::Refused(e),
+            }
+        }
+        Outcome::CheckTurn(CheckTurn::Idle)
+    }
+
+    /// Takes commit turns until one has nothing to do.
+    fn commit(&mut self) -> Outcome {
+        for _ in 0..MOST_TURNS {
+            match self.client.commit_turn() {
+                Ok(Turn::Idle | Turn::Waiting) => break,
+                Ok(Turn::Step | Turn::Sealed(_) | Turn::Committed(_)) => {}
+                Err(e) => return Outcome::Refused(e),
+            }
+        }
+        Outcome::Transaction(self.client.mark())
+    }
+
+    /// Says whether a transaction is committed. That of a receipt is, as was noted when it was taken.
+    fn status(&mut self, name: HandleName) -> Outcome {
+        match self.slots.get(name) {
+            Some(Slot::Stopped(ticket)) => match self.client.status(ticket) {
+                Status::Committed => Outcome::Committed,
+                Status::Open => Outcome::Open,
+            },
+            Some(Slot::Waited(_)) => Outcome::Committed,
+            _ => Outcome::Skipped,
+        }
+    }
+
+    /// Takes the receipt of a committed transaction. Of any other nothing is awaited.
+    fn wait(&mut self, name: HandleName) -> Outcome {
+        match self.slots.take(name) {
+            Slot::Stopped(ticket) => self.wait_for(name, ticket),
+            Slot::Waited(receipt) => {
+                let tid = receipt.tid();
+                self.slots.put(name, Slot::Waited(receipt));
+                self.unless_aborted(Outcome::Transaction(tid))
+            }
+            other => {
+                self.slots.put(name, other);
+                Outcome::Skipped
+            }
+        }
+    }
+
+    /// Takes the receipt for a ticket, where its transaction is committed.
+    fn wait_for(&mut self, name: HandleName, ticket: Ticket) -> Outcome {
+        match self.client.wait(ticket) {
+            Waited::Committed(receipt) => {
+                let tid = receipt.tid();
+                self.slots.put(name, Slot::Waited(receipt));
+                Outcome::Transaction(tid)
+            }
+            Waited::Open(ticket) => {
+                self.slots.put(name, Slot::Stopped(ticket));
+                Outcome::Open
+            }
+            Waited::Refused(ticket, e) => {
+                self.slots.put(name, Slot::Stopped(ticket));
+                Outcome::Refused(e)
+            }
+        }
+    }
+
+    /// What is told of a receipt that was taken before: this, or what the journal answers of every ticket once it is aborted.
+    fn unless_aborted(&self, outcome: Outcome) -> Outcome {
+        if self.aborted {
+            Outcome::Refused(JournalError::Aborted)
+        } else {
+            outcome
+        }
+    }
+}
