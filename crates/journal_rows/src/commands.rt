@@ -1,6 +1,4 @@
 //! Rows of the commands of `jbench`, over readers, writers and devices in memory.
-use crate::scripts::measures_text;
-use crate::texts::{numbers_in, written};
 use bench_commands::fault::Status;
 use bench_commands::watched::Unwatched;
 use bench_commands::words::{FormatWords, RecoverWords, RunWords, StopWords, Words, answer, parse};
@@ -8,6 +6,8 @@ use bench_commands::{logs, run};
 use block_device::MemDevice;
 use format_rows::RowError;
 use format_rows::words::cut;
+use run_rows::scripts::measures_text;
+use run_rows::texts::{numbers_in, written};
 use std::alloc::{AllocError, Global};
 use std::fmt::Write;
 
@@ -116,10 +116,16 @@ fn told(alloc: Global, words: &Words<'_>) -> Result<String, RowError> {
 /// What words tell `run`.
 fn told_run(alloc: Global, words: &RunWords<'_>) -> Result<String, AllocError> {
     let mut text = format!(in alloc; "run {}", words.script)?;
+    if let Some(call) = words.failing_call {
+        write!(text, ", fail {call}")?;
+    }
     write_stop(&mut text, &words.run)?;
     if words.opening.at_write.is_some() || !words.opening.keep.is_empty() {
         text.push_str(", opening")?;
         write_stop(&mut text, &words.opening)?;
+    }
+    if let Some(image) = &words.image {
+        write!(text, ", image {} {}", image.log, image.home)?;
     }
     Ok(text)
 }

@@ -1,5 +1,5 @@
 //! What may be done with a row, by the name of its kind.
-use crate::{changed, closes, commands, scripts, stops, verdicts};
+use crate::commands;
 use format_rows::RowError;
 use std::alloc::Global;
 
@@ -11,6 +11,9 @@ pub fn found(alloc: Global, kind: &str, given: &str) -> Option<Found> {
     if let Some(found) = found_of_run(alloc, kind, given) {
         return Some(found);
     }
+    if let Some(found) = found_of_command(alloc, kind, given) {
+        return Some(found);
+    }
     if let Some(found) = found_of_log(alloc, kind, given) {
         return Some(found);
     }
@@ -20,22 +23,30 @@ pub fn found(alloc: Global, kind: &str, given: &str) -> Option<Found> {
     found_of_format(alloc, kind, given)
 }
 
-/// What is found of a row on runs, scripts and words.
+/// What is found of a row on runs and scripts.
 fn found_of_run(alloc: Global, kind: &str, given: &str) -> Option<Found> {
     match kind {
-        "bytes" => Some(changed::bytes(alloc, given)),
-        "changed" => Some(changed::changed(alloc, given)),
-        "closes" => Some(closes::closes(alloc, given)),
+        "bytes" => Some(run_rows::changed::bytes(alloc, given)),
+        "changed" => Some(run_rows::changed::changed(alloc, given)),
+        "closes" => Some(run_rows::closes::closes(alloc, given)),
+        "failures" => Some(run_rows::failures::failures(alloc, given)),
+        "interrupted_closes" => Some(run_rows::closes::interrupted_closes(alloc, given)),
+        "operations" => Some(run_rows::scripts::operations(alloc, given)),
+        "script" => Some(run_rows::scripts::script(alloc, given)),
+        "stops" => Some(run_rows::stops::stops(alloc, given)),
+        "stops_of_openings" => Some(run_rows::stops::stops_of_openings(alloc, given)),
+        "verdict" => Some(run_rows::verdicts::verdict(alloc, given)),
+        _ => None,
+    }
+}
+
+/// What is found of a row on the commands of `jbench` and its words.
+fn found_of_command(alloc: Global, kind: &str, given: &str) -> Option<Found> {
+    match kind {
         "format" => Some(commands::format(alloc, given)),
         "help" => Some(commands::help(alloc, given)),
-        "interrupted_closes" => Some(closes::interrupted_closes(alloc, given)),
-        "operations" => Some(scripts::operations(alloc, given)),
         "recover" => Some(commands::recover(alloc, given)),
         "run" => Some(commands::run(alloc, given)),
-        "script" => Some(scripts::script(alloc, given)),
-        "stops" => Some(stops::stops(alloc, given)),
-        "stops_of_openings" => Some(stops::stops_of_openings(alloc, given)),
-        "verdict" => Some(verdicts::verdict(alloc, given)),
         "words" => Some(commands::words(alloc, given)),
         _ => None,
     }
@@ -62,6 +73,7 @@ fn found_of_log(alloc: Global, kind: &str, given: &str) -> Option<Found> {
 fn found_of_opening(alloc: Global, kind: &str, given: &str) -> Option<Found> {
     match kind {
         "changed_bytes" => Some(opening_rows::changed_bytes(alloc, given)),
+        "failed_openings" => Some(opening_rows::failed_openings(alloc, given)),
         "opening_calls" => Some(opening_rows::opening_calls(alloc, given)),
         "openings" => Some(opening_rows::openings(alloc, given)),
         "random_logs" => Some(opening_rows::random_logs(alloc, given)),

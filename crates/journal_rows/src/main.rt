@@ -2,22 +2,15 @@
 //! crates, and prints for each file how many of its rows held and each row that did not.
 //!
 //! `row_file` reads a file of rows, `repetition` writes out what a row says more than once, `kinds` knows what may be done with
-//! a row, and `report` compares what is found with what is wanted. Rows of blocks, logs and openings are done by the
-//! crates `format_rows`, `log_rows` and `opening_rows`; those of runs, scripts and words by the other modules here.
+//! a row, and `report` compares what is found with what is wanted. Rows of blocks, logs, openings and runs are done by the
+//! crates `format_rows`, `log_rows`, `opening_rows` and `run_rows`; those of the commands of `jbench` and its words by `commands`.
 #![tactic(auto)]
 
-mod changed;
-mod closes;
-mod closing;
 mod commands;
 mod kinds;
 mod repetition;
 mod report;
 mod row_file;
-mod scripts;
-mod stops;
-mod texts;
-mod verdicts;
 
 use format_rows::RowError;
 use report::report_of;

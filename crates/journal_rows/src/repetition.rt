@@ -1,7 +1,7 @@
 //! What stands in a row more than once.
-use crate::texts::numbers_in;
 use format_rows::RowError;
 use format_rows::words::cut;
+use run_rows::texts::numbers_in;
 use std::alloc::Global;
 use std::fmt::Write;
 

@@ -15,5 +15,5 @@ mod told;
 
 pub use calls::opening_calls;
 pub use changes::changed_bytes;
-pub use opening::{openings, second_openings};
+pub use opening::{failed_openings, openings, second_openings};
 pub use random::random_logs;

@@ -1,12 +1,16 @@
 //! Rows of openings.
 use crate::told::{Told, add_home, report_text};
-use block_device::{Device, MemDevice};
+use block_device::{Device, FailOnce, MemDevice};
 use format_rows::RowError;
 use format_rows::telling::refusal_text;
 use journal_model::Area;
 use log_rows::logs::{Log, device_of, log_of};
 use recovery::{Opened, open};
 use std::alloc::Global;
+use std::fmt::Write;
+
+/// More calls than an opening of a row's log makes.
+const MOST_CALLS: u64 = 10_000;
 
 /// The bytes of a home block.
 fn read_home(alloc: Global, device: &mut MemDevice, block: u64) -> Result<Vec<u8>, RowError> {
@@ -28,12 +32,12 @@ fn home_text(alloc: Global, device: &mut MemDevice) -> Result<String, RowError> 
 }
 
 /// The line of an opening.
-fn opened_text(alloc: Global, opened: &Opened<MemDevice>) -> Result<String, RowError> {
+fn opened_text<D: Device>(alloc: Global, opened: &Opened<D>) -> Result<String, RowError> {
     report_text(alloc, opened.report(), u64::from(opened.next().0))
 }
 
 /// What an opening answers, and the device behind it.
-fn opened_or_refused(alloc: Global, device: MemDevice) -> Result<(String, MemDevice), RowError> {
+fn opened_or_refused<D: Device + Drop>(alloc: Global, device: D) -> Result<(String, D), RowError> {
     match open(alloc, device) {
         Ok(opened) => Ok((opened_text(alloc, &opened)?, opened.into_device())),
         Err((device, e)) => Ok((refusal_text(alloc, e)?, device)),
@@ -69,4 +73,36 @@ pub fn second_openings(alloc: Global, given: &str) -> Result<String, RowError> {
         "{}\n{}{}\nwrites {}",
         told.answer, told.again, told.home, told.writes_again
     )?)
+}
+
+/// Openings of which each call fails in turn. Given: as for `openings`. Found: each way in which they go, in the order of the
+/// calls that fail, on a line: what the opening answers, what one right behind it of the same device answers, each home block that
+/// is then not zeros, and how many writes both made. The last line is of an opening of which no call fails.
+pub fn failed_openings(alloc: Global, given: &str) -> Result<String, RowError> {
+    let log = log_of(alloc, given)?;
+    let mut all = String::new(alloc);
+    let mut before = String::new(alloc);
+    for call in 1..=MOST_CALLS {
+        let device = FailOnce::new(device_of(alloc, &log)?, call);
+        let (line, calls) = failed_opening(alloc, device)?;
+        if line.as_str() != before.as_str() {
+            writeln!(all, "{line}")?;
+        }
+        if calls < call {
+            return Ok(all);
+        }
+        before = line;
+    }
+    Err(RowError::Unread)
+}
+
+/// What an opening of a device of which a call may fail answers, what one right behind it finds, and how many calls the first
+/// one made.
+fn failed_opening(alloc: Global, device: FailOnce<MemDevice>) -> Result<(String, u64), RowError> {
+    let (first, device) = opened_or_refused(alloc, device)?;
+    let calls = device.calls();
+    let (again, mut device) = opened_or_refused(alloc, device.into_inner())?;
+    let home = home_text(alloc, &mut device)?;
+    let told = format!(in alloc; "{first}\n{again}{home}\nwrites {}", device.writes())?;
+    Ok((told.replace(alloc, "\n", ", ")?, calls))
 }

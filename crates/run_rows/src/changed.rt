@@ -3,9 +3,12 @@
 //! Bytes are spelled as in `log 3 from 8: 00000002`: these, from place 8 of block 3 of the log on. `home` names the home area.
 use crate::scripts::given_script;
 use crate::texts::{write_hex, written};
-use bench_run::{AnyHome, Fault, Stopped, empty_disk, judge, run_operations, run_operations_over};
+use bench_run::{
+    AfterFailure, AnyHome, Fault, RunDevice, Stopped, empty_disk, judge, run_device,
+    run_operations, run_operations_over,
+};
 use bench_script::{Operation, Script};
-use block_device::{Device, MemDevice, StopAt};
+use block_device::{Device, MemDevice};
 use format_rows::RowError;
 use format_rows::words::{cut, hex_bytes, number};
 use journal_model::{Area, JournalError};
@@ -56,7 +59,7 @@ fn run_changed(
     after: &str,
     out: &mut Vec<u8>,
 ) -> Result<Answer, RowError> {
-    let device = StopAt::new(changed_disk(alloc, script, before)?, 0);
+    let device = run_device(changed_disk(alloc, script, before)?, None, None);
     let answer = run_over(alloc, device, &script.operations, out);
     match answer_of(answer)? {
         Ok(stopped) => judge_changed(alloc, script, stopped, after, out),
@@ -67,20 +70,27 @@ fn run_changed(
 /// Runs operations over a device with a log, which it opens.
 fn run_over(
     alloc: Global,
-    device: StopAt<MemDevice>,
+    device: RunDevice,
     operations: &[Operation],
     out: &mut Vec<u8>,
 ) -> Result<Stopped, Fault> {
     match open(alloc, device) {
-        Ok(opened) => run_operations_over::<AnyHome>(alloc, opened, operations, None, out),
+        Ok(opened) => run_operations_over::<AnyHome>(
+            alloc,
+            opened,
+            operations,
+            AfterFailure::End,
+            None,
+            out,
+        ),
         Err((_, e)) => Err(Fault::Refused(e)),
     }
 }
 
 /// The device of a script, formatted, with these bytes.
 fn changed_disk(alloc: Global, script: &Script, lines: &str) -> Result<MemDevice, RowError> {
-    match empty_disk(alloc, &script.measures, None) {
-        Ok(disk) => with_bytes(alloc, disk.into_inner(), lines),
+    match empty_disk(alloc, &script.measures) {
+        Ok(disk) => with_bytes(alloc, disk, lines),
         Err(_) => Err(RowError::Memory),
     }
 }
@@ -204,7 +214,7 @@ pub fn bytes(alloc: Global, given: &str) -> Result<String, RowError> {
 
 /// The device behind the run of a script.
 fn device_behind(alloc: Global, script: &Script) -> Result<MemDevice, RowError> {
-    match run_operations(alloc, script, None, &mut io::sink()) {
+    match run_operations(alloc, script, None, None, &mut io::sink()) {
         Ok(stopped) => Ok(stopped.device),
         Err(_) => Err(RowError::Memory),
     }

@@ -1,6 +1,6 @@
 //! Rows of journals that are closed.
 use crate::closing::{Closed, Fault, close_after};
-use crate::stops::{Ending, in_one_line, kept, note, write_ending};
+use crate::endings::{Ending, endings_text, in_one_line, kept, note};
 use crate::texts::{numbers_in, written};
 use bench_run::{Record, Stopped, judge};
 use format_rows::RowError;
@@ -54,11 +54,8 @@ pub fn interrupted_closes(alloc: Global, given: &str) -> Result<String, RowError
         };
         add_closes(alloc, fault, steps, k, back, &mut endings)?;
     }
-    let mut all = String::new(alloc);
-    for ending in &endings {
-        write_ending(&mut all, ending, if fails { "fails" } else { "stops" })?;
-    }
-    Ok(all)
+    let places = if fails { "fails" } else { "stops" };
+    Ok(endings_text(alloc, &endings, places)?)
 }
 
 /// Adds how closes end over a device with this fault, where any of so many last writes are kept.
@@ -77,8 +74,7 @@ fn add_closes(
         let closed = close_after(alloc, fault, steps)?;
         let kept = kept(alloc, closed.device.writes(), bits)?;
         let text = ending_of(alloc, closed, &kept)?;
-        let number = format!(in alloc; "{k}")?;
-        note(alloc, endings, text, number.as_str())?;
+        note(alloc, endings, text, Some(k))?;
     }
     Ok(())
 }

@@ -1,0 +1,130 @@
+//! In which ways runs end that are interrupted at one place after another.
+use crate::scripts::given_script;
+use crate::texts::numbers_in;
+use bench_script::Script;
+use format_rows::RowError;
+use format_rows::words::cut;
+use std::alloc::{AllocError, Global};
+use std::fmt::Write;
+
+/// What a row gives.
+#[derive(Drop)]
+pub struct Given {
+    /// What is run.
+    pub script: Script,
+    /// The first and the last place at which it is interrupted.
+    pub first: u64,
+    pub last: u64,
+    /// How many of the last writes may be kept.
+    pub back: u64,
+}
+
+/// What a row gives: on a line the three numbers, and behind it the script.
+///
+/// # Errors
+///
+/// `Unread` where more than the last 8 writes may be kept, or the text is no script; `Memory`.
+pub fn given_of(alloc: Global, given: &str) -> Result<Given, RowError> {
+    let (line, text) = cut(given, "\n")?;
+    let [first, last, back] = numbers_in::<3>(line)?;
+    if back > 8 {
+        return Err(RowError::Unread);
+    }
+    Ok(Given {
+        script: given_script(alloc, text)?,
+        first,
+        last,
+        back,
+    })
+}
+
+/// A way in which runs end, and where these are interrupted.
+#[derive(Drop)]
+pub struct Ending {
+    /// What an opening finds, the named blocks, and the verdict.
+    text: String,
+    /// The first and the last place of each series of places behind which runs end so.
+    places: Vec<(u64, u64)>,
+    /// Whether a run ends so that is not interrupted.
+    is_of_end: bool,
+}
+
+/// Of the last writes up to `k` those whose bit is set, the last one's first.
+pub fn kept(alloc: Global, k: u64, bits: u64) -> Result<Vec<u64>, AllocError> {
+    let mut kept = Vec::new(alloc);
+    for back in 0..8 {
+        if bits >> back & 1 == 1 {
+            kept.push(k.saturating_sub(back))?;
+        }
+    }
+    Ok(kept)
+}
+
+/// Lines as one, with commas.
+pub fn in_one_line(alloc: Global, lines: &str) -> Result<String, AllocError> {
+    lines.trim_end().replace(alloc, "\n", ", ")
+}
+
+/// Notes that a run ends so that is interrupted there, or nowhere.
+pub fn note(
+    alloc: Global,
+    endings: &mut Vec<Ending>,
+    text: String,
+    place: Option<u64>,
+) -> Result<(), AllocError> {
+    for ending in endings.iter_mut() {
+        if ending.text.as_str() == text.as_str() {
+            return add_to(ending, place);
+        }
+    }
+    let mut ending = Ending {
+        text,
+        places: Vec::new(alloc),
+        is_of_end: false,
+    };
+    add_to(&mut ending, place)?;
+    Ok(endings.push(ending)?)
+}
+
+/// Adds a place to those of an ending.
+fn add_to(ending: &mut Ending, place: Option<u64>) -> Result<(), AllocError> {
+    match place {
+        Some(k) => add_number(&mut ending.places, k),
+        None => {
+            ending.is_of_end = true;
+            Ok(())
+        }
+    }
+}
+
+/// Adds a number to series of numbers, of which it may continue the last.
+fn add_number(series: &mut Vec<(u64, u64)>, k: u64) -> Result<(), AllocError> {
+    match series.last_mut() {
+        Some((_, last)) if *last == k || last.saturating_add(1) == k => {
+            *last = k;
+            Ok(())
+        }
+        _ => Ok(series.push((k, k))?),
+    }
+}
+
+/// The lines of all endings, with this word for the places.
+pub fn endings_text(alloc: Global, endings: &[Ending], places: &str) -> Result<String, AllocError> {
+    let mut all = String::new(alloc);
+    for ending in endings {
+        write_ending(&mut all, ending, places)?;
+    }
+    Ok(all)
+}
+
+/// Writes the line of an ending, with this word for the places.
+fn write_ending(all: &mut String, ending: &Ending, places: &str) -> Result<(), AllocError> {
+    write!(all, "{}: {places}", ending.text)?;
+    for (first, last) in &ending.places {
+        write!(all, " {first} to {last}")?;
+    }
+    if ending.is_of_end {
+        all.push_str(" and the end")?;
+    }
+    all.push('\n')
+}

@@ -1,0 +1,144 @@
+//! Rows of runs that stop at each of their writes, and of runs whose openings do.
+use crate::endings::{Ending, Given, endings_text, given_of, in_one_line, kept, note};
+use crate::texts::written;
+use bench_run::{Stop, Stops, run};
+use bench_script::Script;
+use format_rows::RowError;
+use format_rows::words::cut;
+use std::alloc::Global;
+
+/// Runs that stop at each write. Given: a line as `stops 1 to 13, any of the last 4 writes kept`, and a script. Found: each way
+/// in which runs end, with what an opening finds, the named blocks and the verdict, and the stops of which some kept writes
+/// make a run end so.
+pub fn stops(alloc: Global, given: &str) -> Result<String, RowError> {
+    let given = given_of(alloc, given)?;
+    let mut endings = Vec::new(alloc);
+    for k in given.first..=given.last {
+        add_stop(alloc, &given, k, &mut endings)?;
+    }
+    Ok(endings_text(alloc, &endings, "stops")?)
+}
+
+/// Adds how runs end that stop at write `k` and keep any of the last writes up to that.
+fn add_stop(
+    alloc: Global,
+    given: &Given,
+    k: u64,
+    endings: &mut Vec<Ending>,
+) -> Result<(), RowError> {
+    for bits in 0..1u64 << given.back {
+        let kept = kept(alloc, k, bits)?;
+        add_run(alloc, &given.script, k, &kept, endings)?;
+    }
+    Ok(())
+}
+
+/// A stop at write `k` that keeps these.
+fn stop_at<'a>(k: u64, kept: &'a [u64]) -> Stop<'a> {
+    Stop {
+        at_write: Some(k),
+        keep: kept,
+    }
+}
+
+/// No stop.
+const NO_STOP: Stop<'static> = Stop {
+    at_write: None,
+    keep: &[],
+};
+
+/// Adds how a run ends that stops at write `k` and keeps these.
+fn add_run(
+    alloc: Global,
+    script: &Script,
+    k: u64,
+    kept: &[u64],
+    endings: &mut Vec<Ending>,
+) -> Result<(), RowError> {
+    let mut out = Vec::new(alloc);
+    let stops = Stops {
+        failing_call: None,
+        run: stop_at(k, kept),
+        opening: NO_STOP,
+    };
+    match run(alloc, script, &stops, &mut out) {
+        Ok(right) => add_lines(alloc, written(&out)?, right, endings),
+        Err(_) => Err(RowError::Memory),
+    }
+}
+
+/// Adds how a run ends that printed these lines.
+fn add_lines(
+    alloc: Global,
+    lines: &str,
+    right: bool,
+    endings: &mut Vec<Ending>,
+) -> Result<(), RowError> {
+    let (_, behind) = cut(lines, "\nstopped ")?;
+    let (stop, behind) = cut(behind, "\n")?;
+    let (_, ending) = cut(behind, " n=")?;
+    let text = format!(in alloc; "n={}, right {right}", in_one_line(alloc, ending)?)?;
+    Ok(note(alloc, endings, text, stop.parse().ok())?)
+}
+
+/// Runs that stop at their end, and openings of what they leave that stop at each write. Given: a line as
+/// `openings that stop at writes 1 to 5, any of the last 4 kept`, and a script. Found: each way in which these end, with what the
+/// last opening finds, the named blocks and the verdict, and the stops of which some kept writes make one end so.
+pub fn stops_of_openings(alloc: Global, given: &str) -> Result<String, RowError> {
+    let given = given_of(alloc, given)?;
+    let mut endings = Vec::new(alloc);
+    for k in given.first..=given.last {
+        add_openings(alloc, &given, k, &mut endings)?;
+    }
+    Ok(endings_text(alloc, &endings, "stops")?)
+}
+
+/// Adds how openings end that stop at write `k` and keep any of the last writes up to that.
+fn add_openings(
+    alloc: Global,
+    given: &Given,
+    k: u64,
+    endings: &mut Vec<Ending>,
+) -> Result<(), RowError> {
+    for bits in 0..1u64 << given.back {
+        let kept = kept(alloc, k, bits)?;
+        add_opening(alloc, &given.script, k, &kept, endings)?;
+    }
+    Ok(())
+}
+
+/// Adds how an opening ends that stops at write `k` and keeps these.
+fn add_opening(
+    alloc: Global,
+    script: &Script,
+    k: u64,
+    kept: &[u64],
+    endings: &mut Vec<Ending>,
+) -> Result<(), RowError> {
+    let mut out = Vec::new(alloc);
+    let stops = Stops {
+        failing_call: None,
+        run: NO_STOP,
+        opening: stop_at(k, kept),
+    };
+    match run(alloc, script, &stops, &mut out) {
+        Ok(right) => add_opened(alloc, written(&out)?, right, k, endings),
+        Err(_) => Err(RowError::Memory),
+    }
+}
+
+/// Adds how an opening ends of which these lines were printed: from the line of the last opening on.
+fn add_opened(
+    alloc: Global,
+    lines: &str,
+    right: bool,
+    k: u64,
+    endings: &mut Vec<Ending>,
+) -> Result<(), RowError> {
+    let (word, behind) = match lines.split_once("\nreopen ") {
+        Some((_, behind)) => ("reopen", behind),
+        None => ("open", cut(lines, "\nopen ")?.1),
+    };
+    let text = format!(in alloc; "{word} {}, right {right}", in_one_line(alloc, behind)?)?;
+    Ok(note(alloc, endings, text, Some(k))?)
+}
