@@ -144,7 +144,7 @@ fn run_script<W: Write + Drop>(
 }
 
 /// Reads a script to its end, and tests it.
-fn read_script<R: Read + Drop>(alloc: Global, mut reader: R) -> Result<Script, Fault> {
+pub(crate) fn read_script<R: Read + Drop>(alloc: Global, mut reader: R) -> Result<Script, Fault> {
     let mut text = Vec::new(alloc);
     match reader.read_to_end(&mut text) {
         Ok(_) => Ok(bench_script::read(alloc, &text)?),

@@ -42,6 +42,7 @@ run SCRIPT [--stop K | --fail K] [--keep LIST] [--stop2 K] [--keep2 LIST] [--ima
 a write number from 1 on (default: the device stops at the end, and the opening does not stop), or with --fail the number of a call
 that fails, LIST write numbers with commas (default: none), PATH a file that gets what the stop left. jbench run --help says what a
 script is.
+sweep SCRIPT: runs a script with a stop at each of its writes and judges what each leaves.
 format LOG HOME [--block B] [--length M] [--home N] [--uuid DIGITS]: two files become an empty log of M blocks (default: 33) and
 a home area of N zero blocks (default: 64), of B bytes each (default: 1024).
 dump LOG: prints the log in a file.
@@ -141,6 +142,28 @@ Example: jbench run examples/one_write.json --stop 4 --keep 4",
             help: "The file that gets the home area of the image; with --image-log [default: none]",
         },
     ],
+};
+
+/// The command `sweep`.
+const SWEEP: Usage = Usage {
+    name: "sweep",
+    about: "Runs a script with a stop at each of its writes, opens all that each stop may have left, and judges it",
+    after_help: "\
+The script is one of run: jbench run --help says what that is. It is stopped at each of its writes, and of each stop each choice
+of the last four writes up to it is kept: that makes an image, which is opened and judged. The opening of each image is stopped at
+each of its own writes in the same way, and what that left is opened once more and judged by what the image had. It prints
+'sweep writes=W images=I again=A false=F': W writes of the run, I images, A openings behind a stopped one, and F openings of both
+kinds that are refused or whose verdict is false. Each of these is named on standard error, with the options that show it.
+
+Exit status: 0 done, all verdicts ok; 1 refused: the words, the file, or the script; 2 F is not 0.
+
+Example: jbench sweep examples/two_blocks.json",
+    words: &[Word {
+        name: "script",
+        value: "SCRIPT",
+        is_option: false,
+        help: "The file that holds the script",
+    }],
 };
 
 /// The command `format`.
@@ -248,6 +271,8 @@ Example: jbench recover log home",
 pub enum Words<'a> {
     /// To run a script.
     Run(RunWords<'a>),
+    /// To sweep the script in this file.
+    Sweep(&'a str),
     /// To make an empty log.
     Format(FormatWords<'a>),
     /// To print the log in this file.
@@ -373,7 +398,7 @@ fn command_of<'a>(alloc: Global, usage: &Usage) -> Result<Command<'a>, AllocErro
 /// The commands of the program.
 fn commands<'a>(alloc: Global) -> Result<Vec<Command<'a>>, AllocError> {
     let mut commands = Vec::new(alloc);
-    for usage in [&RUN, &FORMAT, &DUMP, &RECOVER] {
+    for usage in [&RUN, &SWEEP, &FORMAT, &DUMP, &RECOVER] {
         commands.push(command_of(alloc, usage)?)?;
     }
     Ok(commands)
@@ -627,6 +652,9 @@ fn recover_words<'a>(matches: &ArgMatches<'a>) -> RecoverWords<'a> {
 fn words_of<'a>(alloc: Global, matches: &ArgMatches<'a>) -> Result<Words<'a>, Wanted> {
     if let Some(run) = matches.subcommand_matches("run") {
         return run_words(alloc, run).map(Words::Run);
+    }
+    if let Some(sweep) = matches.subcommand_matches("sweep") {
+        return Ok(Words::Sweep(sweep.get_str("script").unwrap_or("")));
     }
     if let Some(format) = matches.subcommand_matches("format") {
         return format_words(alloc, format).map(Words::Format);

@@ -1,5 +1,5 @@
-//! `jbench`: runs a script of journal operations over a device in memory that stops at one of its writes, opens what the
-//! stop left, and judges it; makes logs in files, prints and recovers them. The commands are those of `bench_commands`: here they are
+//! `jbench`: runs a script of journal operations over a device in memory that stops at one of its writes, or at each in turn, opens
+//! what the stop left, and judges it; makes logs in files, prints and recovers them. The commands are those of `bench_commands`: here they are
 //! given the program's words, the files that these name, and standard output and error.
 #![tactic(auto)]
 
@@ -9,7 +9,7 @@ mod progress;
 
 use bench_commands::fault::{Status, refuse_file, refuse_rest};
 use bench_commands::words::{FormatWords, RecoverWords, RunWords, Words};
-use bench_commands::{files, logs, run, words};
+use bench_commands::{files, logs, run, sweep, words};
 use file_device::UnknownContents;
 use progress::Progress;
 use std::fs::File;
@@ -29,6 +29,7 @@ fn jbench(rt: &HostRuntime) -> io::Result<Status> {
     let words: Vec<String> = env::args(rt)?.collect(alloc)?;
     match words::parse(alloc, &words) {
         Ok(Words::Run(words)) => run_file(rt, &words),
+        Ok(Words::Sweep(path)) => sweep_file(rt, path),
         Ok(Words::Format(words)) => format_files(rt, &words),
         Ok(Words::Dump(path)) => dump_file(rt, path),
         Ok(Words::Recover(words)) => recover_files(rt, &words),
@@ -59,6 +60,21 @@ fn run_opened(rt: &HostRuntime, words: &RunWords<'_>, script: File) -> io::Resul
             rt.stderr(),
         ),
         Err(unopened) => refuse_file(&mut rt.stderr(), unopened.path, unopened.error),
+    }
+}
+
+/// Sweeps the script in a file.
+fn sweep_file(rt: &HostRuntime, path: &str) -> io::Result<Status> {
+    match fs::open(rt, path) {
+        Ok(file) => sweep::sweep(
+            rt.alloc(),
+            path,
+            file,
+            Progress::new(rt),
+            io::writer(rt),
+            rt.stderr(),
+        ),
+        Err(e) => refuse_file(&mut rt.stderr(), path, e),
     }
 }
 

@@ -1,4 +1,5 @@
 //! The line that shows how far a command is.
+use bench_commands::sweep;
 use bench_commands::watched::Watch;
 use journal_model::Area;
 use std::io::{IsTerminal, Write};
@@ -11,7 +12,7 @@ const FIRST: u64 = 1000;
 const NEXT: u64 = 200;
 
 /// Shows on standard error, where that is a terminal, which block of the log is being read and how many blocks of home are
-/// written, once the command has taken a second. The line goes as the command ends.
+/// written, or the stops at which write are being swept, once the command has taken a second. The line goes as the command ends.
 #[derive(Drop)]
 pub struct Progress<'a> {
     rt: &'a HostRuntime,
@@ -47,6 +48,19 @@ impl<'a> Progress<'a> {
         let taken = self.begun?.elapsed(self.rt).ok()?;
         if taken < self.due { None } else { Some(taken) }
     }
+
+    /// The line is shown now, when the command has taken this long.
+    fn show(&mut self, taken: Duration) {
+        self.due = taken.saturating_add(Duration::from_millis(NEXT));
+        self.shown = true;
+    }
+
+    /// The line goes.
+    fn hide(&mut self) {
+        if self.shown {
+            let _gone = write!(self.rt.stderr(), "\r\x1b[K");
+        }
+    }
 }
 
 impl Watch for Progress<'_> {
@@ -57,8 +71,7 @@ impl Watch for Progress<'_> {
         let Some(taken) = self.time() else {
             return;
         };
-        self.due = taken.saturating_add(Duration::from_millis(NEXT));
-        self.shown = true;
+        self.show(taken);
         let _shown = write!(
             self.rt.stderr(),
             "\r\x1b[Kjbench: reading block {n} of {blocks} of the log, {} blocks of home written",
@@ -73,8 +86,23 @@ impl Watch for Progress<'_> {
     }
 
     fn ends(&mut self) {
-        if self.shown {
-            let _gone = write!(self.rt.stderr(), "\r\x1b[K");
-        }
+        self.hide();
+    }
+}
+
+impl sweep::Watch for Progress<'_> {
+    fn stops_at(&mut self, write: u64, writes: u64) {
+        let Some(taken) = self.time() else {
+            return;
+        };
+        self.show(taken);
+        let _shown = write!(
+            self.rt.stderr(),
+            "\r\x1b[Kjbench: sweeping the stops at write {write} of {writes}"
+        );
+    }
+
+    fn ends(&mut self) {
+        self.hide();
     }
 }

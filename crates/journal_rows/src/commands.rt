@@ -107,6 +107,7 @@ pub fn words(alloc: Global, given: &str) -> Result<String, RowError> {
 fn told(alloc: Global, words: &Words<'_>) -> Result<String, RowError> {
     match words {
         Words::Run(words) => Ok(told_run(alloc, words)?),
+        Words::Sweep(script) => Ok(format!(in alloc; "sweep {script}")?),
         Words::Format(words) => told_format(alloc, words),
         Words::Dump(log) => Ok(format!(in alloc; "dump {log}")?),
         Words::Recover(words) => Ok(format!(in alloc; "recover {} {}", words.log, words.home)?),

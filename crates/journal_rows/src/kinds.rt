@@ -29,13 +29,17 @@ fn found_of_run(alloc: Global, kind: &str, given: &str) -> Option<Found> {
         "bytes" => Some(run_rows::changed::bytes(alloc, given)),
         "changed" => Some(run_rows::changed::changed(alloc, given)),
         "closes" => Some(run_rows::closes::closes(alloc, given)),
+        "failed_copies" => Some(run_rows::images::failed_copies(alloc, given)),
         "failures" => Some(run_rows::failures::failures(alloc, given)),
+        "images" => Some(run_rows::images::images(alloc, given)),
         "interrupted_closes" => Some(run_rows::closes::interrupted_closes(alloc, given)),
         "operations" => Some(run_rows::scripts::operations(alloc, given)),
         "script" => Some(run_rows::scripts::script(alloc, given)),
         "stops" => Some(run_rows::stops::stops(alloc, given)),
         "stops_of_openings" => Some(run_rows::stops::stops_of_openings(alloc, given)),
+        "sweeps" => Some(run_rows::sweeps::sweeps(alloc, given)),
         "verdict" => Some(run_rows::verdicts::verdict(alloc, given)),
+        "wrong_journals" => Some(run_rows::sweeps::wrong_journals(alloc, given)),
         _ => None,
     }
 }

@@ -15,8 +15,8 @@ pub struct Given {
     /// The first and the last place at which it is interrupted.
     pub first: u64,
     pub last: u64,
-    /// How many of the last writes may be kept.
-    pub back: u64,
+    /// How many choices there are of the last writes that are kept.
+    pub choices: u64,
 }
 
 /// What a row gives: on a line the three numbers, and behind it the script.
@@ -34,7 +34,7 @@ pub fn given_of(alloc: Global, given: &str) -> Result<Given, RowError> {
         script: given_script(alloc, text)?,
         first,
         last,
-        back,
+        choices: 1 << back,
     })
 }
 

@@ -28,7 +28,7 @@ fn add_failure(
     endings: &mut Vec<Ending>,
 ) -> Result<(), RowError> {
     let writes = writes_of(alloc, &given.script, call)?;
-    for bits in 0..1u64 << given.back {
+    for bits in 0..given.choices {
         let kept = kept(alloc, writes, bits)?;
         add_run(alloc, &given.script, call, &kept, endings)?;
     }

@@ -26,7 +26,7 @@ fn add_stop(
     k: u64,
     endings: &mut Vec<Ending>,
 ) -> Result<(), RowError> {
-    for bits in 0..1u64 << given.back {
+    for bits in 0..given.choices {
         let kept = kept(alloc, k, bits)?;
         add_run(alloc, &given.script, k, &kept, endings)?;
     }
@@ -100,7 +100,7 @@ fn add_openings(
     k: u64,
     endings: &mut Vec<Ending>,
 ) -> Result<(), RowError> {
-    for bits in 0..1u64 << given.back {
+    for bits in 0..given.choices {
         let kept = kept(alloc, k, bits)?;
         add_opening(alloc, &given.script, k, &kept, endings)?;
     }

@@ -1,0 +1,120 @@
+//! Rows of runs whose image is copied to another device before it is opened.
+use crate::endings::{endings_text, note};
+use crate::scripts::given_script;
+use crate::texts::{numbers_in, written};
+use bench_run::{Fault, Stop, Stops, run_copied};
+use bench_script::Script;
+use block_device::{Device, FailOnce, MemDevice};
+use format_rows::RowError;
+use format_rows::words::cut;
+use journal_model::JournalError;
+use recovery::open;
+use std::alloc::{AllocError, Global};
+use std::fmt::Write;
+
+/// Images that are copied. Given: on a line the write at which the run stops, 0 for none, and the writes that are kept, as
+/// `stop 5, keep 5`; and behind it a script. Found: what the run's opening found, and what an opening of the copy finds behind a loss
+/// of power.
+pub fn images(alloc: Global, given: &str) -> Result<String, RowError> {
+    let (line, text) = cut(given, "\n")?;
+    let (stop, keep) = cut(line, ", keep")?;
+    let [stop] = numbers_in::<1>(stop)?;
+    let script = given_script(alloc, text)?;
+    let keep = all_numbers(alloc, keep)?.ok_or(RowError::Unread)?;
+    let run = Stop {
+        at_write: if stop == 0 { None } else { Some(stop) },
+        keep: &keep,
+    };
+    let mut copy = blank(alloc, &script);
+    let found = opening_of_run(alloc, &script, run, &mut copy)?;
+    let mut told = String::new(alloc);
+    writeln!(told, "run: {found}")?;
+    told.push_str("copy: ")?;
+    told.push_str(opening_of_copy(alloc, copy)?.as_str())?;
+    Ok(told)
+}
+
+/// The numbers of a text, or `None` where a word is none.
+fn all_numbers(alloc: Global, text: &str) -> Result<Option<Vec<u64>>, AllocError> {
+    let mut numbers = Vec::new(alloc);
+    for word in text.split_whitespace() {
+        match word.parse::<u64>() {
+            Ok(number) => numbers.push(number)?,
+            Err(_) => return Ok(None),
+        }
+    }
+    Ok(Some(numbers))
+}
+
+/// A device of a script's measures.
+fn blank(alloc: Global, script: &Script) -> MemDevice {
+    let measures = &script.measures;
+    let log_blocks = u64::from(measures.log_blocks);
+    MemDevice::new(alloc, measures.block_size, log_blocks, measures.home_blocks)
+}
+
+/// What the opening of a run's image found, that is copied to this device: the line of the opening, or why there is none.
+fn opening_of_run<D: Device>(
+    alloc: Global,
+    script: &Script,
+    run: Stop<'_>,
+    copy: &mut D,
+) -> Result<String, RowError> {
+    let stops = Stops {
+        failing_call: None,
+        run,
+        opening: Stop {
+            at_write: None,
+            keep: &[],
+        },
+    };
+    let mut out = Vec::new(alloc);
+    let answer = run_copied(alloc, script, &stops, copy, &mut out);
+    let lines = written(&out)?;
+    match answer {
+        Ok(_) => {
+            let (_, behind) = cut(lines, "\nopen ")?;
+            let (found, _) = cut(behind, "\n")?;
+            Ok(String::from_str(alloc, found)?)
+        }
+        Err(Fault::Refused(JournalError::Memory) | Fault::Output(_)) => Err(RowError::Memory),
+        Err(Fault::Refused(e)) => {
+            let count = lines.lines().count();
+            Ok(format!(in alloc; "refused {} {e} behind {count} lines", e.number())?)
+        }
+    }
+}
+
+/// What an opening of the copy finds, of which only what is durable is left.
+fn opening_of_copy(alloc: Global, copy: MemDevice) -> Result<String, RowError> {
+    match open(alloc, copy.crash(&[])) {
+        Ok(opened) => {
+            let (report, next) = (opened.report(), opened.next().0);
+            if report.clean {
+                Ok(format!(in alloc; "clean next={next}")?)
+            } else {
+                Ok(format!(in alloc; "end={} next={next}", report.ends_at)?)
+            }
+        }
+        Err((_, e)) => Ok(format!(in alloc; "refused {} {e}", e.number())?),
+    }
+}
+
+/// Copies of which each call fails in turn. Given: a line as `calls 1 to 21`, and a script. Found: what the run's opening found, or
+/// why there was none and behind how many lines; and the calls of which one failed then.
+pub fn failed_copies(alloc: Global, given: &str) -> Result<String, RowError> {
+    let (line, text) = cut(given, "\n")?;
+    let [first, last] = numbers_in::<2>(line)?;
+    let script = given_script(alloc, text)?;
+    let mut endings = Vec::new(alloc);
+    for call in first..=last {
+        let run = Stop {
+            at_write: None,
+            keep: &[],
+        };
+        let mut copy = FailOnce::new(blank(alloc, &script), call);
+        let found = opening_of_run(alloc, &script, run, &mut copy)?;
+        note(alloc, &mut endings, found, Some(call))?;
+    }
+    Ok(endings_text(alloc, &endings, "calls")?)
+}
