@@ -1,5 +1,5 @@
 -- A ledger that can run can run after each step of a commit, and with a batch that it took.
-use Rattle.std.proofs.Common.{refl, sym, ap, ap₂, subst, ◌∙◌}
+use Rattle.std.proofs.Common.{arith, refl, sym, ap, ap₂, subst, ◌∙◌}
 use Rattle.std.specs.Prelude.{◌≡◌, ◌≢◌, ◌↔◌, ℕ, ◌+◌, ◌≤◌, false, true, length, Some, slice_get}
 use Rattle.journal_model.specs.declared.entry.Batch.{Batch}
 use Rattle.journal_model.specs.declared.number.Area.TheVariants.{Log}
@@ -12,14 +12,14 @@ use Rattle.journal_world.specs.declared.stage.Stage.TheVariants.{Idle, Superbloc
 use Rattle.journal_world.specs.Call.{Call}
 use Rattle.journal_world.specs.Call.Call.{Flush}
 use Rattle.journal_world.specs.Engine.{Engine, HasRoom, accepting, call_due, call_in, stepped, stepped_from}
-use Rattle.journal_world.specs.Sound.{StageAgrees}
+use Rattle.journal_world.specs.Sound.{IsPlain, StageAgrees}
+use Rattle.journal_world.proofs.Positions.{tail-start}
 use Rattle.log_engine.specs.declared.ledger.Ledger.{Ledger}
 use Rattle.log_engine.specs.Engine.{MayHandOver}
-use Rattle.log_engine.specs.Text.{AreCopies}
-use Rattle.log_engine.specs.Ledger.{CanRun, KeepsPending, Runs, engine_of}
+use Rattle.log_engine.specs.Ledger.{KeepsPending, Runs, engine_of}
 use Rattle.log_engine.proofs.Ledgers.{batch-taken, batch-there, done-taken, fault-taken, idle-head, taken-alike}
 use Rattle.log_engine.proofs.Pendings.{aborted-keeps, done-keeps, steps-keeps, takes-keeps}
-use Rattle.log_engine.proofs.Running.{need-of, room-of, superblock-of, takes, takes-runs}
+use Rattle.log_engine.proofs.Running.{few-needed, need-of, needed_by, ring-few, room-of, superblock-of, takes, takes-runs}
 use Rattle.log_engine.proofs.Stepping.{fault-runs, step-runs}
 
 -- a call is due at each stage of a commit
@@ -56,7 +56,7 @@ steps-on shape l new busy before is ring pending runs =
     let call = call-at e l.stage busy in
     let stands : Stands e (engine_of shape new) = subst (Stands e) (sym is) (stands-at e l.stage before) in
     record {
-      can_run = step-runs e (engine_of shape new) call.0 runs.can_run call.1 is;
+      plain = step-runs e (engine_of shape new) call.0 runs.plain call.1 is;
       taken = taken-alike shape l new ring stands.layout stands.start stands.uuid stands.accepted stands.committed runs.taken;
       pending =
           subst (λ (p : PendingValue). KeepsPending (engine_of shape new) p) (sym pending)
@@ -71,30 +71,30 @@ finishes shape l new b last stands is ring start commits kept runs =
     let e = engine_of shape l in
     let due : call_due e ≡ Some (Flush Log) = ap (call_in e) last in
     let steps : engine_of shape new ≡ stepped e = is ∙ ap (stepped_from e) (sym last) in
-    let can : CanRun (engine_of shape new) = step-runs e (engine_of shape new) (Flush Log) runs.can_run due steps in
+    let can : IsPlain (engine_of shape new) = step-runs e (engine_of shape new) (Flush Log) runs.plain due steps in
     record {
-      can_run = can;
-      taken = done-taken shape l new can.plain (ap (λ (x : Engine). x.stage) is) ring start;
+      plain = can;
+      taken = done-taken shape l new can (ap (λ (x : Engine). x.stage) is) ring start;
       pending =
           subst (λ (x : Engine). KeepsPending x new.pending) (sym is)
-          (done-keeps e l.pending new.pending b runs.can_run.plain last stands runs.pending commits kept);
+          (done-keeps e l.pending new.pending b runs.plain last stands runs.pending commits kept);
     }
 
 -- a batch that is taken
 pub takes-on : (shape : Shape) (l new : Ledger) (b : Batch) → l.aborted ≡ false → MayHandOver (engine_of shape l) b → HasRoom (engine_of shape l) b →
-    engine_of shape new ≡ accepting (engine_of shape l) b → new.ring.head ≡ l.ring.head + need l.layout (length b.entries) 0 →
+    engine_of shape new ≡ accepting (engine_of shape l) b → new.ring.head ≡ l.ring.head + needed_by l.layout b →
     new.pending ≡ l.pending → Runs shape l → Runs shape new
 takes-on shape l new b running may room is head pending runs =
     let e = engine_of shape l in
-    let can = takes-runs e (engine_of shape new) b runs.can_run may (takes e (engine_of shape new) b running may room is) in
-    let agrees : StageAgrees e Idle = subst (StageAgrees e) may.idle runs.can_run.plain.stage in
+    let can = takes-runs e (engine_of shape new) b runs.plain may (takes e (engine_of shape new) b running may room is) in
+    let agrees : StageAgrees e Idle = subst (StageAgrees e) may.idle runs.plain.stage in
     let stands : slice_get new.accepted.items new.committed ≡ Some b =
     ap (λ (n : ℕ). slice_get new.accepted.items n) (ap (λ (x : Engine). x.committed) is)
     ∙ batch-there shape l b new.accepted.items runs may (ap (λ (x : Engine). x.accepted) is) in
     let start : l.ring.head ≡ new.start = idle-head shape l runs may.idle ∙ sym (ap (λ (x : Engine). x.start) is) in
     record {
-      can_run = can;
-      taken = batch-taken shape new b can stands (head ∙ ap (λ (n : ℕ). n + need l.layout (length b.entries) 0) start ∙ ap (λ (x : Layout). new.start + need x (length b.entries) 0) (sym (ap (λ (x : Engine). x.layout) is)));
+      plain = can;
+      taken = batch-taken shape new b can stands (head ∙ ap (λ (n : ℕ). n + needed_by l.layout b) start ∙ ap (λ (x : Layout). new.start + needed_by x b) (sym (ap (λ (x : Engine). x.layout) is)));
       pending =
           subst (λ (p : PendingValue). KeepsPending (engine_of shape new) p) (sym pending)
           (subst (λ (x : Engine). KeepsPending x l.pending) (sym is) (takes-keeps e b l.pending agrees.0 runs.pending));
@@ -104,7 +104,7 @@ takes-on shape l new b running may room is head pending runs =
 pub same-runs : (shape : Shape) (l new : Ledger) → engine_of shape new ≡ engine_of shape l → new.ring ≡ l.ring → new.pending ≡ l.pending →
     Runs shape l → Runs shape new
 same-runs shape l new is ring pending runs = record {
-  can_run = subst CanRun (sym is) runs.can_run;
+  plain = subst IsPlain (sym is) runs.plain;
   taken =
       taken-alike shape l new ring (ap (λ (x : Engine). x.layout) is) (ap (λ (x : Engine). x.start) is) (ap (λ (x : Engine). x.uuid) is) (ap (λ (x : Engine). x.accepted) is)
       (ap (λ (x : Engine). x.committed) is) runs.taken;
@@ -113,21 +113,20 @@ same-runs shape l new is ring pending runs = record {
       (subst (λ (x : Engine). KeepsPending x l.pending) (sym is) runs.pending);
 }
 
--- the test of the room is one of what the batch needs
-pub room-told : (shape : Shape) (l : Ledger) (b : Batch) (copies : ℕ) (A : Type 0) → copies ≡ length b.entries → Runs shape l →
-    AreCopies l.layout b.entries →
-    A ↔ (l.start + need l.layout copies 0 ≤ l.ring.tail + l.ring.ring.blocks) → A ↔ HasRoom (engine_of shape l) b
-room-told shape l b copies A count runs are told =
-    let e = engine_of shape l in
-    let same : need l.layout copies 0 ≡ need l.layout (length b.entries) 0 = ap (λ (n : ℕ). need l.layout n 0) count in (
-      λ a. room-of e b runs.can_run.plain are (subst (λ (n : ℕ). l.start + n ≤ l.ring.tail + l.ring.ring.blocks) same (told.0 a)),
-      λ room. told.1 (subst (λ (n : ℕ). l.start + n ≤ l.ring.tail + l.ring.ring.blocks) (sym same) (need-of e b runs.can_run.plain are room)),
-    )
+-- what there is room for fits the ring, so it has few entries
+pub room-few : (shape : Shape) (l : Ledger) (c r : ℕ) → Runs shape l → l.start + need l.layout c r ≤ l.ring.tail + l.ring.ring.blocks → (c ≤ 2 ^ 32) × (r ≤ 2 ^ 32)
+room-few shape l c r runs room =
+    let e : Engine = engine_of shape l in
+    let order : e.tail ≤ e.start = tail-start e runs.plain in
+    let fits : need e.layout c r ≤ e.ring.blocks = omega arith in
+    let few = few-needed e.layout c r e.ring.blocks runs.plain.layout.0 fits (ring-few e runs.plain) in
+    let sum : c + r ≤ 2 ^ 32 = few.1 in
+    (omega arith, omega arith)
 
 -- after a failure it can be asked, on a device whose shape stays
 pub faults-on : (shape after : Shape) (l : Ledger) → after ≡ shape → Runs shape l → Runs after (record l { aborted = true })
 faults-on shape after l same runs = record {
-  can_run = fault-runs (engine_of shape l) after runs.can_run same;
+  plain = fault-runs (engine_of shape l) after runs.plain same;
   taken = fault-taken shape after l same runs.taken;
   pending =
       subst (λ (s : Shape). KeepsPending (engine_of s (record l { aborted = true })) l.pending) (sym same)

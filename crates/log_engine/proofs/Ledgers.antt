@@ -1,16 +1,17 @@
 -- What a ledger that can run on some device knows, whatever else is true of that device.
 use Rattle.std.proofs.Common.{arith, refl, sym, ap, ap₂, subst, ◌∙◌}
 use Rattle.std.proofs.lemmas.Bool.Decides.{nat_tests}
+use Rattle.std.proofs.lemmas.List.Elements.{All-weaker}
 use Rattle.std.proofs.lemmas.Option.{slice_get_past}
-use Rattle.std.specs.Prelude.{◌≡◌, ◌≢◌, ℕ, ◌+◌, ◌-◌, ◌^◌, ◌<◌, Bool, false, true, ◌≤◌, List, [], ◌∷◌, ◌++◌, length, Option, Some, None, Result, Ok, Err, IfOk, IfErr, slice_get, map, nat_eq, nat_le, nat_lt, if◌then◌else◌, IsTrue, ◌↔◌}
+use Rattle.std.specs.Prelude.{◌≡◌, ◌≢◌, ℕ, ◌+◌, ◌-◌, ◌^◌, ◌<◌, Bool, false, true, ◌≤◌, List, [], ◌∷◌, ◌++◌, length, Option, Some, None, Result, Ok, Err, IfOk, IfErr, slice_get, All, map, nat_eq, nat_le, nat_lt, if◌then◌else◌, IsTrue, ◌↔◌}
 use Rattle.journal_model.specs.declared.entry.Batch.{Batch}
 use Rattle.journal_model.specs.declared.refusal.JournalError.{JournalError}
 use Rattle.journal_model.specs.declared.refusal.JournalError.TheVariants.{NeedSpace}
 use Rattle.journal_model.specs.Chain.{ring_place}
-use Rattle.journal_model.specs.Layout.{IsTaken, Layout}
+use Rattle.journal_model.specs.Block.{IsAllowedBlock}
+use Rattle.journal_model.specs.Layout.{IsTaken, Layout, every_number}
 use Rattle.journal_model.specs.Opening.{greatest_number}
 use Rattle.journal_model.specs.OwnText.{copied, own_text}
-use Rattle.journal_model.specs.Room.{need}
 use Rattle.journal_model.specs.declared.number.Area.TheVariants.{Log}
 use Rattle.journal_model.specs.Superblock.{Shape, with_tail}
 use Rattle.journal_model.specs.Text.{text_blocks}
@@ -24,13 +25,12 @@ use Rattle.journal_world.specs.Sound.{IsPlain, StageAgrees}
 use Rattle.log_ring.specs.Ring.{RingValue, free}
 use Rattle.log_engine.specs.declared.ledger.Ledger.{Ledger}
 use Rattle.log_engine.specs.Engine.{MayHandOver}
-use Rattle.log_engine.specs.Ledger.{CanRun, CanRunOn, HasTaken, Runs, engine_of}
-use Rattle.log_engine.specs.Text.{AreCopies}
+use Rattle.log_engine.specs.Ledger.{CanRunOn, HasTaken, Runs, engine_of}
 use Rattle.journal_world.proofs.Elements.{all-at, get-last}
 use Rattle.journal_world.proofs.Positions.{tail-start}
 use Rattle.journal_world.proofs.Superblocks.{accepted-size}
 use Rattle.journal_world.proofs.Texts.{due-some}
-use Rattle.log_engine.proofs.Running.{HasRing, due-one, head-small, need-of, runs-blocks, runs-few, runs-number, runs-ring, runs-size, superblock-of}
+use Rattle.log_engine.proofs.Running.{HasRing, due-one, head-small, need-of, needed_by, runs-blocks, runs-few, runs-number, runs-ring, runs-size, superblock-of}
 
 -- the blocks that are due depend on the block size alone
 same-if : (l : Ledger) (shape other : Shape) (o : Option Batch) → shape.block_size ≡ other.block_size →
@@ -81,17 +81,17 @@ fresh-taken shape l none head start =
 -- where nothing is being committed, all that is taken is committed
 pub idle-head : (shape : Shape) (l : Ledger) → Runs shape l → l.stage ≡ Idle → l.ring.head ≡ l.start
 idle-head shape l runs idle =
-    let none = ap length (idle-due (engine_of shape l) runs.can_run.plain idle) in
+    let none = ap length (idle-due (engine_of shape l) runs.plain idle) in
     let head = runs.taken.head in
     omega arith
 
 -- the ring has the blocks that a batch needs which may be taken
 pub room-there : (shape : Shape) (l : Ledger) (b : Batch) (count : ℕ) → Runs shape l → MayHandOver (engine_of shape l) b →
-    HasRoom (engine_of shape l) b → count ≡ need l.layout (length b.entries) 0 → free l.ring < count → ⊥
+    HasRoom (engine_of shape l) b → count ≡ needed_by l.layout b → free l.ring < count → ⊥
 room-there shape l b count runs may room needed less =
     let head = idle-head shape l runs may.idle in
-    let fits = need-of (engine_of shape l) b runs.can_run.plain may.copies room in
-    let order : l.ring.tail ≤ l.start = tail-start (engine_of shape l) runs.can_run.plain in
+    let fits = need-of (engine_of shape l) b runs.plain room in
+    let order : l.ring.tail ≤ l.start = tail-start (engine_of shape l) runs.plain in
     omega arith
 
 -- where it has them, they are taken
@@ -105,12 +105,12 @@ took (Err e) old new count ok err there = absurd (there err.1)
 pub batch-there : (shape : Shape) (l : Ledger) (b : Batch) (accepted : List Batch) → Runs shape l → MayHandOver (engine_of shape l) b →
     accepted ≡ l.accepted.items ++ b ∷ [] → slice_get accepted l.committed ≡ Some b
 batch-there shape l b accepted runs may taken =
-    let agrees : StageAgrees (engine_of shape l) Idle = subst (StageAgrees (engine_of shape l)) may.idle runs.can_run.plain.stage in
+    let agrees : StageAgrees (engine_of shape l) Idle = subst (StageAgrees (engine_of shape l)) may.idle runs.plain.stage in
     ap (λ (bs : List Batch). slice_get bs l.committed) taken ∙ get-last l.accepted.items b l.committed agrees.0
 
 -- the ring blocks that a batch needs are taken for it
-pub batch-taken : (shape : Shape) (new : Ledger) (b : Batch) → CanRun (engine_of shape new) → slice_get new.accepted.items new.committed ≡ Some b →
-    new.ring.head ≡ new.start + need new.layout (length b.entries) 0 → HasTaken shape new
+pub batch-taken : (shape : Shape) (new : Ledger) (b : Batch) → IsPlain (engine_of shape new) → slice_get new.accepted.items new.committed ≡ Some b →
+    new.ring.head ≡ new.start + needed_by new.layout b → HasTaken shape new
 batch-taken shape new b can stands head = record {
   head = head ∙ ap (λ (n : ℕ). new.start + n) (sym (runs-blocks (engine_of shape new) b can stands));
 }
@@ -146,77 +146,81 @@ call-superblock e block sequence start is made number place =
 module _ (l : Ledger) (size : ℕ) (on : CanRunOn l size) where
   -- its blocks have a size that a block may have
   pub on-size : IsBlockSize size
-  on-size = subst IsBlockSize (sym on.size_is) (runs-size (engine_of on.shape l) on.runs.can_run.plain)
+  on-size = subst IsBlockSize (sym on.size_is) (runs-size (engine_of on.shape l) on.runs.plain)
 
   -- and its layout is one of such blocks
   pub on-taken : IsTaken l.layout
-  on-taken = on.runs.can_run.plain.layout.0
+  on-taken = on.runs.plain.layout.0
 
   pub on-layout : size ≡ l.layout.block_size
-  on-layout = on.size_is ∙ sym on.runs.can_run.plain.layout.1
+  on-layout = on.size_is ∙ sym on.runs.plain.layout.1
 
   -- its ring lies behind the superblock, and has not too many blocks
   pub on-ring : HasRing (engine_of on.shape l)
-  on-ring = runs-ring (engine_of on.shape l) on.runs.can_run.plain
+  on-ring = runs-ring (engine_of on.shape l) on.runs.plain
 
   -- as many bytes as the superblock has
   pub on-superblock : length l.superblock.items ≡ size
-  on-superblock = (superblock-of (engine_of on.shape l) on.runs.can_run.plain).size ∙ sym on.size_is
+  on-superblock = (superblock-of (engine_of on.shape l) on.runs.plain).size ∙ sym on.size_is
 
   -- and that are enough for all its fields
   pub on-long : 32 ≤ length l.superblock.items
   on-long =
-      let is = superblock-of (engine_of on.shape l) on.runs.can_run.plain in
+      let is = superblock-of (engine_of on.shape l) on.runs.plain in
       let size = accepted-size on.shape l.superblock.items is.accepted in
       let same = is.size in
       omega arith
 
   -- a batch is there where a call is due
   pub on-due : l.stage ≢ Idle → l.committed < length l.accepted.items
-  on-due busy = let one : length l.accepted.items ≡ l.committed + 1 = due-one (engine_of on.shape l) l.stage on.runs.can_run.plain.stage busy in omega arith
+  on-due busy = let one : length l.accepted.items ≡ l.committed + 1 = due-one (engine_of on.shape l) l.stage on.runs.plain.stage busy in omega arith
 
   -- the numbers of all of them fit
   pub on-numbers : l.first + length l.accepted.items ≤ greatest_number + 1
-  on-numbers = on.runs.can_run.plain.numbers
+  on-numbers = on.runs.plain.numbers
 
   -- and then some block is due
   pub on-some : (shape : Shape) → l.stage ≢ Idle → 0 < length (due_blocks (engine_of shape l))
-  on-some shape busy = due-some (engine_of shape l) (due-one (engine_of on.shape l) l.stage on.runs.can_run.plain.stage busy)
+  on-some shape busy = due-some (engine_of shape l) (due-one (engine_of on.shape l) l.stage on.runs.plain.stage busy)
 
-  -- it has copies alone
-  pub on-copies : (b : Batch) → slice_get l.accepted.items l.committed ≡ Some b → AreCopies l.layout b.entries
-  on-copies b stands =
-      all-at (λ (x : Batch). AreCopies l.layout x.entries) l.accepted.items l.committed b on.runs.can_run.copies stands
+  -- the batch that is being committed has few entries
+  pub on-few : (b : Batch) → slice_get l.accepted.items l.committed ≡ Some b → length b.entries ≤ 2 ^ 32
+  on-few b stands = runs-few (engine_of on.shape l) b on.runs.plain stands
 
-  -- no more of them than the ring has blocks
-  pub on-few : (b : Batch) → slice_get l.accepted.items l.committed ≡ Some b → length b.entries ≤ 1048576
-  on-few b stands =
-      let few = runs-few (engine_of on.shape l) b on.runs.can_run stands in
-      let ring = on-ring.few in
-      omega arith
+  -- copies of one block each
+  pub on-whole : (b : Batch) → slice_get l.accepted.items l.committed ≡ Some b → All (λ c. length c.1 ≡ l.layout.block_size) (copied b.entries)
+  on-whole b stands =
+      subst (λ (n : ℕ). All (λ c. length c.1 ≡ n) (copied b.entries)) (sym on.runs.plain.layout.1)
+      (all-at (IsBatch l.layout on.shape) l.accepted.items l.committed b on.runs.plain.batches stands).whole
+
+  -- of blocks that a tag can spell
+  pub on-spelled : (b : Batch) → slice_get l.accepted.items l.committed ≡ Some b → All (λ p. p.0 < every_number l.layout) b.entries
+  on-spelled b stands =
+      All-weaker (λ p. IsAllowedBlock l.layout on.shape.home_blocks p.0) (λ p. p.0 < every_number l.layout) (λ p allowed. allowed.spelled) b.entries
+      (all-at (IsBatch l.layout on.shape) l.accepted.items l.committed b on.runs.plain.batches stands).allowed
 
   -- and it has the number that is due
   pub on-number : (b : Batch) → slice_get l.accepted.items l.committed ≡ Some b → b.tid ≡ l.first + l.committed
-  on-number b stands = runs-number (engine_of on.shape l) b on.runs.can_run stands
+  on-number b stands = runs-number (engine_of on.shape l) b on.runs.plain stands
 
-  -- the blocks that are due are as many as it needs
-  pub on-blocks : (b : Batch) (shape : Shape) → slice_get l.accepted.items l.committed ≡ Some b → shape.block_size ≡ size →
-      need l.layout (length b.entries) 0 ≡ length (due_blocks (engine_of shape l))
-  on-blocks b shape stands same =
-      sym (runs-blocks (engine_of on.shape l) b on.runs.can_run stands)
-      ∙ ap length (same-due l on.shape shape (sym on.size_is ∙ sym same))
+  -- the blocks that are due are those that are taken behind the committed ones
+  pub on-blocks : (shape : Shape) → shape.block_size ≡ size → l.ring.head - l.start ≡ length (due_blocks (engine_of shape l))
+  on-blocks shape same =
+      let head = on.runs.taken.head in
+      let alike = ap length (same-due l on.shape shape (sym on.size_is ∙ sym same)) in
+      omega arith
 
   -- their positions are far from the end of the numbers of 64 bits
   pub on-small : (shape : Shape) → shape.block_size ≡ size → l.start + length (due_blocks (engine_of shape l)) + l.ring.ring.blocks ≤ 2 ^ 64 - 1
   on-small shape same =
-      let small : l.start + length (due_blocks (engine_of on.shape l)) + l.ring.ring.blocks ≤ 2 ^ 64 - 1 = head-small (engine_of on.shape l) on.runs.can_run.plain in
+      let small : l.start + length (due_blocks (engine_of on.shape l)) + l.ring.ring.blocks ≤ 2 ^ 64 - 1 = head-small (engine_of on.shape l) on.runs.plain in
       let alike : length (due_blocks (engine_of shape l)) ≡ length (due_blocks (engine_of on.shape l)) =
       ap length (same-due l shape on.shape (same ∙ on.size_is)) in
       omega arith
 
   -- the committed transactions begin at the tail, which is not behind their end
   pub on-tail : l.ring.tail ≤ l.start
-  on-tail = tail-start (engine_of on.shape l) on.runs.can_run.plain
+  on-tail = tail-start (engine_of on.shape l) on.runs.plain
 
   -- where nothing is being committed, all that is taken is committed
   pub on-idle : l.stage ≡ Idle → l.ring.head ≡ l.start
@@ -225,16 +229,16 @@ module _ (l : Ledger) (size : ℕ) (on : CanRunOn l size) where
   -- the number of the block that is due is one of theirs
   pub on-next : (k : ℕ) → l.stage ≡ Blocks k → k + 1 ≤ 2 ^ 64 - 1
   on-next k is =
-      let agrees : StageAgrees (engine_of on.shape l) (Blocks k) = subst (StageAgrees (engine_of on.shape l)) is on.runs.can_run.plain.stage in
+      let agrees : StageAgrees (engine_of on.shape l) (Blocks k) = subst (StageAgrees (engine_of on.shape l)) is on.runs.plain.stage in
       let below : k < length (due_blocks (engine_of on.shape l)) = agrees.2 in
       let small = on-small on.shape (sym on.size_is) in
       omega arith
 
   -- the entries of the transaction that is being committed are of different blocks
   pub on-distinct : (b : Batch) → slice_get l.accepted.items l.committed ≡ Some b → IsDistinct nat_eq (map (λ e. e.0) b.entries)
-  on-distinct b stands = (all-at (IsBatch l.layout on.shape) l.accepted.items l.committed b on.runs.can_run.plain.batches stands).once
+  on-distinct b stands = (all-at (IsBatch l.layout on.shape) l.accepted.items l.committed b on.runs.plain.batches stands).once
 
   -- and may be committed
   pub on-commit : (b : Batch) → l.stage ≡ CommitFlush → slice_get l.accepted.items l.committed ≡ Some b →
       AllByRecursion (λ k. k.0 < l.first + l.committed) l.pending.queue × (length l.pending.queue + length (copied b.entries) ≤ l.pending.room)
-  on-commit b last stands = may-commit (engine_of on.shape l) l.pending b on.runs.can_run.plain last stands on.runs.pending
+  on-commit b last stands = may-commit (engine_of on.shape l) l.pending b on.runs.plain last stands on.runs.pending

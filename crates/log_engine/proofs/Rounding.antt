@@ -100,7 +100,7 @@ round-did (Done tid) old new disk after progress step = (step, progress.0, progr
 pub aborted-runs : (s t : Shape) (l : Ledger) → t ≡ s → Runs s l → Runs t (record l { aborted = true })
 aborted-runs s t l same runs =
     let here : Runs s (record l { aborted = true }) = record {
-      can_run = fault-runs (engine_of s l) s runs.can_run refl;
+      plain = fault-runs (engine_of s l) s runs.plain refl;
       taken = fault-taken s s l refl runs.taken;
       pending = aborted-keeps (engine_of s l) l.pending runs.pending;
     } in
@@ -128,7 +128,7 @@ module _ (s t : Shape) (l m : Ledger) (due : Due) (bytes : List ℕ) (disk after
   pub round-steps : (n : Ledger) → Runs s m → HasGone t m n → after ≡ after_success h.call disk → RoundSteps (engine_of s l) disk (engine_of t n) after
   round-steps n runs gone done =
       let there : HasGone s m n = subst (λ (x : Shape). HasGone x m n) same gone in
-      let one = one-call (engine_of s m) m.round h.call there.call h.stepped (engine_of s n) runs.can_run.plain h.round there.round in
+      let one = one-call (engine_of s m) m.round h.call there.call h.stepped (engine_of s n) runs.plain h.round there.round in
       let steps : RoundSteps (engine_of s l) disk (engine_of s n) after = record {
         running = running;
         round = has;

@@ -32,12 +32,12 @@ use Rattle.journal_world.proofs.RoundPlain.{round-plain}
 use Rattle.journal_world.proofs.Rounds.{begun-plain}
 use Rattle.journal_world.proofs.Superblocks.{accepted-first, accepted-ring, accepted-size, accepted-within, names-superblock}
 use Rattle.log_engine.specs.declared.ledger.Ledger.{Ledger}
-use Rattle.log_engine.specs.Ledger.{CanRun, CanRunOn, HasTaken, IsPlaced, KeepsPending, Runs, engine_of}
+use Rattle.log_engine.specs.Ledger.{CanRunOn, HasTaken, IsPlaced, KeepsPending, Runs, engine_of}
 use Rattle.log_engine.specs.declared.call.Due.{Due}
 use Rattle.log_engine.specs.declared.call.Due.TheVariants.{Write as WriteDue, Flush as FlushDue}
 use Rattle.log_engine.specs.Call.{call_of}
 use Rattle.log_engine.specs.Rounds.{HasDue, HasGone, IsDueHome}
-use Rattle.log_engine.specs.Text.{AreCopies, IsWholeCopy}
+use Rattle.log_engine.proofs.Copies.{copy-size}
 use Rattle.log_engine.proofs.Pendings.{begun-keeps, next-copy}
 
 -- the superblock is one
@@ -47,24 +47,24 @@ superblock-here e plain = names-superblock e e.started e.superblock plain.names
 module _ (l : Ledger) (size : ℕ) (on : CanRunOn l size) where
   -- as many bytes as the superblock has
   pub round-superblock : length l.superblock.items ≡ size
-  round-superblock = (superblock-here (engine_of on.shape l) on.runs.can_run.plain).size ∙ sym on.size_is
+  round-superblock = (superblock-here (engine_of on.shape l) on.runs.plain).size ∙ sym on.size_is
 
   -- a block has a size that a block may have
   pub round-size : IsBlockSize size
   round-size =
-      subst IsBlockSize (on.runs.can_run.plain.layout.1 ∙ sym on.size_is) on.runs.can_run.plain.layout.0.0
+      subst IsBlockSize (on.runs.plain.layout.1 ∙ sym on.size_is) on.runs.plain.layout.0.0
 
   -- the superblock is long enough for all its fields
   pub round-long : 32 ≤ length l.superblock.items
   round-long =
-      let is = superblock-here (engine_of on.shape l) on.runs.can_run.plain in
+      let is = superblock-here (engine_of on.shape l) on.runs.plain in
       let size = accepted-size on.shape l.superblock.items is.accepted in
       let same = is.size in
       omega arith
 
 -- on each device on which it can run, blocks have this size
 pub round-same : (shape : Shape) (l : Ledger) (size : ℕ) → CanRunOn l size → Runs shape l → size ≡ shape.block_size
-round-same shape l size on runs = sym (round-superblock l size on) ∙ (superblock-here (engine_of shape l) runs.can_run.plain).size
+round-same shape l size on runs = sym (round-superblock l size on) ∙ (superblock-here (engine_of shape l) runs.plain).size
 
 -- the log has a block 0
 pub round-log : (e : Engine) → IsPlain e → 0 < e.shape.log_blocks
@@ -151,19 +151,12 @@ round-taken shape l new keeps head taken =
     }
 
 -- an engine that can run can run behind the call
-gone-runs : (e : Engine) (call : Call) (new : Engine) → CanRun e → e.round ≢ NoRound → RoundCall e e.round call new → CanRun new
-gone-runs e call new can busy due =
-    let plain = can.plain in
+gone-runs : (e : Engine) (call : Call) (new : Engine) → IsPlain e → e.round ≢ NoRound → RoundCall e e.round call new → IsPlain new
+gone-runs e call new plain busy due =
     let same : begun e ≡ e = begun-self e e.round busy in
     let more : e.released < e.bound = under-way e e.round plain.round busy in
     let least : e.bound ≤ e.committed = plain.order.1 in
-    let keeps = call-keeps e e.round call new due in
-    let taken : AllByRecursion (λ b. AreCopies new.layout b.entries) e.accepted =
-    subst (λ (l : Layout). AllByRecursion (λ b. AreCopies l b.entries) e.accepted) (sym keeps.layout) can.copies in
-    record {
-      plain = round-plain e call new plain (omega arith) (subst (λ (x : Engine). RoundCall x x.round call new) (sym same) due);
-      copies = subst (λ (bs : List Batch). AllByRecursion (λ b. AreCopies new.layout b.entries) bs) (sym keeps.accepted) taken;
-    }
+    round-plain e call new plain (omega arith) (subst (λ (x : Engine). RoundCall x x.round call new) (sym same) due)
 
 -- a ledger has gone on by the call that was due
 pub gone : (shape : Shape) (l new : Ledger) (round : Round) (call : Call) (stepped : Engine) → Runs shape l → l.round ≡ round → round ≢ NoRound →
@@ -177,7 +170,7 @@ gone shape l new round call stepped runs at busy due is head pending =
       call = call;
       round = there;
       runs = record {
-        can_run = gone-runs e call (engine_of shape new) runs.can_run (λ none. busy (sym at ∙ none)) there;
+        plain = gone-runs e call (engine_of shape new) runs.plain (λ none. busy (sym at ∙ none)) there;
         taken = round-taken shape l new (call-keeps e l.round call (engine_of shape new) there) head runs.taken;
         pending = subst (λ (x : Engine). KeepsPending x new.pending) (sym is) pending;
       };
@@ -197,19 +190,19 @@ pub begins : (shape : Shape) (l new : Ledger) → Runs shape l → l.round ≡ N
     HasRound (engine_of shape l) × (engine_of shape new ≡ begun (engine_of shape l)) × Runs shape new
 begins shape l new runs at more is head pending =
     let e : Engine = engine_of shape l in
-    let plain = runs.can_run.plain in
+    let plain = runs.plain in
     let low : l.released ≤ l.bound = plain.order.0 in
     let high : l.bound ≤ l.committed = plain.order.1 in
     let has : HasRound e = below l.released l.bound l.committed low high more in
     let under : begun_from e NoRound ≡ begun e = ap (begun_from e) (sym at) in
-    let can : CanRun (begun_from e NoRound) = record { plain = subst IsPlain (sym under) (begun-plain e plain has); copies = runs.can_run.copies } in
+    let can : IsPlain (begun_from e NoRound) = subst IsPlain (sym under) (begun-plain e plain has) in
     let keeps : KeepsCommit e (begun_from e NoRound) = record { shape = refl; layout = refl; uuid = refl; accepted = refl; committed = refl; start = refl } in
     let kept : KeepsPending (begun_from e NoRound) new.pending =
     subst (KeepsPending (begun_from e NoRound)) (sym pending) (begun-keeps e l.pending at runs.pending) in (
       has,
       is ∙ under,
       record {
-        can_run = subst CanRun (sym is) can;
+        plain = subst IsPlain (sym is) can;
         taken = round-taken shape l new (subst (KeepsCommit e) (sym is) keeps) head runs.taken;
         pending = subst (λ (x : Engine). KeepsPending x new.pending) (sym is) kept;
       },
@@ -235,7 +228,7 @@ pub next-home : (shape : Shape) (l : Ledger) (copy : HomeCopy) → Runs shape l 
     NextHome (engine_of shape l) l.pending due.transaction due.block copy
 next-home shape l copy runs due =
     let e : Engine = engine_of shape l in
-    let plain = runs.can_run.plain in
+    let plain = runs.plain in
     let one = next-copy e l.pending due.transaction due.block copy plain due.round runs.pending due.first due.due due.newest in
     let other = runs.pending.placed copy.block copy.version due.newest in
     let number : copy.version.tid ≡ e.first + one.0 = one.2 in
@@ -251,11 +244,10 @@ next-home shape l copy runs due =
     }
 
 -- a copy that stands in a transaction is one block
-pub placed-size : (e : Engine) (i b k : ℕ) → CanRun e → (placed : IsPlaced e i b k) → length placed.bytes ≡ e.shape.block_size
-placed-size e i b k can placed =
-    let are = all-at (λ (x : Batch). AreCopies e.layout x.entries) e.accepted i placed.batch can.copies placed.stands in
-    let whole = recursion_from_All (λ p. IsWholeCopy e.layout.block_size p.1) placed.batch.entries are.whole in
-    all-at (λ (p : ℕ × Entry). IsWholeCopy e.layout.block_size p.1) placed.batch.entries k (b, Copy placed.bytes) whole placed.entry ∙ can.plain.layout.1
+pub placed-size : (e : Engine) (i b k : ℕ) → IsPlain e → (placed : IsPlaced e i b k) → length placed.bytes ≡ e.shape.block_size
+placed-size e i b k plain placed =
+    let batch = all-at (IsBatch e.layout e.shape) e.accepted i placed.batch plain.batches placed.stands in
+    copy-size e.shape.block_size placed.batch.entries k b placed.bytes batch.whole placed.entry
 
 -- of a block that may be touched
 pub placed-allowed : (e : Engine) (i b k : ℕ) → IsPlain e → IsPlaced e i b k → IsAllowedBlock e.layout e.shape.home_blocks b

@@ -3,6 +3,8 @@ use Rattle.std.proofs.Common.{arith, refl, sym, ap, ap₂, subst, ◌∙◌}
 use Rattle.std.specs.Prelude.{◌≡◌, ◌≢◌, ℕ, ◌+◌, ◌-◌, ◌*◌, ◌^◌, ◌<◌, ◌≤◌, false, List, [], ◌∷◌, length, Some, slice_get}
 use Rattle.journal_model.specs.declared.entry.Batch.{Batch}
 use Rattle.journal_model.specs.Chain.{Ring}
+use Rattle.journal_model.specs.Layout.{IsTaken, Layout, numbers_of, tags_of}
+use Rattle.journal_model.specs.OwnText.{ceil_div, copied, revoked}
 use Rattle.journal_model.specs.Room.{need}
 use Rattle.journal_model.specs.Superblock.{Shape, least_ring, super_in}
 use Rattle.journal_model.specs.Text.{text_blocks}
@@ -26,9 +28,7 @@ use Rattle.journal_world.proofs.Superblocks.{accepted-first, accepted-length, ac
 use Rattle.journal_world.proofs.Elements.{all-at}
 use Rattle.journal_world.proofs.Texts.{due-of}
 use Rattle.log_engine.specs.Engine.{MayHandOver}
-use Rattle.log_engine.specs.Ledger.{CanRun}
-use Rattle.log_engine.specs.Text.{AreCopies}
-use Rattle.log_engine.proofs.Copies.{each-whole, length-copied, nothing-revoked}
+use Rattle.log_engine.proofs.Copies.{counted}
 
 -- the superblock is one
 pub superblock-of : (e : Engine) → IsPlain e → IsSuperblock e.shape e.ring e.superblock
@@ -56,6 +56,10 @@ runs-ring e plain =
     let inside : (super_in e.superblock).s_maxlen ≤ e.shape.log_blocks = accepted-within e.shape e.superblock is.accepted in
     record { behind = omega arith; some = omega arith; few = omega arith; within = omega arith }
 
+-- not many blocks
+pub ring-few : (e : Engine) → IsPlain e → e.ring.blocks ≤ 1048576
+ring-few e plain = let few = (runs-ring e plain).few in omega arith
+
 -- where a call is due, one transaction more is accepted than is committed
 pub due-one : (e : Engine) (stage : Stage) → StageAgrees e stage → stage ≢ Idle → length e.accepted ≡ e.committed + 1
 due-one e Idle agrees busy = absurd (busy refl)
@@ -65,44 +69,54 @@ due-one e (Blocks k) agrees busy = agrees.0
 due-one e CommitWrite agrees busy = agrees.0
 due-one e CommitFlush agrees busy = agrees.0
 
--- the text of copies alone takes as many blocks as they need
-length-text : (e : Engine) (b : Batch) → IsPlain e → AreCopies e.layout b.entries →
-    length (text_blocks (text_of e b)) ≡ need e.layout (length b.entries) 0
-length-text e b plain are =
-    let whole = each-whole e.layout b.entries are in
-    let layout = taken-layout plain.layout.0 in
-    length_own_text e.layout e.uuid b.tid b.entries layout
-    ∙ ap₂ (λ (c r : ℕ). need e.layout c r)
-    (length-copied e.layout.block_size b.entries whole) (ap length (nothing-revoked e.layout.block_size b.entries whole))
+-- how many log blocks the copies and the revokes of a batch need
+abbrev pub needed_by : Layout → Batch → ℕ
+needed_by l b = need l (length (copied b.entries)) (length (revoked b.entries))
+
+-- its text takes just as many
+length-text : (e : Engine) (b : Batch) → IsPlain e → length (text_blocks (text_of e b)) ≡ needed_by e.layout b
+length-text e b plain = length_own_text e.layout e.uuid b.tid b.entries (taken-layout plain.layout.0)
 
 -- the blocks that are due are as many as the transaction needs
-pub runs-blocks : (e : Engine) (b : Batch) → CanRun e → slice_get e.accepted e.committed ≡ Some b →
-    length (due_blocks e) ≡ need e.layout (length b.entries) 0
-runs-blocks e b can stands =
-    ap length (due-of e b stands)
-    ∙ length-text e b can.plain (all-at (λ (x : Batch). AreCopies e.layout x.entries) e.accepted e.committed b can.copies stands)
+pub runs-blocks : (e : Engine) (b : Batch) → IsPlain e → slice_get e.accepted e.committed ≡ Some b → length (due_blocks e) ≡ needed_by e.layout b
+runs-blocks e b plain stands = ap length (due-of e b stands) ∙ length-text e b plain
 
--- they fit the ring, so the transaction has no more copies than the ring has blocks
-pub runs-few : (e : Engine) (b : Batch) → CanRun e → slice_get e.accepted e.committed ≡ Some b → length b.entries ≤ e.ring.blocks
-runs-few e b can stands =
-    let blocks = runs-blocks e b can stands in
-    let room = can.plain.room in
-    let order : e.tail ≤ e.start = tail-start e can.plain in
-    omega arith
+-- a revoke block has no more than 1020 numbers, so all have that often no more than there are blocks
+few-revokes : (l : Layout) (r : ℕ) → IsTaken l → r ≤ 1020 * ceil_div r (numbers_of l)
+few-revokes l r taken = ?
+
+-- what needs few blocks has few copies and few revokes
+pub few-needed : (l : Layout) (c r most : ℕ) → IsTaken l → need l c r ≤ most → most ≤ 1048576 → (c ≤ most) × (c + r ≤ 2 ^ 32)
+few-needed l c r most taken fits small =
+    let revokes : r ≤ 1020 * ceil_div r (numbers_of l) = few-revokes l r taken in
+    few-sum c r (ceil_div c (tags_of l)) (ceil_div r (numbers_of l)) most revokes fits small
+  where
+    -- the sum is small where each part is
+    few-sum : (c r x y most : ℕ) → r ≤ 1020 * y → c + x + y + 1 ≤ most → most ≤ 1048576 → (c ≤ most) × (c + r ≤ 2 ^ 32)
+    few-sum c r x y most revokes fits small = (omega arith, omega arith)
+
+-- the blocks of a transaction fit the ring, so it has few entries
+pub runs-few : (e : Engine) (b : Batch) → IsPlain e → slice_get e.accepted e.committed ≡ Some b → length b.entries ≤ 2 ^ 32
+runs-few e b plain stands =
+    let blocks = runs-blocks e b plain stands in
+    let room = plain.room in
+    let order : e.tail ≤ e.start = tail-start e plain in
+    let ring : e.ring.blocks ≤ 1048576 = ring-few e plain in
+    let fits : needed_by e.layout b ≤ e.ring.blocks = omega arith in
+    let few = few-needed e.layout (length (copied b.entries)) (length (revoked b.entries)) e.ring.blocks plain.layout.0 fits ring in
+    subst (λ (n : ℕ). n ≤ 2 ^ 32) (counted b.entries) few.1
 
 -- the transaction that is being committed has the number that is due
-pub runs-number : (e : Engine) (b : Batch) → CanRun e → slice_get e.accepted e.committed ≡ Some b → b.tid ≡ e.first + e.committed
-runs-number e b can stands = number-at e.first e.committed e.accepted b can.plain.numbered stands
+pub runs-number : (e : Engine) (b : Batch) → IsPlain e → slice_get e.accepted e.committed ≡ Some b → b.tid ≡ e.first + e.committed
+runs-number e b plain stands = number-at e.first e.committed e.accepted b plain.numbered stands
 
 -- what it needs is what its text takes
-pub room-of : (e : Engine) (b : Batch) → IsPlain e → AreCopies e.layout b.entries →
-    e.start + need e.layout (length b.entries) 0 ≤ e.tail + e.ring.blocks → HasRoom e b
-room-of e b plain are room = subst (λ (n : ℕ). e.start + n ≤ e.tail + e.ring.blocks) (sym (length-text e b plain are)) room
+pub room-of : (e : Engine) (b : Batch) → IsPlain e → e.start + needed_by e.layout b ≤ e.tail + e.ring.blocks → HasRoom e b
+room-of e b plain room = subst (λ (n : ℕ). e.start + n ≤ e.tail + e.ring.blocks) (sym (length-text e b plain)) room
 
 -- what its text takes is what it needs
-pub need-of : (e : Engine) (b : Batch) → IsPlain e → AreCopies e.layout b.entries → HasRoom e b →
-    e.start + need e.layout (length b.entries) 0 ≤ e.tail + e.ring.blocks
-need-of e b plain are room = subst (λ (n : ℕ). e.start + n ≤ e.tail + e.ring.blocks) (length-text e b plain are) room
+pub need-of : (e : Engine) (b : Batch) → IsPlain e → HasRoom e b → e.start + needed_by e.layout b ≤ e.tail + e.ring.blocks
+need-of e b plain room = subst (λ (n : ℕ). e.start + n ≤ e.tail + e.ring.blocks) (length-text e b plain) room
 
 -- an engine that may be handed a batch that there is room for takes it
 pub takes : (e new : Engine) (b : Batch) → e.aborted ≡ false → MayHandOver e b → HasRoom e b → new ≡ accepting e b → Accepts e b new
@@ -117,17 +131,13 @@ takes e new b running may room after = record {
 }
 
 -- and can run with it
-pub takes-runs : (e new : Engine) (b : Batch) → CanRun e → MayHandOver e b → Accepts e b new → CanRun new
-takes-runs e new b can may accepts = subst CanRun (sym accepts.after) (record {
-  plain = subst IsPlain accepts.after (accepts-plain e b new can.plain accepts);
-  copies = each-append (λ (x : Batch). AreCopies e.layout x.entries) e.accepted (b ∷ []) can.copies (may.copies, tt);
-})
+pub takes-runs : (e new : Engine) (b : Batch) → IsPlain e → MayHandOver e b → Accepts e b new → IsPlain new
+takes-runs e new b plain may accepts = accepts-plain e b new plain accepts
 
 -- the head of the ring is far from the end of the numbers of 64 bits
 pub head-small : (e : Engine) → IsPlain e → e.start + length (due_blocks e) + e.ring.blocks ≤ 2 ^ 64 - 1
 head-small e plain =
-    let ring = runs-ring e plain in
-    let few : e.ring.blocks ≤ 1048576 = (let first = ring.few in omega arith) in
+    let few : e.ring.blocks ≤ 1048576 = ring-few e plain in
     let many : length e.accepted ≤ 4294967296 = (let numbers = plain.numbers in omega arith) in
     let laps : e.start + length (due_blocks e) ≤ length e.accepted * e.ring.blocks = plain.laps in
     let product : length e.accepted * e.ring.blocks ≤ 4294967296 * 1048576 = mul-le (length e.accepted) e.ring.blocks 4294967296 1048576 many few in
@@ -161,5 +171,5 @@ named-fields shape superblock next named =
     }
 
 -- the engine of an opened log can run
-pub fresh-runs : (shape : Shape) (superblock : List ℕ) (next : ℕ) → IsNextNamed shape superblock next → CanRun (fresh_engine shape superblock next)
-fresh-runs shape superblock next named = record { plain = fresh-plain shape superblock next named.named named.number; copies = tt }
+pub fresh-runs : (shape : Shape) (superblock : List ℕ) (next : ℕ) → IsNextNamed shape superblock next → IsPlain (fresh_engine shape superblock next)
+fresh-runs shape superblock next named = fresh-plain shape superblock next named.named named.number

@@ -23,10 +23,8 @@ use Rattle.log_engine.specs.declared.call.Due.{Due}
 use Rattle.log_engine.specs.declared.call.Due.TheVariants.{Nothing, Write as WriteDue, Flush as FlushDue}
 use Rattle.log_engine.specs.declared.engine.Progress.{Progress}
 use Rattle.log_engine.specs.declared.engine.Progress.TheVariants.{Idle as NoProgress, Step, Done}
-use Rattle.log_engine.specs.Text.{AreCopies}
 use Rattle.log_engine.specs.Call.{IsOneMoment, call_of}
 use Rattle.log_engine.specs.Engine.{IsDuringCommit, IsProgress, StepDid}
-use Rattle.log_engine.specs.Ledger.{CanRun}
 use Rattle.log_engine.proofs.Calls.{each-one}
 
 -- a step that is to do something makes a call
@@ -133,11 +131,10 @@ count-ok A B (Ok x) is p = p
 count-ok A B (Err e) is p = cc
 
 -- an engine that can run can run when it is aborted, on a device of the same shape
-pub fault-runs : (e : Engine) (shape : Shape) → CanRun e → shape ≡ e.shape → CanRun (record e { shape = shape; aborted = true })
-fault-runs e shape can same =
-    let plain : IsPlain (record e { aborted = true }) = plain-at e e.stage e.stage e.aborted true can.plain can.plain.stage in
-    let here : CanRun (record e { aborted = true }) = record { plain = plain; copies = can.copies } in
-    subst (λ (s : Shape). CanRun (record e { shape = s; aborted = true })) (sym same) here
+pub fault-runs : (e : Engine) (shape : Shape) → IsPlain e → shape ≡ e.shape → IsPlain (record e { shape = shape; aborted = true })
+fault-runs e shape plain same =
+    let here : IsPlain (record e { aborted = true }) = plain-at e e.stage e.stage e.aborted true plain plain.stage in
+    subst (λ (s : Shape). IsPlain (record e { shape = s; aborted = true })) (sym same) here
 
 -- a fault on a device whose shape stays
 pub faults-here : (e : Engine) (shape : Shape) (call : Call) (disk after : Disk) → shape ≡ e.shape → e.aborted ≡ false → call_due e ≡ Some call →
@@ -155,19 +152,6 @@ pub steps-here : (e new : Engine) (call : Call) (disk after : Disk) → e.aborte
     after ≡ after_success call disk → CommitSteps e disk new after
 steps-here e new call disk after running due engine is = record { running = running; call = call; due = due; engine = engine; disk_is = is }
 
--- what the engine took has copies alone, before and after a step
-step-copies : (e : Engine) (stage : Stage) (l : Layout) → AllByRecursion (λ b. AreCopies l b.entries) e.accepted →
-    AllByRecursion (λ b. AreCopies l b.entries) (stepped_from e stage).accepted
-step-copies e stage l are =
-    subst (λ (bs : List Batch). AllByRecursion (λ b. AreCopies l b.entries) bs) (sym (advances-at e stage).accepted) are
-
 -- an engine that can run can run after a step
-pub step-runs : (e new : Engine) (call : Call) → CanRun e → call_due e ≡ Some call → new ≡ stepped e → CanRun new
-step-runs e new call can due is =
-    let layout : (stepped e).layout ≡ e.layout = (advances-at e e.stage).layout in
-    let here : CanRun (stepped e) = record {
-      plain = step-plain e call can.plain due;
-      copies = subst (λ (l : Layout). AllByRecursion (λ b. AreCopies l b.entries) (stepped e).accepted) (sym layout)
-          (step-copies e e.stage e.layout can.copies);
-    } in
-    subst CanRun (sym is) here
+pub step-runs : (e new : Engine) (call : Call) → IsPlain e → call_due e ≡ Some call → new ≡ stepped e → IsPlain new
+step-runs e new call plain due is = subst IsPlain (sym is) (step-plain e call plain due)

@@ -14,22 +14,18 @@ use Rattle.journal_world.specs.Engine.{Engine, CommitFaults, CommitSteps, HasRoo
 use Rattle.journal_world.specs.Sound.{CopiesHome, KeepsHome, OpensBetween}
 use Rattle.log_engine.specs.declared.engine.Progress.{Progress}
 use Rattle.log_engine.specs.declared.engine.Progress.TheVariants.{Idle as NoProgress, Step, Done}
-use Rattle.log_engine.specs.Text.{AreCopies}
 
 -- an engine and its device
 pub record EngineValue (D : Type 0) : Type 0 where
   pub device : D
   pub engine : Engine
 
--- a batch may be handed over: nothing is being committed, it has the next number, and it has copies alone, of no more
--- blocks than the ring has
+-- a batch may be handed over: nothing is being committed, it has the next number, and its entries are those of a batch
 pub record MayHandOver (e : Engine) (b : Batch) : Type 0 where
   pub idle : e.stage ≡ Idle
   pub number : b.tid ≡ e.first + e.committed
   pub left : b.tid ≤ greatest_number
   pub batch : IsBatch e.layout e.shape b
-  pub copies : AreCopies e.layout b.entries
-  pub few : length b.entries ≤ e.ring.blocks
 
 -- why a batch is refused: the device failed before, the ring is too short, or memory runs out
 pub data AcceptRefused (e : Engine) (b : Batch) : JournalError → Type 0 where

@@ -1,6 +1,5 @@
 -- The engine as the pure machine sees it, and what its ledger keeps.
 use Rattle.std.specs.Prelude.{◌≡◌, ◌⊎◌, ⊤, ℕ, ◌+◌, ◌<◌, ◌≤◌, nat_le, List, length, filter, Some, slice_get, Contains}
-use Rattle.std.specs.List.{AllByRecursion}
 use Rattle.journal_model.specs.declared.entry.Batch.{Batch}
 use Rattle.journal_model.specs.declared.entry.Entry.TheVariants.{Copy}
 use Rattle.journal_model.specs.Superblock.{Shape}
@@ -12,7 +11,8 @@ use Rattle.journal_world.specs.Checkpoint.{IsFrom, IsPending}
 use Rattle.journal_world.specs.Engine.{Engine, due_blocks}
 use Rattle.journal_world.specs.Sound.{IsPlain, position}
 use Rattle.log_engine.specs.declared.ledger.Ledger.{Ledger}
-use Rattle.log_engine.specs.Text.{AreCopies}
+use Rattle.log_engine.specs.declared.plan.Plan.{Plan}
+use Rattle.log_engine.specs.Text.{IsPlanOf}
 
 -- the engine that a ledger stands for, on a device of this shape
 abbrev pub engine_of : Shape → Ledger → Engine
@@ -36,14 +36,13 @@ engine_of shape l = record {
   aborted = l.aborted;
 }
 
--- the engine can run: what it knows agrees, and each transaction that it took has copies alone
-pub record CanRun (e : Engine) : Type 0 where
-  pub plain : IsPlain e
-  pub copies : AllByRecursion (λ b. AreCopies e.layout b.entries) e.accepted
-
 -- the ring is taken up to the end of the transaction that is being committed
 pub record HasTaken (shape : Shape) (l : Ledger) : Type 0 where
   pub head : l.ring.head ≡ l.start + length (due_blocks (engine_of shape l))
+
+-- the plan is that of the transaction that is being committed, where one is
+abbrev pub HasPlan : Engine → Plan → Type 0
+HasPlan e plan = (b : Batch) → slice_get e.accepted e.committed ≡ Some b → IsPlanOf b.entries plan
 
 -- entry k of transaction i is a pending copy of block b
 pub record IsPlaced (e : Engine) (i b k : ℕ) : Type 0 where
@@ -74,7 +73,7 @@ pub record KeepsPending (e : Engine) (p : PendingValue) : Type 0 where
 
 -- the ledger can run on a device of this shape
 pub record Runs (shape : Shape) (l : Ledger) : Type 0 where
-  pub can_run : CanRun (engine_of shape l)
+  pub plain : IsPlain (engine_of shape l)
   pub taken : HasTaken shape l
   pub pending : KeepsPending (engine_of shape l) l.pending
 

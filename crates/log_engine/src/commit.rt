@@ -5,14 +5,16 @@ ghost use Rattle.std.specs.Prelude.{◌≡◌, ◌≢◌, ◌+◌, ◌-◌, ◌<
 ghost use Rattle.journal_model.specs.Superblock.{Shape};
 ghost use Rattle.journal_world.specs.declared.stage.Stage.TheVariants.{Idle, Blocks, CommitFlush, CommitWrite, SuperblockWrite};
 ghost use Rattle.journal_world.specs.Engine.{call_due, due_blocks, stepped, stepped_from, write_block};
+ghost use Rattle.journal_world.specs.Sound.{IsPlain};
 ghost use Rattle.log_engine.specs.declared.engine.Progress.TheVariants.{Step, Done};
 ghost use Rattle.log_engine.specs.Call.{Fits, call_of};
 ghost use Rattle.log_engine.specs.Engine.{IsProgress};
-ghost use Rattle.log_engine.specs.Ledger.{CanRun, CanRunOn, Runs, engine_of};
+ghost use Rattle.log_engine.specs.Ledger.{CanRunOn, HasPlan, Runs, engine_of};
 
 use crate::call::Due;
 use crate::engine::Progress;
 use crate::ledger::Ledger;
+use crate::plan::Plan;
 use crate::text::TextWriter;
 use journal_model::{Area, Batch, Tid};
 use journal_world::Stage;
@@ -36,20 +38,20 @@ impl Ledger {
         self.first + self.committed as u32
     }
 
-    /// How many log blocks it takes.
+    /// How many log blocks it takes: those that are taken behind the committed transactions.
     fn blocks_due(&self) -> u64
         requires can_run { CanRunOn self.now (length self.now.superblock.items) }
-        requires due { self.now.committed < length self.now.accepted.items }
         ensures { (shape : Shape) → shape.block_size ≡ length self.now.superblock.items → result ≡ length (due_blocks (engine_of shape self.now)) }
     {
-        self.need(self.batch_due().entries.len())
+        self.ring.head() - self.start
     }
 
-    /// The device call that is due. The block that it is to write is built by the writer.
-    pub(crate) fn due(&self, writer: &mut TextWriter) -> Due
+    /// The device call that is due. The block that it is to write is built by the writer, by the plan of the batch.
+    pub(crate) fn due(&self, writer: &mut TextWriter, plan: &Plan) -> Due
         requires can_run { CanRunOn self.now (length writer.old) }
+        requires plan { (shape : Shape) → HasPlan (engine_of shape self.now) plan.now }
         ensures due { (shape : Shape) → shape.block_size ≡ length writer.old → call_of result writer.new ≡ call_due (engine_of shape self.now) }
-        ensures fits { (shape : Shape) → CanRun (engine_of shape self.now) → shape.block_size ≡ length writer.old → Fits shape result writer.new }
+        ensures fits { (shape : Shape) → IsPlain (engine_of shape self.now) → shape.block_size ≡ length writer.old → Fits shape result writer.new }
         ensures size { length writer.new ≡ length writer.old }
     {
         match self.stage {
@@ -60,22 +62,23 @@ impl Ledger {
                 writer.write_superblock(&self.superblock, number, start as u32);
                 Due::Write(Area::Log, 0)
             }
-            Stage::Blocks(k) if k + 1 < self.blocks_due() => self.due_block(writer, k),
-            Stage::CommitWrite => self.due_block(writer, self.blocks_due() - 1),
+            Stage::Blocks(k) if k + 1 < self.blocks_due() => self.due_block(writer, plan, k),
+            Stage::CommitWrite => self.due_block(writer, plan, self.blocks_due() - 1),
             Stage::SuperblockFlush | Stage::Blocks(_) | Stage::CommitFlush => Due::Flush(Area::Log),
         }
     }
 
     /// The write of block `k` of the batch that is being committed.
-    fn due_block(&self, writer: &mut TextWriter, k: u64) -> Due
+    fn due_block(&self, writer: &mut TextWriter, plan: &Plan, k: u64) -> Due
         requires can_run { CanRunOn self.now (length writer.old) }
+        requires plan { (shape : Shape) → HasPlan (engine_of shape self.now) plan.now }
         requires due { self.now.committed < length self.now.accepted.items }
         requires there { (shape : Shape) → shape.block_size ≡ length writer.old → k < length (due_blocks (engine_of shape self.now)) }
         ensures due { (shape : Shape) → shape.block_size ≡ length writer.old → call_of result writer.new ≡ Some (write_block (engine_of shape self.now) k) }
-        ensures fits { (shape : Shape) → CanRun (engine_of shape self.now) → shape.block_size ≡ length writer.old → Fits shape result writer.new }
+        ensures fits { (shape : Shape) → IsPlain (engine_of shape self.now) → shape.block_size ≡ length writer.old → Fits shape result writer.new }
         ensures size { length writer.new ≡ length writer.old }
     {
-        writer.write_block(self.layout, &self.uuid, self.batch_due(), k);
+        writer.write_block(self.layout, &self.uuid, self.batch_due(), plan, k);
         Due::Write(Area::Log, self.ring.place(self.start + k))
     }
 

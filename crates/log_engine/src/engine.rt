@@ -20,6 +20,7 @@ ghost use Rattle.log_engine.specs.Left.{LeavesFewer, commit_calls, round_calls};
 use crate::call::{Due, make_call};
 use crate::close::write_first;
 use crate::ledger::Ledger;
+use crate::plan::{Plan, count_copies};
 use crate::text::TextWriter;
 use block_device::Device;
 use checkpoint::Pending;
@@ -46,6 +47,7 @@ pub enum Progress {
 pub struct Engine<D: Device> {
     device: D,
     ledger: Ledger,
+    plan: Plan,
     writer: TextWriter,
 }
 
@@ -54,7 +56,7 @@ impl<D: Device> Model for Engine<D> {
     ghost use Rattle.journal_world.specs.Sound.{Sound};
     ghost use Rattle.log_engine.specs.Close.{KeepsClean};
     ghost use Rattle.log_engine.specs.Engine.{EngineValue};
-    ghost use Rattle.log_engine.specs.Ledger.{Runs, engine_of};
+    ghost use Rattle.log_engine.specs.Ledger.{HasPlan, Runs, engine_of};
 
     ghost Value = { EngineValue D };
 
@@ -63,7 +65,8 @@ impl<D: Device> Model for Engine<D> {
     ghost invariant = { λ e. Runs (D.state e.device).shape e.ledger
         × (length e.writer ≡ (D.state e.device).shape.block_size)
         × (D.honest e.device → Sound (engine_of (D.state e.device).shape e.ledger) (D.state e.device).disk)
-        × (D.honest e.device → KeepsClean (engine_of (D.state e.device).shape e.ledger) (D.state e.device).disk) };
+        × (D.honest e.device → KeepsClean (engine_of (D.state e.device).shape e.ledger) (D.state e.device).disk)
+        × HasPlan (engine_of (D.state e.device).shape e.ledger) e.plan };
 }
 
 impl<D: Device> Engine<D> {
@@ -89,6 +92,7 @@ impl<D: Device> Engine<D> {
         Ok(Engine {
             device,
             ledger: Ledger::new(alloc, superblock, next.0, pending),
+            plan: Plan::new(alloc),
             writer,
         })
     }
@@ -148,19 +152,19 @@ impl<D: Device> Engine<D> {
         self.ledger.ring.blocks()
     }
 
-    /// Whether the ring has as many free blocks as a transaction of so many copies needs. The blocks of committed
-    /// transactions are free from the end of the checkpoint round on that releases them.
-    pub fn has_room(&self, copies: usize) -> bool
+    /// Whether the ring has as many free blocks as a transaction of so many copies and revokes needs. The blocks of
+    /// committed transactions are free from the end of the checkpoint round on that releases them.
+    pub fn has_room(&self, copies: usize, revokes: usize) -> bool
         requires { self.now.engine.stage ≡ Idle }
         ensures { IsTrue result ↔
-            (self.now.engine.start + need self.now.engine.layout copies 0 ≤ self.now.engine.tail + self.now.engine.ring.blocks) }
+            (self.now.engine.start + need self.now.engine.layout copies revokes ≤ self.now.engine.tail + self.now.engine.ring.blocks) }
     {
-        self.ledger.has_room(copies)
+        self.ledger.room_for(copies, revokes).is_some()
     }
 
-    /// Takes the entries of a transaction, which is then to be committed: copies of one block each, of different blocks
-    /// that may be touched, with the next number, while nothing is being committed. It makes every growth that the commit
-    /// will need.
+    /// Takes the entries of a transaction, which is then to be committed: copies of one block each and revokes, in any mix,
+    /// of different blocks that may be touched, with the next number, while nothing is being committed. It makes every
+    /// growth that the commit will need, so that a commit takes time in proportion to its log blocks and its entries.
     ///
     /// # Errors
     ///
@@ -175,10 +179,15 @@ impl<D: Device> Engine<D> {
         if self.ledger.aborted {
             return Err((batch, JournalError::Aborted));
         }
-        if !self.ledger.has_room(batch.entries.len()) {
+        let copies = count_copies(batch.entries.as_slice());
+        let revokes = batch.entries.len() - copies;
+        let Some(blocks) = self.ledger.room_for(copies, revokes) else {
             return Err((batch, JournalError::NeedSpace));
+        };
+        if self.plan.make(batch.entries.as_slice()).is_err() {
+            return Err((batch, JournalError::Memory));
         }
-        if let Err(batch) = self.ledger.take(batch) {
+        if let Err(batch) = self.ledger.take(batch, blocks) {
             return Err((batch, JournalError::Memory));
         }
         Ok(())
@@ -204,7 +213,7 @@ impl<D: Device> Engine<D> {
         if self.ledger.aborted {
             return Err(JournalError::Aborted);
         }
-        let due = self.ledger.due(&mut self.writer);
+        let due = self.ledger.due(&mut self.writer, &self.plan);
         if let Due::Nothing = due {
             return Ok(Progress::Idle);
         }
@@ -312,6 +321,7 @@ impl<D: Device> Engine<D> {
         let Engine {
             mut device,
             ledger,
+            plan: _,
             mut writer,
         } = self;
         if ledger.aborted {
@@ -337,6 +347,7 @@ impl<D: Device> Engine<D> {
         let Engine {
             device,
             ledger,
+            plan: _,
             writer: _,
         } = self;
         (device, ledger.committed)

@@ -1,6 +1,6 @@
 //! What an engine knows beside its device.
-ghost use Rattle.std.specs.Prelude.{◌≡◌, ◌+◌, ◌<◌, ◌≤◌, ◌↔◌, ◌^◌, IsTrue, if◌then◌else◌, length, IfErr, OnErr, OnOk};
-ghost use Rattle.journal_model.specs.Layout.{IsTaken};
+ghost use Rattle.std.specs.Prelude.{◌≡◌, ◌+◌, ◌<◌, ◌≤◌, ◌↔◌, IsTrue, if◌then◌else◌, is_some, length, IfErr, IfSome, OnErr, OnOk};
+ghost use Rattle.journal_model.specs.OwnText.{copied, revoked};
 ghost use Rattle.journal_model.specs.Room.{need};
 ghost use Rattle.journal_model.specs.Superblock.{Shape, least_ring, super_in};
 ghost use Rattle.journal_world.specs.declared.stage.Stage.TheVariants.{Idle, Blocks, SuperblockWrite};
@@ -15,6 +15,9 @@ use journal_world::{Round, Stage};
 use log_format::Super;
 use log_ring::Ring;
 use std::alloc::Global;
+
+/// More copies, or more revokes, fit no ring.
+const MOST_OF_EITHER: u64 = 1 << 32;
 
 /// The transactions that were handed over, how far they are committed and released, and what they have taken of the ring.
 #[derive(Drop)]
@@ -85,35 +88,34 @@ impl Ledger {
         }
     }
 
-    /// How many log blocks a transaction of so many copies takes.
-    pub(crate) fn need(&self, copies: usize) -> u64
-        requires taken { IsTaken self.now.layout }
-        requires few { copies ≤ 2 ^ 32 }
-        ensures { result ≡ need self.now.layout copies 0 }
-    {
-        Ring::need(self.layout, copies as u64, 0)
-    }
-
-    /// Whether the ring has as many free blocks.
-    pub(crate) fn has_room(&self, copies: usize) -> bool
+    /// How many log blocks a transaction of so many copies and revokes needs, where the ring has as many free ones.
+    pub(crate) fn room_for(&self, copies: usize, revokes: usize) -> Option<u64>
         requires can_run { CanRunOn self.now (length self.now.superblock.items) }
         requires idle { self.now.stage ≡ Idle }
-        ensures { IsTrue result ↔ (self.now.start + need self.now.layout copies 0 ≤ self.now.ring.tail + self.now.ring.ring.blocks) }
+        ensures blocks { IfSome result (λ n. n ≡ need self.now.layout copies revokes) }
+        ensures room { IsTrue (is_some result) ↔ (self.now.start + need self.now.layout copies revokes ≤ self.now.ring.tail + self.now.ring.ring.blocks) }
     {
-        copies as u64 <= self.ring.blocks() && self.need(copies) <= self.ring.free()
+        if copies as u64 > MOST_OF_EITHER || revokes as u64 > MOST_OF_EITHER {
+            return None;
+        }
+        let blocks = Ring::need(self.layout, copies as u64, revokes as u64);
+        if blocks > self.ring.free() {
+            return None;
+        }
+        Some(blocks)
     }
 
-    /// Takes a batch that there is room for, which is then to be committed. Where memory runs out it comes back, and
-    /// nothing changes.
-    pub(crate) fn take(&mut self, batch: Batch) -> Result<(), Batch>
-        requires { (shape : Shape) × Runs shape self.old × MayHandOver (engine_of shape self.old) batch × HasRoom (engine_of shape self.old) batch }
+    /// Takes a batch that there is room for, and which needs so many log blocks; it is then to be committed. Where memory
+    /// runs out it comes back, and nothing changes.
+    pub(crate) fn take(&mut self, batch: Batch, blocks: u64) -> Result<(), Batch>
+        requires room { (shape : Shape) × Runs shape self.old × MayHandOver (engine_of shape self.old) batch × HasRoom (engine_of shape self.old) batch }
+        requires blocks { blocks ≡ need self.old.layout (length (copied batch.entries)) (length (revoked batch.entries)) }
         ensures ok { OnOk result ((shape : Shape) → engine_of shape self.new ≡ accepting (engine_of shape self.old) batch) }
-        ensures head { OnOk result (self.new.ring.head ≡ self.old.ring.head + need self.old.layout (length batch.entries) 0) }
+        ensures head { OnOk result (self.new.ring.head ≡ self.old.ring.head + blocks) }
         ensures pending { self.new.pending ≡ self.old.pending }
         ensures err { IfErr result (λ b. b ≡ batch) }
         ensures same { OnErr result (((shape : Shape) → engine_of shape self.new ≡ engine_of shape self.old) × (self.new.ring ≡ self.old.ring)) }
     {
-        let blocks = self.need(batch.entries.len());
         if let Err(e) = self.accepted.push(batch) {
             return Err(e.value);
         }

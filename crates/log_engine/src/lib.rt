@@ -9,6 +9,7 @@ mod close;
 mod commit;
 mod engine;
 mod ledger;
+mod plan;
 mod round;
 mod text;
 

@@ -1,18 +1,18 @@
 //! The log blocks of a transaction, built one at a time.
 ghost use Rattle.std.specs.Prelude.{◌≡◌, ◌+◌, ◌^◌, ◌<◌, ◌≤◌, true, length, IfOk, All};
 ghost use Rattle.journal_model.specs.Descriptor.{descriptor_block};
-ghost use Rattle.journal_model.specs.Layout.{IsTaken, tags_of};
-ghost use Rattle.journal_model.specs.OwnText.{copied, own_text, tags_from};
-ghost use Rattle.journal_model.specs.Room.{need};
+ghost use Rattle.journal_model.specs.Layout.{IsTaken, every_number, header_bytes, tags_of};
+ghost use Rattle.journal_model.specs.OwnText.{copied, own_text, revoked, tags_from};
 ghost use Rattle.journal_model.specs.Superblock.{with_tail};
 ghost use Rattle.journal_model.specs.Text.{text_blocks};
 ghost use Rattle.log_format.specs.Size.{IsBlockSize};
 ghost use Rattle.journal_world.specs.Engine.{block_at};
 ghost use Rattle.log_ring.specs.Parts.{FitsPart, part_block};
-ghost use Rattle.log_engine.specs.Text.{AreCopies, IsLong, IsStored, IsWholeCopy, is_escaped};
+ghost use Rattle.log_engine.specs.Text.{IsLong, IsPlanOf, IsStored, IsWholeCopy, copies_at, is_escaped};
 
+use crate::plan::Plan;
 use journal_model::{Batch, BlockNo, Entry, LogLayout, Tag};
-use log_format::{CommitBlock, Descriptor, Header, Super, escape};
+use log_format::{CommitBlock, Descriptor, Header, RevokeBlock, Super, escape};
 use log_ring::{Layout, Part};
 use std::alloc::{AllocError, Global};
 use std::marker::Model;
@@ -54,11 +54,20 @@ impl TextWriter {
         &self.block
     }
 
-    /// Builds block `k` of a transaction that revokes nothing, counted from 0: a descriptor, a copy, or the commit block.
-    pub(crate) fn write_block(&mut self, layout: LogLayout, uuid: &[u8; 16], batch: &Batch, k: u64)
+    /// Builds block `k` of a transaction, counted from 0: a revoke block, a descriptor, a copy, or the commit block.
+    pub(crate) fn write_block(
+        &mut self,
+        layout: LogLayout,
+        uuid: &[u8; 16],
+        batch: &Batch,
+        plan: &Plan,
+        k: u64,
+    )
         requires taken { IsTaken layout }
         requires size { length self.old ≡ layout.block_size }
-        requires copies { AreCopies layout batch.now.entries }
+        requires plan { IsPlanOf batch.now.entries plan.now }
+        requires whole { All (λ c. length c.1 ≡ layout.block_size) (copied batch.now.entries) }
+        requires spelled { All (λ p. p.0 < every_number layout) batch.now.entries }
         requires few { length batch.now.entries ≤ 2 ^ 32 }
         requires there { k < length (text_blocks (own_text layout uuid.now batch.now.tid batch.now.entries)) }
         ensures block { self.new ≡ block_at (text_blocks (own_text layout uuid.now batch.now.tid batch.now.entries)) k }
@@ -71,6 +80,7 @@ impl TextWriter {
             uuid,
             batch.tid.0,
             batch.entries.as_slice(),
+            plan,
             k,
         );
     }
@@ -95,7 +105,7 @@ impl TextWriter {
     }
 }
 
-/// Writes block `k` of the transaction with these entries, which are copies.
+/// Writes block `k` of the transaction with these entries, which has this plan.
 fn write_log_block(
     layout: LogLayout,
     block: &mut [u8],
@@ -103,21 +113,37 @@ fn write_log_block(
     uuid: &[u8; 16],
     sequence: u32,
     entries: &[(BlockNo, Entry)],
+    plan: &Plan,
     k: u64,
 )
     requires taken { IsTaken layout }
     requires size { length block.old ≡ layout.block_size }
     requires room { tags_of layout ≤ length tags.old }
-    requires copies { AreCopies layout entries.now }
+    requires plan { IsPlanOf entries.now plan.now }
+    requires whole { All (λ c. length c.1 ≡ layout.block_size) (copied entries.now) }
+    requires spelled { All (λ p. p.0 < every_number layout) entries.now }
     requires few { length entries.now ≤ 2 ^ 32 }
     requires there { k < length (text_blocks (own_text layout uuid.now sequence entries.now)) }
     ensures { block.new ≡ block_at (text_blocks (own_text layout uuid.now sequence entries.now)) k }
 {
-    let text = Layout::new(layout, entries.len() as u64, 0);
-    write_part(layout, block, tags, uuid, sequence, entries, text.part(k));
+    let text = Layout::new(
+        layout,
+        plan.copies.len() as u64,
+        plan.revokes.len() as u64,
+    );
+    write_part(
+        layout,
+        block,
+        tags,
+        uuid,
+        sequence,
+        entries,
+        plan,
+        text.part(k),
+    );
 }
 
-/// Writes the part of the transaction with these entries, which are copies.
+/// Writes the part of the transaction with these entries, which has this plan.
 fn write_part(
     layout: LogLayout,
     block: &mut [u8],
@@ -125,28 +151,38 @@ fn write_part(
     uuid: &[u8; 16],
     sequence: u32,
     entries: &[(BlockNo, Entry)],
+    plan: &Plan,
     part: Part,
 )
     requires taken { IsTaken layout }
     requires size { length block.old ≡ layout.block_size }
     requires room { tags_of layout ≤ length tags.old }
-    requires copies { AreCopies layout entries.now }
-    requires part { FitsPart layout (length entries.now) 0 part }
+    requires plan { IsPlanOf entries.now plan.now }
+    requires whole { All (λ c. length c.1 ≡ layout.block_size) (copied entries.now) }
+    requires spelled { All (λ p. p.0 < every_number layout) entries.now }
+    requires part { FitsPart layout (length (copied entries.now)) (length (revoked entries.now)) part }
     ensures { block.new ≡ part_block layout uuid.now sequence entries.now part }
 {
     match part {
-        Part::Revokes { .. } => {}
+        Part::Revokes { first, numbers } => {
+            let first = first as usize;
+            let group = &plan.revokes[first..first + numbers as usize];
+            RevokeBlock::write(layout, block, sequence, group);
+        }
         Part::Descriptor { first, tags: count } => {
             let first = first as usize;
-            let group = &entries[first..first + count as usize];
-            write_descriptor(layout, block, tags, uuid, sequence, group);
+            let group = &plan.copies[first..first + count as usize];
+            write_descriptor(layout, block, tags, uuid, sequence, entries, group);
         }
-        Part::Copy(k) => write_copy(block, &entries[k as usize].1),
+        Part::Copy(k) => {
+            let place = plan.copies[k as usize];
+            write_copy(block, &entries[place].1);
+        }
         Part::Commit => CommitBlock::write(block, sequence),
     }
 }
 
-/// Writes the descriptor of these entries, which are copies.
+/// Writes the descriptor of the copies at these places among the entries.
 fn write_descriptor(
     layout: LogLayout,
     block: &mut [u8],
@@ -154,31 +190,34 @@ fn write_descriptor(
     uuid: &[u8; 16],
     sequence: u32,
     entries: &[(BlockNo, Entry)],
+    places: &[usize],
 )
     requires taken { IsTaken layout }
     requires size { length block.old ≡ layout.block_size }
     requires room { tags_of layout ≤ length tags.old }
-    requires copies { AreCopies layout entries.now }
-    requires few { length entries.now ≤ tags_of layout }
-    ensures { block.new ≡ descriptor_block layout uuid.now sequence (tags_from true (copied entries.now)) }
+    requires long { All (λ c. header_bytes ≤ length c.1) (copies_at entries.now places.now) }
+    requires spelled { All (λ c. c.0 < every_number layout) (copies_at entries.now places.now) }
+    requires few { length places.now ≤ tags_of layout }
+    ensures { block.new ≡ descriptor_block layout uuid.now sequence (tags_from true (copies_at entries.now places.now)) }
 {
-    let tags = &mut tags[..entries.len()];
-    make_tags(tags, entries);
+    let tags = &mut tags[..places.len()];
+    make_tags(tags, entries, places);
     Descriptor::write(layout, block, uuid, sequence, tags);
 }
 
-/// Makes the tags of one descriptor, one for each of these entries, which are copies.
-fn make_tags(tags: &mut [Tag], entries: &[(BlockNo, Entry)])
-    requires room { length tags.old ≡ length entries.now }
-    requires long { All (λ p. IsLong p.1) entries.now }
-    ensures { tags.new ≡ tags_from true (copied entries.now) }
+/// Makes the tags of one descriptor, one for each of the copies at these places.
+fn make_tags(tags: &mut [Tag], entries: &[(BlockNo, Entry)], places: &[usize])
+    requires room { length tags.old ≡ length places.now }
+    requires long { All (λ c. header_bytes ≤ length c.1) (copies_at entries.now places.now) }
+    ensures { tags.new ≡ tags_from true (copies_at entries.now places.now) }
 {
-    for i in 0..entries.len() {
+    for i in 0..places.len() {
+        let place = places[i];
         tags[i] = Tag {
-            block: entries[i].0,
-            escaped: begins_with_magic(&entries[i].1),
+            block: entries[place].0,
+            escaped: begins_with_magic(&entries[place].1),
             same_uuid: i > 0,
-            last: i + 1 == entries.len(),
+            last: i + 1 == places.len(),
         };
     }
 }

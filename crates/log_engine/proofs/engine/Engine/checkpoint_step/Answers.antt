@@ -43,7 +43,7 @@ invariant_of-self-then-is_err g c =
       aborted-runs before.shape after.shape m c.make_call.ensures.shape begun.2,
       c.round_due-due.ensures.size ∙ c.self.invariant.1 ∙ sym (ap (λ (s : Shape). s.block_size) c.make_call.ensures.shape),
       λ honest. round-fault-sound e _ before.disk after.disk (c.self.invariant.2 (c.make_call.ensures.honest honest)) fault,
-      λ honest. round-fault-clean e _ before.disk after.disk c.self.invariant.0.can_run.plain fault,
+      λ honest. round-fault-clean e _ before.disk after.disk c.self.invariant.0.plain fault,
     )
 
 -- that is what the answer says
@@ -93,7 +93,7 @@ invariant_of-self-2 g c =
       gone.runs,
       c.round_due-due.ensures.size ∙ c.self.invariant.1 ∙ sym (ap (λ (s : Shape). s.block_size) c.make_call.ensures.shape),
       λ honest. round-sound e _ before.disk after.disk (c.self.invariant.2 (c.make_call.ensures.honest honest)) steps,
-      λ honest. round-clean e _ before.disk after.disk c.self.invariant.0.can_run.plain steps,
+      λ honest. round-clean e _ before.disk after.disk c.self.invariant.0.plain steps,
     )
 
 -- that is what the answer says
@@ -116,7 +116,7 @@ returns g c =
     rw (← c.self.view_is) (record {
       ok = round-did c.advance_round.result e _ before.disk after.disk (c.advance_round.ensures.progress after.shape) steps;
       err = tt;
-      fewer = round-fewer c.advance_round.result e _ before.disk after.disk c.self.invariant.0.can_run.plain (round-did c.advance_round.result e _ before.disk after.disk (c.advance_round.ensures.progress after.shape) steps);
+      fewer = round-fewer c.advance_round.result e _ before.disk after.disk c.self.invariant.0.plain (round-did c.advance_round.result e _ before.disk after.disk (c.advance_round.ensures.progress after.shape) steps);
       no_fault = count-ok _ _ c.make_call.result worked c.make_call.ensures.faults;
       shape = c.make_call.ensures.shape;
       moments = λ honest. each-round e _ before after c.make_call.ensures.moment (c.self.invariant.2 honest) steps;

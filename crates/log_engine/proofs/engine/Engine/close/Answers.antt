@@ -36,7 +36,7 @@ returns-then-not-ledger-clause-moments g c =
 
 -- the log has a block 0
 pub write_first-requires-clause-there : goal.write_first-requires-clause-there
-write_first-requires-clause-there g c = round-log _ c.self.invariant.0.can_run.plain
+write_first-requires-clause-there g c = round-log _ c.self.invariant.0.plain
 
 -- the machine makes the same calls
 pub returns-in-Ok-clause-ok : goal.returns-in-Ok-clause-ok

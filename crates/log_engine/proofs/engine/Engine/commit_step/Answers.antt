@@ -87,7 +87,7 @@ invariant_of-self-2 g c =
     let due : call_due e ≡ Some made.0 =
     sym (c.due-due.ensures.due before.shape (sym c.self.invariant.1)) ∙ ap (call_of c.due-due.result) (sym c.bytes.ensures) ∙ made.1 in
     let worked = sym c.is_err.ensures.value ∙ c.if-is_err.false in
-    let size = ap (λ (s : Shape). s.block_size) c.make_call.ensures.shape ∙ sym (superblock-of e c.self.invariant.0.can_run.plain).size in
+    let size = ap (λ (s : Shape). s.block_size) c.make_call.ensures.shape ∙ sym (superblock-of e c.self.invariant.0.plain).size in
     let here = ap (λ (s : Shape). engine_of s c.self.inside.ledger) c.make_call.ensures.shape in
     let new = engine_of after.shape c.advance.new.self in
     let advanced : new ≡ stepped e = c.advance.ensures.stepped after.shape size ∙ ap stepped here in
@@ -96,7 +96,7 @@ invariant_of-self-2 g c =
       c.advance.ensures.runs after.shape (subst (λ (s : Shape). Runs s c.self.inside.ledger) (sym c.make_call.ensures.shape) c.self.invariant.0),
       c.due-due.ensures.size ∙ c.self.invariant.1 ∙ sym (ap (λ (s : Shape). s.block_size) c.make_call.ensures.shape),
       λ honest. step-sound e new before.disk after.disk (c.self.invariant.2 (c.make_call.ensures.honest honest)) step,
-      λ honest. step-clean e new before.disk after.disk c.self.invariant.0.can_run.plain step,
+      λ honest. step-clean e new before.disk after.disk c.self.invariant.0.plain step,
     )
 
 -- that is what the answer says
@@ -109,7 +109,7 @@ returns g c =
     let due : call_due e ≡ Some made.0 =
     sym (c.due-due.ensures.due before.shape (sym c.self.invariant.1)) ∙ ap (call_of c.due-due.result) (sym c.bytes.ensures) ∙ made.1 in
     let worked = sym c.is_err.ensures.value ∙ c.if-is_err.false in
-    let size = ap (λ (s : Shape). s.block_size) c.make_call.ensures.shape ∙ sym (superblock-of e c.self.invariant.0.can_run.plain).size in
+    let size = ap (λ (s : Shape). s.block_size) c.make_call.ensures.shape ∙ sym (superblock-of e c.self.invariant.0.plain).size in
     let here = ap (λ (s : Shape). engine_of s c.self.inside.ledger) c.make_call.ensures.shape in
     let new = engine_of after.shape c.advance.new.self in
     let advanced : new ≡ stepped e = c.advance.ensures.stepped after.shape size ∙ ap stepped here in
@@ -121,7 +121,7 @@ returns g c =
     rw (← c.self.view_is) (record {
       ok = step-did c.advance.result e new before.disk after.disk progress step;
       err = tt;
-      fewer = step-fewer c.advance.result e new before.disk after.disk c.self.invariant.0.can_run.plain (step-did c.advance.result e new before.disk after.disk progress step);
+      fewer = step-fewer c.advance.result e new before.disk after.disk c.self.invariant.0.plain (step-did c.advance.result e new before.disk after.disk progress step);
       no_fault = count-ok _ _ c.make_call.result worked c.make_call.ensures.faults;
       shape = c.make_call.ensures.shape;
       moments = λ honest. each-step e new before after c.make_call.ensures.moment (c.self.invariant.2 honest) step;

@@ -8,7 +8,7 @@ use Rattle.journal_world.specs.Opening.{IsOpenedLog}
 use Rattle.journal_world.specs.Sound.{IsPlain, Sound}
 use Rattle.journal_world.proofs.Fresh.{fresh-sound}
 use Rattle.log_engine.specs.Close.{KeepsClean}
-use Rattle.log_engine.specs.Ledger.{CanRun, KeepsPending, engine_of}
+use Rattle.log_engine.specs.Ledger.{KeepsPending, engine_of}
 use Rattle.log_engine.proofs.KeptClean.{fresh-clean}
 use Rattle.log_engine.proofs.Ledgers.{fresh-taken}
 use Rattle.log_engine.proofs.Pendings.{fresh-keeps}
@@ -64,7 +64,7 @@ invariant_of-result g c =
     let keeps : KeepsPending (fresh_engine state.shape superblock next) c.in-Ok-new.pending =
     fresh-keeps state.shape superblock next c.in-Ok-new.pending pending.newest pending.queue pending.unwritten (pending.room ∙ blocks) pending.kept in (
       record {
-        can_run = subst CanRun (sym is) (fresh-runs state.shape superblock next named);
+        plain = subst IsPlain (sym is) (fresh-runs state.shape superblock next named);
         taken = fresh-taken state.shape c.new-3.result (ap (λ (e : Engine). e.accepted) is) c.new-3.ensures.head (ap (λ (e : Engine). e.start) is);
         pending =
             subst (λ (p : PendingValue). KeepsPending (engine_of state.shape c.new-3.result) p) (sym c.new-3.ensures.pending)
@@ -97,7 +97,7 @@ returns-clause-plain g c =
     c.new-3.ensures.engine shape ∙ ap (fresh_engine shape c.into_parts-device.result.1.items) c.next.view_is
     ∙ ap (λ (d : g.row.D.Denot). fresh_engine (g.D.Device.state d).shape c.into_parts-device.result.1.items c.into_parts-device.result.2) made.device
     ∙ ap₂ (fresh_engine (g.D.Device.state c.args.opened.device).shape) made.superblock made.next in
-    subst IsPlain (sym is) (fresh-runs _ _ _ made.named).plain
+    subst IsPlain (sym is) (fresh-runs _ _ _ made.named)
 
 -- of an opened log
 pub returns-clause-log : goal.returns-clause-log

@@ -21,7 +21,7 @@ not-both b is not = cc
 
 -- the layout is one that is taken
 pub is_allowed-requires : goal.is_allowed-requires
-is_allowed-requires g c = c.self.invariant.0.can_run.plain.layout.0
+is_allowed-requires g c = c.self.invariant.0.plain.layout.0
 
 -- a block that may not be touched is refused
 pub returns-then-not-is_allowed-clause-err : goal.returns-then-not-is_allowed-clause-err
@@ -53,7 +53,7 @@ copy_from_slice-requires g c =
     let one = runs.pending.placed c.args.block c.in-Some.version (sym c.in-Some.ensures.newest) in
     let size = subst (λ (v : EngineValue g.row.D.Denot). length c.args.into.now ≡ (g.D.Device.state v.device).shape.block_size)
     (sym c.self.view_is) c.requires in
-    size ∙ sym (ap length (c.copy.ensures shape one.0 c.args.block one.1 one.2) ∙ placed-size e one.0 c.args.block c.in-Some.version.place runs.can_run one.2)
+    size ∙ sym (ap length (c.copy.ensures shape one.0 c.args.block one.1 one.2) ∙ placed-size e one.0 c.args.block c.in-Some.version.place runs.plain one.2)
 
 -- the engine runs, and the block may be touched
 pub returns-in-Some-clause-may : goal.returns-in-Some-clause-may
@@ -71,7 +71,7 @@ returns-in-Some-clause-ok g c =
     let runs = c.self.invariant.0 in
     let one = runs.pending.placed c.args.block c.in-Some.version (sym c.in-Some.ensures.newest) in
     let bytes = c.copy_from_slice.ensures.after ∙ c.copy.ensures state.shape one.0 c.args.block one.1 one.2 in
-    rw (← c.self.view_is) (λ honest. pending-read e state.disk one.0 c.args.block c.in-Some.version.place _ runs.can_run.plain one.2 bytes, refl)
+    rw (← c.self.view_is) (λ honest. pending-read e state.disk one.0 c.args.block c.in-Some.version.place _ runs.plain one.2 bytes, refl)
 
 -- whether the device is honest or not
 pub returns-in-Some-clause-pending : goal.returns-in-Some-clause-pending
@@ -81,7 +81,7 @@ returns-in-Some-clause-pending g c =
     let runs = c.self.invariant.0 in
     let one = runs.pending.placed c.args.block c.in-Some.version (sym c.in-Some.ensures.newest) in
     let bytes = c.copy_from_slice.ensures.after ∙ c.copy.ensures state.shape one.0 c.args.block one.1 one.2 in
-    rw (← c.self.view_is) (λ i v pending. (pending-bytes e one.0 i c.args.block c.in-Some.version.place _ v runs.can_run.plain one.2 bytes pending, refl))
+    rw (← c.self.view_is) (λ i v pending. (pending-bytes e one.0 i c.args.block c.in-Some.version.place _ v runs.plain one.2 bytes pending, refl))
 
 -- home has the block
 pub read-requires-clause-there : goal.read-requires-clause-there

@@ -25,7 +25,7 @@ returns-in-SuperblockWrite-clause-progress c = λ busy shape.
 -- and the ledger can run
 pub returns-in-SuperblockWrite-clause-runs : goal.returns-in-SuperblockWrite-clause-runs
 returns-in-SuperblockWrite-clause-runs c = λ shape runs.
-    let size = (superblock-of (engine_of shape c.args.self.now) runs.can_run.plain).size in
+    let size = (superblock-of (engine_of shape c.args.self.now) runs.plain).size in
     steps-on shape c.args.self.now c.start_log.new.self (λ idle. cc) (λ last. cc)
     (c.start_log.ensures.stepped shape (sym size) ∙ ap (stepped_from (engine_of shape c.args.self.now)) (sym c.in-SuperblockWrite.is))
     c.start_log.ensures.ring c.start_log.ensures.pending runs
@@ -41,7 +41,7 @@ returns-in-SuperblockFlush-clause-runs c = λ shape runs.
 pub returns-in-Blocks-clause-runs : goal.returns-in-Blocks-clause-runs
 returns-in-Blocks-clause-runs c = λ shape runs.
     let e = engine_of shape c.args.self.now in
-    let size = (superblock-of e runs.can_run.plain).size in
+    let size = (superblock-of e runs.plain).size in
     let stage = c.after_block-next.ensures shape (sym size) in
     steps-on shape c.args.self.now c.go_to-in-Blocks.new.self (λ idle. cc) (λ last. cc)
     (ap (engine_of shape) c.go_to-in-Blocks.ensures.stage ∙ ap (λ (s : Stage). record e { stage = s }) stage ∙ ap (stepped_from e) (sym c.in-Blocks.is))

@@ -13,7 +13,7 @@ pub returns-in-None-clause-gone : goal.returns-in-None-clause-gone
 returns-in-None-clause-gone c = λ shape runs.
     let l = c.args.self.now in
     let e = engine_of shape l in
-    let plain = runs.can_run.plain in
+    let plain = runs.plain in
     let next = subst (λ (n : ℕ). (t b : ℕ) → slice_get l.pending.unwritten 0 ≡ Some (t, b) → n < t) c.last_of_round.ensures.last c.in-None.ensures.none in
     let none = none-left e l.pending _ _ plain c.in-Copies.is runs.pending next in
     let now = flushed-keeps e l.pending _ _ plain c.in-Copies.is runs.pending none in

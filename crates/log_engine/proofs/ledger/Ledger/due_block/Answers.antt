@@ -28,6 +28,6 @@ overflow_add-self c =
 -- the block goes to a place of the ring, which lies within the log
 pub returns-clause-fits : goal.returns-clause-fits
 returns-clause-fits c = λ shape can same.
-    let within = (runs-ring _ can.plain).within in
+    let within = (runs-ring _ can).within in
     let high = c.place.ensures.high in
     (omega arith, c.write_block.ensures.size ∙ sym same)

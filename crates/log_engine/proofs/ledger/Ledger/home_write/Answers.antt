@@ -25,7 +25,7 @@ put-requires c =
     let n = next-home on.shape l c.args.copy on.runs due in
     let bytes = subst (λ (h : HomeCopy). h.version.tid ≡ l.first + n.index → (placed : IsPlaced e n.index c.args.copy.block h.version.place) →
     c.copy-2.result.now ≡ placed.bytes) c.copy.view_is (c.copy-2.ensures on.shape n.index c.args.copy.block) n.number n.placed in
-    ap length bytes ∙ placed-size e n.index c.args.copy.block c.args.copy.version.place on.runs.can_run n.placed ∙ sym on.size_is
+    ap length bytes ∙ placed-size e n.index c.args.copy.block c.args.copy.version.place on.runs.plain n.placed ∙ sym on.size_is
 
 -- the copy is the one that the machine writes next
 pub returns-clause-due : goal.returns-clause-due
@@ -47,7 +47,7 @@ returns-clause-fits c = λ shape runs.
     let n = next-home shape l c.args.copy runs due in
     let bytes = subst (λ (h : HomeCopy). h.version.tid ≡ l.first + n.index → (placed : IsPlaced e n.index c.args.copy.block h.version.place) →
     c.copy-2.result.now ≡ placed.bytes) c.copy.view_is (c.copy-2.ensures shape n.index c.args.copy.block) n.number n.placed in
-    let allowed = placed-allowed e n.index c.args.copy.block c.args.copy.version.place runs.can_run.plain n.placed in (
+    let allowed = placed-allowed e n.index c.args.copy.block c.args.copy.version.place runs.plain n.placed in (
       subst (λ (h : HomeCopy). h.block < shape.home_blocks) (sym c.copy.view_is) allowed.in_home,
-      ap length (c.put.ensures.block ∙ bytes) ∙ placed-size e n.index c.args.copy.block c.args.copy.version.place runs.can_run n.placed,
+      ap length (c.put.ensures.block ∙ bytes) ∙ placed-size e n.index c.args.copy.block c.args.copy.version.place runs.plain n.placed,
     )

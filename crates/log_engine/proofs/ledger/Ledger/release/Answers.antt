@@ -13,7 +13,7 @@ use Rattle.log_engine.proofs.ledger.Ledger.release.Goals as goal
 pub overflow_sub-self : goal.overflow_sub-self
 overflow_sub-self c =
     let on = c.requires.can_run in
-    let low = tail-end (engine_of on.shape c.args.self.now) on.runs.can_run.plain in
+    let low = tail-end (engine_of on.shape c.args.self.now) on.runs.plain in
     let tail = c.tail.ensures.tail in
     omega arith
 
@@ -22,7 +22,7 @@ pub returns-clause-gone : goal.returns-clause-gone
 returns-clause-gone c = λ shape runs.
     let l = c.args.self.now in
     let e = engine_of shape l in
-    let plain = runs.can_run.plain in
+    let plain = runs.plain in
     let low : l.ring.tail ≤ l.bound_position = tail-end e plain in
     let at : l.ring.tail + (l.bound_position - c.tail.result) ≡ l.bound_position = (let tail = c.tail.ensures.tail in omega arith) in
     let ring : c.release-2.new.self ≡ record l.ring { tail = l.bound_position } =

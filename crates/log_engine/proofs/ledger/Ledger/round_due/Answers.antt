@@ -12,7 +12,7 @@ returns-in-None-clause-due c = λ shape runs.
     let l = c.args.self.now in
     let e = engine_of shape l in
     let next = subst (λ (n : ℕ). (t b : ℕ) → slice_get l.pending.unwritten 0 ≡ Some (t, b) → n < t) c.last_of_round.ensures.last c.in-None.ensures.none in
-    due-flush e _ _ _ c.in-Copies.is (none-left e l.pending _ _ runs.can_run.plain c.in-Copies.is runs.pending next)
+    due-flush e _ _ _ c.in-Copies.is (none-left e l.pending _ _ runs.plain c.in-Copies.is runs.pending next)
 
 -- the superblock is written to block 0
 pub returns-in-TailWrite-clause-due : goal.returns-in-TailWrite-clause-due
@@ -24,7 +24,7 @@ returns-in-TailWrite-clause-due c = λ shape runs.
 -- the log has that block
 pub returns-in-TailWrite-clause-fits : goal.returns-in-TailWrite-clause-fits
 returns-in-TailWrite-clause-fits c = λ shape runs.
-    (round-log _ runs.can_run.plain, c.write_superblock.ensures.size ∙ round-same shape c.args.self.now _ c.requires.can_run runs)
+    (round-log _ runs.plain, c.write_superblock.ensures.size ∙ round-same shape c.args.self.now _ c.requires.can_run runs)
 
 -- the log is flushed
 pub returns-in-TailFlush-clause-due : goal.returns-in-TailFlush-clause-due

@@ -11,12 +11,12 @@ use Rattle.log_engine.proofs.ledger.Ledger.take.Goals as goal
 
 -- the layout is one that is taken
 pub need-blocks-requires-clause-taken : goal.need-blocks-requires-clause-taken
-need-blocks-requires-clause-taken c = c.requires.1.can_run.plain.layout.0
+need-blocks-requires-clause-taken c = c.requires.1.plain.layout.0
 
 -- a batch has no more copies than the ring has blocks
 pub need-blocks-requires-clause-few : goal.need-blocks-requires-clause-few
 need-blocks-requires-clause-few c =
-    let ring = (runs-ring (engine_of c.requires.0 c.args.self.now) c.requires.1.can_run.plain).few in
+    let ring = (runs-ring (engine_of c.requires.0 c.args.self.now) c.requires.1.plain).few in
     let few = c.requires.2.few in
     omega arith
 
@@ -32,7 +32,7 @@ returns-in-Err-clause-same c =
 -- the head is far from the end of the numbers of 64 bits
 pub take-never_fails-requires : goal.take-never_fails-requires
 take-never_fails-requires c =
-    let small = head-small (engine_of c.requires.0 c.args.self.now) c.requires.1.can_run.plain in
+    let small = head-small (engine_of c.requires.0 c.args.self.now) c.requires.1.plain in
     let head = c.requires.1.taken.head in
     omega arith
 

@@ -37,8 +37,8 @@ overflow_add-copy-inside c =
     let due = c.requires.next in
     let e = engine_of on.shape l in
     let n = next-home on.shape l c.args.copy on.runs due in
-    let allowed = placed-allowed e n.index c.args.copy.block c.args.copy.version.place on.runs.can_run.plain n.placed in
-    let spelled : c.args.copy.block < 2 ^ 32 = subst (λ (n : ℕ). c.args.copy.block < 2 ^ (8 * n)) on.runs.can_run.plain.layout.0.1 allowed.spelled in
+    let allowed = placed-allowed e n.index c.args.copy.block c.args.copy.version.place on.runs.plain n.placed in
+    let spelled : c.args.copy.block < 2 ^ 32 = subst (λ (n : ℕ). c.args.copy.block < 2 ^ (8 * n)) on.runs.plain.layout.0.1 allowed.spelled in
     let block = ap (λ (h : HomeCopy). h.block) c.copy.view_is in
     omega arith
 
@@ -56,7 +56,7 @@ returns-clause-gone c = λ shape runs.
     let made = c.from.ensures in
     let index : c.from.result ≡ n.index = omega arith in
     let is = ap (engine_of shape) c.go_round.ensures.round ∙ ap₂ (λ (i b : ℕ). record e { round = Copies i (b + 1) }) index block in
-    let now = wrote-keeps e l.pending c.wrote.new.self due.transaction due.block n.index copy.block n.placed.bytes runs.can_run.plain due.round
+    let now = wrote-keeps e l.pending c.wrote.new.self due.transaction due.block n.index copy.block n.placed.bytes runs.plain due.round
     runs.pending n.next n.waits c.wrote.ensures.written c.wrote.ensures.kept in
     let pending = subst (KeepsPending (record e { round = Copies n.index (copy.block + 1) })) (sym (ap (λ (m : Ledger). m.pending) c.go_round.ensures.round)) now in
     gone shape l c.go_round.new.self (Copies due.transaction due.block) _ _ runs due.round (λ none. cc)
