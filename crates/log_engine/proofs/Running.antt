@@ -1,6 +1,6 @@
 -- What an engine that can run knows of its measures and of the transaction that it commits.
-use Rattle.std.proofs.Common.{arith, refl, sym, ap, ap₂, subst, ◌∙◌}
-use Rattle.std.specs.Prelude.{◌≡◌, ◌≢◌, ℕ, ◌+◌, ◌-◌, ◌*◌, ◌^◌, ◌<◌, ◌≤◌, false, List, [], ◌∷◌, length, Some, slice_get}
+use Rattle.std.proofs.Common.{arith, refl, sym, ap, ap₂, subst, ◌∙◌, le_refl}
+use Rattle.std.specs.Prelude.{◌≡◌, ◌≢◌, ℕ, ◌+◌, ◌-◌, ◌*◌, ◌/◌, ◌^◌, ◌<◌, ◌≤◌, false, List, [], ◌∷◌, length, Some, slice_get}
 use Rattle.journal_model.specs.declared.entry.Batch.{Batch}
 use Rattle.journal_model.specs.Chain.{Ring}
 use Rattle.journal_model.specs.Layout.{IsTaken, Layout, numbers_of, tags_of}
@@ -83,7 +83,17 @@ runs-blocks e b plain stands = ap length (due-of e b stands) ∙ length-text e b
 
 -- a revoke block has no more than 1020 numbers, so all have that often no more than there are blocks
 few-revokes : (l : Layout) (r : ℕ) → IsTaken l → r ≤ 1020 * ceil_div r (numbers_of l)
-few-revokes l r taken = ?
+few-revokes l r taken =
+    let count : numbers_of l ≡ (l.block_size - 16) / 4 = ap (λ (n : ℕ). (l.block_size - 16) / n) taken.1 in
+    let most : numbers_of l ≤ 1020 = omega (arith, taken.0) in
+    let some : 0 < numbers_of l = omega (arith, taken.0) in
+    let blocks = enough r (numbers_of l) some in
+    let product = mul-le (numbers_of l) (ceil_div r (numbers_of l)) 1020 (ceil_div r (numbers_of l)) most (le_refl (ceil_div r (numbers_of l))) in
+    omega arith
+  where
+    -- a count, rounded up to groups, is no less
+    enough : (c n : ℕ) → 0 < n → c ≤ n * ceil_div c n
+    enough c n positive = omega arith
 
 -- what needs few blocks has few copies and few revokes
 pub few-needed : (l : Layout) (c r most : ℕ) → IsTaken l → need l c r ≤ most → most ≤ 1048576 → (c ≤ most) × (c + r ≤ 2 ^ 32)

@@ -1,5 +1,5 @@
 use Rattle.std.proofs.Common.{arith, sym, ◌∙◌}
-use Rattle.log_engine.proofs.Ledgers.{on-few, on-layout, on-small, on-taken}
+use Rattle.log_engine.proofs.Ledgers.{on-few, on-layout, on-small, on-spelled, on-taken, on-whole}
 use Rattle.log_engine.proofs.Running.{runs-ring}
 use Rattle.log_engine.proofs.ledger.Ledger.due_block.Goals as goal
 
@@ -11,11 +11,21 @@ write_block-requires-clause-taken c = on-taken c.args.self.now _ c.requires.can_
 pub write_block-requires-clause-size : goal.write_block-requires-clause-size
 write_block-requires-clause-size c = on-layout c.args.self.now _ c.requires.can_run
 
--- a batch that fits the ring is not large
+-- it has the plan that was made for it
+pub write_block-requires-clause-plan : goal.write_block-requires-clause-plan
+write_block-requires-clause-plan c = c.requires.plan c.requires.can_run.shape _ c.batch_due.ensures
+
+-- its copies are blocks
+pub write_block-requires-clause-whole : goal.write_block-requires-clause-whole
+write_block-requires-clause-whole c = on-whole c.args.self.now _ c.requires.can_run _ c.batch_due.ensures
+
+-- of numbers that a tag can spell
+pub write_block-requires-clause-spelled : goal.write_block-requires-clause-spelled
+write_block-requires-clause-spelled c = on-spelled c.args.self.now _ c.requires.can_run _ c.batch_due.ensures
+
+-- a batch that fits the ring has few entries
 pub write_block-requires-clause-few : goal.write_block-requires-clause-few
-write_block-requires-clause-few c =
-    let few = on-few c.args.self.now _ c.requires.can_run _ c.batch_due.ensures in
-    omega arith
+write_block-requires-clause-few c = on-few c.args.self.now _ c.requires.can_run _ c.batch_due.ensures
 
 -- its positions are far from the end of the numbers of 64 bits
 pub overflow_add-self : goal.overflow_add-self

@@ -9,17 +9,6 @@ use Rattle.log_engine.proofs.Ledgers.{room-there, took}
 use Rattle.log_engine.proofs.Running.{head-small, runs-ring, runs-size, superblock-of}
 use Rattle.log_engine.proofs.ledger.Ledger.take.Goals as goal
 
--- the layout is one that is taken
-pub need-blocks-requires-clause-taken : goal.need-blocks-requires-clause-taken
-need-blocks-requires-clause-taken c = c.requires.1.plain.layout.0
-
--- a batch has no more copies than the ring has blocks
-pub need-blocks-requires-clause-few : goal.need-blocks-requires-clause-few
-need-blocks-requires-clause-few c =
-    let ring = (runs-ring (engine_of c.requires.0 c.args.self.now) c.requires.1.plain).few in
-    let few = c.requires.2.few in
-    omega arith
-
 -- where memory runs out nothing changes
 pub returns-in-Err-clause-err : goal.returns-in-Err-clause-err
 returns-in-Err-clause-err c = c.in-Err.ensures.value_returned
@@ -32,16 +21,15 @@ returns-in-Err-clause-same c =
 -- the head is far from the end of the numbers of 64 bits
 pub take-never_fails-requires : goal.take-never_fails-requires
 take-never_fails-requires c =
-    let small = head-small (engine_of c.requires.0 c.args.self.now) c.requires.1.plain in
-    let head = c.requires.1.taken.head in
+    let small = head-small (engine_of c.requires.room.0 c.args.self.now) c.requires.room.1.plain in
+    let head = c.requires.room.1.taken.head in
     omega arith
 
 -- the ring has the blocks, so the batch is taken
 pub returns-clause-ok : goal.returns-clause-ok
 returns-clause-ok c = λ shape.
     let l = c.args.self.now in
-    let needed = c.need-blocks.ensures ∙ ap (λ (copies : ℕ). need l.layout copies 0) c.len.ensures in
-    let there = room-there c.requires.0 l c.args.batch c.need-blocks.result c.requires.1 c.requires.2 c.requires.3 needed in
+    let there = room-there c.requires.room.0 l c.args.batch c.args.blocks c.requires.room.1 c.requires.room.2 c.requires.room.3 c.requires.blocks in
     let taken = took c.take-never_fails.result l.ring c.take-never_fails.new.self _ c.take-never_fails.ensures.ok c.take-never_fails.ensures.err there in
     ap (λ (r : RingValue). record (engine_of shape l) { ring = r.ring; tail = r.tail; accepted = c.push.new.self.items; stage = c.first_stage-self.result }) taken
     ∙ ap₂ (λ (bs : List Batch) (stage : Stage). record (engine_of shape l) { accepted = bs; stage = stage }) c.in_default.ensures.items c.first_stage-self.ensures
@@ -50,8 +38,6 @@ returns-clause-ok c = λ shape.
 pub returns-clause-head : goal.returns-clause-head
 returns-clause-head c =
     let l = c.args.self.now in
-    let needed = c.need-blocks.ensures ∙ ap (λ (copies : ℕ). need l.layout copies 0) c.len.ensures in
-    let there = room-there c.requires.0 l c.args.batch c.need-blocks.result c.requires.1 c.requires.2 c.requires.3 needed in
+    let there = room-there c.requires.room.0 l c.args.batch c.args.blocks c.requires.room.1 c.requires.room.2 c.requires.room.3 c.requires.blocks in
     let taken = took c.take-never_fails.result l.ring c.take-never_fails.new.self _ c.take-never_fails.ensures.ok c.take-never_fails.ensures.err there in
     ap (λ (r : RingValue). r.head) taken
-    ∙ ap (λ (n : ℕ). l.ring.head + n) (c.need-blocks.ensures ∙ ap (λ (n : ℕ). need l.layout n 0) c.len.ensures)
