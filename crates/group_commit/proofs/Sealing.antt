@@ -42,7 +42,7 @@ use Rattle.journal_model.proofs.Taken.{taken-layout}
 use Rattle.log_engine.specs.Engine.{AcceptRefused, MayHandOver, StepRefused}
 use Rattle.log_engine.specs.Engine.AcceptRefused.{AfterFailure, MemoryIsShort, RingIsShort}
 use Rattle.log_engine.specs.Engine.StepRefused.{WasAborted, DeviceFailed}
-use Rattle.log_engine.specs.Text.{AreCopies, IsWholeCopy}
+use Rattle.log_engine.specs.Text.{IsWholeCopy}
 use Rattle.group_commit.specs.Journal.TurnRefused.{DeviceFailed as FailedTurn, MemoryIsShort as NoMemory}
 use Rattle.group_commit.specs.Journal.{Agrees, FinishesCommit, HasRoomFor, IsGoodStep, IsWholeWrite, SealIsDue, TurnRefused}
 use Rattle.group_commit.specs.Values.{JournalValue}
@@ -131,16 +131,6 @@ batch-good l shape t all =
       once = subst (IsDistinct nat_eq) (sym (entries-blocks t.steps)) (touched-distinct t.steps);
       allowed = All-from_recursion _ (entries t.steps) (each-weaker (IsGoodEntry l shape) _ (λ p is. is.allowed) (entries t.steps) good);
       whole = All-from_recursion _ (copied (entries t.steps)) (copies-good l shape (entries t.steps) good);
-    }
-
--- and it has copies alone
-pub batch-copies : (l : Layout) (shape : Shape) (t : Transaction) → l.block_size ≡ shape.block_size → AllByRecursion (IsGoodStep l shape) t.steps →
-    AreCopies l (entries t.steps)
-batch-copies l shape t same all =
-    let good = entries-good l shape t.steps all in
-    record {
-      whole = All-from_recursion _ (entries t.steps) (each-weaker (IsGoodEntry l shape) _ (λ p is. subst (λ (n : ℕ). IsWholeCopy n p.1) (sym same) is.whole) (entries t.steps) good);
-      spelled = All-from_recursion _ (entries t.steps) (each-weaker (IsGoodEntry l shape) _ (λ p is. is.allowed.spelled) (entries t.steps) good);
     }
 
 -- the copy that good steps leave of a block is a whole one
@@ -281,14 +271,12 @@ agrees-sealed f old new agrees after =
 
 -- the engine may be handed the batch of a transaction that is due to be sealed
 pub may-hand_over : (f : Front) (e : Engine) → Agrees (record { front = f; engine = e }) → IsPlain e → SealIsDue (record { front = f; engine = e }) →
-    HasRoomFor (record { front = f; engine = e }) → MayHandOver e (batch_of f.running)
-may-hand_over f e agrees plain due room = record {
+    MayHandOver e (batch_of f.running)
+may-hand_over f e agrees plain due = record {
   idle = due.idle;
   number = agrees.number ∙ ap (λ (n : ℕ). e.first + n) (idle-all e plain due.idle);
   left = agrees.joined (agrees.locked due.locked);
   batch = batch-good e.layout e.shape f.running agrees.steps;
-  copies = batch-copies e.layout e.shape f.running plain.layout.1 agrees.steps;
-  few = let order : e.tail ≤ e.start = tail-start e plain in omega arith;
 }
 
 -- such a transaction is the first that is not finished

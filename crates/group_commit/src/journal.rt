@@ -417,7 +417,7 @@ impl<D: Device> Journal<D> {
         ensures err { IfErr result (λ e. TurnRefused D.state self.old self.new e) }
         ensures device { self.new.device ≡ self.old.device }
     {
-        if !self.engine.has_room(self.front.touched()) {
+        if !self.engine.has_room(self.front.touched(), 0) {
             return Err(JournalError::NeedSpace);
         }
         let tid = self.front.tid();
@@ -497,7 +497,7 @@ impl<D: Device> Journal<D> {
         requires { self.now.journal.engine.stage ≡ Idle }
         ensures { IsTrue result ↔ HasRoomFor self.now.journal }
     {
-        self.engine.has_room(self.front.touched())
+        self.engine.has_room(self.front.touched(), 0)
     }
 
     /// States what every journal keeps, for the proofs of callers: its engine knows what agrees, and front and engine agree.

@@ -1,9 +1,10 @@
 -- A ledger that can run can run after each step of a commit, and with a batch that it took.
 use Rattle.std.proofs.Common.{arith, refl, sym, ap, ap₂, subst, ◌∙◌}
-use Rattle.std.specs.Prelude.{◌≡◌, ◌≢◌, ◌↔◌, ℕ, ◌+◌, ◌^◌, ◌≤◌, false, true, length, Some, slice_get}
+use Rattle.std.specs.Prelude.{◌≡◌, ◌≢◌, ◌↔◌, ℕ, ◌+◌, ◌-◌, ◌^◌, ◌≤◌, false, true, length, Some, slice_get}
 use Rattle.journal_model.specs.declared.entry.Batch.{Batch}
 use Rattle.journal_model.specs.declared.number.Area.TheVariants.{Log}
 use Rattle.journal_model.specs.Layout.{Layout}
+use Rattle.journal_model.specs.OwnText.{copied, revoked}
 use Rattle.journal_model.specs.Room.{need}
 use Rattle.journal_model.specs.Superblock.{Shape}
 use Rattle.checkpoint.specs.Pending.{ArePending, IsCommitted, PendingValue}
@@ -17,9 +18,10 @@ use Rattle.journal_world.proofs.Positions.{tail-start}
 use Rattle.log_engine.specs.declared.ledger.Ledger.{Ledger}
 use Rattle.log_engine.specs.Engine.{MayHandOver}
 use Rattle.log_engine.specs.Ledger.{KeepsPending, Runs, engine_of}
+use Rattle.log_engine.proofs.Copies.{counted}
 use Rattle.log_engine.proofs.Ledgers.{batch-taken, batch-there, done-taken, fault-taken, idle-head, taken-alike}
 use Rattle.log_engine.proofs.Pendings.{aborted-keeps, done-keeps, steps-keeps, takes-keeps}
-use Rattle.log_engine.proofs.Running.{few-needed, need-of, needed_by, ring-few, room-of, superblock-of, takes, takes-runs}
+use Rattle.log_engine.proofs.Running.{few-needed, need-of, needed_by, ring-few, room-of, takes, takes-runs}
 use Rattle.log_engine.proofs.Stepping.{fault-runs, step-runs}
 
 -- a call is due at each stage of a commit
@@ -122,6 +124,24 @@ room-few shape l c r runs room =
     let few = few-needed e.layout c r e.ring.blocks runs.plain.layout.0 fits (ring-few e runs.plain) in
     let sum : c + r ≤ 2 ^ 32 = few.1 in
     (omega arith, omega arith)
+
+-- what a batch needs, by the counts of its copies and its entries
+pub needed-told : (l : Layout) (b : Batch) (copies entries : ℕ) → copies ≡ length (copied b.entries) → entries ≡ length b.entries →
+    need l copies (entries - copies) ≡ needed_by l b
+needed-told l b copies entries of-copies all =
+    let revokes : entries - copies ≡ length (revoked b.entries) = omega (arith, counted b.entries) in
+    ap₂ (need l) of-copies revokes
+
+-- the test of the room is one of what the batch needs
+pub room-told : (shape : Shape) (l : Ledger) (b : Batch) (copies entries : ℕ) (A : Type 0) → Runs shape l →
+    copies ≡ length (copied b.entries) → entries ≡ length b.entries →
+    A ↔ (l.start + need l.layout copies (entries - copies) ≤ l.ring.tail + l.ring.ring.blocks) → A ↔ HasRoom (engine_of shape l) b
+room-told shape l b copies entries A runs of-copies all told =
+    let e = engine_of shape l in
+    let same = needed-told l.layout b copies entries of-copies all in (
+      λ a. room-of e b runs.plain (subst (λ (n : ℕ). l.start + n ≤ l.ring.tail + l.ring.ring.blocks) same (told.0 a)),
+      λ room. told.1 (subst (λ (n : ℕ). l.start + n ≤ l.ring.tail + l.ring.ring.blocks) (sym same) (need-of e b runs.plain room)),
+    )
 
 -- after a failure it can be asked, on a device whose shape stays
 pub faults-on : (shape after : Shape) (l : Ledger) → after ≡ shape → Runs shape l → Runs after (record l { aborted = true })

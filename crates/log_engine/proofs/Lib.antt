@@ -11,6 +11,7 @@ pub mod PendingLists
 pub mod PendingRounds
 pub mod PendingSame
 pub mod Pendings
+pub mod Plans
 pub mod Reading
 pub mod Rounding
 pub mod Rounds

@@ -41,13 +41,13 @@ each-still e state sound =
     (during-round e state.disk sound)
 
 -- the beginning of a round changes nothing but the round
-begun-commit : (e : Engine) (round : Round) → KeepsCommit e (begun_from e round)
+pub begun-commit : (e : Engine) (round : Round) → KeepsCommit e (begun_from e round)
 begun-commit e NoRound = record { shape = refl; layout = refl; uuid = refl; accepted = refl; committed = refl; start = refl }
 begun-commit e (Copies transaction block) = record { shape = refl; layout = refl; uuid = refl; accepted = refl; committed = refl; start = refl }
 begun-commit e TailWrite = record { shape = refl; layout = refl; uuid = refl; accepted = refl; committed = refl; start = refl }
 begun-commit e TailFlush = record { shape = refl; layout = refl; uuid = refl; accepted = refl; committed = refl; start = refl }
 
-both-keep : (e m new : Engine) → KeepsCommit e m → KeepsCommit m new → KeepsCommit e new
+pub both-keep : (e m new : Engine) → KeepsCommit e m → KeepsCommit m new → KeepsCommit e new
 both-keep e m new one other = record {
   shape = other.shape ∙ one.shape;
   layout = other.layout ∙ one.layout;

@@ -1,6 +1,6 @@
 -- What an engine that can run knows of its measures and of the transaction that it commits.
-use Rattle.std.proofs.Common.{arith, refl, sym, ap, ap₂, subst, ◌∙◌, le_refl}
-use Rattle.std.specs.Prelude.{◌≡◌, ◌≢◌, ℕ, ◌+◌, ◌-◌, ◌*◌, ◌/◌, ◌^◌, ◌<◌, ◌≤◌, false, List, [], ◌∷◌, length, Some, slice_get}
+use Rattle.std.proofs.Common.{arith, refl, sym, ap, subst, ◌∙◌, le_refl}
+use Rattle.std.specs.Prelude.{◌≡◌, ◌≢◌, ℕ, ◌+◌, ◌-◌, ◌*◌, ◌/◌, ◌^◌, ◌<◌, ◌≤◌, false, List, length, Some, slice_get}
 use Rattle.journal_model.specs.declared.entry.Batch.{Batch}
 use Rattle.journal_model.specs.Chain.{Ring}
 use Rattle.journal_model.specs.Layout.{IsTaken, Layout, numbers_of, tags_of}
@@ -15,7 +15,6 @@ use Rattle.journal_world.specs.declared.stage.Stage.TheVariants.{Idle, Superbloc
 use Rattle.journal_world.specs.Engine.{Accepts, Engine, HasRoom, accepting, due_blocks, text_of}
 use Rattle.journal_world.specs.Opening.{IsSuperblock}
 use Rattle.journal_world.specs.Sound.{IsPlain, StageAgrees}
-use Rattle.journal_model.proofs.OwnTextEach.{each-append}
 use Rattle.journal_world.proofs.Batches.{number-at}
 use Rattle.journal_world.proofs.Fresh.{fresh-plain}
 use Rattle.journal_world.proofs.Plain.{accepts-plain}
@@ -25,7 +24,6 @@ use Rattle.journal_world.specs.Journal.{fresh_engine}
 use Rattle.recovery.specs.Values.{IsNextNamed}
 use Rattle.journal_model.proofs.Taken.{taken-layout}
 use Rattle.journal_world.proofs.Superblocks.{accepted-first, accepted-length, accepted-ring, accepted-size, accepted-within, names-superblock}
-use Rattle.journal_world.proofs.Elements.{all-at}
 use Rattle.journal_world.proofs.Texts.{due-of}
 use Rattle.log_engine.specs.Engine.{MayHandOver}
 use Rattle.log_engine.proofs.Copies.{counted}

@@ -126,11 +126,7 @@ fn write_log_block(
     requires there { k < length (text_blocks (own_text layout uuid.now sequence entries.now)) }
     ensures { block.new ≡ block_at (text_blocks (own_text layout uuid.now sequence entries.now)) k }
 {
-    let text = Layout::new(
-        layout,
-        plan.copies.len() as u64,
-        plan.revokes.len() as u64,
-    );
+    let text = Layout::new(layout, plan.copies.len() as u64, plan.revokes.len() as u64);
     write_part(
         layout,
         block,

@@ -1,4 +1,4 @@
-use Rattle.std.proofs.Common.{rules, arith, sym, ap, ◌∙◌, ◌+◌, ℕ, Some, get_or, length, length-set, nat_eq, nat_lt}
+use Rattle.std.proofs.Common.{rules, arith, sym, ap, ◌∙◌, ◌+◌, ℕ, Some, get_or, length-set, nat_eq, nat_lt}
 use Rattle.std.proofs.lemmas.Option.{slice_get-get_or}
 use Rattle.log_engine.specs.Text.{copies_at, copy_at}
 use Rattle.log_engine.proofs.Copies.{entry-there, length-at, long-at, map-at}

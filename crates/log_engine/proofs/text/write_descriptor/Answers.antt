@@ -1,4 +1,4 @@
-use Rattle.std.proofs.Common.{arith, length, sym, subst}
+use Rattle.std.proofs.Common.{arith, sym, subst}
 use Rattle.log_engine.specs.Text.{copies_at}
 use Rattle.log_format.specs.Size.{FitDescriptor}
 use Rattle.log_format.proofs.Written.{tags_from-fit}

@@ -37,9 +37,8 @@ pub accept-requires : goal.accept-requires
 accept-requires g c =
     let due = subst (λ (v : JournalValue g.row.D.Denot). SealIsDue v.journal) (sym c.self.view_is) c.requires.due in
     let e = c.self.inside.engine.engine in
-    let room = subst (λ (n : ℕ). e.start + need e.layout n 0 ≤ e.tail + e.ring.blocks) c.touched.ensures (c.has_room.ensures.0 c.if-not-has_room.false) in
     let plain = subst (λ (v : JournalValue g.row.D.Denot). IsPlain v.journal.engine) (sym c.self.view_is) c.requires.plain in
-    subst (MayHandOver e) (sym c.in_ok-batch.ensures) (may-hand_over c.self.inside.front e c.self.invariant plain due room)
+    subst (MayHandOver e) (sym c.in_ok-batch.ensures) (may-hand_over c.self.inside.front e c.self.invariant plain due)
 
 -- memory ran out for the engine
 pub returns-in-Err-clause-err : goal.returns-in-Err-clause-err

@@ -1,50 +1,97 @@
-use Rattle.std.proofs.Common.{refl, sym, ap, subst, ◌∙◌, ◌+◌, ℕ, length}
-use Rattle.journal_model.specs.Room.{need}
+use Rattle.std.proofs.Common.{refl, sym, ap, subst, ◌∙◌, ◌≡◌, ◌+◌, List, ℕ, length, Option, Some, None, IsTrue, is_some}
+use Rattle.journal_model.specs.declared.entry.Entry.{Entry}
+use Rattle.journal_model.specs.OwnText.{copied}
 use Rattle.journal_world.proofs.Accepted.{accepts-sound}
 use Rattle.journal_world.specs.Engine.{Engine, HasRoom}
 use Rattle.journal_world.specs.Sound.{Sound}
 use Rattle.log_engine.specs.Close.{KeepsClean}
 use Rattle.log_engine.specs.Engine.{AcceptRefused, EngineValue, MayHandOver}
 use Rattle.log_engine.specs.Ledger.{engine_of}
-use Rattle.log_engine.proofs.Advancing.{room-told, same-runs, takes-on}
+use Rattle.log_engine.specs.Text.{IsPlanOf}
+use Rattle.log_engine.proofs.Advancing.{needed-told, room-told, same-runs, takes-on}
 use Rattle.log_engine.proofs.KeptClean.{taken-clean}
-use Rattle.log_engine.proofs.Running.{superblock-of, takes}
+use Rattle.log_engine.proofs.Plans.{idle-planned, taken-planned}
+use Rattle.log_engine.proofs.Running.{takes}
+use Rattle.log_engine.proofs.Stepping.{at-ok}
 use Rattle.log_engine.proofs.engine.Engine.accept.Goals as goal
+
+-- an answer of none is not one of some
+not-none : (r : Option ℕ) → r ≡ None → IsTrue (is_some r) → ⊥
+not-none None is some = cc
+not-none (Some n) is some = cc
+
+is-there : (r : Option ℕ) (n : ℕ) → r ≡ Some n → IsTrue (is_some r)
+is-there None n is = absurd cc
+is-there (Some m) n is = refl
 
 -- after a failure it refuses
 pub returns-then-self-clause-err : goal.returns-then-self-clause-err
 returns-then-self-clause-err g c = rw (← c.self.view_is) (refl, AcceptRefused.AfterFailure c.if-self.true, refl)
 
 -- the ring is too short
-pub returns-then-not-has_room-clause-err : goal.returns-then-not-has_room-clause-err
-returns-then-not-has_room-clause-err g c =
+pub returns-in_default-clause-err : goal.returns-in_default-clause-err
+returns-in_default-clause-err g c =
     let shape = (g.D.Device.state c.self.inside.device).shape in
     let l = c.self.inside.ledger in
-    let may : MayHandOver (engine_of shape l) c.args.batch =
-    subst (λ (v : EngineValue g.row.D.Denot). MayHandOver v.engine c.args.batch) (sym c.self.view_is) c.requires in
-    let told = room-told shape l c.args.batch c.len.result _ c.len.ensures c.self.invariant.0 may.copies c.has_room.ensures in
-    let short : HasRoom (engine_of shape l) c.args.batch → ⊥ = λ room. (let there = told.1 room in let none = c.if-not-has_room.true in cc) in
+    let copies = c.count_copies-copies.ensures.count ∙ ap (λ (es : List (ℕ × Entry)). length (copied es)) c.as_slice.ensures in
+    let told = room-told shape l c.args.batch c.count_copies-copies.result c.len.result _ c.self.invariant.0 copies c.len.ensures c.room_for.ensures.room in
+    let short : HasRoom (engine_of shape l) c.args.batch → ⊥ = λ room. not-none c.room_for.result c.in_default.is (told.1 room) in
     rw (← c.self.view_is) (refl, AcceptRefused.RingIsShort c.if-self.false short, refl)
 
+-- where memory runs out for the plan the engine is as before
+pub invariant_of-self : goal.invariant_of-self
+invariant_of-self g c =
+    let shape = (g.D.Device.state c.self.inside.device).shape in
+    let l = c.self.inside.ledger in
+    let may : MayHandOver (engine_of shape l) c.args.batch =
+    subst (λ (v : EngineValue g.row.D.Denot). MayHandOver v.engine c.args.batch) (sym c.self.view_is) c.requires in (
+      c.self.invariant.0,
+      c.self.invariant.1,
+      c.self.invariant.2,
+      c.self.invariant.3,
+      idle-planned (engine_of shape l) c.make.new.self c.self.invariant.0.plain may.idle,
+    )
+
+-- that is what the answer says
+pub returns-then-is_err-clause-err : goal.returns-then-is_err-clause-err
+returns-then-is_err-clause-err g c =
+    let shape = (g.D.Device.state c.self.inside.device).shape in
+    let l = c.self.inside.ledger in
+    let copies = c.count_copies-copies.ensures.count ∙ ap (λ (es : List (ℕ × Entry)). length (copied es)) c.as_slice.ensures in
+    let told = room-told shape l c.args.batch c.count_copies-copies.result c.len.result _ c.self.invariant.0 copies c.len.ensures c.room_for.ensures.room in
+    rw (← c.self.view_is) (refl, AcceptRefused.MemoryIsShort c.if-self.false (told.0 (is-there c.room_for.result _ c.in-Some.is)), refl)
+
 -- there is room
-pub take-requires : goal.take-requires
-take-requires g c =
+pub take-requires-clause-room : goal.take-requires-clause-room
+take-requires-clause-room g c =
     let shape = (g.D.Device.state c.self.inside.device).shape in
     let l = c.self.inside.ledger in
     let may : MayHandOver (engine_of shape l) c.args.batch =
     subst (λ (v : EngineValue g.row.D.Denot). MayHandOver v.engine c.args.batch) (sym c.self.view_is) c.requires in
-    let told = room-told shape l c.args.batch c.len.result _ c.len.ensures c.self.invariant.0 may.copies c.has_room.ensures in
-    (shape, c.self.invariant.0, may, told.0 c.if-not-has_room.false)
+    let copies = c.count_copies-copies.ensures.count ∙ ap (λ (es : List (ℕ × Entry)). length (copied es)) c.as_slice.ensures in
+    let told = room-told shape l c.args.batch c.count_copies-copies.result c.len.result _ c.self.invariant.0 copies c.len.ensures c.room_for.ensures.room in
+    (shape, c.self.invariant.0, may, told.0 (is-there c.room_for.result _ c.in-Some.is))
 
--- where memory runs out the engine is as before
-pub invariant_of-self : goal.invariant_of-self
-invariant_of-self g c =
+-- for so many blocks
+pub take-requires-clause-blocks : goal.take-requires-clause-blocks
+take-requires-clause-blocks g c =
+    let copies = c.count_copies-copies.ensures.count ∙ ap (λ (es : List (ℕ × Entry)). length (copied es)) c.as_slice.ensures in
+    c.in-Some.ensures.blocks ∙ needed-told c.self.inside.ledger.layout c.args.batch c.count_copies-copies.result c.len.result copies c.len.ensures
+
+-- where memory runs out for the batch the engine is as before
+pub invariant_of-self-in-Err : goal.invariant_of-self-in-Err
+invariant_of-self-in-Err g c =
     let state = g.D.Device.state c.self.inside.device in
-    let same = c.in-Err.ensures.same in (
-      same-runs state.shape c.self.inside.ledger c.take.new.self (same.0 state.shape) same.1 c.take.ensures.pending c.self.invariant.0,
+    let l = c.self.inside.ledger in
+    let e = engine_of state.shape l in
+    let may : MayHandOver e c.args.batch = subst (λ (v : EngineValue g.row.D.Denot). MayHandOver v.engine c.args.batch) (sym c.self.view_is) c.requires in
+    let same = c.in-Err.ensures.same in
+    let runs = same-runs state.shape l c.take.new.self (same.0 state.shape) same.1 c.take.ensures.pending c.self.invariant.0 in (
+      runs,
       c.self.invariant.1,
       λ honest. subst (λ (e : Engine). Sound e state.disk) (sym (same.0 state.shape)) (c.self.invariant.2 honest),
       λ honest. subst (λ (e : Engine). KeepsClean e state.disk) (sym (same.0 state.shape)) (c.self.invariant.3 honest),
+      idle-planned (engine_of state.shape c.take.new.self) c.make.new.self runs.plain (ap (λ (x : Engine). x.stage) (same.0 state.shape) ∙ may.idle),
     )
 
 -- that is what the answer says
@@ -52,31 +99,36 @@ pub returns-in-Err-clause-err : goal.returns-in-Err-clause-err
 returns-in-Err-clause-err g c =
     let shape = (g.D.Device.state c.self.inside.device).shape in
     let l = c.self.inside.ledger in
-    let may : MayHandOver (engine_of shape l) c.args.batch =
-    subst (λ (v : EngineValue g.row.D.Denot). MayHandOver v.engine c.args.batch) (sym c.self.view_is) c.requires in
-    let told = room-told shape l c.args.batch c.len.result _ c.len.ensures c.self.invariant.0 may.copies c.has_room.ensures in
+    let copies = c.count_copies-copies.ensures.count ∙ ap (λ (es : List (ℕ × Entry)). length (copied es)) c.as_slice.ensures in
+    let told = room-told shape l c.args.batch c.count_copies-copies.result c.len.result _ c.self.invariant.0 copies c.len.ensures c.room_for.ensures.room in
     let same = c.in-Err.ensures.same in
     rw (← c.self.view_is) (
       c.in-Err.ensures.err,
-      AcceptRefused.MemoryIsShort c.if-self.false (told.0 c.if-not-has_room.false),
+      AcceptRefused.MemoryIsShort c.if-self.false (told.0 (is-there c.room_for.result _ c.in-Some.is)),
       ap (λ (e : Engine). record { device = c.self.inside.device; engine = e }) (same.0 shape),
     )
 
--- the engine can run with the batch
+-- the engine can run with the batch, and has its plan
 pub invariant_of-self-2 : goal.invariant_of-self-2
 invariant_of-self-2 g c =
     let state = g.D.Device.state c.self.inside.device in
     let l = c.self.inside.ledger in
     let e = engine_of state.shape l in
     let may : MayHandOver e c.args.batch = subst (λ (v : EngineValue g.row.D.Denot). MayHandOver v.engine c.args.batch) (sym c.self.view_is) c.requires in
-    let told = room-told state.shape l c.args.batch c.len.result _ c.len.ensures c.self.invariant.0 may.copies c.has_room.ensures in
-    let room : HasRoom e c.args.batch = told.0 c.if-not-has_room.false in
-    let head = c.in_default.ensures.head in
-    let is = c.in_default.ensures.ok state.shape in (
+    let copies = c.count_copies-copies.ensures.count ∙ ap (λ (es : List (ℕ × Entry)). length (copied es)) c.as_slice.ensures in
+    let told = room-told state.shape l c.args.batch c.count_copies-copies.result c.len.result _ c.self.invariant.0 copies c.len.ensures c.room_for.ensures.room in
+    let room : HasRoom e c.args.batch = told.0 (is-there c.room_for.result _ c.in-Some.is) in
+    let needed = c.in-Some.ensures.blocks ∙ needed-told l.layout c.args.batch c.count_copies-copies.result c.len.result copies c.len.ensures in
+    let head = c.in_default-take.ensures.head ∙ ap (λ (n : ℕ). l.ring.head + n) needed in
+    let is = c.in_default-take.ensures.ok state.shape in
+    let made = sym c.is_err.ensures.value ∙ c.if-is_err.false in
+    let plan : IsPlanOf c.args.batch.entries c.make.new.self =
+    subst (λ (es : List (ℕ × Entry)). IsPlanOf es c.make.new.self) c.as_slice-2.ensures (at-ok c.make.result made c.make.ensures) in (
       takes-on state.shape l c.take.new.self c.args.batch c.if-self.false may room is head c.take.ensures.pending c.self.invariant.0,
       c.self.invariant.1,
       λ honest. accepts-sound e c.args.batch _ state.disk (c.self.invariant.2 honest) (takes e _ c.args.batch c.if-self.false may room is),
       λ honest. taken-clean e _ c.args.batch state.disk (takes e _ c.args.batch c.if-self.false may room is),
+      taken-planned e _ c.args.batch c.make.new.self c.self.invariant.0.plain may is plan,
     )
 
 -- it has taken the batch
@@ -86,5 +138,7 @@ returns-clause-ok g c =
     let l = c.self.inside.ledger in
     let e = engine_of shape l in
     let may : MayHandOver e c.args.batch = subst (λ (v : EngineValue g.row.D.Denot). MayHandOver v.engine c.args.batch) (sym c.self.view_is) c.requires in
-    let told = room-told shape l c.args.batch c.len.result _ c.len.ensures c.self.invariant.0 may.copies c.has_room.ensures in
-    rw (← c.self.view_is) (takes e _ c.args.batch c.if-self.false may (told.0 c.if-not-has_room.false) (c.in_default.ensures.ok shape))
+    let copies = c.count_copies-copies.ensures.count ∙ ap (λ (es : List (ℕ × Entry)). length (copied es)) c.as_slice.ensures in
+    let told = room-told shape l c.args.batch c.count_copies-copies.result c.len.result _ c.self.invariant.0 copies c.len.ensures c.room_for.ensures.room in
+    rw (← c.self.view_is)
+    (takes e _ c.args.batch c.if-self.false may (told.0 (is-there c.room_for.result _ c.in-Some.is)) (c.in_default-take.ensures.ok shape))

@@ -8,6 +8,7 @@ use Rattle.log_engine.specs.Engine.{RoundRefused}
 use Rattle.log_engine.specs.Ledger.{Runs, engine_of}
 use Rattle.log_engine.proofs.FewerCalls.{round-fewer}
 use Rattle.log_engine.proofs.KeptClean.{round-clean, round-fault-clean}
+use Rattle.log_engine.proofs.Plans.{round-fault-planned, round-planned}
 use Rattle.log_engine.proofs.Rounding.{aborted-runs, each-round, each-round-fault, each-still, round-did, round-faults, round-steps}
 use Rattle.log_engine.proofs.Stepping.{at-err, at-ok, count-err, count-ok}
 use Rattle.log_engine.proofs.engine.Engine.checkpoint_step.Goals as goal
@@ -44,6 +45,7 @@ invariant_of-self-then-is_err g c =
       c.round_due-due.ensures.size ∙ c.self.invariant.1 ∙ sym (ap (λ (s : Shape). s.block_size) c.make_call.ensures.shape),
       λ honest. round-fault-sound e _ before.disk after.disk (c.self.invariant.2 (c.make_call.ensures.honest honest)) fault,
       λ honest. round-fault-clean e _ before.disk after.disk c.self.invariant.0.plain fault,
+      round-fault-planned e _ before.disk after.disk c.self.inside.plan fault c.self.invariant.4,
     )
 
 -- that is what the answer says
@@ -94,6 +96,7 @@ invariant_of-self-2 g c =
       c.round_due-due.ensures.size ∙ c.self.invariant.1 ∙ sym (ap (λ (s : Shape). s.block_size) c.make_call.ensures.shape),
       λ honest. round-sound e _ before.disk after.disk (c.self.invariant.2 (c.make_call.ensures.honest honest)) steps,
       λ honest. round-clean e _ before.disk after.disk c.self.invariant.0.plain steps,
+      round-planned e _ before.disk after.disk c.self.inside.plan steps c.self.invariant.4,
     )
 
 -- that is what the answer says

@@ -9,6 +9,7 @@ use Rattle.log_engine.specs.Ledger.{Runs, engine_of}
 use Rattle.log_engine.proofs.Advancing.{faults-on}
 use Rattle.log_engine.proofs.FewerCalls.{step-fewer}
 use Rattle.log_engine.proofs.KeptClean.{fault-clean, step-clean}
+use Rattle.log_engine.proofs.Plans.{step-planned}
 use Rattle.log_engine.proofs.Running.{superblock-of}
 use Rattle.log_engine.proofs.Stepping.{at-err, at-ok, busy, call-there, count-err, count-ok, each-fault, each-now, each-step, faults-here, idle-at, step-did, steps-here}
 use Rattle.log_engine.proofs.engine.Engine.commit_step.Goals as goal
@@ -50,6 +51,7 @@ invariant_of-self-then-is_err g c =
       c.due-due.ensures.size ∙ c.self.invariant.1 ∙ sym (ap (λ (s : Shape). s.block_size) c.make_call.ensures.shape),
       λ honest. fault-sound e _ before.disk after.disk (c.self.invariant.2 (c.make_call.ensures.honest honest)) fault,
       λ honest. fault-clean e _ before.disk after.disk fault,
+      c.self.invariant.4,
     )
 
 -- that is what the answer says
@@ -97,6 +99,7 @@ invariant_of-self-2 g c =
       c.due-due.ensures.size ∙ c.self.invariant.1 ∙ sym (ap (λ (s : Shape). s.block_size) c.make_call.ensures.shape),
       λ honest. step-sound e new before.disk after.disk (c.self.invariant.2 (c.make_call.ensures.honest honest)) step,
       λ honest. step-clean e new before.disk after.disk c.self.invariant.0.plain step,
+      step-planned e new before.disk after.disk c.self.inside.plan c.self.invariant.0.plain step c.self.invariant.4,
     )
 
 -- that is what the answer says

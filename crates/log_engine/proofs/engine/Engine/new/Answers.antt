@@ -1,4 +1,4 @@
-use Rattle.std.proofs.Common.{sym, ap, ap₂, subst, ◌∙◌, ◌≡◌, List, ℕ}
+use Rattle.std.proofs.Common.{arith, sym, ap, ap₂, subst, ◌∙◌, ◌≡◌, List, ℕ}
 use Rattle.journal_model.specs.Opening.{ring_of}
 use Rattle.journal_model.specs.Superblock.{super_in}
 use Rattle.checkpoint.specs.Pending.{PendingValue}
@@ -8,10 +8,11 @@ use Rattle.journal_world.specs.Opening.{IsOpenedLog}
 use Rattle.journal_world.specs.Sound.{IsPlain, Sound}
 use Rattle.journal_world.proofs.Fresh.{fresh-sound}
 use Rattle.log_engine.specs.Close.{KeepsClean}
-use Rattle.log_engine.specs.Ledger.{KeepsPending, engine_of}
+use Rattle.log_engine.specs.Ledger.{HasPlan, KeepsPending, engine_of}
 use Rattle.log_engine.proofs.KeptClean.{fresh-clean}
 use Rattle.log_engine.proofs.Ledgers.{fresh-taken}
 use Rattle.log_engine.proofs.Pendings.{fresh-keeps}
+use Rattle.log_engine.proofs.Plans.{none-planned}
 use Rattle.log_engine.proofs.Running.{HasFields, fresh-runs, named-fields}
 use Rattle.recovery.specs.Values.{IsNextNamed}
 use Rattle.log_engine.proofs.engine.Engine.new.Goals as goal
@@ -73,6 +74,7 @@ invariant_of-result g c =
       c.in-Ok.ensures ∙ c.layout.ensures.size ∙ ap (λ (d : g.row.D.Denot). (g.D.Device.state d).shape.block_size) (sym made.device),
       λ honest. subst (λ (e : Engine). Sound e state.disk) (sym is) (fresh-sound state.shape state.disk superblock next (log honest)),
       λ honest. subst (λ (e : Engine). KeepsClean e state.disk) (sym is) (fresh-clean state.shape state.disk superblock next (log honest)),
+      subst (λ (e : Engine). HasPlan e c.new-4.result) (sym is) (none-planned (fresh_engine state.shape superblock next) c.new-4.result (omega arith)),
     )
 
 -- it is the machine's

@@ -101,6 +101,7 @@ invariant_of-self g c =
       c.self.invariant.1 ∙ sym (ap (λ (s : Shape). s.block_size) stays.shape),
       λ honest. aborted-sound before.shape after.shape l before.disk after.disk stays.shape stays.disk (c.self.invariant.2 (c.read.ensures.honest honest)),
       λ honest. same-clean (engine_of before.shape l) _ before.disk after.disk refl refl refl stays.disk (c.self.invariant.3 (c.read.ensures.honest honest)),
+      c.self.invariant.4,
     )
 
 -- that is what the answer says

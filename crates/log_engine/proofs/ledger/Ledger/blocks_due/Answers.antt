@@ -1,5 +1,5 @@
 use Rattle.std.proofs.Common.{ap, ◌∙◌, ◌-◌, ℕ}
-use Rattle.log_engine.proofs.Ledgers.{on-blocks, on-superblock}
+use Rattle.log_engine.proofs.Ledgers.{on-blocks}
 use Rattle.log_engine.proofs.ledger.Ledger.blocks_due.Goals as goal
 
 -- its blocks are those that are taken for it

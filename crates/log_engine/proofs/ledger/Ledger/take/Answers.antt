@@ -1,12 +1,10 @@
-use Rattle.std.proofs.Common.{arith, refl, sym, ap, ap₂, subst, ◌∙◌, ◌+◌, ℕ, List, length}
-use Rattle.journal_model.specs.Room.{need}
-use Rattle.log_format.specs.Size.{IsBlockSize}
+use Rattle.std.proofs.Common.{arith, refl, ap, ap₂, ◌∙◌, List}
 use Rattle.journal_model.specs.declared.entry.Batch.{Batch}
 use Rattle.journal_world.specs.declared.stage.Stage.{Stage}
 use Rattle.log_ring.specs.Ring.{RingValue}
 use Rattle.log_engine.specs.Ledger.{engine_of}
 use Rattle.log_engine.proofs.Ledgers.{room-there, took}
-use Rattle.log_engine.proofs.Running.{head-small, runs-ring, runs-size, superblock-of}
+use Rattle.log_engine.proofs.Running.{head-small}
 use Rattle.log_engine.proofs.ledger.Ledger.take.Goals as goal
 
 -- where memory runs out nothing changes

@@ -1,4 +1,4 @@
-use Rattle.std.proofs.Common.{ap, subst, sym, ◌∙◌, ◌≡◌, ◌+◌, ◌++◌, ◌∷◌, [], List, ℕ, drop}
+use Rattle.std.proofs.Common.{ap, ◌∙◌, ◌+◌, ◌++◌, List, ℕ, drop}
 use Rattle.journal_model.specs.OwnText.{copied, revoked}
 use Rattle.log_engine.specs.declared.plan.Plan.{Plan}
 use Rattle.log_engine.specs.Text.{copies_at}
