@@ -37,7 +37,6 @@ use Rattle.journal_world.specs.Journal.{batch_of}
 use Rattle.journal_world.proofs.Batches.{batches-last}
 use Rattle.journal_world.proofs.Onward.{step-unfailed}
 use Rattle.journal_world.specs.Sound.{IsPlain, StageAgrees}
-use Rattle.journal_world.proofs.Positions.{tail-start}
 use Rattle.journal_model.proofs.Taken.{taken-layout}
 use Rattle.log_engine.specs.Engine.{AcceptRefused, MayHandOver, StepRefused}
 use Rattle.log_engine.specs.Engine.AcceptRefused.{AfterFailure, MemoryIsShort, RingIsShort}

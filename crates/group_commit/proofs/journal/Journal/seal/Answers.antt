@@ -3,7 +3,7 @@ use Rattle.std.proofs.lemmas.Bool.{true≢false}
 use Rattle.std.proofs.lemmas.Result.{err_from_is_err_and}
 use Rattle.journal_model.specs.declared.entry.Batch.{Batch}
 use Rattle.journal_model.specs.Room.{need}
-use Rattle.journal_world.specs.Engine.{Accepts, Engine}
+use Rattle.journal_world.specs.Engine.{Accepts}
 use Rattle.journal_world.specs.Front.{Front}
 use Rattle.journal_world.specs.Sound.{IsPlain}
 use Rattle.log_engine.specs.Engine.{AcceptRefused, EngineValue, MayHandOver}
