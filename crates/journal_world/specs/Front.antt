@@ -1,14 +1,15 @@
 -- The front: the transaction that handles join and write to, the ones that are sealed, the handles that are open, and the
 -- credits; and each step of it alone, none of which reads the engine. Source: journalling.rst (handles, transactions,
 -- credits), fs/jbd2/transaction.c by behaviour.
-use Rattle.std.specs.Prelude.{◌≡◌, ℕ, suc, ◌+◌, ◌-◌, ◌^◌, ◌<◌, ◌≤◌, Bool, true, false, if◌then◌else◌, max, List, [], ◌∷◌, ◌++◌, length, is_some, None}
+use Rattle.std.specs.Prelude.{◌≡◌, ℕ, suc, ◌+◌, ◌-◌, ◌^◌, ◌<◌, ◌≤◌, Bool, true, false, if◌then◌else◌, max, List, [], ◌∷◌, ◌++◌, length, drop, is_some, None}
 use Rattle.std.specs.List.{sum_by}
-use Rattle.journal_model.specs.declared.transaction.Op.TheVariants.{Write}
+use Rattle.journal_model.specs.declared.transaction.Op.{Op}
+use Rattle.journal_model.specs.declared.transaction.Op.TheVariants.{Write, Revoke}
 use Rattle.journal_model.specs.declared.transaction.Step.{Step}
 use Rattle.journal_model.specs.Block.{IsAllowedBlock}
 use Rattle.journal_model.specs.Layout.{Layout}
 use Rattle.journal_model.specs.Opening.{greatest_number}
-use Rattle.journal_model.specs.Transaction.{History, Transaction, effect, entries}
+use Rattle.journal_model.specs.Transaction.{History, Transaction, effect, entries, last_effect}
 
 pub record Front : Type 0 where
   pub layout : Layout  -- of the log
@@ -74,11 +75,14 @@ pub record IsOpen (f : Front) (h : ℕ) : Type 0 where
 abbrev pub write_step : ℕ → ℕ → List ℕ → Step
 write_step h b v = record { handle = h; block = b; op = Write v }
 
--- the block has no entry in the transaction yet, so that a write of it takes a credit
+abbrev pub revoke_step : ℕ → ℕ → Step
+revoke_step h b = record { handle = h; block = b; op = Revoke }
+
+-- the block has no entry in the transaction yet, so that a touch of it, a write or a revoke, takes a credit
 abbrev pub IsFirstTouch : Front → ℕ → Type 0
 IsFirstTouch f b = effect b f.running.steps ≡ None
 
--- how many of its credits a handle has left once it has written the block
+-- how many of its credits a handle has left once it has touched the block
 abbrev pub left_after : Front → ℕ → ℕ → ℕ
 left_after f b left = if is_some (effect b f.running.steps) then left else left - 1
 
@@ -88,6 +92,7 @@ pub data FrontEvent : Type 0 where
   GiveBack : (credits : ℕ) → FrontEvent
   Join : (credits : ℕ) → FrontEvent
   WriteBlock : (handle block : ℕ) → (bytes : List ℕ) → FrontEvent
+  RevokeBlock : (handle block : ℕ) → FrontEvent
   StopHandle : (handle : ℕ) → FrontEvent
   Lock : FrontEvent
   Raise : (tid : ℕ) → FrontEvent
@@ -123,11 +128,18 @@ pub record Joins (old : Front) (n : ℕ) (new : Front) : Type 0 where
   pub credits : n ≤ old.reserved
   pub after : new ≡ joining old n
 
-abbrev pub writing : (f : Front) (h b : ℕ) (v : List ℕ) → IsOpen f h → Front
-writing f h b v handle = record f {
-  running = record f.running { steps = f.running.steps ++ write_step h b v ∷ [] };
+-- the front with one more step of a handle, which touches a block
+abbrev pub touching : (f : Front) (h b : ℕ) (op : Op) → IsOpen f h → Front
+touching f h b op handle = record f {
+  running = record f.running { steps = f.running.steps ++ record { handle = h; block = b; op = op } ∷ [] };
   open_handles = handle.before ++ (h, left_after f b handle.left) ∷ handle.behind;
 }
+
+abbrev pub writing : (f : Front) (h b : ℕ) (v : List ℕ) → IsOpen f h → Front
+writing f h b v handle = touching f h b (Write v) handle
+
+abbrev pub revoking : (f : Front) (h b : ℕ) → IsOpen f h → Front
+revoking f h b handle = touching f h b Revoke handle
 
 -- An open handle writes one block that may be touched. The first touch of a block takes one of its credits.
 pub record WritesBlock (old : Front) (h b : ℕ) (v : List ℕ) (new : Front) : Type 0 where
@@ -137,6 +149,15 @@ pub record WritesBlock (old : Front) (h b : ℕ) (v : List ℕ) (new : Front) : 
   pub allowed : IsAllowedBlock old.layout old.home_blocks b
   pub whole : length v ≡ old.layout.block_size
   pub after : new ≡ writing old h b v handle
+
+-- An open handle revokes one block that may be touched. The first touch of a block takes one of its credits. (Where the
+-- block's entry is a revoke already, the step is noted, and the entries are the same.)
+pub record RevokesBlock (old : Front) (h b : ℕ) (new : Front) : Type 0 where
+  pub running : old.aborted ≡ false
+  pub handle : IsOpen old h
+  pub credit : IsFirstTouch old b → 0 < handle.left
+  pub allowed : IsAllowedBlock old.layout old.home_blocks b
+  pub after : new ≡ revoking old h b handle
 
 abbrev pub stopping : (f : Front) (h : ℕ) → IsOpen f h → Front
 stopping f h handle = record f { open_handles = handle.before ++ handle.behind }
@@ -169,6 +190,7 @@ FrontHappens old (Reserve n) new = Reserves old n new
 FrontHappens old (GiveBack n) new = GivesBack old n new
 FrontHappens old (Join n) new = Joins old n new
 FrontHappens old (WriteBlock h b v) new = WritesBlock old h b v new
+FrontHappens old (RevokeBlock h b) new = RevokesBlock old h b new
 FrontHappens old (StopHandle h) new = StopsHandle old h new
 FrontHappens old Lock new = Locks old new
 FrontHappens old (Raise t) new = Raises old t new
@@ -179,9 +201,26 @@ HeldAfter old (Reserve n) after = after ≡ held old + n
 HeldAfter old (GiveBack n) after = after + n ≡ held old
 HeldAfter old (Join n) after = after ≡ held old
 HeldAfter old (WriteBlock h b v) after = after ≡ held old
+HeldAfter old (RevokeBlock h b) after = after ≡ held old
 HeldAfter old (StopHandle h) after = (handle : IsOpen old h) × (after + handle.left ≡ held old)
 HeldAfter old Lock after = after ≡ held old
 HeldAfter old (Raise t) after = after ≡ held old
+
+-- all transactions since the opening, the running one last
+abbrev pub transactions : Front → History
+transactions f = f.sealed ++ f.running ∷ []
+
+-- how many of them the front knows to be committed
+abbrev pub finished_count : Front → ℕ
+finished_count f = f.finished + 1 + length f.sealed - f.running.tid
+
+-- those that are not finished, the running one last
+abbrev pub unfinished : Front → History
+unfinished f = drop (finished_count f) (transactions f)
+
+-- none of these has an entry of the block
+abbrev pub IsUntouched : Front → ℕ → Type 0
+IsUntouched f b = last_effect b (unfinished f) ≡ None
 
 -- the transaction may be sealed: it is locked, has no open handle, and the one before is finished
 pub record MaySeal (f : Front) : Type 0 where

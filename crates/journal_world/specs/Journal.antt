@@ -2,6 +2,7 @@
 use Rattle.std.specs.Prelude.{◌≡◌, ℕ, ◌+◌, ◌<◌, ◌≤◌, nat_eq, true, false, List, [], length, map, Contains}
 use Rattle.std.specs.List.{AllByRecursion, IsDistinct}
 use Rattle.journal_model.specs.declared.entry.Batch.{Batch}
+use Rattle.journal_model.specs.declared.number.Area.TheVariants.{Home}
 use Rattle.journal_model.specs.Disk.{Disk}
 use Rattle.journal_model.specs.Opening.{layout_of, ring_of}
 use Rattle.journal_model.specs.Room.{IsCapacity}
@@ -9,9 +10,12 @@ use Rattle.journal_model.specs.Superblock.{Shape, Super, super_in}
 use Rattle.journal_model.specs.Transaction.{Transaction, entries}
 use Rattle.journal_world.specs.declared.round.Round.TheVariants.{Idle as NoRound}
 use Rattle.journal_world.specs.declared.stage.Stage.TheVariants.{Idle}
+use Rattle.journal_world.specs.Call.{Call}
+use Rattle.journal_world.specs.Call.Call.{Write, Flush}
 use Rattle.journal_world.specs.Checkpoint.{RoundFaults, RoundSteps}
+use Rattle.journal_world.specs.Direct.{DirectFaults, DirectSteps}
 use Rattle.journal_world.specs.Engine.{Engine, Accepts, CommitSteps, CommitFaults}
-use Rattle.journal_world.specs.Front.{Front, FrontEvent, FrontHappens, MaySeal, aborting, finishing, fresh_front, held, sealing}
+use Rattle.journal_world.specs.Front.{Front, FrontEvent, FrontHappens, IsUntouched, MaySeal, aborting, finishing, fresh_front, held, sealing}
 
 pub record Journal : Type 0 where
   pub front : Front
@@ -26,6 +30,10 @@ pub data Event : Type 0 where
   CheckpointStep : Event
   CheckpointFault : Event
   ReadFault : Event
+  DirectWrite : (block : ℕ) → (bytes : List ℕ) → Event
+  DirectWriteFault : (block : ℕ) → (bytes : List ℕ) → Event
+  DirectSync : Event
+  DirectSyncFault : Event
   Finish : Event
 
 -- what is handed to the engine for a transaction: its entries
@@ -69,6 +77,26 @@ pub record ReadFails (old : Journal) (disk : Disk) (new : Journal) (after : Disk
   pub engine : new.engine ≡ record old.engine { aborted = true }
   pub disk_is : after ≡ disk
 
+-- A block is written directly, of which no transaction that is not finished has an entry.
+pub record WritesDirect (old : Journal) (disk : Disk) (b : ℕ) (v : List ℕ) (new : Journal) (after : Disk) : Type 0 where
+  pub untouched : IsUntouched old.front b
+  pub front : new.front ≡ old.front
+  pub engine : DirectSteps old.engine disk (Write Home b v) new.engine after
+
+pub record DirectWriteFails (old : Journal) (disk : Disk) (b : ℕ) (v : List ℕ) (new : Journal) (after : Disk) : Type 0 where
+  pub untouched : IsUntouched old.front b
+  pub front : new.front ≡ aborting old.front
+  pub engine : DirectFaults old.engine disk (Write Home b v) new.engine after
+
+-- Home is flushed, so that direct writes are durable.
+pub record SyncsDirect (old : Journal) (disk : Disk) (new : Journal) (after : Disk) : Type 0 where
+  pub front : new.front ≡ old.front
+  pub engine : DirectSteps old.engine disk (Flush Home) new.engine after
+
+pub record DirectSyncFails (old : Journal) (disk : Disk) (new : Journal) (after : Disk) : Type 0 where
+  pub front : new.front ≡ aborting old.front
+  pub engine : DirectFaults old.engine disk (Flush Home) new.engine after
+
 -- The front is told of a transaction that the engine has committed.
 pub record Finishes (old : Journal) (disk : Disk) (new : Journal) (after : Disk) : Type 0 where
   pub committed : old.front.finished + 1 < old.engine.first + old.engine.committed
@@ -85,6 +113,10 @@ Happens old disk CommitFault new after = CommitFails old disk new after
 Happens old disk CheckpointStep new after = Checkpoints old disk new after
 Happens old disk CheckpointFault new after = CheckpointFails old disk new after
 Happens old disk ReadFault new after = ReadFails old disk new after
+Happens old disk (DirectWrite b v) new after = WritesDirect old disk b v new after
+Happens old disk (DirectWriteFault b v) new after = DirectWriteFails old disk b v new after
+Happens old disk DirectSync new after = SyncsDirect old disk new after
+Happens old disk DirectSyncFault new after = DirectSyncFails old disk new after
 Happens old disk Finish new after = Finishes old disk new after
 
 -- What a front keeps beside its engine. It knows the layout of the log, how many home blocks there are and whether the

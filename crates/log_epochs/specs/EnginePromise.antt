@@ -10,26 +10,26 @@ use Rattle.journal_model.specs.Replay.{IsNewest}
 use Rattle.journal_model.specs.Superblock.{Shape}
 use Rattle.journal_model.specs.Transaction.{AreNumbered, History}
 use Rattle.journal_world.specs.Checkpoint.{IsNewestCopy}
-use Rattle.journal_world.specs.Engine.{AreBatchesOf}
+use Rattle.journal_world.specs.Direct.{IsAddedDirectly}
+use Rattle.journal_world.specs.Engine.{AreBatchesOf, Engine}
+use Rattle.log_epochs.specs.EngineSteps.{Event}
+use Rattle.log_epochs.specs.EngineSteps.Event.{Accept, Read, CommitStep, CommitFault, CheckpointStep, CheckpointFault, ReadFault, DirectWrite, DirectWriteFault, DirectSync, DirectSyncFault}
 use Rattle.log_epochs.specs.Epoch.{Ended, Epoch}
 use Rattle.log_epochs.specs.EngineWorld.{Move, Moves, Phase, World}
 use Rattle.log_epochs.specs.EngineWorld.Move.{Step, CloseStep, CloseFault, GiveUp, Stop, Begin, OpeningStep, OpeningFault, AnswerOk}
 use Rattle.log_epochs.specs.EngineWorld.Phase.{Shut, Opening, Running, Closing, Closed}
 
--- the direct writes of home since an opening: none, as long as the engine makes none
-abbrev pub direct_writes : List (ℕ × List ℕ)
-direct_writes = []
-
 -- What an image keeps, over transactions whose entries the epoch's batches are. It opens to a number n, from the committed
 -- to the accepted ones. That is the count of what the log of the image that pinned it has, and of its own where none has.
--- The blocks that the first n leave to home are rightly held, and the numbers follow one another.
+-- The blocks that the first n leave to home are rightly held, by direct writes among others, and the numbers follow one
+-- another.
 pub record Kept (shape : Shape) (epoch : Epoch) (ts : History) (image : Image) : Type 0 where
   pub n : ℕ
   pub low : epoch.engine.committed ≤ n
   pub high : n ≤ length epoch.engine.accepted
   pub count : IsCountOf shape (unwrap_or epoch.pin image) ts n
   pub opens : Opens shape ts n image
-  pub others : OthersRightlyHeld shape.home_blocks epoch.opening direct_writes ts n (image Home)
+  pub others : OthersRightlyHeld shape.home_blocks epoch.opening epoch.directs ts n (image Home)
   pub numbered : AreNumbered epoch.engine.first ts
 
 abbrev pub KeepsImage : Shape → Epoch → Image → Type 0
@@ -67,27 +67,44 @@ KeepsClosed shape epoch disk (Opening found stage) = ⊤
 KeepsClosed shape epoch disk Running = ⊤
 KeepsClosed shape epoch disk Closing = ⊤
 
--- what whoever works on the device may add to home: an engine the newest committed copy of the block, an opening the
--- newest live copy of its chain
-abbrev pub MayAddIn : Phase → Option Epoch → Addition
-MayAddIn Running (Some epoch) b v = (i : ℕ) × IsNewestCopy epoch.engine i b v
-MayAddIn Running None b v = ⊥
-MayAddIn (Opening found stage) epoch b v = IsNewest found.texts b v
-MayAddIn Shut epoch b v = ⊥
-MayAddIn Closing epoch b v = ⊥
-MayAddIn Closed epoch b v = ⊥
+-- what a step of an engine may add to home: a direct write its bytes, where the block is left to home; any other step the
+-- newest committed copy of the block
+abbrev pub StepMayAdd : Engine → Event → Addition
+StepMayAdd e (DirectWrite block bytes) b v = IsAddedDirectly e block bytes b v
+StepMayAdd e (DirectWriteFault block bytes) b v = IsAddedDirectly e block bytes b v
+StepMayAdd e DirectSync b v = ⊥
+StepMayAdd e DirectSyncFault b v = ⊥
+StepMayAdd e (Accept batch) b v = ⊥
+StepMayAdd e (Read block bytes) b v = ⊥
+StepMayAdd e CommitStep b v = ⊥
+StepMayAdd e CommitFault b v = ⊥
+StepMayAdd e CheckpointStep b v = (i : ℕ) × IsNewestCopy e i b v
+StepMayAdd e CheckpointFault b v = (i : ℕ) × IsNewestCopy e i b v
+StepMayAdd e ReadFault b v = ⊥
+
+abbrev pub EngineMayAdd : Option Epoch → Event → Addition
+EngineMayAdd None event b v = ⊥
+EngineMayAdd (Some epoch) event b v = StepMayAdd epoch.engine event b v
+
+-- an opening may add the newest live copy of its chain
+abbrev pub OpeningMayAdd : Phase → Addition
+OpeningMayAdd (Opening found stage) b v = IsNewest found.texts b v
+OpeningMayAdd Shut b v = ⊥
+OpeningMayAdd Running b v = ⊥
+OpeningMayAdd Closing b v = ⊥
+OpeningMayAdd Closed b v = ⊥
 
 -- what a move may add; a stop leaves one of the values that were held
 abbrev pub MayAdd : World → Move → Addition
+MayAdd w (Step event) b v = EngineMayAdd w.epoch event b v
+MayAdd w OpeningStep b v = OpeningMayAdd w.phase b v
+MayAdd w OpeningFault b v = OpeningMayAdd w.phase b v
 MayAdd w (Stop left) b v = IsOneOf (held (w.disk Home b)) v
-MayAdd w (Step event) b v = MayAddIn w.phase w.epoch b v
-MayAdd w CloseStep b v = MayAddIn w.phase w.epoch b v
-MayAdd w CloseFault b v = MayAddIn w.phase w.epoch b v
-MayAdd w GiveUp b v = MayAddIn w.phase w.epoch b v
-MayAdd w (Begin found) b v = MayAddIn w.phase w.epoch b v
-MayAdd w OpeningStep b v = MayAddIn w.phase w.epoch b v
-MayAdd w OpeningFault b v = MayAddIn w.phase w.epoch b v
-MayAdd w AnswerOk b v = MayAddIn w.phase w.epoch b v
+MayAdd w CloseStep b v = ⊥
+MayAdd w CloseFault b v = ⊥
+MayAdd w GiveUp b v = ⊥
+MayAdd w (Begin found) b v = ⊥
+MayAdd w AnswerOk b v = ⊥
 
 -- Each epoch keeps its promise: the one of now whatever a stop leaves at this moment, those that ended with what home
 -- then read. Whatever move comes next adds to home nothing but what it may.

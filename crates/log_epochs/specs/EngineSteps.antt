@@ -1,11 +1,14 @@
 -- The steps of an engine beside its disk, and the closing of its log, which is two calls. Source: journal.rst,
 -- fs/jbd2/journal.c by behaviour (the superblock of a journal that is destroyed says that the log is clean).
-use Rattle.std.specs.Prelude.{◌≡◌, ℕ, ◌+◌, true, false, List}
+use Rattle.std.specs.Prelude.{◌≡◌, ℕ, ◌+◌, true, false, List, ◌∷◌}
 use Rattle.journal_model.specs.declared.entry.Batch.{Batch}
+use Rattle.journal_model.specs.declared.number.Area.TheVariants.{Home}
 use Rattle.journal_model.specs.Disk.{Disk}
 use Rattle.journal_model.specs.Superblock.{with_tail}
 use Rattle.journal_world.specs.declared.stage.Stage.TheVariants.{Idle}
+use Rattle.journal_world.specs.Call.Call.{Write, Flush}
 use Rattle.journal_world.specs.Checkpoint.{IsRead, RoundFaults, RoundSteps}
+use Rattle.journal_world.specs.Direct.{DirectFaults, DirectSteps}
 use Rattle.journal_world.specs.Engine.{Accepts, CommitFaults, CommitSteps, Engine}
 
 pub data Event : Type 0 where
@@ -16,6 +19,10 @@ pub data Event : Type 0 where
   CheckpointStep : Event
   CheckpointFault : Event
   ReadFault : Event
+  DirectWrite : (block : ℕ) → (bytes : List ℕ) → Event
+  DirectWriteFault : (block : ℕ) → (bytes : List ℕ) → Event
+  DirectSync : Event
+  DirectSyncFault : Event
 
 -- the engine takes a batch
 pub record Takes (old : Engine) (disk : Disk) (b : Batch) (new : Engine) (after : Disk) : Type 0 where
@@ -44,6 +51,24 @@ Happens old disk CommitFault new after = CommitFaults old disk new after
 Happens old disk CheckpointStep new after = RoundSteps old disk new after
 Happens old disk CheckpointFault new after = RoundFaults old disk new after
 Happens old disk ReadFault new after = ReadFails old disk new after
+Happens old disk (DirectWrite b v) new after = DirectSteps old disk (Write Home b v) new after
+Happens old disk (DirectWriteFault b v) new after = DirectFaults old disk (Write Home b v) new after
+Happens old disk DirectSync new after = DirectSteps old disk (Flush Home) new after
+Happens old disk DirectSyncFault new after = DirectFaults old disk (Flush Home) new after
+
+-- the direct writes since an opening, newest first, once this has happened: one that failed may be left as well
+abbrev pub with_directs : Event → List (ℕ × List ℕ) → List (ℕ × List ℕ)
+with_directs (DirectWrite b v) directs = (b, v) ∷ directs
+with_directs (DirectWriteFault b v) directs = (b, v) ∷ directs
+with_directs DirectSync directs = directs
+with_directs DirectSyncFault directs = directs
+with_directs (Accept batch) directs = directs
+with_directs (Read b v) directs = directs
+with_directs CommitStep directs = directs
+with_directs CommitFault directs = directs
+with_directs CheckpointStep directs = directs
+with_directs CheckpointFault directs = directs
+with_directs ReadFault directs = directs
 
 -- the log may be closed: all is committed and released, and it is not clean yet
 pub record MayClose (e : Engine) : Type 0 where

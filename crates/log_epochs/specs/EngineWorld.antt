@@ -8,7 +8,7 @@ use Rattle.journal_world.specs.Call.{Call, after_success, IsAfterFault}
 use Rattle.journal_world.specs.Call.Call.{Write, Flush}
 use Rattle.journal_world.specs.Engine.{Engine}
 use Rattle.journal_world.specs.Opening.{IsOpenedLog, cleaned}
-use Rattle.log_epochs.specs.EngineSteps.{Event, Happens, MayClose, closed_superblock}
+use Rattle.log_epochs.specs.EngineSteps.{Event, Happens, MayClose, closed_superblock, with_directs}
 use Rattle.log_epochs.specs.Epoch.{Ended, Epoch, ending, fresh_epoch, pinning, pinning_at}
 use Rattle.log_epochs.specs.OpeningRun.{IsFoundOn}
 use Rattle.log_epochs.specs.OpeningSteps.{Found, OpeningCall, OpeningStage, next_of}
@@ -52,7 +52,7 @@ pub record Steps (old : World) (event : Event) (new : World) : Type 0 where
   pub now : old.epoch ≡ Some epoch
   pub engine : Engine
   pub happens : Happens epoch.engine old.disk event engine new.disk
-  pub after : new ≡ record old { disk = new.disk; epoch = Some (record epoch { engine = engine }) }
+  pub after : new ≡ record old { disk = new.disk; epoch = Some (record epoch { engine = engine; directs = with_directs event epoch.directs }) }
 
 pub record Closes (old new : World) : Type 0 where
   pub epoch : Epoch

@@ -1,5 +1,5 @@
 -- An epoch of a log: from an opening that answered Ok to the next one that does.
-use Rattle.std.specs.Prelude.{ℕ, List, ◌∷◌, Option, Some, None, unwrap_or}
+use Rattle.std.specs.Prelude.{ℕ, List, [], ◌∷◌, Option, Some, None, unwrap_or}
 use Rattle.journal_model.specs.Disk.{Disk, Image}
 use Rattle.journal_model.specs.Superblock.{Shape}
 use Rattle.journal_world.specs.Engine.{Engine}
@@ -10,6 +10,7 @@ use Rattle.log_epochs.specs.OpeningSteps.OpeningStage.{LogFlush, Copies, Superbl
 pub record Epoch : Type 0 where
   pub opening : Disk  -- as that opening left it
   pub engine : Engine  -- as far as it came; its accepted batches are the epoch's history
+  pub directs : List (ℕ × List ℕ)  -- what direct writes have handed over since then: blocks and bytes, newest first
   -- The first image that a stop left in the epoch, or what the device read when an opening flushed the log before any
   -- stop. It pins n for the rest of the epoch: n is the count of the transactions that its log has.
   pub pin : Option Image
@@ -21,7 +22,7 @@ pub record Ended : Type 0 where
 
 -- the epoch that begins on an opened log
 abbrev pub fresh_epoch : Shape → List ℕ → ℕ → Disk → Epoch
-fresh_epoch shape superblock next disk = record { opening = disk; engine = fresh_engine shape superblock next; pin = None }
+fresh_epoch shape superblock next disk = record { opening = disk; engine = fresh_engine shape superblock next; directs = []; pin = None }
 
 -- the image is the epoch's pin, where none was before
 abbrev pub pinned : Epoch → Image → Epoch

@@ -3,17 +3,17 @@
 use Rattle.std.specs.Prelude.{◌≡◌, ⊤, ℕ, ◌≤◌, List, [], ◌∷◌, ◌++◌, length, Option, Some, None, unwrap_or}
 use Rattle.journal_model.specs.declared.number.Area.TheVariants.{Home}
 use Rattle.journal_model.specs.Disk.{Disk, Image, Leaves}
-use Rattle.journal_model.specs.HomeChange.{Addition, HomeAddsOnly, IsCommittedCopy, OthersRightlyHeld}
+use Rattle.journal_model.specs.HomeChange.{Addition, HomeAddsOnly, IsCommittedCopy, IsDirectWrite, OthersRightlyHeld}
 use Rattle.journal_model.specs.Opening.{IsClean, IsCountOf, Opens}
 use Rattle.journal_model.specs.Record.{EachHandleOnce, acknowledged}
 use Rattle.journal_model.specs.Superblock.{Shape}
 use Rattle.journal_model.specs.Transaction.{AreNumbered, History}
-use Rattle.journal_world.specs.Front.{Front, IsOpen, write_step}
-use Rattle.journal_world.specs.Front.FrontEvent.{WriteBlock}
-use Rattle.journal_world.specs.Journal.{KeepsFront}
-use Rattle.journal_world.specs.Journal.Event.{FrontStep, Seal}
+use Rattle.journal_world.specs.Front.{Front, IsOpen, finished_count, revoke_step, transactions, write_step}
+use Rattle.journal_world.specs.Front.FrontEvent.{RevokeBlock, WriteBlock}
+use Rattle.journal_world.specs.Journal.{Event, KeepsFront}
+use Rattle.journal_world.specs.Journal.Event.{FrontStep, Seal, CommitStep, CommitFault, CheckpointStep, CheckpointFault, ReadFault, DirectWrite, DirectWriteFault, DirectSync, DirectSyncFault, Finish}
 use Rattle.log_epochs.specs.Epoch.{Ended, Epoch}
-use Rattle.log_epochs.specs.EnginePromise.{Continues, MayAdd as BelowMayAdd, direct_writes}
+use Rattle.log_epochs.specs.EnginePromise.{Continues, MayAdd as BelowMayAdd}
 use Rattle.log_epochs.specs.EngineWorld.{Phase}
 use Rattle.log_epochs.specs.EngineWorld.Move.{AnswerOk}
 use Rattle.log_epochs.specs.EngineWorld.Phase.{Shut, Opening, Running, Closing, Closed}
@@ -30,7 +30,7 @@ pub record Kept (shape : Shape) (epoch : Epoch) (told : Told) (image : Image) : 
   pub high : n ≤ length told.front.sealed
   pub count : IsCountOf shape (unwrap_or epoch.pin image) told.front.sealed n
   pub opens : Opens shape told.front.sealed n image
-  pub others : OthersRightlyHeld shape.home_blocks epoch.opening direct_writes told.front.sealed n (image Home)
+  pub others : OthersRightlyHeld shape.home_blocks epoch.opening epoch.directs told.front.sealed n (image Home)
   pub numbered : AreNumbered epoch.engine.first told.front.sealed
   pub handles : EachHandleOnce (told.front.sealed ++ told.front.running ∷ [])
 
@@ -64,14 +64,29 @@ KeepsClosed shape disk told (Opening found stage) = ⊤
 KeepsClosed shape disk told Running = ⊤
 KeepsClosed shape disk told Closing = ⊤
 
--- the copy that the committed transactions leave of the block
-abbrev pub MayCheckpoint : Option Epoch → Told → Addition
-MayCheckpoint None told b v = ⊥
-MayCheckpoint (Some epoch) told b v = IsCommittedCopy told.front.sealed epoch.engine.committed b v
+-- what a step of the journal may add to home: a direct write its bytes, where it has the right to; any other step the copy
+-- that the committed transactions leave of the block
+abbrev pub StepMayAdd : Epoch → Front → Event → Addition
+StepMayAdd epoch f (DirectWrite block bytes) b v = IsDirectWrite (transactions f) epoch.engine.committed (finished_count f) block bytes b v
+StepMayAdd epoch f (DirectWriteFault block bytes) b v = IsDirectWrite (transactions f) epoch.engine.committed (finished_count f) block bytes b v
+StepMayAdd epoch f DirectSync b v = ⊥
+StepMayAdd epoch f DirectSyncFault b v = ⊥
+StepMayAdd epoch f (FrontStep event) b v = ⊥
+StepMayAdd epoch f Seal b v = ⊥
+StepMayAdd epoch f CommitStep b v = ⊥
+StepMayAdd epoch f CommitFault b v = ⊥
+StepMayAdd epoch f CheckpointStep b v = IsCommittedCopy f.sealed epoch.engine.committed b v
+StepMayAdd epoch f CheckpointFault b v = IsCommittedCopy f.sealed epoch.engine.committed b v
+StepMayAdd epoch f ReadFault b v = ⊥
+StepMayAdd epoch f Finish b v = ⊥
 
--- what a move may add to home: a step of the journal such a copy, an answer nothing
+abbrev pub JournalMayAdd : Option Epoch → Front → Event → Addition
+JournalMayAdd None f event b v = ⊥
+JournalMayAdd (Some epoch) f event b v = StepMayAdd epoch f event b v
+
+-- what a move may add: an answer nothing
 abbrev pub MayAdd : JournalWorld → Move → Addition
-MayAdd w (Step event) b v = MayCheckpoint w.below.epoch w.told b v
+MayAdd w (Step event) b v = JournalMayAdd w.below.epoch w.told.front event b v
 MayAdd w (Answer tid) b v = ⊥
 MayAdd w (Below move) b v = BelowMayAdd w.below move b v
 
@@ -80,12 +95,14 @@ abbrev pub KeepsFrontNow : Option Epoch → Told → Type 0
 KeepsFrontNow None told = ⊤
 KeepsFrontNow (Some epoch) told = KeepsFront told.front epoch.engine
 
--- What a move does to the steps that handles have made: nothing; a handle that is open writes, which is one step more; the
--- running transaction is sealed with all of them, while no handle is open; or an epoch begins.
+-- What a move does to the steps that handles have made: nothing; a handle that is open writes or revokes, which is one step
+-- more; the running transaction is sealed with all of them, while no handle is open; or an epoch begins.
 pub data MakesSteps (move : Move) (old new : Front) : Type 0 where
   NoStep : new.sealed ≡ old.sealed → new.running.steps ≡ old.running.steps → MakesSteps move old new
-  OneStep : (h b : ℕ) (v : List ℕ) → move ≡ Step (FrontStep (WriteBlock h b v)) → IsOpen old h → new.sealed ≡ old.sealed →
+  OneWrite : (h b : ℕ) (v : List ℕ) → move ≡ Step (FrontStep (WriteBlock h b v)) → IsOpen old h → new.sealed ≡ old.sealed →
       new.running.steps ≡ old.running.steps ++ write_step h b v ∷ [] → MakesSteps move old new
+  OneRevoke : (h b : ℕ) → move ≡ Step (FrontStep (RevokeBlock h b)) → IsOpen old h → new.sealed ≡ old.sealed →
+      new.running.steps ≡ old.running.steps ++ revoke_step h b ∷ [] → MakesSteps move old new
   Sealed : move ≡ Step Seal → old.open_handles ≡ [] → new.sealed ≡ old.sealed ++ old.running ∷ [] → new.running.steps ≡ [] → MakesSteps move old new
   Begun : move ≡ Below AnswerOk → new.sealed ≡ [] → new.running.steps ≡ [] → MakesSteps move old new
 

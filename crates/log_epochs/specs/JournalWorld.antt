@@ -4,8 +4,9 @@
 use Rattle.std.specs.Prelude.{◌≡◌, ⊤, ℕ, ◌≤◌, List, [], ◌∷◌, Option, Some, None}
 use Rattle.journal_world.specs.Front.{Front}
 use Rattle.journal_world.specs.Journal.{Event, Happens, IsFresh, Journal}
+use Rattle.journal_world.specs.Journal.Event.{FrontStep, Seal, CommitStep as Commit, CommitFault as CommitFails, CheckpointStep as Checkpoint, CheckpointFault as CheckpointFails, ReadFault as ReadFails, DirectWrite as WriteDirect, DirectWriteFault as WriteDirectFails, DirectSync as SyncDirect, DirectSyncFault as SyncDirectFails, Finish}
 use Rattle.log_epochs.specs.EngineSteps.{Event as EngineEvent}
-use Rattle.log_epochs.specs.EngineSteps.Event.{Accept, Read, CommitStep, CommitFault, CheckpointStep, CheckpointFault, ReadFault}
+use Rattle.log_epochs.specs.EngineSteps.Event.{Accept, Read, CommitStep, CommitFault, CheckpointStep, CheckpointFault, ReadFault, DirectWrite, DirectWriteFault, DirectSync, DirectSyncFault}
 use Rattle.log_epochs.specs.EngineWorld.{Begins as BelowBegins, Move as BelowMove, Moves as BelowMoves, World}
 use Rattle.log_epochs.specs.EngineWorld.Move.{Step as EngineStep, CloseStep, CloseFault, GiveUp, Stop, Begin, OpeningStep, OpeningFault, AnswerOk}
 use Rattle.log_epochs.specs.EngineWorld.Phase.{Running}
@@ -31,6 +32,21 @@ pub data Move : Type 0 where
 abbrev pub journal_of : Epoch → Told → Journal
 journal_of epoch told = record { front = told.front; engine = epoch.engine }
 
+-- the direct writes since an opening, newest first, once this has happened
+abbrev pub with_directs : Event → List (ℕ × List ℕ) → List (ℕ × List ℕ)
+with_directs (WriteDirect b v) directs = (b, v) ∷ directs
+with_directs (WriteDirectFails b v) directs = (b, v) ∷ directs
+with_directs SyncDirect directs = directs
+with_directs SyncDirectFails directs = directs
+with_directs (FrontStep event) directs = directs
+with_directs Seal directs = directs
+with_directs Commit directs = directs
+with_directs CommitFails directs = directs
+with_directs Checkpoint directs = directs
+with_directs CheckpointFails directs = directs
+with_directs ReadFails directs = directs
+with_directs Finish directs = directs
+
 pub record Steps (old : JournalWorld) (event : Event) (new : JournalWorld) : Type 0 where
   pub running : old.below.phase ≡ Running
   pub epoch : Epoch
@@ -38,7 +54,7 @@ pub record Steps (old : JournalWorld) (event : Event) (new : JournalWorld) : Typ
   pub journal : Journal
   pub happens : Happens (journal_of epoch old.told) old.below.disk event journal new.below.disk
   pub after : new ≡ record old {
-    below = record old.below { disk = new.below.disk; epoch = Some (record epoch { engine = journal.engine }) };
+    below = record old.below { disk = new.below.disk; epoch = Some (record epoch { engine = journal.engine; directs = with_directs event epoch.directs }) };
     told = record old.told { front = journal.front };
   }
 
@@ -79,6 +95,10 @@ TellsAfterStep CommitFault old new = ⊥
 TellsAfterStep CheckpointStep old new = ⊥
 TellsAfterStep CheckpointFault old new = ⊥
 TellsAfterStep ReadFault old new = ⊥
+TellsAfterStep (DirectWrite block bytes) old new = ⊥
+TellsAfterStep (DirectWriteFault block bytes) old new = ⊥
+TellsAfterStep DirectSync old new = ⊥
+TellsAfterStep DirectSyncFault old new = ⊥
 
 -- what is told after a move of the world below
 abbrev pub TellsAfter : BelowMove → JournalWorld → JournalWorld → Type 0

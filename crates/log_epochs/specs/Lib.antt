@@ -4,5 +4,6 @@ pub mod EngineSteps
 pub mod Epoch
 pub mod EngineWorld
 pub mod EnginePromise
+pub mod DirectPromise
 pub mod JournalWorld
 pub mod JournalPromise

@@ -12,6 +12,7 @@ ghost use Rattle.log_epochs.specs.OpeningRun.{IsFoundOn, IsMoment, KeepsCount, R
 ghost use Rattle.log_epochs.specs.EngineWorld.{World, Move, Begins, ComesToRun, Leads};
 ghost use Rattle.log_epochs.specs.EngineWorld.Phase.{Shut};
 ghost use Rattle.log_epochs.specs.EnginePromise.{KeepsPromise};
+ghost use Rattle.log_epochs.specs.DirectPromise.{IsSynced, KeepsDirect, since_write};
 ghost use Rattle.log_epochs.specs.JournalWorld.{JournalWorld, Move as JournalMove, Begins as JournalBegins, Leads as JournalLeads};
 ghost use Rattle.log_epochs.specs.JournalPromise.{KeepsPromise as JournalKeepsPromise};
 
@@ -41,6 +42,13 @@ pub fn a_done_opening_is_whole()
 /// stops at any time, openings and stops within them, closes, and a device that is handed out and opened again.
 pub fn every_engine_keeps_the_promise()
     ensures { (start end : World) (moves : List Move) → Begins start → Leads start moves end → KeepsPromise end }
+{}
+
+/// Once home is synced, no stop takes back a direct write before it, and nothing older comes back over it, while no
+/// transaction with an entry of its block is handed over: whatever moves follow, home holds of the block, and an engine
+/// reads of it, the bytes of that write or of a later direct write.
+pub fn a_synced_direct_write_stays()
+    ensures { (start end : World) (b : ℕ) (v : List ℕ) (run : IsSynced start b v end) → Begins start → KeepsDirect (since_write start b v end run) b v end }
 {}
 
 /// Whatever steps of a journal come between them, each epoch keeps what its callers were told.
