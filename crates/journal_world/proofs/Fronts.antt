@@ -10,12 +10,14 @@ use Rattle.std.proofs.lemmas.List.Elements.{Contains-append_left, Contains-push}
 use Rattle.std.proofs.lemmas.Map.Keys.{IsDistinct-push}
 use Rattle.journal_model.proofs.OwnTextEach.{each-append}
 use Rattle.journal_model.specs.declared.entry.Batch.{Batch}
+use Rattle.journal_model.specs.declared.transaction.Op.{Op}
+use Rattle.journal_model.specs.declared.transaction.Op.TheVariants.{Write, Revoke}
 use Rattle.journal_model.specs.Chain.{Ring}
 use Rattle.journal_model.specs.Room.{IsCapacity}
 use Rattle.journal_model.specs.Superblock.{Shape}
 use Rattle.journal_world.specs.Engine.{Engine, Accepts, AreBatchesOf}
-use Rattle.journal_world.specs.Front.{Front, FrontEvent, FrontHappens, IsOpen, MaySeal, aborting, finishing, fresh_front, held, joining, left_after, next_handle, raising, sealing, stopping, write_step, writing}
-use Rattle.journal_world.specs.Front.FrontEvent.{Reserve, GiveBack, Join, WriteBlock, StopHandle, Lock, Raise}
+use Rattle.journal_world.specs.Front.{Front, FrontEvent, FrontHappens, IsOpen, MaySeal, aborting, finishing, fresh_front, held, joining, left_after, next_handle, raising, sealing, stopping, touching}
+use Rattle.journal_world.specs.Front.FrontEvent.{Reserve, GiveBack, Join, WriteBlock, RevokeBlock, StopHandle, Lock, Raise}
 use Rattle.journal_world.specs.Journal.{KeepsFront, batch_of, fresh_engine}
 use Rattle.journal_world.proofs.Batches.{batches-last}
 use Rattle.journal_world.proofs.Credits.{held-within}
@@ -125,10 +127,10 @@ join-agrees f e answered n within agrees =
         apart [] low = tt
         apart (h ∷ rest) low = (grind (arith, nat_tests, low.0), apart rest low.1)
 
--- an open handle writes a block
-write-agrees : (f : Front) (e : Engine) (answered : List ℕ) (h b : ℕ) (v : List ℕ) (handle : IsOpen f h) → held (writing f h b v handle) ≤ f.capacity →
-    FrontAgrees f e answered → FrontAgrees (writing f h b v handle) e answered
-write-agrees f e answered h b v handle within agrees =
+-- an open handle touches a block
+touch-agrees : (f : Front) (e : Engine) (answered : List ℕ) (h b : ℕ) (op : Op) (handle : IsOpen f h) → held (touching f h b op handle) ≤ f.capacity →
+    FrontAgrees f e answered → FrontAgrees (touching f h b op handle) e answered
+touch-agrees f e answered h b op handle within agrees =
     let all : AllByRecursion (λ o. Contains f.running.handles o.0) (handle.before ++ (h, handle.left) ∷ handle.behind) =
     subst (AllByRecursion (λ o. Contains f.running.handles o.0)) handle.stands agrees.keeps.joined in
     let least : AllByRecursion (λ o. o.0 ≤ f.given) (handle.before ++ (h, handle.left) ∷ handle.behind) =
@@ -137,7 +139,7 @@ write-agrees f e answered h b v handle within agrees =
       batches = agrees.batches;
       number = agrees.number;
       told = agrees.told;
-      handles = handles-step f.given f.sealed f.running (write_step h b v) (own handle.before handle.behind all) agrees.handles;
+      handles = handles-step f.given f.sealed f.running (record { handle = h; block = b; op = op }) (own handle.before handle.behind all) agrees.handles;
       keeps = record {
         layout = agrees.keeps.layout;
         home_blocks = agrees.keeps.home_blocks;
@@ -227,7 +229,10 @@ front-agrees old new e answered event step agrees = by event step (held-within o
         subst (λ (f : Front). FrontAgrees f e answered) (sym step.after) (join-agrees old e answered n (with _ step.after refl within) agrees)
     by (WriteBlock h b v) step within =
         subst (λ (f : Front). FrontAgrees f e answered) (sym step.after)
-        (write-agrees old e answered h b v step.handle (with _ step.after refl within) agrees)
+        (touch-agrees old e answered h b (Write v) step.handle (with _ step.after refl within) agrees)
+    by (RevokeBlock h b) step within =
+        subst (λ (f : Front). FrontAgrees f e answered) (sym step.after)
+        (touch-agrees old e answered h b Revoke step.handle (with _ step.after refl within) agrees)
     by (StopHandle h) step within =
         subst (λ (f : Front). FrontAgrees f e answered) (sym step.after)
         (stop-agrees old e answered h step.handle (with _ step.after refl within) agrees)

@@ -79,7 +79,7 @@ adds-none may old new same = record {
 }
 
 -- a write adds its bytes
-adds-written : (may : Addition) (disk : Disk) (b : ℕ) (v : List ℕ) → may b v → HomeAddsOnly may disk (written disk Home b v)
+pub adds-written : (may : Addition) (disk : Disk) (b : ℕ) (v : List ℕ) → may b v → HomeAddsOnly may disk (written disk Home b v)
 adds-written may disk b v adds = record {
   reads = λ m. elim (cases_eq m b) [
     | inl same ↦
@@ -119,7 +119,7 @@ adds-handed_over may disk b v adds = record {
 }
 
 -- a flush of home adds nothing
-adds-flushed : (may : Addition) (disk : Disk) → HomeAddsOnly may disk (flushed disk Home)
+pub adds-flushed : (may : Addition) (disk : Disk) → HomeAddsOnly may disk (flushed disk Home)
 adds-flushed may disk = record { reads = λ b. inl refl; left = λ b v one. held-flush b v one }
   where
     held-flush : (b : ℕ) (v : List ℕ) → IsOneOf (held (flushed disk Home Home b)) v → IsOneOf (held (disk Home b)) v ⊎ may b v
@@ -135,7 +135,7 @@ call-adds may e round call new disk adds WriteTail = adds-none may disk _ (λ b.
 call-adds may e round call new disk adds FlushTail = adds-none may disk _ (λ b. refl)
 
 -- a write that failed adds its bytes at most
-write-adds : (may : Addition) (b : ℕ) (v : List ℕ) (old new : Disk) → may b v → IsAfterFault (Write Home b v) old new → HomeAddsOnly may old new
+pub write-adds : (may : Addition) (b : ℕ) (v : List ℕ) (old new : Disk) → may b v → IsAfterFault (Write Home b v) old new → HomeAddsOnly may old new
 write-adds may b v old new adds (Undone call x y same) = adds-none may old new (λ m. ap (λ (d : Disk). d Home m) same)
 write-adds may b v old new adds (Whole a m w x y same) = subst (λ (d : Disk). HomeAddsOnly may old d) (sym same) (adds-written may old b v adds)
 write-adds may b v old new adds (HandedOver a m w x y same) = subst (λ (d : Disk). HomeAddsOnly may old d) (sym same) (adds-handed_over may old b v adds)

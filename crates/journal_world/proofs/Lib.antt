@@ -8,6 +8,7 @@ pub mod Changes
 pub mod Committing
 pub mod Copying
 pub mod Credits
+pub mod DirectCalls
 pub mod Due
 pub mod Elements
 pub mod Faults

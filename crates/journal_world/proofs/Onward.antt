@@ -1,6 +1,6 @@
 -- An engine goes on by each call of a commit or a round: its transactions stay, and those that are committed stay so.
 use Rattle.std.proofs.Common.{refl, sym, ◌∙◌, ap, subst, arith}
-use Rattle.std.specs.Prelude.{◌≡◌, ◌≤◌}
+use Rattle.std.specs.Prelude.{◌≡◌, ◌≤◌, true}
 use Rattle.journal_model.specs.Disk.{Disk}
 use Rattle.journal_world.specs.declared.round.Round.{Round}
 use Rattle.journal_world.specs.declared.round.Round.TheVariants.{Idle as NoRound, Copies, TailWrite, TailFlush}
@@ -20,6 +20,10 @@ pub record GoesOn (old new : Engine) : Type 0 where
   pub accepted : new.accepted ≡ old.accepted
   pub committed : old.committed ≤ new.committed
 
+-- it goes on where it is aborted
+pub aborted-on : (e : Engine) → GoesOn e (record e { aborted = true })
+aborted-on e = record { shape = refl; layout = refl; ring = refl; first = refl; accepted = refl; committed = omega arith }
+
 -- it goes on by each call of a commit that succeeds
 stepped-on : (e : Engine) (stage : Stage) → GoesOn e (stepped_from e stage)
 stepped-on e Idle = record { shape = refl; layout = refl; ring = refl; first = refl; accepted = refl; committed = omega arith }
@@ -35,7 +39,7 @@ step-on old new disk after step = subst (GoesOn old) (sym step.engine) (stepped-
 
 -- by one that fails
 pub fault-on : (old new : Engine) (disk after : Disk) → CommitFaults old disk new after → GoesOn old new
-fault-on old new disk after fault = subst (GoesOn old) (sym fault.engine) (record { shape = refl; layout = refl; ring = refl; first = refl; accepted = refl; committed = omega arith })
+fault-on old new disk after fault = subst (GoesOn old) (sym fault.engine) (aborted-on old)
 
 -- where a round begins
 begun-on : (e : Engine) (round : Round) → GoesOn e (begun_from e round)
