@@ -21,7 +21,7 @@ use Rattle.journal_world.proofs.Batches.{batches-take}
 use Rattle.journal_world.proofs.Suffixes.{batches-drop, get-drop, get-take, last-split}
 
 -- the block of an entry is among the blocks of the entries
-entry-block : (es : List (ℕ × Entry)) (b : ℕ) (f : Entry) → Contains es (b, f) → Contains (map (λ p. p.0) es) b
+pub entry-block : (es : List (ℕ × Entry)) (b : ℕ) (f : Entry) → Contains es (b, f) → Contains (map (λ p. p.0) es) b
 entry-block [] b f m = absurd (contains-none (b, f) m)
 entry-block (p ∷ es) b f m =
     elim (contains-cases p es (b, f) m) [
@@ -101,7 +101,7 @@ last-in b (t ∷ ts) (c ∷ bs) f are made =
 
 module _ (e : Engine) (r m : ℕ) (ts : History) (are : AreBatchesOf ts e.accepted) where
   -- an entry among the first r + m batches is not behind the first r where those between have none
-  last-before : (b i : ℕ) (f : Entry) → last_effect b (take m (drop r ts)) ≡ None → IsLastIn (take (r + m) e.accepted) b i f → i < r
+  pub last-before : (b i : ℕ) (f : Entry) → last_effect b (take m (drop r ts)) ≡ None → IsLastIn (take (r + m) e.accepted) b i f → i < r
   last-before b i f none l =
       elim (cases_lt i r) [
         | inl below ↦ below
@@ -116,7 +116,7 @@ module _ (e : Engine) (r m : ℕ) (ts : History) (are : AreBatchesOf ts e.accept
       ]
 
   -- so a copy that is the last effect of the first r transactions, and none behind, is the newest copy of its block
-  newest-left : (b i : ℕ) (v : List ℕ) → r ≤ e.committed → e.committed ≤ r + m → i < r →
+  pub newest-left : (b i : ℕ) (v : List ℕ) → r ≤ e.committed → e.committed ≤ r + m → i < r →
       IsLastIn (take (r + m) e.accepted) b i (Copy v) → IsNewestCopy e i b v
   newest-left b i v least most below l = record {
     copy = record {

@@ -9,6 +9,7 @@ pub mod Committing
 pub mod Copying
 pub mod Credits
 pub mod DirectCalls
+pub mod DirectRights
 pub mod Due
 pub mod Elements
 pub mod Faults

@@ -1,0 +1,122 @@
+-- A block that an engine leaves to home is one that its transactions leave to home, so it may be written directly.
+use Rattle.std.proofs.Common.{refl, sym, ◌∙◌, ap, subst, arith, inl, inr, ⊎_elim}
+use Rattle.std.specs.Prelude.{◌≡◌, ◌⊎◌, ℕ, zero, suc, ◌+◌, ◌≤◌, List, [], ◌∷◌, ◌++◌, length, take, drop, Option, Some, None, slice_get}
+use Rattle.std.proofs.lemmas.List.{take-append-le}
+use Rattle.journal_model.proofs.ListElements.{option-known}
+use Rattle.journal_model.specs.declared.entry.Batch.{Batch}
+use Rattle.journal_model.specs.declared.entry.Content.TheVariants.{Direct}
+use Rattle.journal_model.specs.declared.entry.Entry.{Entry}
+use Rattle.journal_model.specs.declared.entry.Entry.TheVariants.{Copy, Revoke}
+use Rattle.journal_model.specs.declared.number.Area.TheVariants.{Home}
+use Rattle.journal_model.specs.Disk.{Disk, IsOneOf}
+use Rattle.journal_model.specs.HomeChange.{Addition, HomeAddsOnly, IsDirectWrite}
+use Rattle.journal_model.specs.Reading.{HasDirectRight}
+use Rattle.journal_model.specs.Transaction.{History, after, content_of, last_effect}
+use Rattle.journal_world.specs.Call.{Call, IsAfterFault, after_success}
+use Rattle.journal_world.specs.Call.Call.{Write, Flush}
+use Rattle.journal_world.specs.Direct.{DirectFaults, DirectSteps, DirectsHome, IsLeftToHome}
+use Rattle.journal_world.specs.Engine.{AreBatchesOf, Engine}
+use Rattle.journal_world.specs.Front.{Front, IsUntouched, finished_count, transactions}
+use Rattle.journal_world.proofs.DirectCalls.{direct-adds, direct-fault-adds}
+use Rattle.journal_world.proofs.HomeRights.{HomeRight, IsOwn, abort-right, right-on}
+use Rattle.journal_world.proofs.Lasts.{IsLastIn, entry-block, last-before, last-in, newest-left}
+use Rattle.journal_world.proofs.Batches.{batches-take}
+use Rattle.journal_world.proofs.Suffixes.{batches-drop, get-drop}
+
+-- a block whose last effect is no copy is left to home
+none-copied : (o : Option Entry) → ((v : List ℕ) → o ≡ Some (Copy v) → ⊥) → content_of o ≡ Direct
+none-copied None none = refl
+none-copied (Some Revoke) none = refl
+none-copied (Some (Copy v)) none = absurd (none v refl)
+
+-- the committed transactions leave it to home
+pub left-direct : (e : Engine) (ts : History) (b : ℕ) → AreBatchesOf ts e.accepted → IsLeftToHome e b → after ts e.committed b ≡ Direct
+left-direct e ts b are left = none-copied (last_effect b (take e.committed ts)) (λ v made.
+    let sum : e.committed ≡ e.committed + 0 = omega arith in
+    let (i, l) = last-in b (take e.committed ts) (take e.committed e.accepted) (Copy v) (batches-take e.committed ts e.accepted are) made in
+    let last : IsLastIn (take (e.committed + 0) e.accepted) b i (Copy v) = subst (λ (n : ℕ). IsLastIn (take n e.accepted) b i (Copy v)) sum l in
+    let below = last-before e e.committed 0 ts are b i (Copy v) refl last in
+    left.none_newest i v (newest-left e e.committed 0 ts are b i v (omega arith) (omega arith) below last))
+
+-- and those behind them have no effect on it
+left-untouched : (e : Engine) (ts : History) (b : ℕ) → AreBatchesOf ts e.accepted → IsLeftToHome e b → last_effect b (drop e.committed ts) ≡ None
+left-untouched e ts b are left =
+    elim (option-known (last_effect b (drop e.committed ts))) [
+      | inl none ↦ none
+      | inr (f, some) ↦
+          let (i, l) = last-in b (drop e.committed ts) (drop e.committed e.accepted) f (batches-drop e.committed ts e.accepted are) some in
+          absurd (left.none_due (e.committed + i) l.batch (omega arith) (sym (get-drop e.committed e.accepted i) ∙ l.stands) (entry-block l.batch.entries b f l.entry))
+    ]
+
+-- so it may be written directly, as far as the engine's transactions go
+pub left-right : (e : Engine) (ts : History) (b : ℕ) → AreBatchesOf ts e.accepted → IsLeftToHome e b → HasDirectRight ts e.committed e.committed b
+left-right e ts b are left = record { home = left-direct e ts b are left; untouched = left-untouched e ts b are left }
+
+-- and as far as the front's do
+pub front-right : (f : Front) (e : Engine) (b : ℕ) → AreBatchesOf f.sealed e.accepted → e.committed ≤ length f.sealed → IsUntouched f b → IsLeftToHome e b →
+    HasDirectRight (transactions f) e.committed (finished_count f) b
+front-right f e b are within untouched left = record {
+  home =
+      ap (λ (ts : History). content_of (last_effect b ts)) (take-append-le e.committed f.sealed (f.running ∷ []) within)
+      ∙ left-direct e f.sealed b are left;
+  untouched = untouched;
+}
+
+-- what is written
+same-write : (b c : ℕ) (v w : List ℕ) → Write Home b v ≡ Write Home c w → (c ≡ b) × (w ≡ v)
+same-write b c v w same = (cc, cc)
+
+-- a direct write that succeeds changes home by itself alone
+pub direct-home : (old new : Engine) (disk after : Disk) (b : ℕ) (v : List ℕ) → DirectSteps old disk (Write Home b v) new after → DirectsHome old b v disk after
+direct-home old new disk after b v step = record {
+  adds = λ ts are.
+      subst (HomeAddsOnly (IsDirectWrite ts old.committed old.committed b v) disk) (sym step.disk_is)
+      (direct-adds (IsDirectWrite ts old.committed old.committed b v) old disk (Write Home b v)
+      (λ c w same left. let is = same-write b c v w same in (left-right old ts b are (subst (IsLeftToHome old) is.0 left), is.0, is.1)) step.due);
+}
+
+-- so does one that fails
+pub direct-fault-home : (old new : Engine) (disk after : Disk) (b : ℕ) (v : List ℕ) → DirectFaults old disk (Write Home b v) new after →
+    DirectsHome old b v disk after
+direct-fault-home old new disk after b v fault = record {
+  adds = λ ts are.
+      direct-fault-adds (IsDirectWrite ts old.committed old.committed b v) old disk after (Write Home b v)
+      (λ c w same left. let is = same-write b c v w same in (left-right old ts b are (subst (IsLeftToHome old) is.0 left), is.0, is.1)) fault.due fault.disk_is;
+}
+
+-- a list of direct writes with those of a call
+pub record HasDirects (directs more : List (ℕ × List ℕ)) (call : Call) : Type 0 where
+  pub before : (b : ℕ) (v : List ℕ) → IsOneOf directs (b, v) → IsOneOf more (b, v)
+  pub this : (b : ℕ) (v : List ℕ) → call ≡ Write Home b v → IsOneOf more (b, v)
+
+-- with a write
+pub write-directs : (directs : List (ℕ × List ℕ)) (b : ℕ) (v : List ℕ) → HasDirects directs ((b, v) ∷ directs) (Write Home b v)
+write-directs directs b v = record {
+  before = λ c w one. inr one;
+  this = λ c w same. let is = same-write b c v w same in inl (ap (λ (n : ℕ). (n, w)) is.0 ∙ ap (λ (u : List ℕ). (b, u)) is.1);
+}
+
+-- a flush is none
+pub flush-directs : (directs : List (ℕ × List ℕ)) → HasDirects directs directs (Flush Home)
+flush-directs directs = record { before = λ b v one. one; this = λ b v same. absurd (apart b v same) }
+  where
+    apart : (b : ℕ) (v : List ℕ) → Flush Home ≡ Write Home b v → ⊥
+    apart b v same = cc
+
+-- home holds what is rightly there over a direct call that succeeds
+pub direct-right : (opening : Disk) (directs more : List (ℕ × List ℕ)) (old new : Engine) (disk after : Disk) (call : Call) → HasDirects directs more call →
+    DirectSteps old disk call new after → HomeRight opening directs old disk → HomeRight opening more new after
+direct-right opening directs more old new disk after call has step right =
+    subst (λ (e : Engine). HomeRight opening more e after) (sym step.engine)
+    (subst (HomeRight opening more old) (sym step.disk_is)
+    (right-on opening directs more old old disk (after_success call disk) (λ b v own. ⊎_elim (λ direct. inl (has.before b v direct)) (λ copy. inr copy) own)
+    (direct-adds (IsOwn more old) old disk call (λ b v same left. inl (has.this b v same)) step.due) right))
+
+-- and over one that fails
+pub direct-fault-right : (opening : Disk) (directs more : List (ℕ × List ℕ)) (old new : Engine) (disk after : Disk) (call : Call) → HasDirects directs more call →
+    DirectFaults old disk call new after → HomeRight opening directs old disk → HomeRight opening more new after
+direct-fault-right opening directs more old new disk after call has fault right =
+    subst (λ (e : Engine). HomeRight opening more e after) (sym fault.engine)
+    (abort-right opening more old after
+    (right-on opening directs more old old disk after (λ b v own. ⊎_elim (λ direct. inl (has.before b v direct)) (λ copy. inr copy) own)
+    (direct-fault-adds (IsOwn more old) old disk after call (λ b v same left. inl (has.this b v same)) fault.due fault.disk_is) right))
