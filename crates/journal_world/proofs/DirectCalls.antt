@@ -1,10 +1,9 @@
 -- Direct writes and the flush behind them: the engine stays sound, and home has changed by such writes alone.
-use Rattle.std.proofs.Common.{refl, sym, ◌∙◌, ap, subst, inl, inr, ⊎_elim}
-use Rattle.std.specs.Prelude.{◌≡◌, ◌⊎◌, ℕ, List, ◌∷◌}
-use Rattle.std.proofs.lemmas.Bool.{cases_eq}
+use Rattle.std.proofs.Common.{refl, sym, ◌∙◌, ap, subst}
+use Rattle.std.specs.Prelude.{◌≡◌, ℕ, List}
 use Rattle.journal_model.specs.declared.number.Area.TheVariants.{Log, Home}
 use Rattle.journal_model.specs.Chain.{ring_place}
-use Rattle.journal_model.specs.Disk.{Cell, Disk, IsOneOf, flushed, held}
+use Rattle.journal_model.specs.Disk.{Cell, Disk, IsOneOf, held}
 use Rattle.journal_model.specs.HomeChange.{Addition, HomeAddsOnly}
 use Rattle.journal_world.specs.declared.round.Round.{Round}
 use Rattle.journal_world.specs.declared.round.Round.TheVariants.{Idle as NoRound, Copies, TailWrite, TailFlush}

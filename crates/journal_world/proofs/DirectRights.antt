@@ -1,18 +1,17 @@
 -- A block that an engine leaves to home is one that its transactions leave to home, so it may be written directly.
 use Rattle.std.proofs.Common.{refl, sym, ◌∙◌, ap, subst, arith, inl, inr, ⊎_elim}
-use Rattle.std.specs.Prelude.{◌≡◌, ◌⊎◌, ℕ, zero, suc, ◌+◌, ◌≤◌, List, [], ◌∷◌, ◌++◌, length, take, drop, Option, Some, None, slice_get}
+use Rattle.std.specs.Prelude.{◌≡◌, ℕ, ◌+◌, ◌≤◌, List, [], ◌∷◌, length, take, drop, Option, Some, None}
 use Rattle.std.proofs.lemmas.List.{take-append-le}
 use Rattle.journal_model.proofs.ListElements.{option-known}
-use Rattle.journal_model.specs.declared.entry.Batch.{Batch}
 use Rattle.journal_model.specs.declared.entry.Content.TheVariants.{Direct}
 use Rattle.journal_model.specs.declared.entry.Entry.{Entry}
 use Rattle.journal_model.specs.declared.entry.Entry.TheVariants.{Copy, Revoke}
 use Rattle.journal_model.specs.declared.number.Area.TheVariants.{Home}
 use Rattle.journal_model.specs.Disk.{Disk, IsOneOf}
-use Rattle.journal_model.specs.HomeChange.{Addition, HomeAddsOnly, IsDirectWrite}
+use Rattle.journal_model.specs.HomeChange.{HomeAddsOnly, IsDirectWrite}
 use Rattle.journal_model.specs.Reading.{HasDirectRight}
 use Rattle.journal_model.specs.Transaction.{History, after, content_of, last_effect}
-use Rattle.journal_world.specs.Call.{Call, IsAfterFault, after_success}
+use Rattle.journal_world.specs.Call.{Call, after_success}
 use Rattle.journal_world.specs.Call.Call.{Write, Flush}
 use Rattle.journal_world.specs.Direct.{DirectFaults, DirectSteps, DirectsHome, IsLeftToHome}
 use Rattle.journal_world.specs.Engine.{AreBatchesOf, Engine}
@@ -63,7 +62,7 @@ front-right f e b are within untouched left = record {
 }
 
 -- what is written
-same-write : (b c : ℕ) (v w : List ℕ) → Write Home b v ≡ Write Home c w → (c ≡ b) × (w ≡ v)
+pub same-write : (b c : ℕ) (v w : List ℕ) → Write Home b v ≡ Write Home c w → (c ≡ b) × (w ≡ v)
 same-write b c v w same = (cc, cc)
 
 -- a direct write that succeeds changes home by itself alone

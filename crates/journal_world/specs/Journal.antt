@@ -10,7 +10,6 @@ use Rattle.journal_model.specs.Superblock.{Shape, Super, super_in}
 use Rattle.journal_model.specs.Transaction.{Transaction, entries}
 use Rattle.journal_world.specs.declared.round.Round.TheVariants.{Idle as NoRound}
 use Rattle.journal_world.specs.declared.stage.Stage.TheVariants.{Idle}
-use Rattle.journal_world.specs.Call.{Call}
 use Rattle.journal_world.specs.Call.Call.{Write, Flush}
 use Rattle.journal_world.specs.Checkpoint.{RoundFaults, RoundSteps}
 use Rattle.journal_world.specs.Direct.{DirectFaults, DirectSteps}

@@ -26,7 +26,7 @@ use Rattle.journal_world.proofs.Superblocks.{first-above, names-superblock}
 use Rattle.log_epochs.specs.EnginePromise.{IsClosed, KeepsImage, KeepsNow}
 use Rattle.log_epochs.specs.EngineSteps.{MayClose, closed_superblock}
 use Rattle.log_epochs.proofs.CleanLogs.{IsCleanTail, clean-tail}
-use Rattle.log_epochs.proofs.Running.{IsRunning, batches-numbered, running-keeps}
+use Rattle.log_epochs.proofs.Running.{IsRunning, batches-numbered, running-keeps, running_epoch}
 
 -- the image with another block 0
 with_first : Image → List ℕ → Image
@@ -124,17 +124,17 @@ module _ (e : Engine) (disk after_write : Disk) (image : Image) (sound : Sound e
       let opened : Opens e.shape [] 0 image = to.opens [] tt in
       record { got = opened.got; opens = opened.opens; recovered = λ b below. opened.recovered b below ∙ home-left ts b are }
 
-  pub closed-all : (opening : Disk) → image Log 0 ≡ closed_superblock e → IsClosed e.shape (record { opening = opening; engine = e; pin = None }) image
-  closed-all opening is = record {
+  pub closed-all : (opening : Disk) (directs : List (ℕ × List ℕ)) → image Log 0 ≡ closed_superblock e → IsClosed e.shape (running_epoch opening directs e) image
+  closed-all opening directs is = record {
     clean = closed-clean is;
     all = λ ts are. subst (λ (n : ℕ). Opens e.shape ts n image) (sym all-committed) (closed-opens ts is are);
   }
 
   -- it keeps what is promised
-  closed-kept : (opening : Disk) → HomeRight opening e disk → image Log 0 ≡ closed_superblock e →
-      KeepsImage e.shape (record { opening = opening; engine = e; pin = None }) image
+  closed-kept : (opening : Disk) (directs : List (ℕ × List ℕ)) → HomeRight opening directs e disk → image Log 0 ≡ closed_superblock e →
+      KeepsImage e.shape (running_epoch opening directs e) image
   unfolding with_first
-  closed-kept opening right is ts are =
+  closed-kept opening directs right is ts are =
       let all : length e.accepted ≡ e.committed = all-committed in
       let sequence : (super_of image).s_sequence ≡ e.first + e.committed = ap (λ (block : List ℕ). (super_in block).s_sequence) is ∙ tail-left.sequence in
       record {
@@ -148,7 +148,7 @@ module _ (e : Engine) (disk after_write : Disk) (image : Image) (sound : Sound e
               sym (ap (λ (end : ℕ). numbered_below end ts) sequence ∙ count-below e.first e.committed ts e.accepted (omega arith) sound.plain.numbered are);
         };
         opens = closed-opens ts is are;
-        others = rightly-left e e.shape.home_blocks e.committed ts opening disk earlier right (omega arith) are earlier-left;
+        others = rightly-left e e.shape.home_blocks e.committed ts opening directs disk earlier right (omega arith) are earlier-left;
         numbered = batches-numbered e.first ts e.accepted sound.plain.numbered are;
       }
 
@@ -166,20 +166,20 @@ same-left disk new image v write leaves first = record { each = each }
     each Home b = subst (λ (c : Cell). IsOneOf (held c) (image Home b)) (write.home.same b) (leaves.each Home b)
 
 -- a close that writes the superblock of a clean log, or fails in it, keeps what is promised
-pub close-keeps : (shape : Shape) (opening : Disk) (e : Engine) (disk new : Disk) → IsRunning shape opening e disk → MayClose e →
-    IsWrite disk new 0 (closed_superblock e) → KeepsNow shape (Some (record { opening = opening; engine = e; pin = None })) new
-close-keeps shape opening e disk new runs may write = λ image leaves.
+pub close-keeps : (shape : Shape) (opening : Disk) (directs : List (ℕ × List ℕ)) (e : Engine) (disk new : Disk) → IsRunning shape opening directs e disk → MayClose e →
+    IsWrite disk new 0 (closed_superblock e) → KeepsNow shape (Some (running_epoch opening directs e)) new
+close-keeps shape opening directs e disk new runs may write = λ image leaves.
     ⊎_elim
     (λ closed.
-    subst (λ (s : Shape). KeepsImage s (record { opening = opening; engine = e; pin = None }) image) runs.shape_is
-    (closed-kept e disk new image runs.sound may write leaves opening runs.home closed))
-    (λ was. running-keeps shape opening e disk runs image (same-left disk new image (closed_superblock e) write leaves was))
+    subst (λ (s : Shape). KeepsImage s (running_epoch opening directs e) image) runs.shape_is
+    (closed-kept e disk new image runs.sound may write leaves opening directs runs.home closed))
+    (λ was. running-keeps shape opening directs e disk runs image (same-left disk new image (closed_superblock e) write leaves was))
     (write.there (image Log 0) (leaves.each Log 0))
 
 -- each image with that superblock is closed
-pub close-closes : (shape : Shape) (opening : Disk) (e : Engine) (disk new : Disk) → IsRunning shape opening e disk → MayClose e →
+pub close-closes : (shape : Shape) (opening : Disk) (directs : List (ℕ × List ℕ)) (e : Engine) (disk new : Disk) → IsRunning shape opening directs e disk → MayClose e →
     IsWrite disk new 0 (closed_superblock e) → (image : Image) → Leaves new image → image Log 0 ≡ closed_superblock e →
-    IsClosed shape (record { opening = opening; engine = e; pin = None }) image
-close-closes shape opening e disk new runs may write image leaves is =
-    subst (λ (s : Shape). IsClosed s (record { opening = opening; engine = e; pin = None }) image) runs.shape_is
-    (closed-all e disk new image runs.sound may write leaves opening is)
+    IsClosed shape (running_epoch opening directs e) image
+close-closes shape opening directs e disk new runs may write image leaves is =
+    subst (λ (s : Shape). IsClosed s (running_epoch opening directs e) image) runs.shape_is
+    (closed-all e disk new image runs.sound may write leaves opening directs is)

@@ -1,11 +1,12 @@
 -- Each epoch begins with what the device read when the one before it ended, whatever moves follow one another.
 use Rattle.std.proofs.Common.{refl, sym, subst}
-use Rattle.std.specs.Prelude.{List, [], ◌∷◌, Option, Some, None}
+use Rattle.std.specs.Prelude.{ℕ, List, [], ◌∷◌, Option, Some, None}
 use Rattle.journal_model.specs.declared.number.Area.TheVariants.{Log}
 use Rattle.journal_model.specs.Disk.{Image, reading}
 use Rattle.journal_world.specs.Engine.{Engine}
 use Rattle.journal_world.specs.Opening.{cleaned}
 use Rattle.log_epochs.specs.EnginePromise.{Continues}
+use Rattle.log_epochs.specs.EngineSteps.{with_directs}
 use Rattle.log_epochs.specs.EngineWorld.{Begins, Leads, Move, Moves, World}
 use Rattle.log_epochs.specs.EngineWorld.Begins.{Unopened, Made}
 use Rattle.log_epochs.specs.EngineWorld.Move.{Step, CloseStep, CloseFault, GiveUp, Stop, Begin, OpeningStep, OpeningFault, AnswerOk}
@@ -16,10 +17,11 @@ use Rattle.log_epochs.specs.OpeningSteps.OpeningStage.{LogFlush, Copies, Superbl
 abbrev Follows : World → Type 0
 Follows w = Continues w.epoch w.ended
 
--- an epoch with another engine, or with a pin, began as before
-engine-follows : (epoch : Epoch) (engine : Engine) (ended : List Ended) → Continues (Some epoch) ended → Continues (Some (record epoch { engine = engine })) ended
-engine-follows epoch engine [] follows = tt
-engine-follows epoch engine (x ∷ xs) follows = follows
+-- an epoch with another engine and more direct writes, or with a pin, began as before
+engine-follows : (epoch : Epoch) (engine : Engine) (directs : List (ℕ × List ℕ)) (ended : List Ended) → Continues (Some epoch) ended →
+    Continues (Some (record epoch { engine = engine; directs = directs })) ended
+engine-follows epoch engine directs [] follows = tt
+engine-follows epoch engine directs (x ∷ xs) follows = follows
 
 pinning-follows : (epoch : Option Epoch) (image : Image) (ended : List Ended) → Continues epoch ended → Continues (pinning epoch image) ended
 pinning-follows None image ended follows = follows
@@ -44,7 +46,7 @@ ending-follows (Some epoch) fresh ended follows = (refl, follows)
 move-follows : (old new : World) (move : Move) → Moves old move new → Follows old → Follows new
 move-follows old new (Step event) moves follows =
     subst Follows (sym moves.after)
-    (engine-follows moves.epoch moves.engine old.ended (subst (λ (o : Option Epoch). Continues o old.ended) moves.now follows))
+    (engine-follows moves.epoch moves.engine (with_directs event moves.epoch.directs) old.ended (subst (λ (o : Option Epoch). Continues o old.ended) moves.now follows))
 move-follows old new CloseStep moves follows = subst Follows (sym moves.after) follows
 move-follows old new CloseFault moves follows = subst Follows (sym moves.after) follows
 move-follows old new GiveUp moves follows = subst Follows (sym moves.after) follows

@@ -1,4 +1,5 @@
--- What each move adds to home: an engine newest committed copies, an opening newest live ones, and no other move anything.
+-- What each move adds to home: an engine newest committed copies and the bytes of direct writes, an opening newest live
+-- copies, and no other move anything.
 use Rattle.std.proofs.Common.{refl, sym, ap, subst, inl, inr, ⊎_elim}
 use Rattle.std.specs.Prelude.{◌≡◌, ℕ, List, Option}
 use Rattle.journal_model.specs.declared.number.Area.TheVariants.{Home}
@@ -7,18 +8,20 @@ use Rattle.journal_model.specs.HomeChange.{Addition, HomeAddsOnly}
 use Rattle.journal_model.specs.Replay.{IsNewest}
 use Rattle.journal_model.specs.Superblock.{Shape}
 use Rattle.journal_world.specs.Call.{Call, IsAfterFault, after_success}
-use Rattle.journal_world.specs.Checkpoint.{IsNewestCopy}
+use Rattle.journal_world.specs.Call.Call.{Write}
+use Rattle.journal_world.specs.Direct.{IsAddedDirectly, IsLeftToHome}
 use Rattle.journal_world.specs.Engine.{Engine}
-use Rattle.journal_world.proofs.HomeCopies.{adds-none, round-adds, round-fault-adds}
+use Rattle.journal_world.proofs.DirectCalls.{direct-adds, direct-fault-adds}
+use Rattle.journal_world.proofs.DirectRights.{same-write}
+use Rattle.journal_world.proofs.HomeCopies.{adds-flushed, adds-none, round-adds, round-fault-adds}
 use Rattle.journal_world.proofs.Homes.{fault-home, step-home}
 use Rattle.journal_world.proofs.Places.{is_write-fault}
-use Rattle.log_epochs.specs.EnginePromise.{MayAdd, MayAddIn}
+use Rattle.log_epochs.specs.EnginePromise.{EngineMayAdd, MayAdd, OpeningMayAdd, StepMayAdd}
 use Rattle.log_epochs.specs.EngineSteps.{Event, Happens, closed_superblock}
-use Rattle.log_epochs.specs.EngineSteps.Event.{Accept, Read, CommitStep, CommitFault, CheckpointStep, CheckpointFault, ReadFault}
+use Rattle.log_epochs.specs.EngineSteps.Event.{Accept, Read, CommitStep, CommitFault, CheckpointStep, CheckpointFault, ReadFault, DirectWrite, DirectWriteFault, DirectSync, DirectSyncFault}
 use Rattle.log_epochs.specs.EngineWorld.{CloseCall, Move, Moves, Phase, World}
 use Rattle.log_epochs.specs.EngineWorld.CloseCall.{WriteClosed, FlushClosed}
 use Rattle.log_epochs.specs.EngineWorld.Move.{Step, CloseStep, CloseFault, GiveUp, Stop, Begin, OpeningStep, OpeningFault, AnswerOk}
-use Rattle.log_epochs.specs.EngineWorld.Phase.{Running}
 use Rattle.log_epochs.specs.Epoch.{Epoch}
 use Rattle.log_epochs.specs.OpeningSteps.{Found, OpeningCall, OpeningStage, clean_superblock}
 use Rattle.log_epochs.specs.OpeningSteps.OpeningCall.{FlushClean, FlushLog, CopyHome, FlushHome, WriteSuperblock, FlushSuperblock}
@@ -28,19 +31,28 @@ use Rattle.log_epochs.proofs.Homes.{copying-fault, copying-flushed, copying-same
 same-adds : (may : Addition) (old new : Disk) → new ≡ old → HomeAddsOnly may old new
 same-adds may old new same = adds-none may old new (λ b. ap (λ (d : Disk). d Home b) same)
 
--- a copy that is the newest of its block in the committed transactions
-abbrev IsNewestOf : Engine → Addition
-IsNewestOf e b v = (i : ℕ) × IsNewestCopy e i b v
+-- a direct write adds its own bytes
+written-directly : (e : Engine) (b : ℕ) (v : List ℕ) (c : ℕ) (w : List ℕ) → Write Home b v ≡ Write Home c w → IsLeftToHome e c → IsAddedDirectly e b v c w
+written-directly e b v c w same left = let is = same-write b c v w same in (subst (IsLeftToHome e) is.0 left, is.0, is.1)
 
--- a step of the engine adds such copies alone
-event-adds : (old new : Engine) (disk after : Disk) (event : Event) → Happens old disk event new after → HomeAddsOnly (IsNewestOf old) disk after
-event-adds old new disk after (Accept b) happens = same-adds (IsNewestOf old) disk after happens.disk_is
-event-adds old new disk after (Read b v) happens = same-adds (IsNewestOf old) disk after happens.disk_is
-event-adds old new disk after CommitStep happens = adds-none (IsNewestOf old) disk after (step-home old new disk after happens).same
-event-adds old new disk after CommitFault happens = adds-none (IsNewestOf old) disk after (fault-home old new disk after happens).same
-event-adds old new disk after CheckpointStep happens = round-adds (IsNewestOf old) old new disk after (λ i b v newest. (i, newest)) happens
-event-adds old new disk after CheckpointFault happens = round-fault-adds (IsNewestOf old) old new disk after (λ i b v newest. (i, newest)) happens
-event-adds old new disk after ReadFault happens = same-adds (IsNewestOf old) disk after happens.disk_is
+-- a step of the engine adds a direct write's bytes, or newest committed copies, as it may
+event-adds : (old new : Engine) (disk after : Disk) (event : Event) → Happens old disk event new after → HomeAddsOnly (StepMayAdd old event) disk after
+event-adds old new disk after (Accept b) happens = same-adds (StepMayAdd old (Accept b)) disk after happens.disk_is
+event-adds old new disk after (Read b v) happens = same-adds (StepMayAdd old (Read b v)) disk after happens.disk_is
+event-adds old new disk after CommitStep happens = adds-none (StepMayAdd old CommitStep) disk after (step-home old new disk after happens).same
+event-adds old new disk after CommitFault happens = adds-none (StepMayAdd old CommitFault) disk after (fault-home old new disk after happens).same
+event-adds old new disk after CheckpointStep happens = round-adds (StepMayAdd old CheckpointStep) old new disk after (λ i b v newest. (i, newest)) happens
+event-adds old new disk after CheckpointFault happens =
+    round-fault-adds (StepMayAdd old CheckpointFault) old new disk after (λ i b v newest. (i, newest)) happens
+event-adds old new disk after ReadFault happens = same-adds (StepMayAdd old ReadFault) disk after happens.disk_is
+event-adds old new disk after (DirectWrite b v) happens =
+    subst (HomeAddsOnly (StepMayAdd old (DirectWrite b v)) disk) (sym happens.disk_is)
+    (direct-adds (StepMayAdd old (DirectWrite b v)) old disk (Write Home b v) (written-directly old b v) happens.due)
+event-adds old new disk after (DirectWriteFault b v) happens =
+    direct-fault-adds (StepMayAdd old (DirectWriteFault b v)) old disk after (Write Home b v) (written-directly old b v) happens.due happens.disk_is
+event-adds old new disk after DirectSync happens =
+    subst (HomeAddsOnly (StepMayAdd old DirectSync) disk) (sym happens.disk_is) (adds-flushed (StepMayAdd old DirectSync) disk)
+event-adds old new disk after DirectSyncFault happens = same-adds (StepMayAdd old DirectSyncFault) disk after (flush-undone disk after happens.disk_is)
 
 -- a call of a close adds nothing
 close-adds : (may : Addition) (e : Engine) (disk : Disk) (phase next : Phase) (call : Call) → CloseCall e phase call next →
@@ -91,9 +103,8 @@ of-world may old new made is adds = subst (λ (w : World). HomeAddsOnly may old 
 -- each move adds to home nothing but what it may
 pub move-home : (w : World) (move : Move) (new : World) → Moves w move new → HomeAddsOnly (MayAdd w move) w.disk new.disk
 move-home w (Step event) new moves =
-    subst (λ (p : Phase). HomeAddsOnly (MayAddIn p w.epoch) w.disk new.disk) (sym moves.running)
-    (subst (λ (o : Option Epoch). HomeAddsOnly (MayAddIn Running o) w.disk new.disk) (sym moves.now)
-    (event-adds moves.epoch.engine moves.engine w.disk new.disk event moves.happens))
+    subst (λ (o : Option Epoch). HomeAddsOnly (EngineMayAdd o event) w.disk new.disk) (sym moves.now)
+    (event-adds moves.epoch.engine moves.engine w.disk new.disk event moves.happens)
 move-home w CloseStep new moves =
     of-world (MayAdd w CloseStep) w.disk new _ moves.after (close-adds (MayAdd w CloseStep) moves.epoch.engine w.disk w.phase moves.phase moves.call moves.due)
 move-home w CloseFault new moves =
@@ -102,9 +113,9 @@ move-home w GiveUp new moves = same-adds (MayAdd w GiveUp) w.disk new.disk (ap (
 move-home w (Stop left) new moves = of-world (MayAdd w (Stop left)) w.disk new _ moves.after (stop-adds w.disk left moves.leaves)
 move-home w (Begin found) new moves = same-adds (MayAdd w (Begin found)) w.disk new.disk (ap (λ (x : World). x.disk) moves.after)
 move-home w OpeningStep new moves =
-    subst (λ (p : Phase). HomeAddsOnly (MayAddIn p w.epoch) w.disk new.disk) (sym moves.opening)
+    subst (λ (p : Phase). HomeAddsOnly (OpeningMayAdd p) w.disk new.disk) (sym moves.opening)
     (of-world (IsNewest moves.found.texts) w.disk new _ moves.after (opening-adds w.shape moves.found w.disk moves.stage moves.next moves.call moves.due))
 move-home w OpeningFault new moves =
-    subst (λ (p : Phase). HomeAddsOnly (MayAddIn p w.epoch) w.disk new.disk) (sym moves.opening)
+    subst (λ (p : Phase). HomeAddsOnly (OpeningMayAdd p) w.disk new.disk) (sym moves.opening)
     (opening-fault-adds w.shape moves.found w.disk new.disk moves.stage moves.next moves.call moves.due moves.disk_is)
 move-home w AnswerOk new moves = same-adds (MayAdd w AnswerOk) w.disk new.disk (ap (λ (x : World). x.disk) moves.after)

@@ -187,9 +187,9 @@ replaying-keeps shape found (Some epoch) base disk is has flush replaying = λ i
     (subst (λ (i : Image). IsCountOf shape i ts first.n) (pin-stays epoch.pin flush.pin.0 (reading base) other flush.pin.1) first.count) in
     let always : OpensAlways shape ts first.n base =
     record { each = λ other out. subst (λ (n : ℕ). Opens shape ts n other) (same other out) (flush.keeps other out ts are).opens } in
-    let rightly : (other : Image) → Leaves base other → OthersRightlyHeld shape.home_blocks epoch.opening [] ts first.n (other Home) =
+    let rightly : (other : Image) → Leaves base other → OthersRightlyHeld shape.home_blocks epoch.opening epoch.directs ts first.n (other Home) =
     λ other out.
-    subst (λ (n : ℕ). OthersRightlyHeld shape.home_blocks epoch.opening [] ts n (other Home)) (same other out) (flush.keeps other out ts are).others in
+    subst (λ (n : ℕ). OthersRightlyHeld shape.home_blocks epoch.opening epoch.directs ts n (other Home)) (same other out) (flush.keeps other out ts are).others in
     let all_ready = ready shape found (Some epoch) base is has flush in
     record {
       n = first.n;
@@ -198,7 +198,7 @@ replaying-keeps shape found (Some epoch) base disk is has flush replaying = λ i
       count = subst (λ (i : Image). IsCountOf shape i ts first.n) (pin-stays epoch.pin flush.pin.0 (reading base) image flush.pin.1) first.count;
       opens = ((opens-replaying shape found.texts (clean_superblock found) found.image base disk all_ready replaying).keeps ts first.n always).each image leaves;
       others =
-          others-copying shape found.texts base epoch.opening found.image image ts first.n has all_ready.reads
+          others-copying shape found.texts base epoch.opening epoch.directs found.image image ts first.n has all_ready.reads
           (kept-home found.texts base disk image replaying.home leaves) always rightly;
       numbered = first.numbered;
     }

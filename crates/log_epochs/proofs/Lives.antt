@@ -15,7 +15,7 @@ use Rattle.journal_world.proofs.HomeRights.{right-first}
 use Rattle.journal_world.proofs.Places.{IsWrite, is_write-fault, is_write-written, written-there}
 use Rattle.log_epochs.specs.OpeningSteps.{Found, IsFound, next_of}
 use Rattle.log_epochs.specs.EnginePromise.{EndedWell, IsClosed, KeepsClosed, KeepsNow, KeepsPromise}
-use Rattle.log_epochs.specs.EngineSteps.{Event, MayClose, closed_superblock}
+use Rattle.log_epochs.specs.EngineSteps.{Event, MayClose, closed_superblock, with_directs}
 use Rattle.log_epochs.specs.EngineWorld.{AnswersOk, Begins, CloseCall, Leads, Move, Moves, Phase, Steps, World}
 use Rattle.log_epochs.specs.Epoch.{Ended, Epoch, ending, fresh_epoch}
 use Rattle.log_epochs.specs.EngineWorld.CloseCall.{WriteClosed, FlushClosed}
@@ -26,13 +26,13 @@ use Rattle.log_epochs.proofs.Closing.{close-closes, close-keeps}
 use Rattle.log_epochs.proofs.Following.{begin-follows, run-follows}
 use Rattle.log_epochs.proofs.HomeRule.{move-home}
 use Rattle.log_epochs.proofs.Keeping.{IsPinned, flush-keeps, flushed-leaves, reads-left, stop-keeps}
-use Rattle.log_epochs.proofs.Running.{IsRunning, event-runs, running-keeps}
+use Rattle.log_epochs.proofs.Running.{IsRunning, event-runs, running-keeps, running_epoch}
 use Rattle.log_epochs.proofs.Stages.{IsDone, StageHolds, call-holds, fault-keeps, stage-keeps, undone-keeps}
 
 -- an epoch whose engine runs
 pub record RunsIn (shape : Shape) (epoch : Epoch) (disk : Disk) : Type 0 where
   pub pin : epoch.pin ≡ None
-  pub runs : IsRunning shape epoch.opening epoch.engine disk
+  pub runs : IsRunning shape epoch.opening epoch.directs epoch.engine disk
 
 -- an epoch whose log is being closed: each image that reads as the new superblock is closed
 pub record IsClosing (shape : Shape) (epoch : Option Epoch) (disk : Disk) : Type 0 where
@@ -53,12 +53,12 @@ abbrev pub Holds : World → Type 0
 Holds w = HoldsAt w.shape w.epoch w.disk w.phase × AllByRecursion (EndedWell w.shape) w.ended
 
 -- the epoch of a running engine has no pin
-no-pin : (epoch : Epoch) → epoch.pin ≡ None → record { opening = epoch.opening; engine = epoch.engine; pin = None } ≡ epoch
-no-pin epoch none = ap (λ (o : Option Image). let e : Epoch = record { opening = epoch.opening; engine = epoch.engine; pin = o } in e) (sym none)
+no-pin : (epoch : Epoch) → epoch.pin ≡ None → running_epoch epoch.opening epoch.directs epoch.engine ≡ epoch
+no-pin epoch none = ap (λ (o : Option Image). let e : Epoch = record { opening = epoch.opening; engine = epoch.engine; directs = epoch.directs; pin = o } in e) (sym none)
 
 -- what is known of an epoch with no pin is known of the world's
 of-now : (shape : Shape) (epoch : Option Epoch) (now : Epoch) (disk : Disk) → epoch ≡ Some now → now.pin ≡ None →
-    KeepsNow shape (Some (record { opening = now.opening; engine = now.engine; pin = None })) disk → KeepsNow shape epoch disk
+    KeepsNow shape (Some (running_epoch now.opening now.directs now.engine)) disk → KeepsNow shape epoch disk
 of-now shape epoch now disk is none keeps =
     subst (λ (o : Option Epoch). KeepsNow shape o disk) (sym is)
     (subst (λ (x : Epoch). KeepsNow shape (Some x) disk) (no-pin now none) keeps)
@@ -68,7 +68,7 @@ pub phase-keeps : (shape : Shape) (epoch : Option Epoch) (disk : Disk) (phase : 
 phase-keeps shape epoch disk Shut holds = holds
 phase-keeps shape epoch disk (Opening found stage) holds = stage-keeps shape found holds.0 stage epoch disk holds.1 holds.2
 phase-keeps shape epoch disk Running (now, is, runs) =
-    of-now shape epoch now disk is runs.pin (running-keeps shape now.opening now.engine disk runs.runs)
+    of-now shape epoch now disk is runs.pin (running-keeps shape now.opening now.directs now.engine disk runs.runs)
 phase-keeps shape epoch disk Closing holds = holds.keeps
 phase-keeps shape epoch disk Closed holds = holds.0
 
@@ -91,22 +91,22 @@ runs-in shape epoch now disk is (other, also, runs) = subst (λ (x : Epoch). Run
 -- a step of the engine
 step-holds : (old new : World) (event : Event) → Holds old → Steps old event new → Holds new
 step-holds old new event holds step =
-    let w : World = record old { disk = new.disk; epoch = Some (record step.epoch { engine = step.engine }) } in
+    let w : World = record old { disk = new.disk; epoch = Some (record step.epoch { engine = step.engine; directs = with_directs event step.epoch.directs }) } in
     let runs : RunsIn old.shape step.epoch old.disk =
     runs-in old.shape old.epoch step.epoch old.disk step.now (subst (HoldsAt old.shape old.epoch old.disk) step.running holds.0) in
     let now : HoldsAt w.shape w.epoch w.disk Running = (
-      record step.epoch { engine = step.engine },
+      record step.epoch { engine = step.engine; directs = with_directs event step.epoch.directs },
       refl,
       record {
         pin = runs.pin;
-        runs = event-runs old.shape step.epoch.opening step.epoch.engine step.engine old.disk new.disk event runs.runs step.happens;
+        runs = event-runs old.shape step.epoch.opening step.epoch.directs step.epoch.engine step.engine old.disk new.disk event runs.runs step.happens;
       },
     ) in
     subst Holds (sym step.after) (subst (HoldsAt w.shape w.epoch w.disk) (sym step.running) now, holds.1)
 
 -- what is known of images of an epoch with no pin is known of the epoch
 of-epoch : (shape : Shape) (now : Epoch) (image : Image) → now.pin ≡ None →
-    IsClosed shape (record { opening = now.opening; engine = now.engine; pin = None }) image → IsClosed shape now image
+    IsClosed shape (running_epoch now.opening now.directs now.engine) image → IsClosed shape now image
 of-epoch shape now image none closed = subst (λ (x : Epoch). IsClosed shape x image) (no-pin now none) closed
 
 -- the superblock of a clean log is written
@@ -119,9 +119,9 @@ closing shape epoch now disk is may runs =
     record {
       now = now;
       is = is;
-      keeps = of-now shape epoch now new is runs.pin (close-keeps shape now.opening now.engine disk new runs.runs may write);
+      keeps = of-now shape epoch now new is runs.pin (close-keeps shape now.opening now.directs now.engine disk new runs.runs may write);
       closed = λ image leaves first.
-          of-epoch shape now image runs.pin (close-closes shape now.opening now.engine disk new runs.runs may write image leaves (first ∙ reads));
+          of-epoch shape now image runs.pin (close-closes shape now.opening now.directs now.engine disk new runs.runs may write image leaves (first ∙ reads));
     }
 
 -- it is flushed
@@ -143,7 +143,7 @@ close-fails : (shape : Shape) (epoch : Option Epoch) (now : Epoch) (disk after :
 close-fails shape epoch now disk after phase next call is (WriteClosed may) holds fault =
     let runs = runs-in shape epoch now disk is holds in
     of-now shape epoch now after is runs.pin
-    (close-keeps shape now.opening now.engine disk after runs.runs may (is_write-fault disk after 0 (closed_superblock now.engine) fault))
+    (close-keeps shape now.opening now.directs now.engine disk after runs.runs may (is_write-fault disk after 0 (closed_superblock now.engine) fault))
 close-fails shape epoch now disk after phase next call is FlushClosed holds fault = undone-keeps shape epoch Log disk after fault holds.keeps
 
 -- an opened log reads as a clean one
@@ -170,7 +170,7 @@ fresh-runs shape superblock next disk log = record {
   runs = record {
     shape_is = refl;
     sound = fresh-sound shape disk superblock next log;
-    home = right-first disk (fresh_engine shape superblock next);
+    home = right-first disk [] (fresh_engine shape superblock next);
   };
 }
 

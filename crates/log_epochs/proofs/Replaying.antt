@@ -294,16 +294,16 @@ direct-same texts old b v got (inr newest) (inl copy) recovered = sym recovered 
 direct-same texts old b v got (inr newest) (inr none) recovered = absurd (none.0 newest.i newest.k v newest.live)
 
 -- so the blocks that the transactions leave to home are rightly held where they were before
-pub others-copying : (shape : Shape) (texts : List Text) (old opening : Disk) (log image : Image) (ts : History) (n : ℕ) →
+pub others-copying : (shape : Shape) (texts : List Text) (old opening : Disk) (directs : List (ℕ × List ℕ)) (log image : Image) (ts : History) (n : ℕ) →
     HasChain shape log texts → ((m : ℕ) → IsOneOf (held (old Log m)) (log Log m)) → ((b : ℕ) → IsKept texts old b (image Home b)) →
-    OpensAlways shape ts n old → ((other : Image) → Leaves old other → OthersRightlyHeld shape.home_blocks opening [] ts n (other Home)) →
-    OthersRightlyHeld shape.home_blocks opening [] ts n (image Home)
-others-copying shape texts old opening log image ts n has was kept always rightly b below direct =
+    OpensAlways shape ts n old → ((other : Image) → Leaves old other → OthersRightlyHeld shape.home_blocks opening directs ts n (other Home)) →
+    OthersRightlyHeld shape.home_blocks opening directs ts n (image Home)
+others-copying shape texts old opening directs log image ts n has was kept always rightly b below direct =
     let other : Image = with_home log (home_before texts old (image Home) kept) in
     let leaves = leaves-before texts old log (image Home) kept was in
     let first : Opens shape ts n other = always.each other leaves in
     let opened : IsOpened shape other texts first.got = opened-by_chain shape other texts first.got (same-chain shape log other texts (λ m. refl) has) first.opens in
     let left : first.got b ≡ before texts old b (image Home b) (kept b) =
     first.recovered b below ∙ ap (λ (c : Content). bytes_of c (before texts old b (image Home b) (kept b))) direct in
-    subst (IsRightlyHeld opening [] ts n b) (direct-same texts old b (image Home b) (first.got b) (kept b) (opened.replayed b below) left)
+    subst (IsRightlyHeld opening directs ts n b) (direct-same texts old b (image Home b) (first.got b) (kept b) (opened.replayed b below) left)
     (rightly other leaves b below direct)
