@@ -83,6 +83,12 @@ direct-fault-home old new disk after b v fault = record {
       (λ c w same left. let is = same-write b c v w same in (left-right old ts b are (subst (IsLeftToHome old) is.0 left), is.0, is.1)) fault.due fault.disk_is;
 }
 
+-- what is written has the right to it
+pub written-rightly : (f : Front) (e : Engine) (b : ℕ) (v : List ℕ) → AreBatchesOf f.sealed e.accepted → e.committed ≤ length f.sealed → IsUntouched f b →
+    (c : ℕ) (w : List ℕ) → Write Home b v ≡ Write Home c w → IsLeftToHome e c → IsDirectWrite (transactions f) e.committed (finished_count f) b v c w
+written-rightly f e b v are within untouched c w same left =
+    let is = same-write b c v w same in (front-right f e b are within untouched (subst (IsLeftToHome e) is.0 left), is.0, is.1)
+
 -- a list of direct writes with those of a call
 pub record HasDirects (directs more : List (ℕ × List ℕ)) (call : Call) : Type 0 where
   pub before : (b : ℕ) (v : List ℕ) → IsOneOf directs (b, v) → IsOneOf more (b, v)

@@ -28,7 +28,7 @@ use Rattle.log_epochs.specs.OpeningSteps.OpeningCall.{FlushClean, FlushLog, Copy
 use Rattle.log_epochs.proofs.Homes.{copying-fault, copying-flushed, copying-same, copying-written, flush-undone}
 
 -- a disk that is the old one adds nothing
-same-adds : (may : Addition) (old new : Disk) → new ≡ old → HomeAddsOnly may old new
+pub same-adds : (may : Addition) (old new : Disk) → new ≡ old → HomeAddsOnly may old new
 same-adds may old new same = adds-none may old new (λ b. ap (λ (d : Disk). d Home b) same)
 
 -- a direct write adds its own bytes

@@ -1,20 +1,24 @@
 -- A step of the journal: front and engine agree after it, and the engine's world makes the same step, or none.
 use Rattle.std.proofs.Common.{refl, sym, ap, subst, ◌∙◌, arith}
 use Rattle.std.specs.Prelude.{◌≡◌, ℕ, true, List}
+use Rattle.journal_model.specs.declared.number.Area.TheVariants.{Home}
 use Rattle.journal_model.specs.Disk.{Disk}
+use Rattle.journal_world.specs.Call.{Call}
+use Rattle.journal_world.specs.Call.Call.{Write, Flush}
+use Rattle.journal_world.specs.Direct.{DirectFaults, DirectSteps}
 use Rattle.journal_world.specs.Engine.{Engine}
 use Rattle.journal_world.specs.Front.{Front, FrontEvent, FrontHappens, aborting}
-use Rattle.journal_world.specs.Front.FrontEvent.{Reserve, GiveBack, Join, WriteBlock, StopHandle, Lock, Raise}
+use Rattle.journal_world.specs.Front.FrontEvent.{Reserve, GiveBack, Join, WriteBlock, RevokeBlock, StopHandle, Lock, Raise}
 use Rattle.journal_world.specs.Journal.{Event, Happens, Journal, batch_of}
-use Rattle.journal_world.specs.Journal.Event.{FrontStep, Seal, CommitStep, CommitFault, CheckpointStep, CheckpointFault, ReadFault, Finish}
+use Rattle.journal_world.specs.Journal.Event.{FrontStep, Seal, CommitStep, CommitFault, CheckpointStep, CheckpointFault, ReadFault, DirectWrite, DirectWriteFault, DirectSync, DirectSyncFault, Finish}
 use Rattle.journal_world.proofs.Fronts.{FrontAgrees, fails-on, finish-agrees, front-agrees, goes-on, seal-agrees}
-use Rattle.journal_world.proofs.Onward.{GoesOn, fault-on, round-fault-on, round-on, round-unfailed, step-on, step-unfailed}
-use Rattle.log_epochs.specs.JournalWorld.{Move}
+use Rattle.journal_world.proofs.Onward.{GoesOn, aborted-on, fault-on, round-fault-on, round-on, round-unfailed, step-on, step-unfailed}
+use Rattle.log_epochs.specs.JournalWorld.{Move, with_directs}
 use Rattle.log_epochs.specs.JournalWorld.Move.{Step}
 use Rattle.log_epochs.specs.JournalPromise.{MakesSteps}
-use Rattle.log_epochs.specs.JournalPromise.MakesSteps.{NoStep, OneStep, Sealed}
-use Rattle.log_epochs.specs.EngineSteps.{Event as EngineEvent, Happens as EngineHappens}
-use Rattle.log_epochs.specs.EngineSteps.Event.{Accept, CommitStep as EngineCommit, CommitFault as EngineCommitFault, CheckpointStep as EngineCheckpoint, CheckpointFault as EngineCheckpointFault, ReadFault as EngineReadFault}
+use Rattle.log_epochs.specs.JournalPromise.MakesSteps.{NoStep, OneWrite, OneRevoke, Sealed}
+use Rattle.log_epochs.specs.EngineSteps.{Event as EngineEvent, Happens as EngineHappens, with_directs as below_directs}
+use Rattle.log_epochs.specs.EngineSteps.Event.{Accept, CommitStep as EngineCommit, CommitFault as EngineCommitFault, CheckpointStep as EngineCheckpoint, CheckpointFault as EngineCheckpointFault, ReadFault as EngineReadFault, DirectWrite as EngineDirect, DirectWriteFault as EngineDirectFault, DirectSync as EngineSync, DirectSyncFault as EngineSyncFault}
 
 -- front and engine agree, and with what was told
 abbrev pub Agrees : Journal → List ℕ → Type 0
@@ -32,10 +36,19 @@ failed-agrees : (old new : Journal) (answered : List ℕ) → new.front ≡ abor
 failed-agrees old new answered told on failed agrees =
     subst (λ (f : Front). FrontAgrees f new.engine answered) (sym told) (fails-on old.front old.engine new.engine answered on failed agrees)
 
--- an engine that is aborted goes on
-aborted-on : (old new : Engine) → new ≡ record old { aborted = true } → GoesOn old new
-aborted-on old new is =
-    subst (GoesOn old) (sym is) (record { shape = refl; layout = refl; ring = refl; first = refl; accepted = refl; committed = omega arith })
+-- a direct call
+direct-agrees : (old new : Journal) (disk after : Disk) (answered : List ℕ) (call : Call) → new.front ≡ old.front →
+    DirectSteps old.engine disk call new.engine after → Agrees old answered → Agrees new answered
+direct-agrees old new disk after answered call same step agrees =
+    subst (λ (f : Front). FrontAgrees f new.engine answered) (sym same)
+    (subst (λ (e : Engine). FrontAgrees old.front e answered) (sym step.engine) agrees)
+
+-- one that fails
+direct-fault-agrees : (old new : Journal) (disk after : Disk) (answered : List ℕ) (call : Call) → new.front ≡ aborting old.front →
+    DirectFaults old.engine disk call new.engine after → Agrees old answered → Agrees new answered
+direct-fault-agrees old new disk after answered call told fault agrees =
+    failed-agrees old new answered told (subst (GoesOn old.engine) (sym fault.engine) (aborted-on old.engine))
+    (ap (λ (e : Engine). e.aborted) fault.engine) agrees
 
 -- they agree after each event
 pub event-agrees : (old new : Journal) (disk after : Disk) (answered : List ℕ) (event : Event) → Agrees old answered → Happens old disk event new after →
@@ -63,25 +76,37 @@ event-agrees old new disk after answered CheckpointFault agrees happens =
     failed-agrees old new answered happens.front (round-fault-on old.engine new.engine disk after happens.engine)
     (ap (λ (e : Engine). e.aborted) happens.engine.engine) agrees
 event-agrees old new disk after answered ReadFault agrees happens =
-    failed-agrees old new answered happens.front (aborted-on old.engine new.engine happens.engine)
+    failed-agrees old new answered happens.front (subst (GoesOn old.engine) (sym happens.engine) (aborted-on old.engine))
     (ap (λ (e : Engine). e.aborted) happens.engine) agrees
 
--- what a step of the journal is to the engine: nothing, or a step of its own
-pub data IsBelow (old : Engine) (disk : Disk) (new : Engine) (after : Disk) : Type 0 where
-  Nothing : new ≡ old → after ≡ disk → IsBelow old disk new after
-  Same : (event : EngineEvent) → EngineHappens old disk event new after → IsBelow old disk new after
+event-agrees old new disk after answered (DirectWrite b v) agrees happens = direct-agrees old new disk after answered (Write Home b v) happens.front happens.engine agrees
+event-agrees old new disk after answered (DirectWriteFault b v) agrees happens =
+    direct-fault-agrees old new disk after answered (Write Home b v) happens.front happens.engine agrees
+event-agrees old new disk after answered DirectSync agrees happens = direct-agrees old new disk after answered (Flush Home) happens.front happens.engine agrees
+event-agrees old new disk after answered DirectSyncFault agrees happens =
+    direct-fault-agrees old new disk after answered (Flush Home) happens.front happens.engine agrees
 
-pub event-below : (old new : Journal) (disk after : Disk) (event : Event) → Happens old disk event new after → IsBelow old.engine disk new.engine after
-event-below old new disk after (FrontStep event) happens = Nothing happens.engine happens.disk_is
-event-below old new disk after Finish happens = Nothing happens.engine happens.disk_is
-event-below old new disk after Seal happens =
-    Same (Accept (batch_of old.front.running)) (record { engine = happens.engine; disk_is = happens.disk_is })
-event-below old new disk after CommitStep happens = Same EngineCommit happens.engine
-event-below old new disk after CommitFault happens = Same EngineCommitFault happens.engine
-event-below old new disk after CheckpointStep happens = Same EngineCheckpoint happens.engine
-event-below old new disk after CheckpointFault happens = Same EngineCheckpointFault happens.engine
-event-below old new disk after ReadFault happens =
-    Same EngineReadFault (record { running = happens.running; engine = happens.engine; disk_is = happens.disk_is })
+-- what a step of the journal is to the engine: nothing, or a step of its own, with the same direct writes
+pub data IsBelow (old : Engine) (disk : Disk) (new : Engine) (after : Disk) (directs more : List (ℕ × List ℕ)) : Type 0 where
+  Nothing : new ≡ old → after ≡ disk → more ≡ directs → IsBelow old disk new after directs more
+  Same : (event : EngineEvent) → EngineHappens old disk event new after → more ≡ below_directs event directs → IsBelow old disk new after directs more
+
+pub event-below : (old new : Journal) (disk after : Disk) (event : Event) (directs : List (ℕ × List ℕ)) → Happens old disk event new after →
+    IsBelow old.engine disk new.engine after directs (with_directs event directs)
+event-below old new disk after (FrontStep event) directs happens = Nothing happens.engine happens.disk_is refl
+event-below old new disk after Finish directs happens = Nothing happens.engine happens.disk_is refl
+event-below old new disk after Seal directs happens =
+    Same (Accept (batch_of old.front.running)) (record { engine = happens.engine; disk_is = happens.disk_is }) refl
+event-below old new disk after CommitStep directs happens = Same EngineCommit happens.engine refl
+event-below old new disk after CommitFault directs happens = Same EngineCommitFault happens.engine refl
+event-below old new disk after CheckpointStep directs happens = Same EngineCheckpoint happens.engine refl
+event-below old new disk after CheckpointFault directs happens = Same EngineCheckpointFault happens.engine refl
+event-below old new disk after ReadFault directs happens =
+    Same EngineReadFault (record { running = happens.running; engine = happens.engine; disk_is = happens.disk_is }) refl
+event-below old new disk after (DirectWrite b v) directs happens = Same (EngineDirect b v) happens.engine refl
+event-below old new disk after (DirectWriteFault b v) directs happens = Same (EngineDirectFault b v) happens.engine refl
+event-below old new disk after DirectSync directs happens = Same EngineSync happens.engine refl
+event-below old new disk after DirectSyncFault directs happens = Same EngineSyncFault happens.engine refl
 
 -- what a step of the front alone does to the steps of handles
 front-steps : (old new : Front) (event : FrontEvent) → FrontHappens old event new → MakesSteps (Step (FrontStep event)) old new
@@ -89,7 +114,9 @@ front-steps old new (Reserve n) step = NoStep (ap (λ (f : Front). f.sealed) ste
 front-steps old new (GiveBack n) step = NoStep (ap (λ (f : Front). f.sealed) step.after) (ap (λ (f : Front). f.running.steps) step.after)
 front-steps old new (Join n) step = NoStep (ap (λ (f : Front). f.sealed) step.after) (ap (λ (f : Front). f.running.steps) step.after)
 front-steps old new (WriteBlock h b v) step =
-    OneStep h b v refl step.handle (ap (λ (f : Front). f.sealed) step.after) (ap (λ (f : Front). f.running.steps) step.after)
+    OneWrite h b v refl step.handle (ap (λ (f : Front). f.sealed) step.after) (ap (λ (f : Front). f.running.steps) step.after)
+front-steps old new (RevokeBlock h b) step =
+    OneRevoke h b refl step.handle (ap (λ (f : Front). f.sealed) step.after) (ap (λ (f : Front). f.running.steps) step.after)
 front-steps old new (StopHandle h) step = NoStep (ap (λ (f : Front). f.sealed) step.after) (ap (λ (f : Front). f.running.steps) step.after)
 front-steps old new Lock step = NoStep (ap (λ (f : Front). f.sealed) step.after) (ap (λ (f : Front). f.running.steps) step.after)
 front-steps old new (Raise t) step = NoStep (ap (λ (f : Front). f.sealed) step.after) (ap (λ (f : Front). f.running.steps) step.after)
@@ -110,3 +137,7 @@ event-steps old new disk after CommitFault happens = same-steps (Step CommitFaul
 event-steps old new disk after CheckpointStep happens = same-steps (Step CheckpointStep) old.front new.front _ happens.front refl refl
 event-steps old new disk after CheckpointFault happens = same-steps (Step CheckpointFault) old.front new.front _ happens.front refl refl
 event-steps old new disk after ReadFault happens = same-steps (Step ReadFault) old.front new.front _ happens.front refl refl
+event-steps old new disk after (DirectWrite b v) happens = same-steps (Step (DirectWrite b v)) old.front new.front _ happens.front refl refl
+event-steps old new disk after (DirectWriteFault b v) happens = same-steps (Step (DirectWriteFault b v)) old.front new.front _ happens.front refl refl
+event-steps old new disk after DirectSync happens = same-steps (Step DirectSync) old.front new.front _ happens.front refl refl
+event-steps old new disk after DirectSyncFault happens = same-steps (Step DirectSyncFault) old.front new.front _ happens.front refl refl

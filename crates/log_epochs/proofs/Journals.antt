@@ -3,33 +3,42 @@ use Rattle.std.proofs.Common.{refl, sym, ◌∙◌, ap, subst, arith, inl, inr, 
 use Rattle.std.specs.Prelude.{◌≡◌, ⊤, ℕ, suc, ◌≤◌, List, [], ◌∷◌, length, Option, Some, None}
 use Rattle.std.specs.List.{AllByRecursion}
 use Rattle.journal_model.specs.declared.entry.Batch.{Batch}
+use Rattle.journal_model.specs.declared.number.Area.TheVariants.{Home}
 use Rattle.journal_model.specs.Disk.{Disk, Image, reading}
 use Rattle.journal_model.specs.HomeChange.{Addition, HomeAddsOnly}
 use Rattle.journal_model.specs.Opening.{Opens}
 use Rattle.journal_model.specs.Superblock.{Shape}
 use Rattle.journal_model.specs.Transaction.{AreNumbered, History}
+use Rattle.journal_world.specs.Call.Call.{Write}
 use Rattle.journal_world.specs.Engine.{AreBatchesOf, Engine}
 use Rattle.journal_world.specs.Front.{Front}
-use Rattle.journal_world.specs.Journal.{Event as JournalEvent}
+use Rattle.journal_world.specs.Journal.{Event as JournalEvent, Happens as JournalHappens, Journal}
+use Rattle.journal_world.specs.Journal.Event.{FrontStep, Seal, CommitStep as JournalCommit, CommitFault as JournalCommitFault, CheckpointStep as JournalCheckpoint, CheckpointFault as JournalCheckpointFault, ReadFault as JournalReadFault, DirectWrite as JournalDirect, DirectWriteFault as JournalDirectFault, DirectSync as JournalSync, DirectSyncFault as JournalSyncFault, Finish}
 use Rattle.journal_world.specs.Sound.{AreNumberedFrom}
 use Rattle.journal_world.proofs.Batches.{same-length}
 use Rattle.journal_world.proofs.Fronts.{FrontAgrees, answer-agrees, fresh-agrees}
-use Rattle.journal_world.proofs.HomeCopies.{newest-after}
+use Rattle.journal_world.proofs.DirectCalls.{direct-adds, direct-fault-adds}
+use Rattle.journal_world.proofs.DirectRights.{written-rightly}
+use Rattle.journal_world.proofs.HomeCopies.{adds-flushed, adds-none, round-fault-home, round-home}
+use Rattle.journal_world.proofs.Homes.{fault-home, step-home}
 use Rattle.journal_world.proofs.Promises.{acknowledged-few}
-use Rattle.log_epochs.specs.EnginePromise.{EndedWell as BelowEndedWell, IsClosed as IsClosedBelow, KeepsClosed as BelowKeepsClosed, KeepsImage, KeepsNow as BelowKeepsNow, KeepsPromise as BelowKeepsPromise, Kept as BelowKept, MayAddIn}
+use Rattle.log_epochs.specs.EnginePromise.{EndedWell as BelowEndedWell, IsClosed as IsClosedBelow, KeepsClosed as BelowKeepsClosed, KeepsImage, KeepsNow as BelowKeepsNow, KeepsPromise as BelowKeepsPromise, Kept as BelowKept}
 use Rattle.log_epochs.specs.EngineSteps.{Event}
-use Rattle.log_epochs.specs.EngineSteps.Event.{Accept, Read, CommitStep, CommitFault, CheckpointStep, CheckpointFault, ReadFault}
+use Rattle.log_epochs.specs.EngineSteps.Event.{Accept, Read, CommitStep, CommitFault, CheckpointStep, CheckpointFault, ReadFault, DirectWrite, DirectWriteFault, DirectSync, DirectSyncFault}
 use Rattle.log_epochs.specs.EngineWorld.{Begins as BelowBegins, Leads as BelowLeads, Move as BelowMove, Moves as BelowMoves, Phase, Steps as BelowSteps, World}
 use Rattle.log_epochs.specs.EngineWorld.Begins.{Unopened, Made}
 use Rattle.log_epochs.specs.EngineWorld.Move.{Step as EngineStep, CloseStep, CloseFault, GiveUp, Stop, Begin, OpeningStep, OpeningFault, AnswerOk}
 use Rattle.log_epochs.specs.EngineWorld.Phase.{Shut, Opening, Running, Closing, Closed}
 use Rattle.log_epochs.specs.Epoch.{Ended, Epoch, ending, pinning, pinning_at}
-use Rattle.log_epochs.specs.JournalPromise.{HaveEndedWell, KeepsClosed, KeepsFrontNow, KeepsNow, KeepsPromise, Kept, MakesSteps, MayAdd, MayCheckpoint}
+use Rattle.log_epochs.specs.JournalPromise.{HaveEndedWell, KeepsClosed, KeepsFrontNow, KeepsNow, KeepsPromise, JournalMayAdd, Kept, MakesSteps, MayAdd, StepMayAdd}
 use Rattle.log_epochs.specs.JournalPromise.MakesSteps.{NoStep, Begun}
-use Rattle.log_epochs.specs.JournalWorld.{Begins, IsFreshTold, JournalWorld, Leads, Move, Moves, Steps, TellsAfter, TellsAfterStep, TellsAnew, TellsNothing, TellsSame, Told, journal_of, telling}
+use Rattle.log_epochs.specs.JournalWorld.{Begins, IsFreshTold, JournalWorld, Leads, Move, Moves, Steps, TellsAfter, TellsAfterStep, TellsAnew, TellsNothing, TellsSame, Told, journal_of, telling, with_directs}
 use Rattle.log_epochs.specs.JournalWorld.Move.{Step, Answer, Below}
 use Rattle.log_epochs.specs.OpeningSteps.{OpeningStage}
 use Rattle.log_epochs.specs.OpeningSteps.OpeningStage.{LogFlush, Copies, SuperblockWrite, SuperblockFlush, Done}
+use Rattle.log_epochs.proofs.HomeRule.{same-adds}
+use Rattle.log_epochs.proofs.Homes.{flush-undone}
+use Rattle.log_epochs.proofs.Keeping.{reads-left}
 use Rattle.log_epochs.proofs.JournalSteps.{Agrees, IsBelow, event-agrees, event-below, event-steps}
 use Rattle.log_epochs.proofs.JournalSteps.IsBelow.{Nothing, Same}
 
@@ -126,6 +135,10 @@ engine-holds old new CommitFault step tells holds = absurd tells
 engine-holds old new CheckpointStep step tells holds = absurd tells
 engine-holds old new CheckpointFault step tells holds = absurd tells
 engine-holds old new ReadFault step tells holds = absurd tells
+engine-holds old new (DirectWrite b v) step tells holds = absurd tells
+engine-holds old new (DirectWriteFault b v) step tells holds = absurd tells
+engine-holds old new DirectSync step tells holds = absurd tells
+engine-holds old new DirectSyncFault step tells holds = absurd tells
 
 -- each other move of the world below
 below-holds : (old new : JournalWorld) (move : BelowMove) → BelowMoves old.below move new.below → TellsAfter move old new → Holds old → Holds new
@@ -162,30 +175,38 @@ data IsStepBelow (old new : World) : Type 0 where
   Unchanged : new ≡ old → IsStepBelow old new
   Stepped : (event : Event) → BelowSteps old event new → IsStepBelow old new
 
--- a world whose engine and disk are as they were is the same
-same-world : (w : World) (epoch : Epoch) (engine : Engine) (disk : Disk) → w.epoch ≡ Some epoch → engine ≡ epoch.engine → disk ≡ w.disk →
-    record w { disk = disk; epoch = Some (record epoch { engine = engine }) } ≡ w
-same-world w epoch engine disk now same_engine same_disk =
-    ap (λ (e : Engine). record w { disk = disk; epoch = Some (record epoch { engine = e }) }) same_engine
+-- a world whose engine, direct writes and disk are as they were is the same
+same-world : (w : World) (epoch : Epoch) (engine : Engine) (directs : List (ℕ × List ℕ)) (disk : Disk) → w.epoch ≡ Some epoch → engine ≡ epoch.engine →
+    directs ≡ epoch.directs → disk ≡ w.disk → record w { disk = disk; epoch = Some (record epoch { engine = engine; directs = directs }) } ≡ w
+same-world w epoch engine directs disk now same_engine same_directs same_disk =
+    ap (λ (e : Engine). record w { disk = disk; epoch = Some (record epoch { engine = e; directs = directs }) }) same_engine
+    ∙ ap (λ (ds : List (ℕ × List ℕ)). record w { disk = disk; epoch = Some (record epoch { directs = ds }) }) same_directs
     ∙ ap (λ (d : Disk). record w { disk = d; epoch = Some epoch }) same_disk
     ∙ ap (λ (o : Option Epoch). record w { epoch = o }) (sym now)
 
 step-below : (old new : JournalWorld) (event : JournalEvent) → Steps old event new → IsStepBelow old.below new.below
-step-below old new event step = below (event-below (journal_of step.epoch old.told) step.journal old.below.disk new.below.disk event step.happens)
+step-below old new event step =
+    below (event-below (journal_of step.epoch old.told) step.journal old.below.disk new.below.disk event step.epoch.directs step.happens)
   where
-    is : new.below ≡ record old.below { disk = new.below.disk; epoch = Some (record step.epoch { engine = step.journal.engine }) }
+    directs : List (ℕ × List ℕ)
+    directs = with_directs event step.epoch.directs
+
+    is : new.below ≡ record old.below { disk = new.below.disk; epoch = Some (record step.epoch { engine = step.journal.engine; directs = directs }) }
     is = ap (λ (w : JournalWorld). w.below) step.after
 
-    below : IsBelow step.epoch.engine old.below.disk step.journal.engine new.below.disk → IsStepBelow old.below new.below
-    below (Nothing same_engine same_disk) =
-        Unchanged (is ∙ same-world old.below step.epoch step.journal.engine new.below.disk step.now same_engine same_disk)
-    below (Same e happens) = Stepped e (record {
+    below : IsBelow step.epoch.engine old.below.disk step.journal.engine new.below.disk step.epoch.directs directs → IsStepBelow old.below new.below
+    below (Nothing same_engine same_disk same_directs) =
+        Unchanged (is ∙ same-world old.below step.epoch step.journal.engine directs new.below.disk step.now same_engine same_directs same_disk)
+    below (Same e happens same_directs) = Stepped e (record {
       running = step.running;
       epoch = step.epoch;
       now = step.now;
       engine = step.journal.engine;
       happens = happens;
-      after = is;
+      after =
+          is
+          ∙ ap (λ (ds : List (ℕ × List ℕ)). record old.below { disk = new.below.disk; epoch = Some (record step.epoch { engine = step.journal.engine; directs = ds }) })
+          same_directs;
     })
 
 -- moves of the world below that lead on from where others came to
@@ -272,41 +293,62 @@ closed-kept shape (Some epoch) disk told Closed agrees keeps = λ image leaves.
       all = subst (λ (n : ℕ). Opens shape told.front.sealed n image) (sym size) (closed.all told.front.sealed agrees.batches);
     }
 
--- what may be added may be added by another rule
-more-adds : (may other : Addition) (old new : Disk) → ((b : ℕ) (v : List ℕ) → may b v → other b v) → HomeAddsOnly may old new → HomeAddsOnly other old new
-more-adds may other old new more adds = record {
-  reads = λ b. ⊎_elim (λ same. inl same) (λ added. inr (more b _ added)) (adds.reads b);
-  left = λ b v one. ⊎_elim (λ was. inl was) (λ added. inr (more b v added)) (adds.left b v one);
-}
-
 -- an unchanged world below adds nothing
 unchanged-adds : (may : Addition) (old new : World) → new ≡ old → HomeAddsOnly may old.disk new.disk
 unchanged-adds may old new same = subst (λ (w : World). HomeAddsOnly may old.disk w.disk) (sym same) (record { reads = λ b. inl refl; left = λ b v one. inl one })
 
--- a running engine's newest committed copy is what the committed transactions leave
-checkpoint-copy : (phase : Phase) (epoch : Option Epoch) (told : Told) → phase ≡ Running → AgreesNow epoch told → (b : ℕ) (v : List ℕ) →
-    MayAddIn phase epoch b v → MayCheckpoint epoch told b v
-checkpoint-copy phase None told running agrees b v may =
-    let none : MayAddIn Running None b v = subst (λ (p : Phase). MayAddIn p None b v) running may in absurd none
-checkpoint-copy phase (Some epoch) told running agrees b v may =
-    let own : MayAddIn Running (Some epoch) b v = subst (λ (p : Phase). MayAddIn p (Some epoch) b v) running may in
-    newest-after epoch.engine told.front.sealed own.0 b v agrees.batches own.1
+-- so many transactions are committed as are sealed, at most
+committed-within : (shape : Shape) (epoch : Epoch) (disk : Disk) (told : Told) → AgreesIn epoch told → BelowKeepsNow shape (Some epoch) disk →
+    epoch.engine.committed ≤ length told.front.sealed
+committed-within shape epoch disk told agrees keeps =
+    let kept : BelowKept shape epoch told.front.sealed (reading disk) = keeps (reading disk) (reads-left disk) told.front.sealed agrees.batches in
+    let low : epoch.engine.committed ≤ kept.n = kept.low in
+    let high : kept.n ≤ length epoch.engine.accepted = kept.high in
+    let size : length told.front.sealed ≡ length epoch.engine.accepted = same-length told.front.sealed epoch.engine.accepted agrees.batches in
+    omega arith
 
--- a step adds to home what the committed transactions leave
-step-home : (w new : JournalWorld) (event : JournalEvent) → Holds w → BelowKeepsPromise w.below → Steps w event new →
-    HomeAddsOnly (MayCheckpoint w.below.epoch w.told) w.below.disk new.below.disk
-step-home w new event holds promise step = adds (step-below w new event step)
-  where
-    adds : IsStepBelow w.below new.below → HomeAddsOnly (MayCheckpoint w.below.epoch w.told) w.below.disk new.below.disk
-    adds (Unchanged same) = unchanged-adds (MayCheckpoint w.below.epoch w.told) w.below new.below same
-    adds (Stepped e below) =
-        more-adds (MayAddIn w.below.phase w.below.epoch) (MayCheckpoint w.below.epoch w.told) w.below.disk new.below.disk
-        (checkpoint-copy w.below.phase w.below.epoch w.told step.running holds.0) (promise.home (EngineStep e) new.below below)
+-- a step of the journal adds to home what it may
+event-adds : (epoch : Epoch) (told : Told) (new : Journal) (disk after : Disk) (event : JournalEvent) → AgreesIn epoch told →
+    epoch.engine.committed ≤ length told.front.sealed → JournalHappens (journal_of epoch told) disk event new after →
+    HomeAddsOnly (StepMayAdd epoch told.front event) disk after
+event-adds epoch told new disk after (FrontStep event) agrees within happens = same-adds _ disk after happens.disk_is
+event-adds epoch told new disk after Seal agrees within happens = same-adds _ disk after happens.disk_is
+event-adds epoch told new disk after Finish agrees within happens = same-adds _ disk after happens.disk_is
+event-adds epoch told new disk after JournalCommit agrees within happens =
+    adds-none _ disk after (step-home epoch.engine new.engine disk after happens.engine).same
+event-adds epoch told new disk after JournalCommitFault agrees within happens =
+    adds-none _ disk after (fault-home epoch.engine new.engine disk after happens.engine).same
+event-adds epoch told new disk after JournalCheckpoint agrees within happens =
+    (round-home epoch.engine new.engine disk after happens.engine).adds told.front.sealed agrees.batches
+event-adds epoch told new disk after JournalCheckpointFault agrees within happens =
+    (round-fault-home epoch.engine new.engine disk after happens.engine).adds told.front.sealed agrees.batches
+event-adds epoch told new disk after JournalReadFault agrees within happens = same-adds _ disk after happens.disk_is
+event-adds epoch told new disk after (JournalDirect b v) agrees within happens =
+    subst (HomeAddsOnly (StepMayAdd epoch told.front (JournalDirect b v)) disk) (sym happens.engine.disk_is)
+    (direct-adds (StepMayAdd epoch told.front (JournalDirect b v)) epoch.engine disk (Write Home b v)
+    (written-rightly told.front epoch.engine b v agrees.batches within happens.untouched) happens.engine.due)
+event-adds epoch told new disk after (JournalDirectFault b v) agrees within happens =
+    direct-fault-adds (StepMayAdd epoch told.front (JournalDirectFault b v)) epoch.engine disk after (Write Home b v)
+    (written-rightly told.front epoch.engine b v agrees.batches within happens.untouched) happens.engine.due happens.engine.disk_is
+event-adds epoch told new disk after JournalSync agrees within happens =
+    subst (HomeAddsOnly (StepMayAdd epoch told.front JournalSync) disk) (sym happens.engine.disk_is)
+    (adds-flushed (StepMayAdd epoch told.front JournalSync) disk)
+event-adds epoch told new disk after JournalSyncFault agrees within happens = same-adds _ disk after (flush-undone disk after happens.engine.disk_is)
+
+event-home : (w new : JournalWorld) (event : JournalEvent) → Holds w → BelowKeepsPromise w.below → Steps w event new →
+    HomeAddsOnly (JournalMayAdd w.below.epoch w.told.front event) w.below.disk new.below.disk
+event-home w new event holds promise step =
+    let agrees : AgreesIn step.epoch w.told = now-agrees w.below.epoch step.epoch w.told step.now holds.0 in
+    let keeps : BelowKeepsNow w.below.shape (Some step.epoch) w.below.disk =
+    subst (λ (o : Option Epoch). BelowKeepsNow w.below.shape o w.below.disk) step.now promise.now in
+    subst (λ (o : Option Epoch). HomeAddsOnly (JournalMayAdd o w.told.front event) w.below.disk new.below.disk) (sym step.now)
+    (event-adds step.epoch w.told step.journal w.below.disk new.below.disk event agrees
+    (committed-within w.below.shape step.epoch w.below.disk w.told agrees keeps) step.happens)
 
 -- each move adds to home nothing but what it may, as the world below does
 move-home : (w new : JournalWorld) (move : Move) → Holds w → BelowKeepsPromise w.below → Moves w move new →
     HomeAddsOnly (MayAdd w move) w.below.disk new.below.disk
-move-home w new (Step event) holds promise moves = step-home w new event holds promise moves
+move-home w new (Step event) holds promise moves = event-home w new event holds promise moves
 move-home w new (Answer tid) holds promise moves =
     unchanged-adds (MayAdd w (Answer tid)) w.below new.below (ap (λ (x : JournalWorld). x.below) moves.after)
 move-home w new (Below move) holds promise moves = promise.home move new.below moves.below
@@ -329,6 +371,10 @@ engine-steps move old new CommitFault tells = absurd tells
 engine-steps move old new CheckpointStep tells = absurd tells
 engine-steps move old new CheckpointFault tells = absurd tells
 engine-steps move old new ReadFault tells = absurd tells
+engine-steps move old new (DirectWrite b v) tells = absurd tells
+engine-steps move old new (DirectWriteFault b v) tells = absurd tells
+engine-steps move old new DirectSync tells = absurd tells
+engine-steps move old new DirectSyncFault tells = absurd tells
 
 -- nor does another move of the world below, of which an opening that answers Ok begins an epoch
 below-steps : (old new : JournalWorld) (move : BelowMove) → TellsAfter move old new → MakesSteps (Below move) old.told.front new.told.front
