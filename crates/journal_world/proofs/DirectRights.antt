@@ -1,7 +1,9 @@
 -- A block that an engine leaves to home is one that its transactions leave to home, so it may be written directly.
 use Rattle.std.proofs.Common.{refl, sym, ◌∙◌, ap, subst, arith, inl, inr, ⊎_elim}
-use Rattle.std.specs.Prelude.{◌≡◌, ℕ, ◌+◌, ◌≤◌, List, [], ◌∷◌, length, take, drop, Option, Some, None}
-use Rattle.std.proofs.lemmas.List.{take-append-le}
+use Rattle.std.specs.Prelude.{◌≡◌, slice_get, ℕ, ◌+◌, ◌-◌, ◌≤◌, List, [], ◌∷◌, length, min, take, drop, Option, Some, None}
+use Rattle.std.proofs.lemmas.Bool.{cases_lt}
+use Rattle.std.proofs.lemmas.List.{length-take, take-append-le}
+use Rattle.std.proofs.lemmas.Option.{slice_get_within}
 use Rattle.journal_model.proofs.ListElements.{option-known}
 use Rattle.journal_model.specs.declared.entry.Content.TheVariants.{Direct}
 use Rattle.journal_model.specs.declared.entry.Entry.{Entry}
@@ -18,9 +20,9 @@ use Rattle.journal_world.specs.Engine.{AreBatchesOf, Engine}
 use Rattle.journal_world.specs.Front.{Front, IsUntouched, finished_count, transactions}
 use Rattle.journal_world.proofs.DirectCalls.{direct-adds, direct-fault-adds}
 use Rattle.journal_world.proofs.HomeRights.{HomeRight, IsOwn, abort-right, right-on}
-use Rattle.journal_world.proofs.Lasts.{IsLastIn, entry-block, last-before, last-in, newest-left}
+use Rattle.journal_world.proofs.Lasts.{IsLastIn, entry-block, last-in, newest-left}
 use Rattle.journal_world.proofs.Batches.{batches-take}
-use Rattle.journal_world.proofs.Suffixes.{batches-drop, get-drop}
+use Rattle.journal_world.proofs.Suffixes.{batches-drop, get-drop, get-take}
 
 -- a block whose last effect is no copy is left to home
 none-copied : (o : Option Entry) → ((v : List ℕ) → o ≡ Some (Copy v) → ⊥) → content_of o ≡ Direct
@@ -28,14 +30,22 @@ none-copied None none = refl
 none-copied (Some Revoke) none = refl
 none-copied (Some (Copy v)) none = absurd (none v refl)
 
--- the committed transactions leave it to home
-pub left-direct : (e : Engine) (ts : History) (b : ℕ) → AreBatchesOf ts e.accepted → IsLeftToHome e b → after ts e.committed b ≡ Direct
-left-direct e ts b are left = none-copied (last_effect b (take e.committed ts)) (λ v made.
-    let sum : e.committed ≡ e.committed + 0 = omega arith in
-    let (i, l) = last-in b (take e.committed ts) (take e.committed e.accepted) (Copy v) (batches-take e.committed ts e.accepted are) made in
-    let last : IsLastIn (take (e.committed + 0) e.accepted) b i (Copy v) = subst (λ (n : ℕ). IsLastIn (take n e.accepted) b i (Copy v)) sum l in
-    let below = last-before e e.committed 0 ts are b i (Copy v) refl last in
-    left.none_newest i v (newest-left e e.committed 0 ts are b i v (omega arith) (omega arith) below last))
+-- the first n transactions leave it to home, once as many are committed
+pub left-direct : (e : Engine) (ts : History) (n b : ℕ) → e.committed ≤ n → AreBatchesOf ts e.accepted → IsLeftToHome e b → after ts n b ≡ Direct
+left-direct e ts n b least are left = none-copied (last_effect b (take n ts)) (λ v made.
+    let sum : n ≡ e.committed + (n - e.committed) = omega arith in
+    let (i, l) = last-in b (take n ts) (take n e.accepted) (Copy v) (batches-take n ts e.accepted are) made in
+    elim (cases_lt i e.committed) [
+      | inl below ↦
+          let last : IsLastIn (take (e.committed + (n - e.committed)) e.accepted) b i (Copy v) =
+          subst (λ (k : ℕ). IsLastIn (take k e.accepted) b i (Copy v)) sum l in
+          left.none_newest i v (newest-left e e.committed (n - e.committed) ts are b i v (omega arith) (omega arith) below last)
+      | inr due ↦
+          let within = slice_get_within (take n e.accepted) i l.batch l.stands in
+          let size = length-take n e.accepted in
+          let stands : slice_get e.accepted i ≡ Some l.batch = sym (get-take n e.accepted i (omega arith)) ∙ l.stands in
+          left.none_due i l.batch (omega arith) stands (entry-block l.batch.entries b (Copy v) l.entry)
+    ])
 
 -- and those behind them have no effect on it
 left-untouched : (e : Engine) (ts : History) (b : ℕ) → AreBatchesOf ts e.accepted → IsLeftToHome e b → last_effect b (drop e.committed ts) ≡ None
@@ -49,7 +59,7 @@ left-untouched e ts b are left =
 
 -- so it may be written directly, as far as the engine's transactions go
 pub left-right : (e : Engine) (ts : History) (b : ℕ) → AreBatchesOf ts e.accepted → IsLeftToHome e b → HasDirectRight ts e.committed e.committed b
-left-right e ts b are left = record { home = left-direct e ts b are left; untouched = left-untouched e ts b are left }
+left-right e ts b are left = record { home = left-direct e ts e.committed b (omega arith) are left; untouched = left-untouched e ts b are left }
 
 -- and as far as the front's do
 pub front-right : (f : Front) (e : Engine) (b : ℕ) → AreBatchesOf f.sealed e.accepted → e.committed ≤ length f.sealed → IsUntouched f b → IsLeftToHome e b →
@@ -57,7 +67,7 @@ pub front-right : (f : Front) (e : Engine) (b : ℕ) → AreBatchesOf f.sealed e
 front-right f e b are within untouched left = record {
   home =
       ap (λ (ts : History). content_of (last_effect b ts)) (take-append-le e.committed f.sealed (f.running ∷ []) within)
-      ∙ left-direct e f.sealed b are left;
+      ∙ left-direct e f.sealed e.committed b (omega arith) are left;
   untouched = untouched;
 }
 

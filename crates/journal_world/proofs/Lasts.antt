@@ -101,7 +101,7 @@ last-in b (t ∷ ts) (c ∷ bs) f are made =
 
 module _ (e : Engine) (r m : ℕ) (ts : History) (are : AreBatchesOf ts e.accepted) where
   -- an entry among the first r + m batches is not behind the first r where those between have none
-  pub last-before : (b i : ℕ) (f : Entry) → last_effect b (take m (drop r ts)) ≡ None → IsLastIn (take (r + m) e.accepted) b i f → i < r
+  last-before : (b i : ℕ) (f : Entry) → last_effect b (take m (drop r ts)) ≡ None → IsLastIn (take (r + m) e.accepted) b i f → i < r
   last-before b i f none l =
       elim (cases_lt i r) [
         | inl below ↦ below

@@ -16,6 +16,7 @@ pub mod Faults
 pub mod Fresh
 pub mod Fronts
 pub mod Handles
+pub mod Histories
 pub mod HomeCopies
 pub mod HomeRights
 pub mod Homes

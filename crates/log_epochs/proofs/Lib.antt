@@ -15,4 +15,5 @@ pub mod ReplayMoments
 pub mod Replaying
 pub mod Running
 pub mod Stages
+pub mod Synced
 pub mod Whole

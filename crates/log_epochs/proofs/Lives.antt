@@ -85,7 +85,7 @@ phase-closed shape None disk Closing holds = tt
 phase-closed shape (Some epoch) disk Closing holds = tt
 
 -- the running engine is the epoch's
-runs-in : (shape : Shape) (epoch : Option Epoch) (now : Epoch) (disk : Disk) → epoch ≡ Some now → HoldsAt shape epoch disk Running → RunsIn shape now disk
+pub runs-in : (shape : Shape) (epoch : Option Epoch) (now : Epoch) (disk : Disk) → epoch ≡ Some now → HoldsAt shape epoch disk Running → RunsIn shape now disk
 runs-in shape epoch now disk is (other, also, runs) = subst (λ (x : Epoch). RunsIn shape x disk) (same_Some other now (sym also ∙ is)) runs
 
 -- a step of the engine
@@ -188,7 +188,7 @@ answer-holds old new holds answer =
     )
 
 -- each move keeps what holds
-move-holds : (old new : World) (move : Move) → Holds old → Moves old move new → Holds new
+pub move-holds : (old new : World) (move : Move) → Holds old → Moves old move new → Holds new
 move-holds old new (Step event) holds moves = step-holds old new event holds moves
 move-holds old new CloseStep holds moves =
     subst Holds (sym moves.after) (close-at old.shape old.epoch moves.epoch old.disk old.phase moves.phase moves.call moves.now moves.due holds.0, holds.1)
@@ -218,11 +218,11 @@ move-holds old new OpeningFault holds moves =
 move-holds old new AnswerOk holds moves = answer-holds old new holds moves
 
 -- so do moves that follow one another
-life-holds : (old new : World) (moves : List Move) → Holds old → Leads old moves new → Holds new
+pub life-holds : (old new : World) (moves : List Move) → Holds old → Leads old moves new → Holds new
 life-holds old new [] holds same = subst Holds (sym same) holds
 life-holds old new (move ∷ moves) holds (mid, first, rest) = life-holds mid new moves (move-holds old mid move holds first) rest
 
-begin-holds : (w : World) → Begins w → Holds w
+pub begin-holds : (w : World) → Begins w → Holds w
 begin-holds w (Unopened shut none first) = (
   subst (HoldsAt w.shape w.epoch w.disk) (sym shut) (subst (λ (o : Option Epoch). KeepsNow w.shape o w.disk) (sym none) tt),
   subst (AllByRecursion (EndedWell w.shape)) (sym first) tt,
