@@ -5,7 +5,7 @@ use Rattle.std.specs.List.{AllByRecursion}
 use Rattle.std.proofs.lemmas.List.Elements.{Contains-append_left, Contains-append_right}
 use Rattle.std.proofs.lemmas.Bool.{cases_lt}
 use Rattle.std.proofs.lemmas.Option.{none-some, same_Some, slice_get_within}
-use Rattle.journal_model.proofs.ListElements.{contains-behind, contains-first, get-front}
+use Rattle.journal_model.proofs.ListElements.{contains-behind, contains-cases, contains-first, contains-none, get-front}
 use Rattle.journal_model.proofs.Newest.{newest-same}
 use Rattle.journal_model.specs.declared.entry.Batch.{Batch}
 use Rattle.journal_model.specs.declared.entry.Content.{Content}
@@ -20,6 +20,7 @@ use Rattle.journal_model.specs.Replay.{HasNoLive, IsNewest}
 use Rattle.journal_model.specs.Superblock.{Shape}
 use Rattle.journal_model.specs.Transaction.{History, after, bytes_of}
 use Rattle.journal_world.specs.declared.stage.Stage.{Stage}
+use Rattle.journal_world.specs.Call.{Call}
 use Rattle.journal_world.specs.Call.Call.{Write, Flush}
 use Rattle.journal_world.specs.Checkpoint.{IsNewestCopy, IsRead}
 use Rattle.journal_world.specs.Direct.{DirectCall, IsLeftToHome}
@@ -35,7 +36,8 @@ use Rattle.log_epochs.specs.DirectPromise.IsHandedOver.{Succeeded, Failed}
 use Rattle.log_epochs.specs.EnginePromise.{EngineMayAdd, Kept, KeepsNow, MayAdd, OpeningMayAdd, StepMayAdd}
 use Rattle.log_epochs.specs.EngineSteps.{Event, Happens}
 use Rattle.log_epochs.specs.EngineSteps.Event.{Accept, Read, CommitStep, CommitFault, CheckpointStep, CheckpointFault, ReadFault, DirectWrite, DirectWriteFault, DirectSync, DirectSyncFault}
-use Rattle.log_epochs.specs.EngineWorld.{Begins, Leads, Move, Moves, Phase, World}
+use Rattle.log_epochs.specs.EngineWorld.{Begins, CloseCall, Leads, Move, Moves, Phase, World}
+use Rattle.log_epochs.specs.EngineWorld.CloseCall.{WriteClosed, FlushClosed}
 use Rattle.log_epochs.specs.EngineWorld.Begins.{Unopened, Made}
 use Rattle.log_epochs.specs.EngineWorld.Move.{Step, CloseStep, CloseFault, GiveUp, Stop, Begin, OpeningStep, OpeningFault, AnswerOk}
 use Rattle.log_epochs.specs.EngineWorld.Phase.{Shut, Opening, Running, Closing, Closed}
@@ -46,7 +48,7 @@ use Rattle.log_epochs.specs.OpeningSteps.HasTexts.{NoTexts, Texts}
 use Rattle.log_epochs.specs.OpeningSteps.OpeningStage.{LogFlush, Copies, SuperblockWrite, SuperblockFlush, Done}
 use Rattle.log_epochs.proofs.HomeRule.{move-home}
 use Rattle.log_epochs.proofs.Keeping.{reads-left}
-use Rattle.log_epochs.proofs.Lives.{Holds, begin-holds, life-holds, move-holds, phase-keeps, runs-in}
+use Rattle.log_epochs.proofs.Lives.{Holds, HoldsAt, begin-holds, life-holds, move-holds, phase-keeps, runs-in}
 use Rattle.log_epochs.proofs.Replaying.{IsOpened, opened-by_chain}
 
 -- what is known of the engine of an epoch; and this where there is no epoch
@@ -212,3 +214,288 @@ found-same shape found epoch disk b u within keeps (ts, are) left is newest =
       | inl also ↦ sym (newest-same found.texts b (kept.opens.got b) u also newest) ∙ got
       | inr none ↦ absurd (none.0 newest.i newest.k u newest.live)
     ]
+
+-- the histories of a world are there after each move
+move-history : (old new : World) (move : Move) → Moves old move new → OfEngine ⊤ HasHistory old.epoch → OfEngine ⊤ HasHistory new.epoch
+move-history old new move moves history =
+    move-engine ⊤ HasHistory old new move (λ e f disk after_step event is happens had. event-history e f disk after_step event happens had)
+    (λ e none. fresh-history e none) moves history
+
+run-history : (old new : World) (moves : List Move) → OfEngine ⊤ HasHistory old.epoch → Leads old moves new → OfEngine ⊤ HasHistory new.epoch
+run-history old new [] history same = subst (λ (w : World). OfEngine ⊤ HasHistory w.epoch) (sym same) history
+run-history old new (move ∷ moves) history (mid, first, rest) = run-history mid new moves (move-history old mid move first history) rest
+
+begin-history : (w : World) → Begins w → OfEngine ⊤ HasHistory w.epoch
+begin-history w (Unopened shut none first) = subst (OfEngine ⊤ HasHistory) (sym none) tt
+begin-history w (Made superblock next log running is first) = subst (OfEngine ⊤ HasHistory) (sym is) (fresh-history _ refl)
+
+-- the device is the same after each move
+move-shape : (old new : World) (move : Move) → Moves old move new → new.shape ≡ old.shape
+move-shape old new (Step event) moves = ap (λ (w : World). w.shape) moves.after
+move-shape old new CloseStep moves = ap (λ (w : World). w.shape) moves.after
+move-shape old new CloseFault moves = ap (λ (w : World). w.shape) moves.after
+move-shape old new GiveUp moves = ap (λ (w : World). w.shape) moves.after
+move-shape old new (Stop left) moves = ap (λ (w : World). w.shape) moves.after
+move-shape old new (Begin found) moves = ap (λ (w : World). w.shape) moves.after
+move-shape old new OpeningStep moves = ap (λ (w : World). w.shape) moves.after
+move-shape old new OpeningFault moves = ap (λ (w : World). w.shape) moves.after
+move-shape old new AnswerOk moves = ap (λ (w : World). w.shape) moves.after
+
+-- the direct writes of a move hand over to block b what P says alone
+abbrev HandsOver : (List ℕ → Type 0) → ℕ → Move → Type 0
+HandsOver P b move = (u : List ℕ) → IsHandedOver (move ∷ []) b u → P u
+
+-- so does replay in an opening
+abbrev ReplaysAs : (List ℕ → Type 0) → ℕ → Phase → Type 0
+ReplaysAs P b (Opening found stage) = (u : List ℕ) → IsNewest found.texts b u → P u
+ReplaysAs P b Shut = ⊤
+ReplaysAs P b Running = ⊤
+ReplaysAs P b Closing = ⊤
+ReplaysAs P b Closed = ⊤
+
+-- block b reads as P says, and nothing that is to come home is of another kind
+record IsSafe (P : List ℕ → Type 0) (b : ℕ) (w : World) : Type 0 where
+  within : b < w.shape.home_blocks
+  reads : P (w.disk Home b).reads
+  left : OfEngine ⊥ (λ e. IsLeftToHome e b) w.epoch
+  replays : ReplaysAs P b w.phase
+
+-- whatever home holds of it is so
+abbrev HoldsAs : (List ℕ → Type 0) → ℕ → World → Type 0
+HoldsAs P b w = (u : List ℕ) → IsOneOf (held (w.disk Home b)) u → P u
+
+module _ (P : List ℕ → Type 0) (b : ℕ) where
+  -- what a step of an engine may add to the block is so
+  step-may : (e : Engine) (event : Event) (u : List ℕ) → HandsOver P b (Step event) → IsLeftToHome e b → StepMayAdd e event b u → P u
+  step-may e (DirectWrite c v) u hands left (free, here, is) =
+      hands u (Succeeded (contains-first (Step (DirectWrite c v)) [] (Step (DirectWrite b u)) (ap (λ (n : ℕ). Step (DirectWrite n v)) (sym here) ∙ ap (λ (w : List ℕ). Step (DirectWrite b w)) (sym is))))
+  step-may e (DirectWriteFault c v) u hands left (free, here, is) =
+      hands u (Failed (contains-first (Step (DirectWriteFault c v)) [] (Step (DirectWriteFault b u)) (ap (λ (n : ℕ). Step (DirectWriteFault n v)) (sym here) ∙ ap (λ (w : List ℕ). Step (DirectWriteFault b w)) (sym is))))
+  step-may e DirectSync u hands left may = absurd may
+  step-may e DirectSyncFault u hands left may = absurd may
+  step-may e (Accept batch) u hands left may = absurd may
+  step-may e (Read c v) u hands left may = absurd may
+  step-may e CommitStep u hands left may = absurd may
+  step-may e CommitFault u hands left may = absurd may
+  step-may e CheckpointStep u hands left (i, newest) = absurd (left.none_newest i u newest)
+  step-may e CheckpointFault u hands left (i, newest) = absurd (left.none_newest i u newest)
+  step-may e ReadFault u hands left may = absurd may
+
+  engine-may : (epoch : Option Epoch) (event : Event) (u : List ℕ) → HandsOver P b (Step event) → OfEngine ⊥ (λ e. IsLeftToHome e b) epoch →
+      EngineMayAdd epoch event b u → P u
+  engine-may None event u hands left may = absurd may
+  engine-may (Some epoch) event u hands left may = step-may epoch.engine event u hands left may
+
+  -- and what an opening may
+  opening-may : (phase : Phase) (u : List ℕ) → ReplaysAs P b phase → OpeningMayAdd phase b u → P u
+  opening-may (Opening found stage) u replays may = replays u may
+  opening-may Shut u replays may = absurd may
+  opening-may Running u replays may = absurd may
+  opening-may Closing u replays may = absurd may
+  opening-may Closed u replays may = absurd may
+
+  -- so what a move may that is no stop
+  move-may : (w : World) (move : Move) (u : List ℕ) → IsNoStop move → HandsOver P b move → IsSafe P b w → MayAdd w move b u → P u
+  move-may w (Step event) u goes hands safe may = engine-may w.epoch event u hands safe.left may
+  move-may w OpeningStep u goes hands safe may = opening-may w.phase u safe.replays may
+  move-may w OpeningFault u goes hands safe may = opening-may w.phase u safe.replays may
+  move-may w (Stop left) u goes hands safe may = absurd goes
+  move-may w CloseStep u goes hands safe may = absurd may
+  move-may w CloseFault u goes hands safe may = absurd may
+  move-may w GiveUp u goes hands safe may = absurd may
+  move-may w (Begin found) u goes hands safe may = absurd may
+  move-may w AnswerOk u goes hands safe may = absurd may
+
+  -- what may come home in an opening that has just begun
+  begin-replays : (epoch : Option Epoch) (shape : Shape) (found : Found) (disk : Disk) → b < shape.home_blocks → P (disk Home b).reads →
+      KeepsNow shape epoch disk → OfEngine ⊤ HasHistory epoch → OfEngine ⊥ (λ e. IsLeftToHome e b) epoch → IsFoundOn shape found disk →
+      (u : List ℕ) → IsNewest found.texts b u → P u
+  begin-replays None shape found disk within reads keeps history left is u newest = absurd left
+  begin-replays (Some epoch) shape found disk within reads keeps history left is u newest =
+      subst P (sym (found-same shape found epoch disk b u within keeps history left is newest)) reads
+
+  -- and in each phase that a move leads to
+  move-replays : (w new : World) (move : Move) → Holds w → OfEngine ⊤ HasHistory w.epoch → IsSafe P b w → Moves w move new → ReplaysAs P b new.phase
+  move-replays w new (Step event) holds history safe moves =
+      subst (λ (x : World). ReplaysAs P b x.phase) (sym moves.after) (subst (ReplaysAs P b) (sym moves.running) tt)
+  move-replays w new CloseStep holds history safe moves = subst (λ (x : World). ReplaysAs P b x.phase) (sym moves.after) (closing w.phase moves.phase moves.call moves.due)
+    where
+      closing : (phase next : Phase) (call : Call) → CloseCall moves.epoch.engine phase call next → ReplaysAs P b next
+      closing phase next call (WriteClosed may) = tt
+      closing phase next call FlushClosed = tt
+  move-replays w new CloseFault holds history safe moves = subst (λ (x : World). ReplaysAs P b x.phase) (sym moves.after) tt
+  move-replays w new GiveUp holds history safe moves = subst (λ (x : World). ReplaysAs P b x.phase) (sym moves.after) tt
+  move-replays w new (Stop left) holds history safe moves = subst (λ (x : World). ReplaysAs P b x.phase) (sym moves.after) tt
+  move-replays w new (Begin found) holds history safe moves =
+      subst (λ (x : World). ReplaysAs P b x.phase) (sym moves.after)
+      (begin-replays w.epoch w.shape found w.disk safe.within safe.reads (phase-keeps w.shape w.epoch w.disk w.phase holds.0) history safe.left moves.found_is)
+  move-replays w new OpeningStep holds history safe moves =
+      subst (λ (x : World). ReplaysAs P b x.phase) (sym moves.after) (subst (ReplaysAs P b) moves.opening safe.replays)
+  move-replays w new OpeningFault holds history safe moves = subst (λ (x : World). ReplaysAs P b x.phase) (sym moves.after) tt
+  move-replays w new AnswerOk holds history safe moves = subst (λ (x : World). ReplaysAs P b x.phase) (sym moves.after) tt
+
+  -- a move keeps the block safe where it still reads so
+  move-safe : (w new : World) (move : Move) → Holds w → OfEngine ⊤ HasHistory w.epoch → LeavesAlone b move → IsSafe P b w → Moves w move new →
+      P (new.disk Home b).reads → IsSafe P b new
+  move-safe w new move holds history alone safe moves reads = record {
+    within = subst (λ (shape : Shape). b < shape.home_blocks) (sym (move-shape w new move moves)) safe.within;
+    reads = reads;
+    left =
+        move-engine ⊥ (λ e. IsLeftToHome e b) w new move
+        (λ e f disk after_step event is happens left. event-left b e f disk after_step event (subst (LeavesAlone b) is alone) happens left)
+        (λ e none. fresh-left e b none) moves safe.left;
+    replays = move-replays w new move holds history safe moves;
+  }
+
+  -- what it reads after a move that is no stop
+  move-reads : (w new : World) (move : Move) → IsNoStop move → HandsOver P b move → IsSafe P b w → Moves w move new → P (new.disk Home b).reads
+  move-reads w new move goes hands safe moves =
+      ⊎_elim
+      (λ same. subst P (sym same) safe.reads)
+      (λ may. move-may w move (new.disk Home b).reads goes hands safe may)
+      ((move-home w move new moves).reads b)
+
+  -- what it holds after any
+  move-held : (w new : World) (move : Move) → HandsOver P b move → IsSafe P b w → HoldsAs P b w → Moves w move new → HoldsAs P b new
+  move-held w new move hands safe has moves u one =
+      ⊎_elim (λ was. has u was) (λ may. held-may move hands may) ((move-home w move new moves).left b u one)
+    where
+      held-may : (move : Move) → HandsOver P b move → MayAdd w move b u → P u
+      held-may (Stop left) hands may = has u may
+      held-may (Step event) hands may = move-may w (Step event) u tt hands safe may
+      held-may CloseStep hands may = move-may w CloseStep u tt hands safe may
+      held-may CloseFault hands may = move-may w CloseFault u tt hands safe may
+      held-may GiveUp hands may = move-may w GiveUp u tt hands safe may
+      held-may (Begin found) hands may = move-may w (Begin found) u tt hands safe may
+      held-may OpeningStep hands may = move-may w OpeningStep u tt hands safe may
+      held-may OpeningFault hands may = move-may w OpeningFault u tt hands safe may
+      held-may AnswerOk hands may = move-may w AnswerOk u tt hands safe may
+
+  -- what a world carries along
+  record Carries (w : World) : Type 0 where
+    holds : Holds w
+    history : OfEngine ⊤ HasHistory w.epoch
+    safe : IsSafe P b w
+
+  carries-on : (old new : World) (move : Move) → LeavesAlone b move → Moves old move new → Carries old → P (new.disk Home b).reads → Carries new
+  carries-on old new move alone moves carries reads = record {
+    holds = move-holds old new move carries.holds moves;
+    history = move-history old new move moves carries.history;
+    safe = move-safe old new move carries.holds carries.history alone carries.safe moves reads;
+  }
+
+  -- moves without a stop keep the block safe
+  run-safe : (old new : World) (moves : List Move) → ((move : Move) → Contains moves move → HandsOver P b move) → AllByRecursion IsNoStop moves →
+      AllByRecursion (LeavesAlone b) moves → Leads old moves new → Carries old → Carries new
+  run-safe old new [] hands goes alone same carries = subst Carries (sym same) carries
+  run-safe old new (move ∷ moves) hands goes alone (mid, first, rest) carries =
+      let here : HandsOver P b move = hands move (contains-first move moves move refl) in
+      run-safe mid new moves (λ m among. hands m (contains-behind move moves m among)) goes.1 alone.1 rest
+      (carries-on old mid move alone.0 first carries (move-reads old mid move goes.0 here carries.safe first))
+
+  -- and others too, where home holds nothing else of it
+  run-held : (old new : World) (moves : List Move) → ((move : Move) → Contains moves move → HandsOver P b move) → AllByRecursion (LeavesAlone b) moves →
+      Leads old moves new → Carries old → HoldsAs P b old → Carries new × HoldsAs P b new
+  run-held old new [] hands alone same carries has =
+      (subst Carries (sym same) carries, subst (HoldsAs P b) (sym same) has)
+  run-held old new (move ∷ moves) hands alone (mid, first, rest) carries has =
+      let here : HandsOver P b move = hands move (contains-first move moves move refl) in
+      let now : HoldsAs P b mid = move-held old mid move here carries.safe has first in
+      run-held mid new moves (λ m among. hands m (contains-behind move moves m among)) alone.1 rest
+      (carries-on old mid move alone.0 first carries (now (mid.disk Home b).reads (inl refl))) now
+
+-- of the elements of two lists, those of either
+split-all : (Q : Move → Type 0) (xs ys : List Move) → AllByRecursion Q (xs ++ ys) → AllByRecursion Q xs × AllByRecursion Q ys
+split-all Q [] ys all = (tt, all)
+split-all Q (x ∷ xs) ys all = let rest = split-all Q xs ys all.1 in ((all.0, rest.0), rest.1)
+
+-- a block that is written directly has the right to it
+write-left : (e : Engine) (b : ℕ) (v : List ℕ) → DirectCall e (Write Home b v) → IsLeftToHome e b × (b < e.shape.home_blocks)
+write-left e b v (WriteDirect c w left allowed whole) = (left, allowed.in_home)
+
+-- a direct write is handed over by itself
+handed-among : (since moves : List Move) (b : ℕ) (v : List ℕ) → ((move : Move) → Contains moves move → Contains since move) →
+    (move : Move) → Contains moves move → HandsOver (IsThatOrLater since b v) b move
+handed-among since moves b v within move among u (Succeeded one) =
+    inr (Succeeded (within (Step (DirectWrite b u)) (subst (Contains moves) (only move (Step (DirectWrite b u)) one) among)))
+  where
+    only : (m n : Move) → Contains (m ∷ []) n → m ≡ n
+    only m n among = ⊎_elim (λ same. same) (λ none. absurd (contains-none n none)) (contains-cases m [] n among)
+handed-among since moves b v within move among u (Failed one) =
+    inr (Failed (within (Step (DirectWriteFault b u)) (subst (Contains moves) (only move (Step (DirectWriteFault b u)) one) among)))
+  where
+    only : (m n : Move) → Contains (m ∷ []) n → m ≡ n
+    only m n among = ⊎_elim (λ same. same) (λ none. absurd (contains-none n none)) (contains-cases m [] n among)
+
+-- behind a direct write the block is safe
+written-safe : (P : List ℕ → Type 0) (b : ℕ) (v : List ℕ) (w new : World) → Holds w → OfEngine ⊤ HasHistory w.epoch → Moves w (Step (DirectWrite b v)) new →
+    P v → Carries P b new
+written-safe P b v w new holds history moves is =
+    let right = write-left moves.epoch.engine b v moves.happens.due in
+    let runs = runs-in w.shape w.epoch moves.epoch w.disk moves.now (subst (HoldsAt w.shape w.epoch w.disk) moves.running holds.0) in
+    let within : b < w.shape.home_blocks = subst (λ (shape : Shape). b < shape.home_blocks) runs.runs.shape_is right.1 in
+    let reads : (new.disk Home b).reads ≡ v =
+    ap (λ (d : Disk). (d Home b).reads) moves.happens.disk_is ∙ ap (λ (c : Cell). c.reads) (put-there b b _ (w.disk Home b) refl) in
+    record {
+      holds = move-holds w new (Step (DirectWrite b v)) holds moves;
+      history = move-history w new (Step (DirectWrite b v)) moves history;
+      safe = record {
+        within = subst (λ (shape : Shape). b < shape.home_blocks) (sym (move-shape w new (Step (DirectWrite b v)) moves)) within;
+        reads = subst P (sym reads) is;
+        left =
+            subst (λ (x : World). OfEngine ⊥ (λ e. IsLeftToHome e b) x.epoch) (sym moves.after)
+            (subst (λ (e : Engine). IsLeftToHome e b) (sym moves.happens.engine) right.0);
+        replays = subst (λ (x : World). ReplaysAs P b x.phase) (sym moves.after) (subst (ReplaysAs P b) (sym moves.running) tt);
+      };
+    }
+
+-- behind a flush of home it holds what it read
+synced-held : (P : List ℕ → Type 0) (b : ℕ) (w new : World) → IsSafe P b w → Moves w (Step DirectSync) new → HoldsAs P b new
+synced-held P b w new safe moves u one =
+    only (subst (λ (d : Disk). IsOneOf (held (d Home b)) u) moves.happens.disk_is one)
+  where
+    only : (u ≡ (w.disk Home b).reads) ⊎ ⊥ → P u
+    only (inl is) = subst P (sym is) safe.reads
+    only (inr none) = absurd none
+
+-- what home holds, an engine that runs reads
+safe-reads : (P : List ℕ → Type 0) (b : ℕ) (w : World) (epoch : Epoch) (u : List ℕ) → IsSafe P b w → w.epoch ≡ Some epoch → IsRead epoch.engine w.disk b u → P u
+safe-reads P b w epoch u safe now read =
+    let left : IsLeftToHome epoch.engine b = now-engine ⊥ (λ e. IsLeftToHome e b) w.epoch epoch now safe.left in
+    subst P (sym (read.other (λ i v newest. left.none_newest i v newest))) safe.reads
+
+-- a synced direct write stays
+pub synced-stays : (start end : World) (b : ℕ) (v : List ℕ) (run : IsSynced start b v end) → Begins start → KeepsDirect (since_write start b v end run) b v end
+synced-stays start end b v run begins =
+    let since : List Move = run.between ++ run.behind in
+    let P : List ℕ → Type 0 = IsThatOrLater since b v in
+    let alone = split-all (LeavesAlone b) run.between run.behind run.alone in
+    let holds : Holds run.ready = life-holds start run.ready run.before (begin-holds start begins) run.leads_to in
+    let history : OfEngine ⊤ HasHistory run.ready.epoch = run-history start run.ready run.before (begin-history start begins) run.leads_to in
+    let first : Carries P b run.written = written-safe P b v run.ready run.written holds history run.writes (inl refl) in
+    let unsynced : Carries P b run.unsynced =
+    run-safe P b run.written run.unsynced run.between
+    (handed-among since run.between b v (λ move among. Contains-append_left run.between run.behind move among))
+    run.unstopped alone.0 run.leads_on first in
+    let none : HandsOver P b (Step DirectSync) = λ u hands. absurd (no-direct b u hands) in
+    let synced : Carries P b run.synced =
+    carries-on P b run.unsynced run.synced (Step DirectSync) tt run.syncs unsynced
+    (move-reads P b run.unsynced run.synced (Step DirectSync) tt none unsynced.safe run.syncs) in
+    let last =
+    run-held P b run.synced end run.behind
+    (handed-among since run.behind b v (λ move among. Contains-append_right run.between run.behind move among))
+    alone.1 run.leads synced (synced-held P b run.unsynced run.synced unsynced.safe run.syncs) in
+    record {
+      holds = last.1;
+      reads = λ epoch u running now read. safe-reads P b end epoch u last.0.safe now read;
+    }
+  where
+    no-direct : (b : ℕ) (u : List ℕ) → IsHandedOver (Step DirectSync ∷ []) b u → ⊥
+    no-direct b u (Succeeded one) = ⊎_elim (λ same. apart b u same) (λ none. contains-none (Step (DirectWrite b u)) none) (contains-cases (Step DirectSync) [] (Step (DirectWrite b u)) one)
+      where
+        apart : (b : ℕ) (u : List ℕ) → Step DirectSync ≡ Step (DirectWrite b u) → ⊥
+        apart b u same = cc
+    no-direct b u (Failed one) = ⊎_elim (λ same. apart b u same) (λ none. contains-none (Step (DirectWriteFault b u)) none) (contains-cases (Step DirectSync) [] (Step (DirectWriteFault b u)) one)
+      where
+        apart : (b : ℕ) (u : List ℕ) → Step DirectSync ≡ Step (DirectWriteFault b u) → ⊥
+        apart b u same = cc
