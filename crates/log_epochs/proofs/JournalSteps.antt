@@ -1,5 +1,5 @@
 -- A step of the journal: front and engine agree after it, and the engine's world makes the same step, or none.
-use Rattle.std.proofs.Common.{refl, sym, ap, subst, ◌∙◌, arith}
+use Rattle.std.proofs.Common.{refl, sym, ap, subst, ◌∙◌}
 use Rattle.std.specs.Prelude.{◌≡◌, ℕ, true, List}
 use Rattle.journal_model.specs.declared.number.Area.TheVariants.{Home}
 use Rattle.journal_model.specs.Disk.{Disk}
@@ -78,7 +78,6 @@ event-agrees old new disk after answered CheckpointFault agrees happens =
 event-agrees old new disk after answered ReadFault agrees happens =
     failed-agrees old new answered happens.front (subst (GoesOn old.engine) (sym happens.engine) (aborted-on old.engine))
     (ap (λ (e : Engine). e.aborted) happens.engine) agrees
-
 event-agrees old new disk after answered (DirectWrite b v) agrees happens = direct-agrees old new disk after answered (Write Home b v) happens.front happens.engine agrees
 event-agrees old new disk after answered (DirectWriteFault b v) agrees happens =
     direct-fault-agrees old new disk after answered (Write Home b v) happens.front happens.engine agrees

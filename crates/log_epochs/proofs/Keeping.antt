@@ -1,7 +1,7 @@
 -- What images of a disk keep, they keep over a flush, a stop, and each moment of replay.
 use Rattle.std.proofs.Common.{refl, sym, ◌∙◌, ap, subst, arith, inl, inr}
 use Rattle.std.proofs.Math.Path.{fun_ext}
-use Rattle.std.specs.Prelude.{◌≡◌, ◌⊎◌, ⊤, ℕ, ◌+◌, ◌<◌, List, [], length, Option, Some, None, unwrap_or}
+use Rattle.std.specs.Prelude.{◌≡◌, ◌⊎◌, ⊤, ℕ, ◌+◌, ◌<◌, List, length, Option, Some, None, unwrap_or}
 use Rattle.journal_model.specs.declared.log.Text.{Text}
 use Rattle.journal_model.specs.declared.number.Area.{Area}
 use Rattle.journal_model.specs.declared.number.Area.TheVariants.{Log, Home}

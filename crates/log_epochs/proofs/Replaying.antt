@@ -1,6 +1,6 @@
 -- While a log is replayed, and when it is clean again, each image opens as every image did before.
 use Rattle.std.proofs.Common.{refl, sym, ◌∙◌, ap, subst, arith, inl, inr, ⊎_elim}
-use Rattle.std.specs.Prelude.{◌≡◌, ◌≢◌, ◌⊎◌, ℕ, ◌+◌, ◌<◌, ◌≤◌, true, List, [], length, map, None}
+use Rattle.std.specs.Prelude.{◌≡◌, ◌≢◌, ◌⊎◌, ℕ, ◌+◌, ◌<◌, ◌≤◌, true, List, length, map, None}
 use Rattle.std.specs.List.{range_with_len}
 use Rattle.journal_model.specs.declared.entry.Content.{Content}
 use Rattle.journal_model.specs.declared.entry.Content.TheVariants.{Copy, Direct}

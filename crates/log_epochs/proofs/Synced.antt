@@ -1,6 +1,6 @@
 -- A direct write that was synced stays: no move adds to home what is not that write's bytes, or a later one's.
 use Rattle.std.proofs.Common.{refl, sym, ◌∙◌, ap, subst, arith, inl, inr, ⊎_elim}
-use Rattle.std.specs.Prelude.{◌≡◌, ◌⊎◌, ⊤, ℕ, zero, suc, true, ◌+◌, ◌<◌, ◌≤◌, nat_eq, List, [], ◌∷◌, ◌++◌, length, map, take, Option, Some, None, slice_get, Contains}
+use Rattle.std.specs.Prelude.{◌≡◌, ◌⊎◌, ⊤, ℕ, zero, suc, true, ◌<◌, ◌≤◌, List, [], ◌∷◌, ◌++◌, map, Option, Some, None, slice_get, Contains}
 use Rattle.std.specs.List.{AllByRecursion}
 use Rattle.std.proofs.lemmas.List.Elements.{Contains-append_left, Contains-append_right}
 use Rattle.std.proofs.lemmas.Bool.{cases_lt}
@@ -12,17 +12,15 @@ use Rattle.journal_model.specs.declared.entry.Content.{Content}
 use Rattle.journal_model.specs.declared.entry.Content.TheVariants.{Direct}
 use Rattle.journal_model.specs.declared.entry.Entry.TheVariants.{Copy}
 use Rattle.journal_model.specs.declared.log.Text.{Text}
-use Rattle.journal_model.specs.declared.number.Area.TheVariants.{Log, Home}
-use Rattle.journal_model.specs.Disk.{Cell, Disk, Image, IsOneOf, flushed, held, reading, written}
-use Rattle.journal_model.specs.HomeChange.{HomeAddsOnly}
+use Rattle.journal_model.specs.declared.number.Area.TheVariants.{Home}
+use Rattle.journal_model.specs.Disk.{Cell, Disk, Image, IsOneOf, held, reading}
 use Rattle.journal_model.specs.Opening.{HasChain}
-use Rattle.journal_model.specs.Replay.{HasNoLive, IsNewest}
+use Rattle.journal_model.specs.Replay.{IsNewest}
 use Rattle.journal_model.specs.Superblock.{Shape}
 use Rattle.journal_model.specs.Transaction.{History, after, bytes_of}
-use Rattle.journal_world.specs.declared.stage.Stage.{Stage}
 use Rattle.journal_world.specs.Call.{Call}
-use Rattle.journal_world.specs.Call.Call.{Write, Flush}
-use Rattle.journal_world.specs.Checkpoint.{IsNewestCopy, IsRead}
+use Rattle.journal_world.specs.Call.Call.{Write}
+use Rattle.journal_world.specs.Checkpoint.{IsRead}
 use Rattle.journal_world.specs.Direct.{DirectCall, IsLeftToHome}
 use Rattle.journal_world.specs.Direct.DirectCall.{WriteDirect}
 use Rattle.journal_world.specs.Engine.{Accepts, AreBatchesOf, Engine}
@@ -164,9 +162,9 @@ left-going old new b on left =
       none_newest = λ i v newest.
           elim (cases_lt i old.committed) [
             | inl below ↦ left.none_newest i v (record {
-                copy = record { batch = newest.copy.batch; committed = below; stands = at i ∙ newest.copy.stands; copy = newest.copy.copy };
-                last = λ j later behind few stands has. newest.last j later behind (omega arith) (sym (at j) ∙ stands) has;
-              })
+              copy = record { batch = newest.copy.batch; committed = below; stands = at i ∙ newest.copy.stands; copy = newest.copy.copy };
+              last = λ j later behind few stands has. newest.last j later behind (omega arith) (sym (at j) ∙ stands) has;
+            })
             | inr due ↦
                 left.none_due i newest.copy.batch (omega arith) (at i ∙ newest.copy.stands) (entry-block newest.copy.batch.entries b (Copy v) newest.copy.copy)
           ];
