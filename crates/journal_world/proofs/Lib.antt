@@ -25,6 +25,7 @@ pub mod Kept
 pub mod Laps
 pub mod Lasts
 pub mod Left
+pub mod LeftToHome
 pub mod Onward
 pub mod OpenHandles
 pub mod Openings

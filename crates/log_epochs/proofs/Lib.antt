@@ -2,6 +2,7 @@
 pub mod CleanLogs
 pub mod CleanRuns
 pub mod Closing
+pub mod EngineRuns
 pub mod Following
 pub mod HomeRule
 pub mod Homes
