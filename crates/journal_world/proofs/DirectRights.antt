@@ -5,7 +5,8 @@ use Rattle.std.proofs.lemmas.Bool.{cases_lt}
 use Rattle.std.proofs.lemmas.List.{length-take, take-append-le}
 use Rattle.std.proofs.lemmas.Option.{slice_get_within}
 use Rattle.journal_model.proofs.ListElements.{option-known}
-use Rattle.journal_model.specs.declared.entry.Content.TheVariants.{Direct}
+use Rattle.journal_model.specs.declared.entry.Content.{Content}
+use Rattle.journal_model.specs.declared.entry.Content.TheVariants.{Copy as CopyContent, Direct}
 use Rattle.journal_model.specs.declared.entry.Entry.{Entry}
 use Rattle.journal_model.specs.declared.entry.Entry.TheVariants.{Copy, Revoke}
 use Rattle.journal_model.specs.declared.number.Area.TheVariants.{Home}
@@ -19,8 +20,9 @@ use Rattle.journal_world.specs.Direct.{DirectFaults, DirectSteps, DirectsHome, I
 use Rattle.journal_world.specs.Engine.{AreBatchesOf, Engine}
 use Rattle.journal_world.specs.Front.{Front, IsUntouched, finished_count, transactions}
 use Rattle.journal_world.proofs.DirectCalls.{direct-adds, direct-fault-adds}
+use Rattle.journal_world.proofs.HomeCopies.{newest-after}
 use Rattle.journal_world.proofs.HomeRights.{HomeRight, IsOwn, abort-right, right-on}
-use Rattle.journal_world.proofs.Lasts.{IsLastIn, entry-block, last-in, newest-left}
+use Rattle.journal_world.proofs.Lasts.{IsLastIn, entry-block, last-in, newest-left, none-in}
 use Rattle.journal_world.proofs.Batches.{batches-take}
 use Rattle.journal_world.proofs.Suffixes.{batches-drop, get-drop, get-take}
 
@@ -60,6 +62,28 @@ left-untouched e ts b are left =
 -- so it may be written directly, as far as the engine's transactions go
 pub left-right : (e : Engine) (ts : History) (b : ℕ) → AreBatchesOf ts e.accepted → IsLeftToHome e b → HasDirectRight ts e.committed e.committed b
 left-right e ts b are left = record { home = left-direct e ts e.committed b (omega arith) are left; untouched = left-untouched e ts b are left }
+
+-- a block that is a copy of the transactions is not left to home
+copy-apart : (c : Content) (v : List ℕ) → c ≡ CopyContent v → c ≡ Direct → ⊥
+copy-apart c v copy direct = apart v (sym copy ∙ direct)
+  where
+    apart : (v : List ℕ) → CopyContent v ≡ Direct → ⊥
+    apart v same = cc
+
+-- and where they give the right to it, the engine leaves it to home
+right-left : (e : Engine) (ts : History) (b : ℕ) → AreBatchesOf ts e.accepted → HasDirectRight ts e.committed e.committed b → IsLeftToHome e b
+right-left e ts b are right = record {
+  none_newest = λ i v newest. copy-apart (after ts e.committed b) v (newest-after e ts i b v are newest) right.home;
+  none_due = λ j due least stands has.
+      let place : e.committed + (j - e.committed) ≡ j = omega arith in
+      none-in b (drop e.committed ts) (drop e.committed e.accepted) (batches-drop e.committed ts e.accepted are) right.untouched (j - e.committed) due
+      (get-drop e.committed e.accepted (j - e.committed) ∙ ap (slice_get e.accepted) place ∙ stands) has;
+}
+
+-- one just where the other
+pub left-or_right : (e : Engine) (ts : History) (b : ℕ) → AreBatchesOf ts e.accepted →
+    (IsLeftToHome e b → HasDirectRight ts e.committed e.committed b) × (HasDirectRight ts e.committed e.committed b → IsLeftToHome e b)
+left-or_right e ts b are = (λ left. left-right e ts b are left, λ right. right-left e ts b are right)
 
 -- and as far as the front's do
 pub front-right : (f : Front) (e : Engine) (b : ℕ) → AreBatchesOf f.sealed e.accepted → e.committed ≤ length f.sealed → IsUntouched f b → IsLeftToHome e b →
