@@ -30,7 +30,7 @@ entry-block (p ∷ es) b f m =
     ]
 
 -- steps without an effect on a block leave no entry of it
-none-entered : (b : ℕ) (ss : List Step) (es : List (ℕ × Entry)) → es ≡ entries ss → effect b ss ≡ None → Contains (map (λ p. p.0) es) b → ⊥
+pub none-entered : (b : ℕ) (ss : List Step) (es : List (ℕ × Entry)) → es ≡ entries ss → effect b ss ≡ None → Contains (map (λ p. p.0) es) b → ⊥
 none-entered b ss es are none m =
     let blocks : map (λ p. p.0) es ≡ touched ss = ap (map (λ (p : ℕ × Entry). p.0)) are ∙ entries-blocks ss in
     let made = touched-effect b ss (subst (λ bs. Contains bs b) blocks m) in

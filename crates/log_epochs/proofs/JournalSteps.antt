@@ -1,6 +1,6 @@
 -- A step of the journal: front and engine agree after it, and the engine's world makes the same step, or none.
 use Rattle.std.proofs.Common.{refl, sym, ap, subst, ◌∙◌}
-use Rattle.std.specs.Prelude.{◌≡◌, ℕ, true, List}
+use Rattle.std.specs.Prelude.{◌≡◌, ℕ, true, Option, Some, None, List}
 use Rattle.journal_model.specs.declared.number.Area.TheVariants.{Home}
 use Rattle.journal_model.specs.Disk.{Disk}
 use Rattle.journal_world.specs.Call.{Call}
@@ -85,27 +85,43 @@ event-agrees old new disk after answered DirectSync agrees happens = direct-agre
 event-agrees old new disk after answered DirectSyncFault agrees happens =
     direct-fault-agrees old new disk after answered (Flush Home) happens.front happens.engine agrees
 
--- what a step of the journal is to the engine: nothing, or a step of its own, with the same direct writes
-pub data IsBelow (old : Engine) (disk : Disk) (new : Engine) (after : Disk) (directs more : List (ℕ × List ℕ)) : Type 0 where
-  Nothing : new ≡ old → after ≡ disk → more ≡ directs → IsBelow old disk new after directs more
-  Same : (event : EngineEvent) → EngineHappens old disk event new after → more ≡ below_directs event directs → IsBelow old disk new after directs more
+-- the engine's step that a step of the journal is, if it is one
+abbrev pub below_event : Front → Event → Option EngineEvent
+below_event f (FrontStep event) = None
+below_event f Finish = None
+below_event f Seal = Some (Accept (batch_of f.running))
+below_event f CommitStep = Some EngineCommit
+below_event f CommitFault = Some EngineCommitFault
+below_event f CheckpointStep = Some EngineCheckpoint
+below_event f CheckpointFault = Some EngineCheckpointFault
+below_event f ReadFault = Some EngineReadFault
+below_event f (DirectWrite b v) = Some (EngineDirect b v)
+below_event f (DirectWriteFault b v) = Some (EngineDirectFault b v)
+below_event f DirectSync = Some EngineSync
+below_event f DirectSyncFault = Some EngineSyncFault
+
+-- what a step of the journal is to the engine: nothing, or this step of its own, with the same direct writes
+pub data IsBelow (own : Option EngineEvent) (old : Engine) (disk : Disk) (new : Engine) (after : Disk) (directs more : List (ℕ × List ℕ)) : Type 0 where
+  Nothing : new ≡ old → after ≡ disk → more ≡ directs → IsBelow own old disk new after directs more
+  Same : (event : EngineEvent) → own ≡ Some event → EngineHappens old disk event new after → more ≡ below_directs event directs →
+      IsBelow own old disk new after directs more
 
 pub event-below : (old new : Journal) (disk after : Disk) (event : Event) (directs : List (ℕ × List ℕ)) → Happens old disk event new after →
-    IsBelow old.engine disk new.engine after directs (with_directs event directs)
+    IsBelow (below_event old.front event) old.engine disk new.engine after directs (with_directs event directs)
 event-below old new disk after (FrontStep event) directs happens = Nothing happens.engine happens.disk_is refl
 event-below old new disk after Finish directs happens = Nothing happens.engine happens.disk_is refl
 event-below old new disk after Seal directs happens =
-    Same (Accept (batch_of old.front.running)) (record { engine = happens.engine; disk_is = happens.disk_is }) refl
-event-below old new disk after CommitStep directs happens = Same EngineCommit happens.engine refl
-event-below old new disk after CommitFault directs happens = Same EngineCommitFault happens.engine refl
-event-below old new disk after CheckpointStep directs happens = Same EngineCheckpoint happens.engine refl
-event-below old new disk after CheckpointFault directs happens = Same EngineCheckpointFault happens.engine refl
+    Same (Accept (batch_of old.front.running)) refl (record { engine = happens.engine; disk_is = happens.disk_is }) refl
+event-below old new disk after CommitStep directs happens = Same EngineCommit refl happens.engine refl
+event-below old new disk after CommitFault directs happens = Same EngineCommitFault refl happens.engine refl
+event-below old new disk after CheckpointStep directs happens = Same EngineCheckpoint refl happens.engine refl
+event-below old new disk after CheckpointFault directs happens = Same EngineCheckpointFault refl happens.engine refl
 event-below old new disk after ReadFault directs happens =
-    Same EngineReadFault (record { running = happens.running; engine = happens.engine; disk_is = happens.disk_is }) refl
-event-below old new disk after (DirectWrite b v) directs happens = Same (EngineDirect b v) happens.engine refl
-event-below old new disk after (DirectWriteFault b v) directs happens = Same (EngineDirectFault b v) happens.engine refl
-event-below old new disk after DirectSync directs happens = Same EngineSync happens.engine refl
-event-below old new disk after DirectSyncFault directs happens = Same EngineSyncFault happens.engine refl
+    Same EngineReadFault refl (record { running = happens.running; engine = happens.engine; disk_is = happens.disk_is }) refl
+event-below old new disk after (DirectWrite b v) directs happens = Same (EngineDirect b v) refl happens.engine refl
+event-below old new disk after (DirectWriteFault b v) directs happens = Same (EngineDirectFault b v) refl happens.engine refl
+event-below old new disk after DirectSync directs happens = Same EngineSync refl happens.engine refl
+event-below old new disk after DirectSyncFault directs happens = Same EngineSyncFault refl happens.engine refl
 
 -- what a step of the front alone does to the steps of handles
 front-steps : (old new : Front) (event : FrontEvent) → FrontHappens old event new → MakesSteps (Step (FrontStep event)) old new

@@ -39,7 +39,7 @@ use Rattle.log_epochs.specs.OpeningSteps.OpeningStage.{LogFlush, Copies, Superbl
 use Rattle.log_epochs.proofs.HomeRule.{same-adds}
 use Rattle.log_epochs.proofs.Homes.{flush-undone}
 use Rattle.log_epochs.proofs.Keeping.{reads-left}
-use Rattle.log_epochs.proofs.JournalSteps.{Agrees, IsBelow, event-agrees, event-below, event-steps}
+use Rattle.log_epochs.proofs.JournalSteps.{Agrees, IsBelow, below_event, event-agrees, event-below, event-steps}
 use Rattle.log_epochs.proofs.JournalSteps.IsBelow.{Nothing, Same}
 
 -- what was told in an epoch agrees with its engine
@@ -170,10 +170,10 @@ run-holds : (old new : JournalWorld) (moves : List Move) → Holds old → Leads
 run-holds old new [] holds same = subst Holds (sym same) holds
 run-holds old new (move ∷ moves) holds (mid, first, rest) = run-holds mid new moves (move-holds old mid move first holds) rest
 
--- a step of the journal is a step of the engine below, or nothing
-data IsStepBelow (old new : World) : Type 0 where
-  Unchanged : new ≡ old → IsStepBelow old new
-  Stepped : (event : Event) → BelowSteps old event new → IsStepBelow old new
+-- a step of the journal is this step of the engine below, or nothing
+pub data IsStepBelow (own : Option Event) (old new : World) : Type 0 where
+  Unchanged : new ≡ old → IsStepBelow own old new
+  Stepped : (event : Event) → own ≡ Some event → BelowSteps old event new → IsStepBelow own old new
 
 -- a world whose engine, direct writes and disk are as they were is the same
 same-world : (w : World) (epoch : Epoch) (engine : Engine) (directs : List (ℕ × List ℕ)) (disk : Disk) → w.epoch ≡ Some epoch → engine ≡ epoch.engine →
@@ -184,7 +184,8 @@ same-world w epoch engine directs disk now same_engine same_directs same_disk =
     ∙ ap (λ (d : Disk). record w { disk = d; epoch = Some epoch }) same_disk
     ∙ ap (λ (o : Option Epoch). record w { epoch = o }) (sym now)
 
-step-below : (old new : JournalWorld) (event : JournalEvent) → Steps old event new → IsStepBelow old.below new.below
+pub step-below : (old new : JournalWorld) (event : JournalEvent) → Steps old event new →
+    IsStepBelow (below_event old.told.front event) old.below new.below
 step-below old new event step =
     below (event-below (journal_of step.epoch old.told) step.journal old.below.disk new.below.disk event step.epoch.directs step.happens)
   where
@@ -194,10 +195,13 @@ step-below old new event step =
     is : new.below ≡ record old.below { disk = new.below.disk; epoch = Some (record step.epoch { engine = step.journal.engine; directs = directs }) }
     is = ap (λ (w : JournalWorld). w.below) step.after
 
-    below : IsBelow step.epoch.engine old.below.disk step.journal.engine new.below.disk step.epoch.directs directs → IsStepBelow old.below new.below
+    own : Option Event
+    own = below_event old.told.front event
+
+    below : IsBelow own step.epoch.engine old.below.disk step.journal.engine new.below.disk step.epoch.directs directs → IsStepBelow own old.below new.below
     below (Nothing same_engine same_disk same_directs) =
         Unchanged (is ∙ same-world old.below step.epoch step.journal.engine directs new.below.disk step.now same_engine same_directs same_disk)
-    below (Same e happens same_directs) = Stepped e (record {
+    below (Same e same_event happens same_directs) = Stepped e same_event (record {
       running = step.running;
       epoch = step.epoch;
       now = step.now;
@@ -220,14 +224,14 @@ leads-on old mid new (move ∷ moves) others (next, one, more) rest =
 move-below : (old new : JournalWorld) (move : Move) → Moves old move new → (moves : List BelowMove) × BelowLeads old.below moves new.below
 move-below old new (Step event) moves = below (step-below old new event moves)
   where
-    below : IsStepBelow old.below new.below → (all : List BelowMove) × BelowLeads old.below all new.below
+    below : IsStepBelow (below_event old.told.front event) old.below new.below → (all : List BelowMove) × BelowLeads old.below all new.below
     below (Unchanged same) = ([], same)
-    below (Stepped e step) = (EngineStep e ∷ [], (new.below, step, refl))
+    below (Stepped e is step) = (EngineStep e ∷ [], (new.below, step, refl))
 move-below old new (Answer tid) moves = ([], ap (λ (w : JournalWorld). w.below) moves.after)
 move-below old new (Below move) moves = (move ∷ [], (new.below, moves.below, refl))
 
 -- so a run of the journal is one of the world below
-run-below : (old new : JournalWorld) (moves : List Move) → Leads old moves new → (all : List BelowMove) × BelowLeads old.below all new.below
+pub run-below : (old new : JournalWorld) (moves : List Move) → Leads old moves new → (all : List BelowMove) × BelowLeads old.below all new.below
 run-below old new [] same = ([], ap (λ (w : JournalWorld). w.below) same)
 run-below old new (move ∷ moves) (mid, first, rest) =
     let one = move-below old mid move first in

@@ -7,6 +7,7 @@ pub mod Following
 pub mod HomeRule
 pub mod Homes
 pub mod JournalSteps
+pub mod JournalSynced
 pub mod Journals
 pub mod Keeping
 pub mod Leading

@@ -4,7 +4,7 @@ use Rattle.std.specs.Prelude.{◌≡◌, ◌⊎◌, ⊤, ℕ, ◌<◌, List, [],
 use Rattle.std.specs.List.{AllByRecursion}
 use Rattle.std.proofs.lemmas.List.Elements.{Contains-append_left, Contains-append_right}
 use Rattle.std.proofs.lemmas.Option.{none-some}
-use Rattle.journal_model.proofs.ListElements.{contains-behind, contains-cases, contains-first, contains-none}
+use Rattle.journal_model.proofs.ListElements.{contains-behind, contains-first}
 use Rattle.journal_model.proofs.Newest.{newest-same}
 use Rattle.journal_model.specs.declared.entry.Content.{Content}
 use Rattle.journal_model.specs.declared.entry.Content.TheVariants.{Direct}
@@ -24,7 +24,7 @@ use Rattle.journal_world.specs.Engine.{Engine}
 use Rattle.journal_world.proofs.Copying.{put-there}
 use Rattle.journal_world.proofs.DirectRights.{left-direct}
 use Rattle.journal_world.proofs.LeftToHome.{fresh-left, left-going, left-taken}
-use Rattle.log_epochs.specs.DirectPromise.{IsHandedOver, IsNoStop, IsSynced, IsThatOrLater, KeepsDirect, LeavesAlone, since_write}
+use Rattle.log_epochs.specs.DirectPromise.{IsNoStop, IsSynced, IsThatOrLater, KeepsDirect, LeavesAlone, since_write}
 use Rattle.log_epochs.specs.DirectPromise.IsHandedOver.{Succeeded, Failed}
 use Rattle.log_epochs.specs.EnginePromise.{EngineMayAdd, Kept, KeepsNow, MayAdd, OpeningMayAdd, StepMayAdd}
 use Rattle.log_epochs.specs.EngineSteps.{Event, Happens}
@@ -76,12 +76,33 @@ found-same shape found epoch disk b u within keeps has left is newest =
       | inr none ↦ absurd (none.0 newest.i newest.k u newest.live)
     ]
 
--- the direct writes of a move hand over to block b what P says alone
-abbrev HandsOver : (List ℕ → Type 0) → ℕ → Move → Type 0
-HandsOver P b move = (u : List ℕ) → IsHandedOver (move ∷ []) b u → P u
+-- a direct write of block b hands over what P says
+abbrev pub HandsAt : (List ℕ → Type 0) → ℕ → Event → Type 0
+HandsAt P b (DirectWrite c v) = c ≡ b → P v
+HandsAt P b (DirectWriteFault c v) = c ≡ b → P v
+HandsAt P b DirectSync = ⊤
+HandsAt P b DirectSyncFault = ⊤
+HandsAt P b (Accept batch) = ⊤
+HandsAt P b (Read c v) = ⊤
+HandsAt P b CommitStep = ⊤
+HandsAt P b CommitFault = ⊤
+HandsAt P b CheckpointStep = ⊤
+HandsAt P b CheckpointFault = ⊤
+HandsAt P b ReadFault = ⊤
+
+abbrev pub HandsOver : (List ℕ → Type 0) → ℕ → Move → Type 0
+HandsOver P b (Step event) = HandsAt P b event
+HandsOver P b CloseStep = ⊤
+HandsOver P b CloseFault = ⊤
+HandsOver P b GiveUp = ⊤
+HandsOver P b (Stop left) = ⊤
+HandsOver P b (Begin found) = ⊤
+HandsOver P b OpeningStep = ⊤
+HandsOver P b OpeningFault = ⊤
+HandsOver P b AnswerOk = ⊤
 
 -- so does replay in an opening
-abbrev ReplaysAs : (List ℕ → Type 0) → ℕ → Phase → Type 0
+abbrev pub ReplaysAs : (List ℕ → Type 0) → ℕ → Phase → Type 0
 ReplaysAs P b (Opening found stage) = (u : List ℕ) → IsNewest found.texts b u → P u
 ReplaysAs P b Shut = ⊤
 ReplaysAs P b Running = ⊤
@@ -89,23 +110,21 @@ ReplaysAs P b Closing = ⊤
 ReplaysAs P b Closed = ⊤
 
 -- block b reads as P says, and nothing that is to come home is of another kind
-record IsSafe (P : List ℕ → Type 0) (b : ℕ) (w : World) : Type 0 where
-  within : b < w.shape.home_blocks
-  reads : P (w.disk Home b).reads
-  left : OfEngine ⊥ (λ e. IsLeftToHome e b) w.epoch
-  replays : ReplaysAs P b w.phase
+pub record IsSafe (P : List ℕ → Type 0) (b : ℕ) (w : World) : Type 0 where
+  pub within : b < w.shape.home_blocks
+  pub reads : P (w.disk Home b).reads
+  pub left : OfEngine ⊥ (λ e. IsLeftToHome e b) w.epoch
+  pub replays : ReplaysAs P b w.phase
 
 -- whatever home holds of it is so
-abbrev HoldsAs : (List ℕ → Type 0) → ℕ → World → Type 0
+abbrev pub HoldsAs : (List ℕ → Type 0) → ℕ → World → Type 0
 HoldsAs P b w = (u : List ℕ) → IsOneOf (held (w.disk Home b)) u → P u
 
 module _ (P : List ℕ → Type 0) (b : ℕ) where
   -- what a step of an engine may add to the block is so
-  step-may : (e : Engine) (event : Event) (u : List ℕ) → HandsOver P b (Step event) → IsLeftToHome e b → StepMayAdd e event b u → P u
-  step-may e (DirectWrite c v) u hands left (free, here, is) =
-      hands u (Succeeded (contains-first (Step (DirectWrite c v)) [] (Step (DirectWrite b u)) (ap (λ (n : ℕ). Step (DirectWrite n v)) (sym here) ∙ ap (λ (w : List ℕ). Step (DirectWrite b w)) (sym is))))
-  step-may e (DirectWriteFault c v) u hands left (free, here, is) =
-      hands u (Failed (contains-first (Step (DirectWriteFault c v)) [] (Step (DirectWriteFault b u)) (ap (λ (n : ℕ). Step (DirectWriteFault n v)) (sym here) ∙ ap (λ (w : List ℕ). Step (DirectWriteFault b w)) (sym is))))
+  step-may : (e : Engine) (event : Event) (u : List ℕ) → HandsAt P b event → IsLeftToHome e b → StepMayAdd e event b u → P u
+  step-may e (DirectWrite c v) u hands left (free, here, is) = subst P (sym is) (hands (sym here))
+  step-may e (DirectWriteFault c v) u hands left (free, here, is) = subst P (sym is) (hands (sym here))
   step-may e DirectSync u hands left may = absurd may
   step-may e DirectSyncFault u hands left may = absurd may
   step-may e (Accept batch) u hands left may = absurd may
@@ -116,7 +135,7 @@ module _ (P : List ℕ → Type 0) (b : ℕ) where
   step-may e CheckpointFault u hands left (i, newest) = absurd (left.none_newest i u newest)
   step-may e ReadFault u hands left may = absurd may
 
-  engine-may : (epoch : Option Epoch) (event : Event) (u : List ℕ) → HandsOver P b (Step event) → OfEngine ⊥ (λ e. IsLeftToHome e b) epoch →
+  engine-may : (epoch : Option Epoch) (event : Event) (u : List ℕ) → HandsAt P b event → OfEngine ⊥ (λ e. IsLeftToHome e b) epoch →
       EngineMayAdd epoch event b u → P u
   engine-may None event u hands left may = absurd may
   engine-may (Some epoch) event u hands left may = step-may epoch.engine event u hands left may
@@ -207,10 +226,10 @@ module _ (P : List ℕ → Type 0) (b : ℕ) where
       held-may AnswerOk hands may = move-may w AnswerOk u tt hands safe may
 
   -- what a world carries along
-  record Carries (w : World) : Type 0 where
-    holds : Holds w
-    history : OfEngine ⊤ HasHistory w.epoch
-    safe : IsSafe P b w
+  pub record Carries (w : World) : Type 0 where
+    pub holds : Holds w
+    pub history : OfEngine ⊤ HasHistory w.epoch
+    pub safe : IsSafe P b w
 
   carries-on : (old new : World) (move : Move) → LeavesAlone b move → Moves old move new → Carries old → P (new.disk Home b).reads → Carries new
   carries-on old new move alone moves carries reads = record {
@@ -219,25 +238,32 @@ module _ (P : List ℕ → Type 0) (b : ℕ) where
     safe = move-safe old new move carries.holds carries.history alone carries.safe moves reads;
   }
 
-  -- moves without a stop keep the block safe
+  -- a move that is no stop keeps the block safe
+  pub on-safe : (old new : World) (move : Move) → HandsOver P b move → IsNoStop move → LeavesAlone b move → Moves old move new → Carries old → Carries new
+  on-safe old new move hands goes alone moves carries =
+      carries-on old new move alone moves carries (move-reads old new move goes hands carries.safe moves)
+
+  -- and any move does, where home holds nothing else of it
+  pub on-held : (old new : World) (move : Move) → HandsOver P b move → LeavesAlone b move → Moves old move new → Carries old × HoldsAs P b old →
+      Carries new × HoldsAs P b new
+  on-held old new move hands alone moves (carries, has) =
+      let now : HoldsAs P b new = move-held old new move hands carries.safe has moves in
+      (carries-on old new move alone moves carries (now (new.disk Home b).reads (inl refl)), now)
+
+  -- so do moves that follow one another
   run-safe : (old new : World) (moves : List Move) → ((move : Move) → Contains moves move → HandsOver P b move) → AllByRecursion IsNoStop moves →
       AllByRecursion (LeavesAlone b) moves → Leads old moves new → Carries old → Carries new
   run-safe old new [] hands goes alone same carries = subst Carries (sym same) carries
   run-safe old new (move ∷ moves) hands goes alone (mid, first, rest) carries =
-      let here : HandsOver P b move = hands move (contains-first move moves move refl) in
       run-safe mid new moves (λ m among. hands m (contains-behind move moves m among)) goes.1 alone.1 rest
-      (carries-on old mid move alone.0 first carries (move-reads old mid move goes.0 here carries.safe first))
+      (on-safe old mid move (hands move (contains-first move moves move refl)) goes.0 alone.0 first carries)
 
-  -- and others too, where home holds nothing else of it
   run-held : (old new : World) (moves : List Move) → ((move : Move) → Contains moves move → HandsOver P b move) → AllByRecursion (LeavesAlone b) moves →
-      Leads old moves new → Carries old → HoldsAs P b old → Carries new × HoldsAs P b new
-  run-held old new [] hands alone same carries has =
-      (subst Carries (sym same) carries, subst (HoldsAs P b) (sym same) has)
-  run-held old new (move ∷ moves) hands alone (mid, first, rest) carries has =
-      let here : HandsOver P b move = hands move (contains-first move moves move refl) in
-      let now : HoldsAs P b mid = move-held old mid move here carries.safe has first in
+      Leads old moves new → Carries old × HoldsAs P b old → Carries new × HoldsAs P b new
+  run-held old new [] hands alone same has = subst (λ (w : World). Carries w × HoldsAs P b w) (sym same) has
+  run-held old new (move ∷ moves) hands alone (mid, first, rest) has =
       run-held mid new moves (λ m among. hands m (contains-behind move moves m among)) alone.1 rest
-      (carries-on old mid move alone.0 first carries (now (mid.disk Home b).reads (inl refl))) now
+      (on-held old mid move (hands move (contains-first move moves move refl)) alone.0 first has)
 
 -- of the elements of two lists, those of either
 split-all : (Q : Move → Type 0) (xs ys : List Move) → AllByRecursion Q (xs ++ ys) → AllByRecursion Q xs × AllByRecursion Q ys
@@ -248,22 +274,33 @@ split-all Q (x ∷ xs) ys all = let rest = split-all Q xs ys all.1 in ((all.0, r
 write-left : (e : Engine) (b : ℕ) (v : List ℕ) → DirectCall e (Write Home b v) → IsLeftToHome e b × (b < e.shape.home_blocks)
 write-left e b v (WriteDirect c w left allowed whole) = (left, allowed.in_home)
 
--- a direct write is handed over by itself
+-- a direct write among some moves is one of them
 handed-among : (since moves : List Move) (b : ℕ) (v : List ℕ) → ((move : Move) → Contains moves move → Contains since move) →
     (move : Move) → Contains moves move → HandsOver (IsThatOrLater since b v) b move
-handed-among since moves b v within move among u (Succeeded one) =
-    inr (Succeeded (within (Step (DirectWrite b u)) (subst (Contains moves) (only move (Step (DirectWrite b u)) one) among)))
-  where
-    only : (m n : Move) → Contains (m ∷ []) n → m ≡ n
-    only m n among = ⊎_elim (λ same. same) (λ none. absurd (contains-none n none)) (contains-cases m [] n among)
-handed-among since moves b v within move among u (Failed one) =
-    inr (Failed (within (Step (DirectWriteFault b u)) (subst (Contains moves) (only move (Step (DirectWriteFault b u)) one) among)))
-  where
-    only : (m n : Move) → Contains (m ∷ []) n → m ≡ n
-    only m n among = ⊎_elim (λ same. same) (λ none. absurd (contains-none n none)) (contains-cases m [] n among)
+handed-among since moves b v within (Step (DirectWrite c w)) among =
+    λ here. inr (Succeeded (subst (λ (n : ℕ). Contains since (Step (DirectWrite n w))) here (within (Step (DirectWrite c w)) among)))
+handed-among since moves b v within (Step (DirectWriteFault c w)) among =
+    λ here. inr (Failed (subst (λ (n : ℕ). Contains since (Step (DirectWriteFault n w))) here (within (Step (DirectWriteFault c w)) among)))
+handed-among since moves b v within (Step DirectSync) among = tt
+handed-among since moves b v within (Step DirectSyncFault) among = tt
+handed-among since moves b v within (Step (Accept batch)) among = tt
+handed-among since moves b v within (Step (Read c w)) among = tt
+handed-among since moves b v within (Step CommitStep) among = tt
+handed-among since moves b v within (Step CommitFault) among = tt
+handed-among since moves b v within (Step CheckpointStep) among = tt
+handed-among since moves b v within (Step CheckpointFault) among = tt
+handed-among since moves b v within (Step ReadFault) among = tt
+handed-among since moves b v within CloseStep among = tt
+handed-among since moves b v within CloseFault among = tt
+handed-among since moves b v within GiveUp among = tt
+handed-among since moves b v within (Stop left) among = tt
+handed-among since moves b v within (Begin found) among = tt
+handed-among since moves b v within OpeningStep among = tt
+handed-among since moves b v within OpeningFault among = tt
+handed-among since moves b v within AnswerOk among = tt
 
 -- behind a direct write the block is safe
-written-safe : (P : List ℕ → Type 0) (b : ℕ) (v : List ℕ) (w new : World) → Holds w → OfEngine ⊤ HasHistory w.epoch → Moves w (Step (DirectWrite b v)) new →
+pub written-safe : (P : List ℕ → Type 0) (b : ℕ) (v : List ℕ) (w new : World) → Holds w → OfEngine ⊤ HasHistory w.epoch → Moves w (Step (DirectWrite b v)) new →
     P v → Carries P b new
 written-safe P b v w new holds history moves is =
     let right = write-left moves.epoch.engine b v moves.happens.due in
@@ -285,7 +322,7 @@ written-safe P b v w new holds history moves is =
     }
 
 -- behind a flush of home it holds what it read
-synced-held : (P : List ℕ → Type 0) (b : ℕ) (w new : World) → IsSafe P b w → Moves w (Step DirectSync) new → HoldsAs P b new
+pub synced-held : (P : List ℕ → Type 0) (b : ℕ) (w new : World) → IsSafe P b w → Moves w (Step DirectSync) new → HoldsAs P b new
 synced-held P b w new safe moves u one =
     only (subst (λ (d : Disk). IsOneOf (held (d Home b)) u) moves.happens.disk_is one)
   where
@@ -294,7 +331,7 @@ synced-held P b w new safe moves u one =
     only (inr none) = absurd none
 
 -- what home holds, an engine that runs reads
-safe-reads : (P : List ℕ → Type 0) (b : ℕ) (w : World) (epoch : Epoch) (u : List ℕ) → IsSafe P b w → w.epoch ≡ Some epoch → IsRead epoch.engine w.disk b u → P u
+pub safe-reads : (P : List ℕ → Type 0) (b : ℕ) (w : World) (epoch : Epoch) (u : List ℕ) → IsSafe P b w → w.epoch ≡ Some epoch → IsRead epoch.engine w.disk b u → P u
 safe-reads P b w epoch u safe now read =
     let left : IsLeftToHome epoch.engine b = now-engine ⊥ (λ e. IsLeftToHome e b) w.epoch epoch now safe.left in
     subst P (sym (read.other (λ i v newest. left.none_newest i v newest))) safe.reads
@@ -312,25 +349,12 @@ synced-stays start end b v run begins =
     run-safe P b run.written run.unsynced run.between
     (handed-among since run.between b v (λ move among. Contains-append_left run.between run.behind move among))
     run.unstopped alone.0 run.leads_on first in
-    let none : HandsOver P b (Step DirectSync) = λ u hands. absurd (no-direct b u hands) in
-    let synced : Carries P b run.synced =
-    carries-on P b run.unsynced run.synced (Step DirectSync) tt run.syncs unsynced
-    (move-reads P b run.unsynced run.synced (Step DirectSync) tt none unsynced.safe run.syncs) in
+    let synced : Carries P b run.synced = on-safe P b run.unsynced run.synced (Step DirectSync) tt tt tt run.syncs unsynced in
     let last =
     run-held P b run.synced end run.behind
     (handed-among since run.behind b v (λ move among. Contains-append_right run.between run.behind move among))
-    alone.1 run.leads synced (synced-held P b run.unsynced run.synced unsynced.safe run.syncs) in
+    alone.1 run.leads (synced, synced-held P b run.unsynced run.synced unsynced.safe run.syncs) in
     record {
       holds = last.1;
       reads = λ epoch u running now read. safe-reads P b end epoch u last.0.safe now read;
     }
-  where
-    no-direct : (b : ℕ) (u : List ℕ) → IsHandedOver (Step DirectSync ∷ []) b u → ⊥
-    no-direct b u (Succeeded one) = ⊎_elim (λ same. apart b u same) (λ none. contains-none (Step (DirectWrite b u)) none) (contains-cases (Step DirectSync) [] (Step (DirectWrite b u)) one)
-      where
-        apart : (b : ℕ) (u : List ℕ) → Step DirectSync ≡ Step (DirectWrite b u) → ⊥
-        apart b u same = cc
-    no-direct b u (Failed one) = ⊎_elim (λ same. apart b u same) (λ none. contains-none (Step (DirectWriteFault b u)) none) (contains-cases (Step DirectSync) [] (Step (DirectWriteFault b u)) one)
-      where
-        apart : (b : ℕ) (u : List ℕ) → Step DirectSync ≡ Step (DirectWriteFault b u) → ⊥
-        apart b u same = cc

@@ -7,3 +7,4 @@ pub mod EnginePromise
 pub mod DirectPromise
 pub mod JournalWorld
 pub mod JournalPromise
+pub mod JournalDirect

@@ -14,6 +14,7 @@ ghost use Rattle.log_epochs.specs.EngineWorld.Phase.{Shut};
 ghost use Rattle.log_epochs.specs.EnginePromise.{KeepsPromise};
 ghost use Rattle.log_epochs.specs.DirectPromise.{IsSynced, KeepsDirect, since_write};
 ghost use Rattle.log_epochs.specs.JournalWorld.{JournalWorld, Move as JournalMove, Begins as JournalBegins, Leads as JournalLeads};
+ghost use Rattle.log_epochs.specs.JournalDirect.{IsSynced as JournalIsSynced, KeepsDirect as JournalKeepsDirect, since_write as journal_since_write};
 ghost use Rattle.log_epochs.specs.JournalPromise.{KeepsPromise as JournalKeepsPromise};
 
 /// At each moment of an opening nothing is written yet, or the log was flushed, and then each image that a stop may leave
@@ -54,4 +55,9 @@ pub fn a_synced_direct_write_stays()
 /// Whatever steps of a journal come between them, each epoch keeps what its callers were told.
 pub fn every_journal_keeps_the_promise()
     ensures { (start end : JournalWorld) (moves : List JournalMove) → JournalBegins start → JournalLeads start moves end → JournalKeepsPromise end }
+{}
+
+/// So it is with a journal's steps between them, until a transaction with an entry of the block is sealed.
+pub fn a_journals_synced_direct_write_stays()
+    ensures { (start end : JournalWorld) (b : ℕ) (v : List ℕ) (run : JournalIsSynced start b v end) → JournalBegins start → JournalKeepsDirect (journal_since_write start b v end run) b v end }
 {}
