@@ -32,8 +32,8 @@ pub enum Call {
 }
 
 impl Call {
-    /// The same call once more. It fails where memory runs out.
-    fn try_clone(&self, alloc: Global) -> Result<Self, AllocError>
+    /// The same call once more, which shares the bytes of a write. It fails as a clone of a block does.
+    fn try_clone(&self) -> Result<Self, AllocError>
         ensures { IfOk result (λ copy. copy ≡ self.now) }
     {
         match self {
@@ -41,7 +41,7 @@ impl Call {
                 area: write.area,
                 block: write.block,
                 number: write.number,
-                bytes: write.bytes.try_clone(alloc)?,
+                bytes: write.bytes.try_clone()?,
             })),
             Call::Flushed(area) => Ok(Call::Flushed(*area)),
         }
@@ -337,7 +337,7 @@ fn copy_of_calls(alloc: Global, calls: &[Call]) -> Result<Vec<Call>, AllocError>
 {
     let mut copies = Vec::new(alloc);
     for call in calls {
-        copies.push(call.try_clone(alloc)?)?;
+        copies.push(call.try_clone()?)?;
     }
     Ok(copies)
 }

@@ -27,5 +27,5 @@ pub fn read_block<D: Device>(
 {
     let mut bytes = vec![in alloc; 0; device.block_size()]?;
     device.read(area, n, &mut bytes)?;
-    Ok(Block::new(bytes))
+    Ok(Block::new(bytes)?)
 }

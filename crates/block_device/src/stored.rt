@@ -43,13 +43,13 @@ impl StoredBlock {
         Ok(StoredBlock { form })
     }
 
-    /// These bytes once more. Zeros take no memory; else it fails where memory runs out.
-    pub(crate) fn try_clone(&self, alloc: Global) -> Result<Self, AllocError>
+    /// These bytes once more, which are shared. It takes no memory, and fails as a clone of a block does.
+    pub(crate) fn try_clone(&self) -> Result<Self, AllocError>
         ensures { IfOk result (λ copy. copy ≡ self.now) }
     {
         let form = match &self.form {
             Form::Zeros(size) => Form::Zeros(*size),
-            Form::Bytes(block) => Form::Bytes(block.try_clone(alloc)?),
+            Form::Bytes(block) => Form::Bytes(block.try_clone()?),
         };
         Ok(StoredBlock { form })
     }

@@ -259,7 +259,7 @@ impl Front {
     {
         let left = self.left_after(block, left);
         let copy = Block::copy_of(self.alloc, bytes)?;
-        let op = Op::Write(Block::copy_of(self.alloc, bytes)?);
+        let op = Op::Write(copy.try_clone()?);
         self.entries.reserve(1)?;
         self.running.steps.push(Step { handle, block, op })?;
         match self.entries.insert(block, Entry::Copy(copy)) {
@@ -341,7 +341,7 @@ impl Front {
     {
         let mut entries = Items::new(self.alloc);
         for (block, entry) in self.entries.iter() {
-            entries.push((*block, entry.try_clone(self.alloc)?))?;
+            entries.push((*block, entry.try_clone()?))?;
         }
         Ok(Batch {
             tid: self.running.tid,

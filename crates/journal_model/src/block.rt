@@ -3,54 +3,54 @@ ghost use Rattle.std.specs.Prelude.{◌≡◌, List, ℕ, IfOk};
 
 use std::alloc::{AllocError, Global};
 use std::marker::Model;
+use std::sync::Arc;
 
-/// The bytes of one block. Contracts see the list of the bytes.
+/// The bytes of one block, which its clones share. Contracts see the list of the bytes.
 #[derive(Debug, Drop)]
 pub struct Block {
-    bytes: Vec<u8>,
+    bytes: Arc<Vec<u8>>,
 }
 
 impl Model for Block {
+    ghost use Rattle.std.specs.Prelude.{List, ℕ};
+    ghost use Rattle.std.specs.Arc.{arc_value};
+
     ghost Value = { List ℕ };
 
-    ghost view = { λ b. b.bytes.items };
+    ghost view = { λ b. (arc_value b.bytes).items };
 }
 
 impl Block {
-    /// A block of these bytes.
-    pub fn new(bytes: Vec<u8>) -> Self
-        ensures { result ≡ bytes.items }
+    /// A block of these bytes. It fails where memory runs out.
+    pub fn new(bytes: Vec<u8>) -> Result<Self, AllocError>
+        ensures { IfOk result (λ block. block ≡ bytes.items) }
     {
-        Block { bytes }
+        let alloc = *bytes.allocator();
+        Ok(Block {
+            bytes: Arc::new(alloc, bytes)?,
+        })
     }
 
     /// A block that holds a copy of these bytes. It fails where memory runs out.
     pub fn copy_of(alloc: Global, bytes: &[u8]) -> Result<Self, AllocError>
         ensures { IfOk result (λ block. block ≡ bytes.now) }
     {
-        Ok(Block {
-            bytes: bytes.to_vec(alloc)?,
-        })
+        Block::new(bytes.to_vec(alloc)?)
     }
 
-    /// A block of the same bytes. It fails where memory runs out.
-    pub fn try_clone(&self, alloc: Global) -> Result<Self, AllocError>
+    /// A block that shares its bytes. It takes no memory, and fails where they have more holders than can be counted.
+    pub fn try_clone(&self) -> Result<Self, AllocError>
         ensures { IfOk result (λ block. block ≡ self.now) }
     {
-        Block::copy_of(alloc, &self.bytes)
+        Ok(Block {
+            bytes: Arc::try_clone(&self.bytes)?,
+        })
     }
 
     /// The bytes.
     pub fn bytes(&self) -> &[u8]
         ensures { result.now ≡ self.now }
     {
-        &self.bytes
-    }
-
-    /// The bytes in a vector, to be changed.
-    pub fn into_bytes(self) -> Vec<u8>
-        ensures { result.items ≡ self }
-    {
-        self.bytes
+        self.bytes.as_slice()
     }
 }

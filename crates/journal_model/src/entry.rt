@@ -2,7 +2,7 @@
 ghost use Rattle.std.specs.Prelude.{◌≡◌, IfOk};
 
 use crate::{Block, BlockNo, Items, Tid};
-use std::alloc::{AllocError, Global};
+use std::alloc::AllocError;
 
 /// What a transaction leaves of a block that it touched.
 #[derive(Debug, Drop)]
@@ -14,12 +14,12 @@ pub enum Entry {
 }
 
 impl Entry {
-    /// The same entry once more. It fails where memory runs out.
-    pub fn try_clone(&self, alloc: Global) -> Result<Self, AllocError>
+    /// The same entry once more, which shares the bytes of a copy. It fails as a clone of a block does.
+    pub fn try_clone(&self) -> Result<Self, AllocError>
         ensures { IfOk result (λ entry. entry ≡ self.now) }
     {
         match self {
-            Entry::Copy(block) => Ok(Entry::Copy(block.try_clone(alloc)?)),
+            Entry::Copy(block) => Ok(Entry::Copy(block.try_clone()?)),
             Entry::Revoke => Ok(Entry::Revoke),
         }
     }

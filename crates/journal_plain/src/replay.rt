@@ -63,12 +63,12 @@ fn unescaped(alloc: Global, escaped: bool, stored: &Block) -> Result<Block, Allo
     ensures { IfOk result (λ copy. copy ≡ unescaped escaped stored.now) }
 {
     if !escaped {
-        return stored.try_clone(alloc);
+        return stored.try_clone();
     }
     let mut bytes = MAGIC.to_vec(alloc)?;
     let stored = stored.bytes();
     bytes.extend_from_slice(&stored[MAGIC.len().min(stored.len())..])?;
-    Ok(Block::new(bytes))
+    Block::new(bytes)
 }
 
 /// Adds copies to the list, each as replay writes it, with the home block that its tag names. It fails where
@@ -135,7 +135,7 @@ fn last_live(
     }
     let copies = text_copies(alloc, &texts[i])?;
     match last_copy(copies.as_slice(), block) {
-        Some(k) => Ok(Some(copies.as_slice()[k].1.try_clone(alloc)?)),
+        Some(k) => Ok(Some(copies.as_slice()[k].1.try_clone()?)),
         None => Ok(None),
     }
 }

@@ -7,11 +7,11 @@ use journal_model::{BlockNo, Content, Entry, Items, Op, Sealed, Step};
 use std::alloc::{AllocError, Global};
 
 /// What an operation leaves of its block: nothing, where it is a read.
-fn entry_of(alloc: Global, op: &Op) -> Result<Option<Entry>, AllocError>
+fn entry_of(op: &Op) -> Result<Option<Entry>, AllocError>
     ensures { IfOk result (λ entry. entry ≡ entry_of op.now) }
 {
     match op {
-        Op::Write(bytes) => Ok(Some(Entry::Copy(bytes.try_clone(alloc)?))),
+        Op::Write(bytes) => Ok(Some(Entry::Copy(bytes.try_clone()?))),
         Op::Revoke => Ok(Some(Entry::Revoke)),
         Op::Read(_) => Ok(None),
     }
@@ -19,13 +19,13 @@ fn entry_of(alloc: Global, op: &Op) -> Result<Option<Entry>, AllocError>
 
 /// The effect of these steps on a block: what the last write or revoke of it leaves. It fails where memory runs
 /// out.
-pub fn effect(alloc: Global, steps: &[Step], block: BlockNo) -> Result<Option<Entry>, AllocError>
+pub fn effect(steps: &[Step], block: BlockNo) -> Result<Option<Entry>, AllocError>
     ensures { IfOk result (λ entry. entry ≡ effect block steps.now) }
 {
     let mut left = None;
     for step in steps {
         if step.block == block {
-            left = entry_of(alloc, &step.op)?.or(left);
+            left = entry_of(&step.op)?.or(left);
         }
     }
     Ok(left)
@@ -63,7 +63,7 @@ pub fn entries(alloc: Global, steps: &[Step]) -> Result<Items<(BlockNo, Entry)>,
     let blocks = touched(alloc, steps)?;
     let mut list = Items::new(alloc);
     for block in blocks.as_slice() {
-        if let Some(entry) = effect(alloc, steps, *block)? {
+        if let Some(entry) = effect(steps, *block)? {
             list.push((*block, entry))?;
         }
     }
@@ -71,16 +71,12 @@ pub fn entries(alloc: Global, steps: &[Step]) -> Result<Items<(BlockNo, Entry)>,
 }
 
 /// The last effect on a block in these transactions. It fails where memory runs out.
-pub fn last_effect(
-    alloc: Global,
-    history: &[Sealed],
-    block: BlockNo,
-) -> Result<Option<Entry>, AllocError>
+pub fn last_effect(history: &[Sealed], block: BlockNo) -> Result<Option<Entry>, AllocError>
     ensures { IfOk result (λ entry. entry ≡ last_effect block history.now) }
 {
     let mut last = None;
     for transaction in history {
-        last = effect(alloc, transaction.steps.as_slice(), block)?.or(last);
+        last = effect(transaction.steps.as_slice(), block)?.or(last);
     }
     Ok(last)
 }
@@ -97,14 +93,9 @@ fn content_of(entry: Option<Entry>) -> Content
 
 /// What a block is after the first `n` transactions, or after all of them where there are fewer. It fails where
 /// memory runs out.
-pub fn after(
-    alloc: Global,
-    history: &[Sealed],
-    n: usize,
-    block: BlockNo,
-) -> Result<Content, AllocError>
+pub fn after(history: &[Sealed], n: usize, block: BlockNo) -> Result<Content, AllocError>
     ensures { IfOk result (λ content. content ≡ after history.now n block) }
 {
     let first = &history[..n.min(history.len())];
-    Ok(content_of(last_effect(alloc, first, block)?))
+    Ok(content_of(last_effect(first, block)?))
 }

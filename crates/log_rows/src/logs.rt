@@ -80,7 +80,7 @@ fn push_line(
     let mut place = number(first)?;
     for words in spelled.split('|') {
         let block = block_of(alloc, measures, words.trim())?;
-        blocks.push((place, Block::new(block)))?;
+        blocks.push((place, Block::new(block)?))?;
         place = place.saturating_add(1);
     }
     Ok(())
@@ -100,10 +100,10 @@ pub fn log_of(alloc: Global, given: &str) -> Result<Log, RowError> {
 pub fn block_at(alloc: Global, log: &Log, place: u64) -> Result<Block, AllocError> {
     for (other, block) in log.blocks.as_slice().iter().rev() {
         if *other == place {
-            return block.try_clone(alloc);
+            return block.try_clone();
         }
     }
-    Ok(Block::new(vec![in alloc; 0; log.shape.measures.block_size]?))
+    Block::new(vec![in alloc; 0; log.shape.measures.block_size]?)
 }
 
 /// Writes a block of a log.

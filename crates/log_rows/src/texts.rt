@@ -16,7 +16,7 @@ use std::fmt::Write;
 fn blocks_of(alloc: Global, log: &Log) -> Result<Items<Block>, RowError> {
     let mut blocks = Items::new(alloc);
     for (_, block) in log.blocks.as_slice() {
-        blocks.push(block.try_clone(alloc)?)?;
+        blocks.push(block.try_clone()?)?;
     }
     Ok(blocks)
 }

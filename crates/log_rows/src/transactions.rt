@@ -12,7 +12,7 @@ use std::fmt::Write;
 
 /// The block of these bytes.
 fn block_of(alloc: Global, digits: &str) -> Result<Block, RowError> {
-    Ok(Block::new(hex_bytes(alloc, digits)?))
+    Ok(Block::new(hex_bytes(alloc, digits)?)?)
 }
 
 /// What a step does, as it is spelled behind `=`.
@@ -103,6 +103,6 @@ pub fn contents_after(alloc: Global, given: &str) -> Result<String, RowError> {
     let (place, history) = cut(given, "|")?;
     let [n, block] = values::<2>(place, "n block")?;
     let history = history_of(alloc, history)?;
-    let content = after(alloc, history.as_slice(), n as usize, BlockNo(block))?;
+    let content = after(history.as_slice(), n as usize, BlockNo(block))?;
     content_text(alloc, &content)
 }

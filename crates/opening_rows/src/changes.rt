@@ -32,9 +32,9 @@ fn changes_of(alloc: Global, line: &str) -> Result<Changes, RowError> {
 fn with_block(alloc: Global, log: &Log, place: u64, bytes: Vec<u8>) -> Result<Log, RowError> {
     let mut blocks = Items::new(alloc);
     for (other, block) in log.blocks.as_slice() {
-        blocks.push((*other, block.try_clone(alloc)?))?;
+        blocks.push((*other, block.try_clone()?))?;
     }
-    blocks.push((place, Block::new(bytes)))?;
+    blocks.push((place, Block::new(bytes)?))?;
     Ok(Log {
         shape: log.shape,
         blocks,
@@ -43,7 +43,7 @@ fn with_block(alloc: Global, log: &Log, place: u64, bytes: Vec<u8>) -> Result<Lo
 
 /// The log with this value as byte `at` of the block at this place.
 fn changed(alloc: Global, log: &Log, (place, at): (u64, u64), value: u8) -> Result<Log, RowError> {
-    let mut bytes = block_at(alloc, log, place)?.into_bytes();
+    let mut bytes = block_at(alloc, log, place)?.bytes().to_vec(alloc)?;
     *bytes.get_mut(at as usize).ok_or(RowError::Unread)? = value;
     with_block(alloc, log, place, bytes)
 }

@@ -55,20 +55,19 @@ fn area_of(alloc: Global, log: &Log) -> Result<Items<Block>, AllocError> {
 fn lap_of(alloc: Global, area: &[Block], fields: &Super) -> Result<Items<Block>, AllocError> {
     let start = fields.s_start as usize;
     let mut lap = Items::new(alloc);
-    push_blocks(alloc, &mut lap, area, (start, fields.s_maxlen as usize))?;
-    push_blocks(alloc, &mut lap, area, (fields.s_first as usize, start))?;
+    push_blocks(&mut lap, area, (start, fields.s_maxlen as usize))?;
+    push_blocks(&mut lap, area, (fields.s_first as usize, start))?;
     Ok(lap)
 }
 
 /// Adds the blocks from one place to before another.
 fn push_blocks(
-    alloc: Global,
     lap: &mut Items<Block>,
     area: &[Block],
     (from, to): (usize, usize),
 ) -> Result<(), AllocError> {
     for block in area.get(from..to).unwrap_or(&[]) {
-        lap.push(block.try_clone(alloc)?)?;
+        lap.push(block.try_clone()?)?;
     }
     Ok(())
 }

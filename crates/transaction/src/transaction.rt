@@ -224,7 +224,7 @@ impl Transaction {
     {
         let touch = self.paid_touch(left, block)?;
         let copy = Block::copy_of(self.alloc, bytes)?;
-        let op = Op::Write(Block::copy_of(self.alloc, bytes)?);
+        let op = Op::Write(copy.try_clone()?);
         self.reserve()?;
         self.note(Step { handle, block, op }, Some(Entry::Copy(copy)));
         Ok(touch)
@@ -265,7 +265,7 @@ impl Transaction {
     {
         let mut entries = Items::new(self.alloc);
         for (block, entry) in self.entries.iter() {
-            entries.push((*block, entry.try_clone(self.alloc)?))?;
+            entries.push((*block, entry.try_clone()?))?;
         }
         Ok(Batch {
             tid: self.tid,
