@@ -73,14 +73,14 @@ was-closed e disk sound keeps fresh idle = record { clean = clean; opens = opens
 
 module _ (e : Engine) (disk after : Disk) (sound : Sound e disk) (may : MayClose e) (write : IsWrite disk after 0 (closed_superblock e)) where
   -- the engine runs, in an epoch that began with this disk
-  running : IsRunning e.shape disk e disk
-  running = record { shape_is = refl; sound = sound; home = right-first disk e }
+  running : IsRunning e.shape disk [] e disk
+  running = record { shape_is = refl; sound = sound; home = right-first disk [] e }
 
   -- each image that may be left of block 0, written or not, opens to all
   written-to : (image : Image) (ts : History) → Leaves after image → AreBatchesOf ts e.accepted →
       Opens e.shape ts (length e.accepted) image × IsCountOf e.shape image ts (length e.accepted)
   written-to image ts leaves are =
-      let kept : Kept e.shape (record { opening = disk; engine = e; pin = None }) ts image = close-keeps e.shape disk e disk after running may write image leaves ts are in
+      let kept : Kept e.shape (record { opening = disk; engine = e; directs = []; pin = None }) ts image = close-keeps e.shape disk [] e disk after running may write image leaves ts are in
       let all : length e.accepted ≡ e.committed = all-committed e sound.plain may.idle in
       let low : e.committed ≤ kept.n = kept.low in
       let high : kept.n ≤ length e.accepted = kept.high in
@@ -121,7 +121,7 @@ module _ (e : Engine) (disk after : Disk) (sound : Sound e disk) (may : MayClose
   flushed-closed : (after Log 0).reads ≡ closed_superblock e → IsClosedLog e (flushed after Log)
   flushed-closed reads = record {
     clean = λ image leaves.
-        (close-closes e.shape disk e disk after running may write image (flushed-leaves after Log image leaves)
+        (close-closes e.shape disk [] e disk after running may write image (flushed-leaves after Log image leaves)
         (⊎_elim (λ is. is ∙ reads) (λ none. absurd none) (leaves.each Log 0))).clean;
     opens = (during-flushed reads).opens;
   }
