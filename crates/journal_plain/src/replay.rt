@@ -68,7 +68,7 @@ fn unescaped(alloc: Global, escaped: bool, stored: &Block) -> Result<Block, Allo
     let mut bytes = MAGIC.to_vec(alloc)?;
     let stored = stored.bytes();
     bytes.extend_from_slice(&stored[MAGIC.len().min(stored.len())..])?;
-    Block::new(bytes)
+    Ok(Block::new(bytes)?)
 }
 
 /// Adds copies to the list, each as replay writes it, with the home block that its tag names. It fails where

@@ -9,7 +9,7 @@ returns-clause-size g c =
     let old = c.deref_mut.ensures.len in
     let made = c.in_ok-bytes.ensures.len in
     let told = c.block_size.ensures.size in
-    ap length c.new.ensures
+    ap length c.in_ok-new.ensures
     ∙ as-long c.in_ok-bytes.bytes.len (g.D.Device.state c.args.device.now).shape.block_size c.read.new.into
     (drop (length c.read.new.into) c.in_ok-bytes.bytes.items) (omega arith) (omega arith)
 
@@ -18,6 +18,6 @@ pub returns-clause-bytes : goal.returns-clause-bytes
 returns-clause-bytes g c = λ honest.
     let new = c.read.auto.into in
     let old = c.deref_mut.ensures.len in
-    c.new.ensures
+    c.in_ok-new.ensures
     ∙ whole-buffer c.in_ok-bytes.bytes.len c.read.new.into (drop (length c.read.new.into) c.in_ok-bytes.bytes.items) (omega arith)
     ∙ c.in_ok-read.ensures.bytes honest
