@@ -16,7 +16,7 @@ use Rattle.group_commit.proofs.front.Front.write.Goals as goal
 pub returns-clause-ok : goal.returns-clause-ok
 returns-clause-ok c =
     let f = front_of c.self.inside in
-    let noted = c.in_ok-push.ensures.ok ∙ ap (λ (v : List ℕ). f.running.steps ++ write_step c.args.handle c.args.block v ∷ []) c.in_ok-copy_of.ensures in
+    let noted = c.in_ok-push.ensures.ok ∙ ap (λ (v : List ℕ). f.running.steps ++ write_step c.args.handle c.args.block v ∷ []) (c.in_ok-try_clone.ensures ∙ c.in_ok-copy.ensures) in
     let spent = rw (← c.self.view_is) at c.left_after-left.ensures in
     let told = c.in-Ok-insert.ensures.entries ∙ ap (insert_entry nat_eq f.open_handles c.args.handle) spent in
     rw (← c.self.view_is)
@@ -36,8 +36,8 @@ pub invariant_of-self-2 : goal.invariant_of-self-2
 invariant_of-self-2 c =
     let f = front_of c.self.inside in
     let inserted = on_ok-at c.insert.result (c.insert.ensures.succeeds (omega (arith, c.in_ok-reserve.ensures.ok))) c.insert.ensures.entries in
-    let same = c.in_ok-copy.ensures ∙ sym c.in_ok-copy_of.ensures in
-    let noted = c.in_ok-push.ensures.ok ∙ ap (λ (v : List ℕ). f.running.steps ++ write_step c.args.handle c.args.block v ∷ []) c.in_ok-copy_of.ensures in
+    let same = sym c.in_ok-try_clone.ensures in
+    let noted = c.in_ok-push.ensures.ok ∙ ap (λ (v : List ℕ). f.running.steps ++ write_step c.args.handle c.args.block v ∷ []) (c.in_ok-try_clone.ensures ∙ c.in_ok-copy.ensures) in
     let spent = rw (← c.self.view_is) at c.left_after-left.ensures in
     let told = c.in-Ok-insert.ensures.entries ∙ ap (insert_entry nat_eq f.open_handles c.args.handle) spent in
     let step =
