@@ -7,5 +7,6 @@ pub mod Reading
 pub mod Rounding
 pub mod Sealing
 pub mod Touches
+pub mod Touching
 pub mod Turning
 pub mod Unfinished

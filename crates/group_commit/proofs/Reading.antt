@@ -28,7 +28,7 @@ use Rattle.journal_world.proofs.Lasts.{IsLastIn, last-in, none-in}
 use Rattle.journal_world.proofs.Pending.{contains-map}
 use Rattle.journal_world.proofs.Positions.{committed-few}
 use Rattle.journal_world.proofs.Suffixes.{get-take}
-use Rattle.group_commit.specs.Front.{unfinished}
+use Rattle.journal_world.specs.Front.{unfinished}
 use Rattle.group_commit.specs.Journal.{Agrees, HasCopyKept, IsSeen, finished}
 use Rattle.group_commit.specs.Journal.HasCopyKept.{OfPending, OfUnfinished}
 use Rattle.group_commit.proofs.Sealing.{copy-good}
@@ -195,5 +195,5 @@ kept-whole j b v agrees plain made =
 -- a copy that is kept is pending where none of these has an entry
 pub kept-pending : (j : Journal) (b : ℕ) (P : Type 0) → last_effect b (unfinished j.front) ≡ None →
     ((i : ℕ) (v : List ℕ) → IsPending j.engine i b v → P) → HasCopyKept j b → P
-kept-pending j b P none pending (OfUnfinished e some) = absurd (none-some e (sym none ∙ some))
+kept-pending j b P none pending (OfUnfinished v some) = absurd (none-some (Copy v) (sym none ∙ some))
 kept-pending j b P none pending (OfPending i v is) = pending i v is
