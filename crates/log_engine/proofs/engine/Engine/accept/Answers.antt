@@ -50,6 +50,7 @@ invariant_of-self g c =
       c.self.invariant.2,
       c.self.invariant.3,
       idle-planned (engine_of shape l) c.make.new.self c.self.invariant.0.plain may.idle,
+      c.self.invariant.5,
     )
 
 -- that is what the answer says
