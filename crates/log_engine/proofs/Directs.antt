@@ -1,13 +1,13 @@
 -- A direct call of a device: what it does to the engine and the disk, and what holds at each of its moments.
 use Rattle.std.proofs.Common.{refl, sym, ap, subst, ◌∙◌}
-use Rattle.std.specs.Prelude.{◌≡◌, ℕ, true, false, List, length, Result, Ok, Err, IfErr, OnErr, Some}
+use Rattle.std.specs.Prelude.{◌≡◌, ℕ, true, false, List, length, Result, Ok, Err, IfErr, OnErr, OnOk}
 use Rattle.journal_model.specs.declared.number.Area.TheVariants.{Home}
 use Rattle.journal_model.specs.declared.refusal.JournalError.{JournalError}
 use Rattle.journal_model.specs.declared.refusal.JournalError.TheVariants.{Device}
 use Rattle.journal_model.specs.Disk.{Disk}
 use Rattle.journal_model.specs.HomeChange.{HomeAddsOnly}
 use Rattle.journal_model.specs.Superblock.{Shape}
-use Rattle.block_device.specs.State.{DeviceState, EachMoment}
+use Rattle.block_device.specs.State.{CountsFaults, DeviceState, EachMoment}
 use Rattle.journal_world.specs.Call.{Call, IsAfterFault, after_success}
 use Rattle.journal_world.specs.Call.Call.{Flush, Write}
 use Rattle.journal_world.specs.Direct.{DirectCall, DirectFaults, DirectSteps}
@@ -19,7 +19,10 @@ use Rattle.journal_world.proofs.HomeCopies.{adds-none}
 use Rattle.journal_world.proofs.Images.{images-open}
 use Rattle.log_engine.specs.Call.{IsOneMoment}
 use Rattle.log_engine.specs.Call.IsOneMoment.{Same}
-use Rattle.log_engine.specs.Direct.{IsDuringDirectSync, IsDuringDirectWrite, NoAddition}
+use Rattle.log_engine.specs.Direct.{DirectSyncRefused, DirectWriteRefused, IsDuringDirectSync, IsDuringDirectWrite, NoAddition}
+use Rattle.log_engine.specs.Direct.DirectSyncRefused.{SyncFailed}
+use Rattle.log_engine.specs.Direct.DirectWriteRefused.{WriteFailed}
+use Rattle.log_engine.specs.Engine.{EngineValue}
 use Rattle.log_engine.proofs.Calls.{each-one}
 
 -- the engine, on a device whose shape stays, where the call succeeds
@@ -65,20 +68,17 @@ module _ (e : Engine) (b : ℕ) (v : List ℕ) where
       each-one (IsDuringDirectWrite e b v state.disk) state state (Same (record { shape = refl; disk = refl; past = refl })) (during-write state.disk sound)
       (during-write state.disk sound)
 
-  -- at each moment of a direct write that succeeds
-  pub each-written : (new : Engine) (before after : DeviceState) → IsOneMoment before after → Sound e before.disk →
-      DirectSteps e before.disk (Write Home b v) new after.disk → EachMoment (IsDuringDirectWrite e b v before.disk) before after
-  each-written new before after moment sound step =
+  -- at each moment of a direct write, whether it succeeds or fails
+  pub each-write : {T E : Type 0} (r : Result T E) (new : Engine) (before after : DeviceState) → IsOneMoment before after → Sound e before.disk →
+      OnOk r (DirectSteps e before.disk (Write Home b v) new after.disk) → OnErr r (DirectFaults e before.disk (Write Home b v) new after.disk) →
+      EachMoment (IsDuringDirectWrite e b v before.disk) before after
+  each-write (Ok x) new before after moment sound step fault =
       each-one (IsDuringDirectWrite e b v before.disk) before after moment (during-write before.disk sound)
       (record {
         home = direct-home e new before.disk after.disk b v step;
         opens = step-opens e new before.disk after.disk (Write Home b v) sound step;
       })
-
-  -- and of one that fails
-  pub each-lost : (new : Engine) (before after : DeviceState) → IsOneMoment before after → Sound e before.disk →
-      DirectFaults e before.disk (Write Home b v) new after.disk → EachMoment (IsDuringDirectWrite e b v before.disk) before after
-  each-lost new before after moment sound fault =
+  each-write (Err x) new before after moment sound step fault =
       each-one (IsDuringDirectWrite e b v before.disk) before after moment (during-write before.disk sound)
       (record {
         home = direct-fault-home e new before.disk after.disk b v fault;
@@ -99,9 +99,10 @@ module _ (e : Engine) where
       each-one (IsDuringDirectSync e state.disk) state state (Same (record { shape = refl; disk = refl; past = refl })) (during-sync state.disk sound)
       (during-sync state.disk sound)
 
-  pub each-synced : (new : Engine) (before after : DeviceState) → IsOneMoment before after → Sound e before.disk →
-      DirectSteps e before.disk (Flush Home) new after.disk → EachMoment (IsDuringDirectSync e before.disk) before after
-  each-synced new before after moment sound step =
+  pub each-sync : {T E : Type 0} (r : Result T E) (new : Engine) (before after : DeviceState) → IsOneMoment before after → Sound e before.disk →
+      OnOk r (DirectSteps e before.disk (Flush Home) new after.disk) → OnErr r (DirectFaults e before.disk (Flush Home) new after.disk) →
+      EachMoment (IsDuringDirectSync e before.disk) before after
+  each-sync (Ok x) new before after moment sound step fault =
       each-one (IsDuringDirectSync e before.disk) before after moment (during-sync before.disk sound)
       (record {
         home =
@@ -109,12 +110,24 @@ module _ (e : Engine) where
             (direct-adds NoAddition e before.disk (Flush Home) (λ b v same left. flush-none b v same) step.due);
         opens = step-opens e new before.disk after.disk (Flush Home) sound step;
       })
-
-  pub each-unflushed : (new : Engine) (before after : DeviceState) → IsOneMoment before after → Sound e before.disk →
-      DirectFaults e before.disk (Flush Home) new after.disk → EachMoment (IsDuringDirectSync e before.disk) before after
-  each-unflushed new before after moment sound fault =
+  each-sync (Err x) new before after moment sound step fault =
       each-one (IsDuringDirectSync e before.disk) before after moment (during-sync before.disk sound)
       (record {
         home = direct-fault-adds NoAddition e before.disk after.disk (Flush Home) (λ b v same left. flush-none b v same) fault.due fault.disk_is;
         opens = fault-opens e new before.disk after.disk (Flush Home) sound fault;
       })
+
+module _ {D T : Type 0} (state : D → DeviceState) (old new : EngineValue D) where
+  -- a direct write that is refused once its call is made has failed
+  pub write-lost : (r : Result T JournalError) (b : ℕ) (v : List ℕ) →
+      OnErr r (DirectFaults old.engine (state old.device).disk (Write Home b v) new.engine (state new.device).disk) → IfErr r (λ e. e ≡ Device) →
+      CountsFaults r (state old.device) (state new.device) → IfErr r (λ e. DirectWriteRefused state old b v new e)
+  write-lost (Ok x) b v fault is count = tt
+  write-lost (Err e) b v fault is count = subst (DirectWriteRefused state old b v new) (sym is) (WriteFailed fault count)
+
+  -- so has a flush of home
+  pub sync-lost : (r : Result T JournalError) →
+      OnErr r (DirectFaults old.engine (state old.device).disk (Flush Home) new.engine (state new.device).disk) → IfErr r (λ e. e ≡ Device) →
+      CountsFaults r (state old.device) (state new.device) → IfErr r (λ e. DirectSyncRefused state old new e)
+  sync-lost (Ok x) fault is count = tt
+  sync-lost (Err e) fault is count = subst (DirectSyncRefused state old new) (sym is) (SyncFailed fault count)

@@ -1,5 +1,5 @@
 -- Whether a block is left to home, by the last effect on it of the transactions that were handed over.
-use Rattle.std.proofs.Common.{arith, inl, inr, sym, ap, subst, ◌∙◌}
+use Rattle.std.proofs.Common.{arith, inl, inr, refl, sym, ap, subst, ◌∙◌}
 use Rattle.std.specs.Prelude.{◌≡◌, ◌↔◌, ℕ, ◌+◌, ◌<◌, ◌≤◌, nat_eq, List, [], ◌∷◌, map, Option, Some, None, slice_get, Contains}
 use Rattle.std.specs.Cmp.{nat_eq_equiv}
 use Rattle.std.specs.List.{IsDistinct}
@@ -11,11 +11,10 @@ use Rattle.journal_model.specs.declared.entry.Entry.{Entry}
 use Rattle.journal_model.specs.declared.entry.Entry.TheVariants.{Copy, Revoke}
 use Rattle.last_effects.specs.declared.effects.LastEffect.{LastEffect}
 use Rattle.last_effects.specs.declared.effects.LastEffect.TheVariants.{Copied, Revoked}
-use Rattle.last_effects.specs.Effects.{EffectsValue, HasLast, HasNoEntry, IsLeft, effect_of, effect_on, last_among, last_effect}
-use Rattle.last_effects.proofs.Lasts.{last-more, none-entered, some-last}
-use Rattle.journal_world.specs.Checkpoint.{IsNewestCopy}
+use Rattle.last_effects.specs.Effects.{EffectsValue, HasLast, HasNoEntry, IsLeft, effect_of, effect_on, last_effect}
+use Rattle.last_effects.proofs.Lasts.{none-entered, some-last}
 use Rattle.journal_world.specs.Direct.{IsLeftToHome}
-use Rattle.journal_world.specs.Engine.{Engine, IsBatch, accepting}
+use Rattle.journal_world.specs.Engine.{Engine, IsBatch}
 use Rattle.journal_world.specs.Sound.{IsPlain}
 use Rattle.journal_world.proofs.Batches.{number-at}
 use Rattle.journal_world.proofs.Elements.{all-at}
