@@ -1,24 +1,19 @@
 //! The engine that a journal stands on: one contract for each step, of the machine's own steps.
-ghost use Rattle.std.specs.Prelude.{◌≡◌, ◌≢◌, ◌+◌, ◌≤◌, ◌↔◌, ℕ, List, IsTrue, false, length, IfOk, IfErr, MatchResult, OnErr, OnOk, Some};
-ghost use Rattle.journal_model.specs.declared.number.Area.TheVariants.{Home};
+ghost use Rattle.std.specs.Prelude.{◌≡◌, ◌≢◌, ◌+◌, ◌≤◌, ◌↔◌, ℕ, List, IsTrue, false, length, IfOk, IfErr, MatchResult, OnOk};
 ghost use Rattle.journal_model.specs.declared.refusal.JournalError.TheVariants.{Device as DeviceFailed, Memory};
 ghost use Rattle.journal_model.specs.Layout.{IsTaken};
 ghost use Rattle.journal_model.specs.Opening.{ring_of};
 ghost use Rattle.journal_model.specs.Room.{need};
 ghost use Rattle.journal_model.specs.Superblock.{super_in};
-ghost use Rattle.block_device.specs.State.{CountsFaults, EachMoment, MakesAtMostOneCall, Stays};
+ghost use Rattle.block_device.specs.State.{EachMoment, MakesAtMostOneCall, Stays};
 ghost use Rattle.journal_world.specs.declared.stage.Stage.TheVariants.{Idle};
-ghost use Rattle.journal_world.specs.Call.{Call};
-ghost use Rattle.journal_world.specs.Call.Call.{Flush, Write};
 ghost use Rattle.journal_world.specs.Checkpoint.{IsPending, IsRead};
-ghost use Rattle.journal_world.specs.Direct.{DirectCall, DirectFaults, DirectSteps, IsLeftToHome};
 ghost use Rattle.journal_world.specs.Engine.{Accepts};
 ghost use Rattle.journal_world.specs.Journal.{fresh_engine};
 ghost use Rattle.journal_world.specs.Opening.{IsOpenedLog};
 ghost use Rattle.journal_world.specs.Sound.{IsPlain, OpensBetween};
-ghost use Rattle.log_engine.specs.Call.{Fits, IsOneMoment, call_of};
+ghost use Rattle.log_engine.specs.Call.{IsOneMoment};
 ghost use Rattle.log_engine.specs.Close.{CloseDid, CloseRefused, IsAllReleased, IsClosedLog, IsDuringClose};
-ghost use Rattle.log_engine.specs.Direct.{DirectSyncRefused, DirectWriteRefused, IsDuringDirectSync, IsDuringDirectWrite};
 ghost use Rattle.log_engine.specs.Engine.{AcceptRefused, IsDuringCommit, IsDuringRound, MayHandOver, MayTouch, ReadRefused, RoundDid, RoundRefused, StepDid, StepRefused};
 ghost use Rattle.log_engine.specs.Left.{LeavesFewer, commit_calls, round_calls};
 
@@ -51,11 +46,13 @@ pub enum Progress {
 /// The transactions of an opened log, and the device that it lies on.
 #[derive(Drop)]
 pub struct Engine<D: Device> {
-    device: D,
-    ledger: Ledger,
-    plan: Plan,
-    effects: LastEffects,
-    writer: TextWriter,
+    pub(crate) device: D,
+    pub(crate) ledger: Ledger,
+    /// Of the batch that is being committed.
+    pub(crate) plan: Plan,
+    /// Of the transactions that were handed over.
+    pub(crate) effects: LastEffects,
+    pub(crate) writer: TextWriter,
 }
 
 impl<D: Device> Model for Engine<D> {
@@ -301,91 +298,6 @@ impl<D: Device> Engine<D> {
             return Ok(());
         }
         if self.device.read(Area::Home, block.0, into).is_err() {
-            self.ledger.aborted = true;
-            return Err(JournalError::Device);
-        }
-        Ok(())
-    }
-
-    /// Writes a block to home directly, past the log, where it is left to home: its last entry in the transactions that were
-    /// committed since the opening, released ones too, is a revoke, or it has none, and the transaction that is being
-    /// committed has no entry of it. What was written is durable behind a `sync_direct` that answers Ok. It takes no memory,
-    /// and looks at nothing but the block's last entry, whatever was handed over since the opening.
-    ///
-    /// # Errors
-    ///
-    /// `Aborted` after a device failure; `BadBlock` where home has no such block, or no tag of the log can spell its number;
-    /// `NotDirect` where the block is not left to home: nothing changes. `Device` where the device fails: the journal is
-    /// aborted, and home reads the block as before or as these bytes, and a stop may leave either.
-    /// Source: this project's own, by what journal.rst says of revokes.
-    pub fn write_direct(&mut self, block: BlockNo, bytes: &[u8]) -> Result<(), JournalError>
-        requires { length bytes.now ≡ (D.state self.old.device).shape.block_size }
-        ensures may { OnOk result ((self.old.engine.aborted ≡ false) × MayTouch self.old.engine block × IsLeftToHome self.old.engine block) }
-        ensures ok { OnOk result (DirectSteps self.old.engine (D.state self.old.device).disk (Write Home block bytes.now) self.new.engine (D.state self.new.device).disk) }
-        ensures err { IfErr result (λ e. DirectWriteRefused D.state self.old block bytes.now self.new e) }
-        ensures no_fault { OnOk result ((D.state self.new.device).faults ≡ (D.state self.old.device).faults) }
-        ensures shape { (D.state self.new.device).shape ≡ (D.state self.old.device).shape }
-        ensures moments { D.honest self.old.device →
-            EachMoment (IsDuringDirectWrite self.old.engine block bytes.now (D.state self.old.device).disk) (D.state self.old.device) (D.state self.new.device) }
-        ensures one { IsOneMoment (D.state self.old.device) (D.state self.new.device) }
-        ensures calls { MakesAtMostOneCall (D.state self.old.device) (D.state self.new.device) }
-        ensures honest { D.honest self.new.device → D.honest self.old.device }
-    {
-        if self.ledger.aborted {
-            return Err(JournalError::Aborted);
-        }
-        if !block.is_allowed(self.ledger.layout, self.device.blocks(Area::Home)) {
-            return Err(JournalError::BadBlock);
-        }
-        if !self
-            .effects
-            .is_left_to_home(block, Tid(self.ledger.next_number()))
-        {
-            return Err(JournalError::NotDirect);
-        }
-        self.call_directly(Due::Write(Area::Home, block.0), bytes)
-    }
-
-    /// Flushes home, so that what was written directly is durable. It takes no memory.
-    ///
-    /// # Errors
-    ///
-    /// `Aborted` after a device failure: nothing changes. `Device` where the device fails: the journal is aborted, and
-    /// nothing became durable.
-    pub fn sync_direct(&mut self) -> Result<(), JournalError>
-        ensures ok { OnOk result (DirectSteps self.old.engine (D.state self.old.device).disk (Flush Home) self.new.engine (D.state self.new.device).disk) }
-        ensures err { IfErr result (λ e. DirectSyncRefused D.state self.old self.new e) }
-        ensures no_fault { OnOk result ((D.state self.new.device).faults ≡ (D.state self.old.device).faults) }
-        ensures shape { (D.state self.new.device).shape ≡ (D.state self.old.device).shape }
-        ensures moments { D.honest self.old.device →
-            EachMoment (IsDuringDirectSync self.old.engine (D.state self.old.device).disk) (D.state self.old.device) (D.state self.new.device) }
-        ensures one { IsOneMoment (D.state self.old.device) (D.state self.new.device) }
-        ensures calls { MakesAtMostOneCall (D.state self.old.device) (D.state self.new.device) }
-        ensures honest { D.honest self.new.device → D.honest self.old.device }
-    {
-        if self.ledger.aborted {
-            return Err(JournalError::Aborted);
-        }
-        self.call_directly(Due::Flush(Area::Home), &[])
-    }
-
-    /// Makes a device call past the log. Where it fails the journal is aborted.
-    fn call_directly(&mut self, due: Due, bytes: &[u8]) -> Result<(), JournalError>
-        requires running { self.old.engine.aborted ≡ false }
-        requires direct { (call : Call) × (call_of due bytes.now ≡ Some call) × DirectCall self.old.engine call }
-        requires fits { Fits (D.state self.old.device).shape due bytes.now }
-        ensures ok { (call : Call) → call_of due bytes.now ≡ Some call →
-            OnOk result (DirectSteps self.old.engine (D.state self.old.device).disk call self.new.engine (D.state self.new.device).disk) }
-        ensures err { (call : Call) → call_of due bytes.now ≡ Some call →
-            OnErr result (DirectFaults self.old.engine (D.state self.old.device).disk call self.new.engine (D.state self.new.device).disk) }
-        ensures device { IfErr result (λ e. e ≡ DeviceFailed) }
-        ensures faults { CountsFaults result (D.state self.old.device) (D.state self.new.device) }
-        ensures shape { (D.state self.new.device).shape ≡ (D.state self.old.device).shape }
-        ensures one { IsOneMoment (D.state self.old.device) (D.state self.new.device) }
-        ensures calls { MakesAtMostOneCall (D.state self.old.device) (D.state self.new.device) }
-        ensures honest { D.honest self.new.device → D.honest self.old.device }
-    {
-        if make_call(&mut self.device, due, bytes).is_err() {
             self.ledger.aborted = true;
             return Err(JournalError::Device);
         }
