@@ -1,5 +1,6 @@
 -- The lemmas of this crate.
 pub mod Closed
+pub mod Directs
 pub mod Finishing
 pub mod Holding
 pub mod Leading

@@ -34,7 +34,7 @@ use Rattle.group_commit.specs.Journal.HasCopyKept.{OfPending, OfUnfinished}
 use Rattle.group_commit.proofs.Sealing.{copy-good}
 
 -- the last effect of transactions is that of the first, and then of those behind
-last-from : (b r : ℕ) (ts : History) → last_effect b ts ≡ later (last_effect b (take r ts)) (last_effect b (drop r ts))
+pub last-from : (b r : ℕ) (ts : History) → last_effect b ts ≡ later (last_effect b (take r ts)) (last_effect b (drop r ts))
 last-from b zero ts = sym (later-none (last_effect b ts))
 last-from b (suc r) [] = refl
 last-from b (suc r) (t ∷ ts) =
@@ -117,22 +117,22 @@ module _ (e : Engine) (ts : History) (b : ℕ) (plain : IsPlain e) (are : AreBat
 
 module _ (j : Journal) (agrees : Agrees j) (plain : IsPlain j.engine) where
   -- as many transactions are finished as are committed
-  finished-is : finished j ≡ j.engine.committed
+  pub finished-is : finished j ≡ j.engine.committed
   finished-is = let told = agrees.finished in omega arith
 
   -- they are among the sealed ones
-  few : j.engine.committed ≤ length j.front.sealed
+  pub few : j.engine.committed ≤ length j.front.sealed
   few =
       let same = same-length j.front.sealed j.engine.accepted agrees.batches in
       let least = committed-few j.engine j.engine.stage plain.stage in
       omega arith
 
   -- all transactions
-  abbrev all : History
+  abbrev pub all : History
   all = j.front.sealed ++ j.front.running ∷ []
 
   -- the front leaves the others
-  unfinished-is : unfinished j.front ≡ drop (finished j) all
+  pub unfinished-is : unfinished j.front ≡ drop (finished j) all
   unfinished-is =
       let same = same-length j.front.sealed j.engine.accepted agrees.batches in
       let number = agrees.number in

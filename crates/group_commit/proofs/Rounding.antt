@@ -50,7 +50,7 @@ agrees-round_refused f front old new before after e agrees told (RoundFailed fau
     (agrees-told f old new agrees keeps.0 true keeps.1 (ap (λ (x : Engine). x.aborted) fault.engine))
 
 -- a front that knows of a failure is as it was once it is told again
-told-again : (f : Front) (e : Engine) → Agrees (record { front = f; engine = e }) → e.aborted ≡ true → aborting f ≡ f
+pub told-again : (f : Front) (e : Engine) → Agrees (record { front = f; engine = e }) → e.aborted ≡ true → aborting f ≡ f
 told-again f e agrees is = ap (λ (b : Bool). record f { aborted = b }) (sym (agrees.aborted ∙ is))
 
 -- a step of a round that is refused refuses the turn

@@ -182,6 +182,13 @@ impl Front {
         self.aborted
     }
 
+    /// Notes whether the device has failed.
+    pub(crate) fn learn(&mut self, aborted: bool)
+        ensures { self.new ≡ record self.old { aborted = aborted } }
+    {
+        self.aborted = aborted;
+    }
+
     /// Notes that the device has failed.
     pub(crate) fn abort(&mut self)
         ensures { self.new ≡ aborting self.old }

@@ -33,8 +33,8 @@ use std::marker::Model;
 /// A journal on an opened log.
 #[derive(Drop)]
 pub struct Journal<D: Device> {
-    front: Front,
-    engine: Engine<D>,
+    pub(crate) front: Front,
+    pub(crate) engine: Engine<D>,
 }
 
 /// What a commit turn did.
