@@ -1,11 +1,12 @@
 -- A checkpoint turn and a read beside the front: front and engine agree after them, and what refuses them.
 use Rattle.std.proofs.Common.{refl, sym, ap, ap₂, subst, ◌∙◌}
-use Rattle.std.specs.Prelude.{◌≡◌, ℕ, Bool, true, false, None}
+use Rattle.std.specs.Prelude.{◌≡◌, ℕ, Bool, true, false, None, length}
 use Rattle.std.proofs.lemmas.Bool.{true≢false}
 use Rattle.journal_model.specs.declared.refusal.JournalError.{JournalError}
 use Rattle.journal_model.specs.Block.{IsAllowedBlock}
 use Rattle.journal_model.specs.Disk.{Disk}
-use Rattle.journal_model.specs.Transaction.{last_effect}
+use Rattle.journal_model.specs.Superblock.{Shape}
+use Rattle.journal_model.specs.Transaction.{History, last_effect}
 use Rattle.block_device.specs.State.{DeviceState, Stays}
 use Rattle.journal_world.specs.Engine.{Engine}
 use Rattle.journal_world.specs.Front.{Front, aborting}
@@ -16,7 +17,7 @@ use Rattle.log_engine.specs.Engine.{EngineValue, ReadRefused, RoundDid, RoundRef
 use Rattle.log_engine.specs.Engine.ReadRefused.{ReadAborted, ReadFailed, ReadOutside}
 use Rattle.log_engine.specs.Engine.RoundRefused.{RoundAborted, RoundFailed}
 use Rattle.group_commit.specs.declared.journal.CheckTurn.TheVariants.{Idle as IdleTurn, Step as StepTurn, Released}
-use Rattle.group_commit.specs.Journal.{Agrees, CheckTurnDid, CheckTurnRefused, ReadRefused as JournalReadRefused}
+use Rattle.group_commit.specs.Journal.{Agrees, CheckTurnDid, CheckTurnRefused, OpensNow, OpensOver, ReadRefused as JournalReadRefused}
 use Rattle.group_commit.specs.Journal.CheckTurnRefused.{CheckAborted, CheckFailed}
 use Rattle.group_commit.specs.Journal.ReadRefused.{ReadFailed as FailedRead}
 use Rattle.journal_world.specs.Front.{unfinished}
@@ -105,3 +106,31 @@ refused-read state f front old new b e agrees running may none stays told (ReadO
 refused-read state f front old new b e agrees running may none stays told (ReadFailed on touched unkept same counted) =
     FailedRead may none (kept-pending (record { front = f; engine = old.engine }) b ⊥ none unkept)
     (record { running = running; front = told; engine = same; disk_is = stays.disk }) counted
+
+-- what a stop leaves opens as before, where the disk, the sealed transactions and the count of the committed ones are the same
+opens-same : (f front : Front) (old new : Engine) (disk after : Disk) → front.sealed ≡ f.sealed → new.shape ≡ old.shape → new.committed ≡ old.committed →
+    after ≡ disk → OpensNow (record { front = f; engine = old }) disk → OpensNow (record { front = front; engine = new }) after
+opens-same f front old new disk after sealed shape committed same opens =
+    subst (λ (d : Disk). OpensOver new.shape front.sealed new.committed (length front.sealed) d) (sym same)
+    (subst (λ (ts : History). OpensOver new.shape ts new.committed (length ts) disk) (sym sealed)
+    (subst (λ (n : ℕ). OpensOver new.shape f.sealed n (length f.sealed) disk) (sym committed)
+    (subst (λ (s : Shape). OpensOver s f.sealed old.committed (length f.sealed) disk) (sym shape) opens)))
+
+-- so it does where the engine refused a read
+pub opens-unread : {D : Type 0} (state : D → DeviceState) (f front : Front) (old new : EngineValue D) (b : ℕ) (e : JournalError) →
+    OpensNow (record { front = f; engine = old.engine }) (state old.device).disk → front ≡ aborting f → Stays (state old.device) (state new.device) →
+    ReadRefused state old b new e → OpensNow (record { front = front; engine = new.engine }) (state new.device).disk
+opens-unread {D} state f front old new b e opens told stays (ReadAborted is same) =
+    let engine : new.engine ≡ old.engine = ap (λ (x : EngineValue D). x.engine) same in
+    opens-same f front old.engine new.engine _ _ (ap (λ (x : Front). x.sealed) told) (ap (λ (x : Engine). x.shape) engine) (ap (λ (x : Engine). x.committed) engine) stays.disk opens
+opens-unread {D} state f front old new b e opens told stays (ReadOutside on none same) =
+    let engine : new.engine ≡ old.engine = ap (λ (x : EngineValue D). x.engine) same in
+    opens-same f front old.engine new.engine _ _ (ap (λ (x : Front). x.sealed) told) (ap (λ (x : Engine). x.shape) engine) (ap (λ (x : Engine). x.committed) engine) stays.disk opens
+opens-unread {D} state f front old new b e opens told stays (ReadFailed on touched none same counted) =
+    opens-same f front old.engine new.engine _ _ (ap (λ (x : Front). x.sealed) told) (ap (λ (x : Engine). x.shape) same) (ap (λ (x : Engine). x.committed) same) stays.disk opens
+
+-- and where it answered one
+pub opens-read : (f : Front) (old new : Engine) (disk after : Disk) → new ≡ old → after ≡ disk → OpensNow (record { front = f; engine = old }) disk →
+    OpensNow (record { front = f; engine = new }) after
+opens-read f old new disk after same stays opens =
+    opens-same f f old new disk after refl (ap (λ (x : Engine). x.shape) same) (ap (λ (x : Engine). x.committed) same) stays opens

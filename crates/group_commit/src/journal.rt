@@ -237,6 +237,7 @@ impl<D: Device> Journal<D> {
         ensures err { IfErr result (λ e. ReadRefused D.state self.old block self.new e) }
         ensures untouched { IfErr result (λ e. e ≢ DeviceFailed → into.new ≡ into.old) }
         ensures stays { Stays (D.state self.old.device) (D.state self.new.device) }
+        ensures opens { D.honest self.old.device → OpensNow self.new.journal (D.state self.new.device).disk }
         ensures calls { MakesAtMostOneCall (D.state self.old.device) (D.state self.new.device) }
         ensures no_fault { OnOk result ((D.state self.new.device).faults ≡ (D.state self.old.device).faults) }
         ensures honest { D.honest self.new.device → D.honest self.old.device }

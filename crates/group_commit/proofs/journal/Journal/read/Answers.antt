@@ -9,7 +9,8 @@ use Rattle.group_commit.specs.Journal.{Agrees, IsSeen, ReadRefused}
 use Rattle.group_commit.specs.Front.{MayTouch}
 use Rattle.group_commit.specs.Values.{JournalValue}
 use Rattle.group_commit.proofs.Reading.{kept-pending, kept-whole, seen-kept, seen-read}
-use Rattle.group_commit.proofs.Rounding.{agrees-read_refused, refused-read}
+use Rattle.group_commit.proofs.Rounding.{agrees-read_refused, opens-read, opens-unread, refused-read}
+use Rattle.group_commit.proofs.Turning.{opens-now}
 use Rattle.group_commit.proofs.Sealing.{allowed-here}
 use Rattle.group_commit.proofs.journal.Journal.read.Goals as goal
 
@@ -99,3 +100,29 @@ returns-in-Err-clause-err g c =
     let may = c.may_touch.ensures.0 c.if-not-may_touch.false in
     rw (← c.self.view_is)
     (refused-read g.D.Device.state _ _ _ _ _ _ c.self.invariant running may (sym c.in-None.ensures) c.read.ensures.stays c.abort.ensures c.in-Err.ensures.err)
+
+-- where no call is made, what a stop leaves opens as before
+pub returns-then-is_aborted-clause-opens : goal.returns-then-is_aborted-clause-opens
+returns-then-is_aborted-clause-opens g c = rw (← c.self.view_is) (λ honest. opens-now _ _ c.self.invariant (c.recall_invariant.ensures.opens honest))
+
+pub returns-then-not-may_touch-clause-opens : goal.returns-then-not-may_touch-clause-opens
+returns-then-not-may_touch-clause-opens g c = rw (← c.self.view_is) (λ honest. opens-now _ _ c.self.invariant (c.recall_invariant.ensures.opens honest))
+
+pub returns-in-Some-Copy-clause-opens : goal.returns-in-Some-Copy-clause-opens
+returns-in-Some-Copy-clause-opens g c = rw (← c.self.view_is) (λ honest. opens-now _ _ c.self.invariant (c.recall_invariant.ensures.opens honest))
+
+pub returns-in-Some-Revoke-clause-opens : goal.returns-in-Some-Revoke-clause-opens
+returns-in-Some-Revoke-clause-opens g c = rw (← c.self.view_is) (λ honest. opens-now _ _ c.self.invariant (c.recall_invariant.ensures.opens honest))
+
+-- a read leaves the disk as it was
+pub returns-in-Ok-clause-opens : goal.returns-in-Ok-clause-opens
+returns-in-Ok-clause-opens g c =
+    rw (← c.self.view_is)
+    (λ honest. opens-read c.self.inside.front _ _ _ _ c.in-Ok.ensures.ok.1 c.read.ensures.stays.disk (opens-now _ _ c.self.invariant (c.recall_invariant.ensures.opens honest)))
+
+-- so does one that failed
+pub returns-in-Err-clause-opens : goal.returns-in-Err-clause-opens
+returns-in-Err-clause-opens g c =
+    rw (← c.self.view_is)
+    (λ honest. opens-unread g.D.Device.state c.self.inside.front _ c.self.inside.engine _ _ _ (opens-now _ _ c.self.invariant (c.recall_invariant.ensures.opens honest)) c.abort.ensures c.read.ensures.stays
+    c.in-Err.ensures.err)
