@@ -6,7 +6,6 @@ use Rattle.std.proofs.lemmas.Option.{none-some}
 use Rattle.journal_model.specs.declared.refusal.JournalError.{JournalError}
 use Rattle.journal_model.specs.declared.refusal.JournalError.TheVariants.{Device}
 use Rattle.journal_model.specs.Layout.{Layout}
-use Rattle.journal_model.specs.Room.{need}
 use Rattle.journal_model.specs.Superblock.{Shape}
 use Rattle.journal_model.specs.Chain.{Ring}
 use Rattle.journal_model.specs.Transaction.{History, Transaction, entries}
@@ -31,10 +30,11 @@ use Rattle.group_commit.specs.declared.journal.CheckTurn.TheVariants.{Idle as Id
 use Rattle.group_commit.specs.declared.journal.Turn.{Turn}
 use Rattle.group_commit.specs.declared.journal.Turn.TheVariants.{Idle as IdleTurn, Waiting, Step, Sealed, Committed}
 use Rattle.log_epochs.specs.EngineWorld.Phase.{Running}
+use Rattle.log_epochs.specs.JournalWorld.{with_directs}
 use Rattle.group_commit.specs.Close.{CloseRefused, ComesTo, FitsRing, GoesOn, HasSealed, IsFinished, SealRefused, StaysUnsealed, Went, WentWrong, closing, locked_journal, with_running}
 use Rattle.group_commit.specs.Close.CloseRefused.{CloseAborted, CloseFailed, NoMemory, RingTooShort}
 use Rattle.group_commit.specs.Close.SealRefused.{NoMemoryForIt, NoRoomForIt}
-use Rattle.group_commit.specs.Journal.{Agrees, CheckTurnDid, CheckTurnRefused, Does, HasRoomFor, NothingToRelease, TurnDid, TurnRefused}
+use Rattle.group_commit.specs.Journal.{Agrees, CheckTurnDid, CheckTurnRefused, Does, HasRoomFor, NothingToRelease, TurnDid, TurnRefused, need_of}
 use Rattle.group_commit.specs.Journal.CheckTurnRefused.{CheckAborted, CheckFailed}
 use Rattle.group_commit.specs.Journal.TurnRefused.{DeviceFailed, MemoryIsShort, RingIsShort, WasAborted}
 use Rattle.group_commit.specs.Values.{JournalValue}
@@ -101,8 +101,9 @@ module _ {D : Type 0} (state : D → DeviceState) where
   ComesBy old new = ComesTo old.journal (state old.device).disk new.journal (state new.device).disk Running
 
   -- as one step does
-  by-step : (old new : JournalValue D) (event : Event) → Does state old event new → ComesBy old new
-  by-step old new event does = comes-step old.journal new.journal (state old.device).disk (state new.device).disk event does
+  by-step : (old new : JournalValue D) (event : Event) → ((directs : List (ℕ × List ℕ)) → with_directs event directs ≡ directs) → Does state old event new →
+      ComesBy old new
+  by-step old new event indirect does = comes-step old.journal new.journal (state old.device).disk (state new.device).disk event indirect does
 
   -- one behind another
   pub ways : (a b c : JournalValue D) → ComesBy a b → ComesBy b c → ComesBy a c
@@ -111,7 +112,7 @@ module _ {D : Type 0} (state : D → DeviceState) where
   -- a transaction that a handle has joined is locked
   by-lock : (v : JournalValue D) → v.journal.front.aborted ≡ false → 0 < length v.journal.front.running.handles → ComesBy v (locked_journal v)
   by-lock v running joined =
-      by-step v (locked_journal v) (FrontStep Lock) (record { front = record { running = running; joined = joined; after = refl }; engine = refl; disk_is = refl })
+      by-step v (locked_journal v) (FrontStep Lock) (λ directs. refl) (record { front = record { running = running; joined = joined; after = refl }; engine = refl; disk_is = refl })
 
   -- one way behind another
   on-on : (a b c : JournalValue D) → GoesOn state a b → GoesOn state b c → GoesOn state a c
@@ -181,7 +182,7 @@ module _ {D : Type 0} (state : D → DeviceState) where
   commit-went Step old new running busy did shape faults =
       let log = commit-log old.journal.engine new.journal.engine (state old.device).disk (state new.device).disk did.commits.engine in
       record {
-        on = on-log old new did.commits.front log shape (by-step old new CommitStep did.commits);
+        on = on-log old new did.commits.front log shape (by-step old new CommitStep (λ directs. refl) did.commits);
         running = log.aborted ∙ running;
         faults = faults;
       }
@@ -208,9 +209,9 @@ module _ {D : Type 0} (state : D → DeviceState) where
           path =
               comes-behind old.journal did.done new.journal (state old.device).disk (state new.device).disk (state new.device).disk Running
               (comes-behind old.journal did.mid did.done (state old.device).disk (state new.device).disk (state new.device).disk Running
-              (comes-step old.journal did.mid (state old.device).disk (state new.device).disk CommitStep did.commits)
-              (comes-step did.mid did.done (state new.device).disk (state new.device).disk Finish did.finishes))
-              (comes-step did.done new.journal (state new.device).disk (state new.device).disk (FrontStep (Raise tid)) did.raises);
+              (comes-step old.journal did.mid (state old.device).disk (state new.device).disk CommitStep (λ directs. refl) did.commits)
+              (comes-step did.mid did.done (state new.device).disk (state new.device).disk Finish (λ directs. refl) did.finishes))
+              (comes-step did.done new.journal (state new.device).disk (state new.device).disk (FrontStep (Raise tid)) (λ directs. refl) did.raises);
         };
         running = log.aborted ∙ running;
         faults = faults;
@@ -236,7 +237,7 @@ module _ {D : Type 0} (state : D → DeviceState) where
             ring = ap (λ (x : Engine). x.ring) fault.engine;
             committed = (let same : new.journal.engine.committed ≡ old.journal.engine.committed = ap (λ (x : Engine). x.committed) fault.engine in omega arith);
             shape = shape;
-            path = by-step old new CommitFault fails;
+            path = by-step old new CommitFault (λ directs. refl) fails;
           };
           faults = counted;
         },
@@ -268,7 +269,7 @@ module _ {D : Type 0} (state : D → DeviceState) where
   check-went StepCheck old new running did shape faults =
       let keeps = round-stage old.journal.engine new.journal.engine (state old.device).disk (state new.device).disk did.0.engine in (
         record {
-          on = on-log old new did.0.front keeps.log shape (by-step old new CheckpointStep did.0);
+          on = on-log old new did.0.front keeps.log shape (by-step old new CheckpointStep (λ directs. refl) did.0);
           running = keeps.log.aborted ∙ running;
           faults = faults;
         },
@@ -277,7 +278,7 @@ module _ {D : Type 0} (state : D → DeviceState) where
   check-went (Released tid) old new running did shape faults =
       let keeps = round-stage old.journal.engine new.journal.engine (state old.device).disk (state new.device).disk did.0.engine in (
         record {
-          on = on-log old new did.0.front keeps.log shape (by-step old new CheckpointStep did.0);
+          on = on-log old new did.0.front keeps.log shape (by-step old new CheckpointStep (λ directs. refl) did.0);
           running = keeps.log.aborted ∙ running;
           faults = faults;
         },
@@ -307,7 +308,7 @@ module _ {D : Type 0} (state : D → DeviceState) where
                 let low : old.journal.engine.committed ≤ (begun old.journal.engine).committed = begins.log.committed in
                 omega arith);
             shape = shape;
-            path = by-step old new CheckpointFault fails;
+            path = by-step old new CheckpointFault (λ directs. refl) fails;
           };
           faults = counted;
         },
@@ -322,9 +323,9 @@ module _ {D : Type 0} (state : D → DeviceState) where
   fits-on : (old mid : JournalValue D) → Went state old mid → FitsRing old.journal → FitsRing mid.journal
   fits-on old mid went fits =
       let on = went.on in
-      subst (λ (r : Ring). need mid.journal.engine.layout (length (entries mid.journal.front.running.steps)) 0 ≤ r.blocks) (sym on.ring)
-      (subst (λ (l : Layout). need l (length (entries mid.journal.front.running.steps)) 0 ≤ old.journal.engine.ring.blocks) (sym on.layout)
-      (subst (λ (t : Transaction). need old.journal.engine.layout (length (entries t.steps)) 0 ≤ old.journal.engine.ring.blocks)
+      subst (λ (r : Ring). need_of mid.journal.engine.layout mid.journal.front.running ≤ r.blocks) (sym on.ring)
+      (subst (λ (l : Layout). need_of l mid.journal.front.running ≤ old.journal.engine.ring.blocks) (sym on.layout)
+      (subst (λ (t : Transaction). need_of old.journal.engine.layout t ≤ old.journal.engine.ring.blocks)
       (sym on.transaction) fits))
 
   -- then it has room for the running transaction, where a whole ring has
@@ -377,7 +378,7 @@ module _ {D : Type 0} (state : D → DeviceState) where
         shape = ap (λ (d : D). (state d).shape) device ∙ on.shape;
         running = ap (λ (e : Engine). e.aborted) after ∙ went.running;
         faults = ap (λ (d : D). (state d).faults) device ∙ went.faults;
-        path = ways old mid new on.path (ways mid (locked_journal mid) new (by-lock mid running joined) (by-step (locked_journal mid) new Seal did));
+        path = ways old mid new on.path (ways mid (locked_journal mid) new (by-lock mid running joined) (by-step (locked_journal mid) new Seal (λ directs. refl) did));
       }
 
   -- and stays so

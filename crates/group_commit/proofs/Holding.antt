@@ -1,5 +1,5 @@
 -- A front and the handles that it holds open: what a look-up among these finds, and what each step of a front keeps.
-use Rattle.std.proofs.Common.{Option, is_some, if◌then◌else◌, ◌≡◌, inl, inr, ℕ, ◌+◌, ◌-◌, ◌<◌, ◌≤◌, ◌^◌, false, true, List, [], ◌∷◌, ◌++◌, length, Some, refl, sym, ◌∙◌, ap, ap₂, subst, arith, nat_eq, eq-eqb, length-append}
+use Rattle.std.proofs.Common.{Option, is_some, if◌then◌else◌, ◌≡◌, inl, inr, ℕ, ◌+◌, ◌-◌, ◌<◌, ◌≤◌, ◌^◌, false, true, List, [], ◌∷◌, ◌++◌, length, None, Some, refl, sym, ◌∙◌, ap, ap₂, subst, arith, nat_eq, eq-eqb, length-append}
 use Rattle.std.proofs.lemmas.Bool.{cases_eq}
 use Rattle.std.proofs.lemmas.Bool.Decides.{nat_tests}
 use Rattle.std.proofs.lemmas.Option.{none-some, same_Some}
@@ -9,12 +9,14 @@ use Rattle.indexmap.specs.IndexMap.{insert_entry}
 use Rattle.journal_model.proofs.OwnTextEach.{each-append}
 use Rattle.journal_model.specs.Layout.{IsTaken, Layout}
 use Rattle.journal_model.specs.Opening.{greatest_number}
+use Rattle.journal_model.specs.declared.transaction.Op.{Op}
+use Rattle.journal_model.specs.declared.transaction.Op.TheVariants.{Write, Revoke}
 use Rattle.journal_model.specs.declared.transaction.Step.{Step}
 use Rattle.journal_model.specs.declared.entry.Entry.{Entry}
 use Rattle.journal_model.specs.Transaction.{History, effect}
 use Rattle.journal_model.proofs.ListElements.{option-known}
-use Rattle.journal_world.specs.Front.{Front, FrontEvent, FrontHappens, IsFirstTouch, IsOpen, Joins, MayJoin, StopsHandle, WritesBlock, held, left_after, left_in, next_handle, write_step}
-use Rattle.journal_world.specs.Front.FrontEvent.{Reserve, GiveBack, Join, WriteBlock, StopHandle, Lock, Raise}
+use Rattle.journal_world.specs.Front.{Front, FrontEvent, FrontHappens, IsFirstTouch, IsOpen, Joins, MayJoin, RevokesBlock, StopsHandle, WritesBlock, held, left_after, left_in, next_handle, revoke_step, touching, write_step}
+use Rattle.journal_world.specs.Front.FrontEvent.{Reserve, GiveBack, Join, WriteBlock, RevokeBlock, StopHandle, Lock, Raise}
 use Rattle.journal_world.proofs.Credits.{held-within, stopped-credits}
 use Rattle.journal_world.proofs.Elements.{all-weaker}
 use Rattle.journal_world.proofs.OpenHandles.{all-changed, all-without, left-among}
@@ -121,6 +123,12 @@ is-front old new event step front = by event step (held-within old new event ste
         (all-changed (λ o. o.0 ≤ old.given) step.handle.before (h, step.handle.left) (h, left_after old b step.handle.left) step.handle.behind (λ low. low)
         (subst (AllByRecursion (λ o. o.0 ≤ old.given)) step.handle.stands front.numbers))
         front.given front.joined refl) within
+    by (RevokeBlock h b) step within =
+        on _ step.after
+        (λ fits. like-front old _ front refl fits
+        (all-changed (λ o. o.0 ≤ old.given) step.handle.before (h, step.handle.left) (h, left_after old b step.handle.left) step.handle.behind (λ low. low)
+        (subst (AllByRecursion (λ o. o.0 ≤ old.given)) step.handle.stands front.numbers))
+        front.given front.joined refl) within
     by (StopHandle h) step within =
         on _ step.after
         (λ fits. like-front old _ front refl fits
@@ -153,20 +161,42 @@ abbrev pub remade : Front → History → List ℕ → List Step → List (ℕ �
 remade f sealed handles steps hs =
     record f { sealed = sealed; running = record f.running { handles = handles; steps = steps }; open_handles = hs }
 
--- a handle that a look-up finds writes, where its step is noted and its credits are
-pub writes : (f : Front) (h b left : ℕ) (v : List ℕ) (ss : List Step) (hs : List (ℕ × ℕ)) → f.aborted ≡ false → lookup (nat_eq h) f.open_handles ≡ Some left →
-    (IsFirstTouch f b → 0 < left) → MayTouch f b → length v ≡ f.layout.block_size → ss ≡ f.running.steps ++ write_step h b v ∷ [] →
-    hs ≡ insert_entry nat_eq f.open_handles h (left_after f b left) → WritesBlock f h b v (remade f f.sealed f.running.handles ss hs)
-writes f h b left v ss hs running found credit allowed whole noted told =
+-- a handle that a look-up finds touches a block, where its step is noted and its credits are
+touched : (f : Front) (h b left : ℕ) (op : Op) (hs : List (ℕ × ℕ)) (found : lookup (nat_eq h) f.open_handles ≡ Some left) →
+    hs ≡ insert_entry nat_eq f.open_handles h (left_after f b left) →
+    remade f f.sealed f.running.handles (f.running.steps ++ record { handle = h; block = b; op = op } ∷ []) hs ≡ touching f h b op (open-at f h left found)
+unfolding open-at at-handle
+touched f h b left op hs found told =
     let at = at-handle f.open_handles h left found in
-    record {
-      running = running;
-      handle = record { left = left; before = at.before; behind = at.behind; stands = at.stands };
-      credit = credit;
-      allowed = allowed;
-      whole = whole;
-      after = ap₂ (λ (steps : List Step) (es : List (ℕ × ℕ)). remade f f.sealed f.running.handles steps es) noted (told ∙ at.inserted (left_after f b left));
-    }
+    ap (λ (es : List (ℕ × ℕ)). remade f f.sealed f.running.handles (f.running.steps ++ record { handle = h; block = b; op = op } ∷ []) es)
+    (told ∙ at.inserted (left_after f b left))
+
+-- it writes
+pub writes : (f : Front) (h b left : ℕ) (v : List ℕ) (hs : List (ℕ × ℕ)) → f.aborted ≡ false → lookup (nat_eq h) f.open_handles ≡ Some left →
+    (IsFirstTouch f b → 0 < left) → MayTouch f b → length v ≡ f.layout.block_size → hs ≡ insert_entry nat_eq f.open_handles h (left_after f b left) →
+    WritesBlock f h b v (remade f f.sealed f.running.handles (f.running.steps ++ write_step h b v ∷ []) hs)
+unfolding open-at
+writes f h b left v hs running found credit allowed whole told = record {
+  running = running;
+  handle = open-at f h left found;
+  credit = credit;
+  allowed = allowed;
+  whole = whole;
+  after = touched f h b left (Write v) hs found told;
+}
+
+-- or revokes
+pub revokes : (f : Front) (h b left : ℕ) (hs : List (ℕ × ℕ)) → f.aborted ≡ false → lookup (nat_eq h) f.open_handles ≡ Some left →
+    (IsFirstTouch f b → 0 < left) → MayTouch f b → hs ≡ insert_entry nat_eq f.open_handles h (left_after f b left) →
+    RevokesBlock f h b (remade f f.sealed f.running.handles (f.running.steps ++ revoke_step h b ∷ []) hs)
+unfolding open-at
+revokes f h b left hs running found credit allowed told = record {
+  running = running;
+  handle = open-at f h left found;
+  credit = credit;
+  allowed = allowed;
+  after = touched f h b left Revoke hs found told;
+}
 
 -- a handle joins, where its number is noted with its credits
 pub joins : (f : Front) (n : ℕ) (sealed : History) (handles : List ℕ) (hs : List (ℕ × ℕ)) → f.aborted ≡ false → MayJoin f → n ≤ f.reserved →

@@ -1,11 +1,12 @@
 -- The moves of the machine that lead from one journal to another, one behind the other.
 use Rattle.std.proofs.Common.{refl, sym, ap, subst}
-use Rattle.std.specs.Prelude.{◌≡◌, List, [], ◌∷◌, ◌++◌}
+use Rattle.std.specs.Prelude.{◌≡◌, ℕ, List, [], ◌∷◌, ◌++◌}
 use Rattle.journal_model.specs.Disk.{Disk}
 use Rattle.journal_world.specs.Journal.{Event, Happens, Journal}
 use Rattle.log_epochs.specs.EngineWorld.{Phase, World}
 use Rattle.log_epochs.specs.EngineWorld.Move.{CloseStep, CloseFault, GiveUp}
 use Rattle.log_epochs.specs.EngineWorld.Phase.{Closed, Running, Shut}
+use Rattle.log_epochs.specs.JournalWorld.{with_directs}
 use Rattle.log_epochs.specs.JournalWorld.Move.{Step, Below}
 use Rattle.log_epochs.proofs.Leading.{leads-behind}
 use Rattle.log_engine.specs.Close.{ClosesBy}
@@ -30,13 +31,21 @@ comes-same old new disk after same still =
     subst (λ (j : Journal). ComesTo old disk j after Running) (sym same)
     (subst (λ (d : Disk). ComesTo old disk old d Running) (sym still) (comes-nowhere old disk))
 
--- a step of the journal
-pub comes-step : (old new : Journal) (disk after : Disk) (event : Event) → Happens old disk event new after → ComesTo old disk new after Running
-comes-step old new disk after event happens = record {
+-- a step of the journal that writes nothing directly
+pub comes-step : (old new : Journal) (disk after : Disk) (event : Event) → ((directs : List (ℕ × List ℕ)) → with_directs event directs ≡ directs) →
+    Happens old disk event new after → ComesTo old disk new after Running
+comes-step old new disk after event indirect happens = record {
   moves = Step event ∷ [];
   leads = λ w epoch. (
     world_with w epoch new after Running,
-    record { running = refl; epoch = record epoch { engine = old.engine }; now = refl; journal = new; happens = happens; after = refl },
+    record {
+      running = refl;
+      epoch = record epoch { engine = old.engine };
+      now = refl;
+      journal = new;
+      happens = happens;
+      after = ap (λ (directs : List (ℕ × List ℕ)). world_with w (record epoch { directs = directs }) new after Running) (sym (indirect epoch.directs));
+    },
     refl,
   );
 }

@@ -1,5 +1,6 @@
 -- The lemmas of this crate.
 pub mod Closed
+pub mod Directs
 pub mod Finishing
 pub mod Holding
 pub mod Leading
@@ -7,5 +8,6 @@ pub mod Reading
 pub mod Rounding
 pub mod Sealing
 pub mod Touches
+pub mod Touching
 pub mod Turning
 pub mod Unfinished

@@ -28,13 +28,13 @@ use Rattle.journal_world.proofs.Lasts.{IsLastIn, last-in, none-in}
 use Rattle.journal_world.proofs.Pending.{contains-map}
 use Rattle.journal_world.proofs.Positions.{committed-few}
 use Rattle.journal_world.proofs.Suffixes.{get-take}
-use Rattle.group_commit.specs.Front.{unfinished}
+use Rattle.journal_world.specs.Front.{unfinished}
 use Rattle.group_commit.specs.Journal.{Agrees, HasCopyKept, IsSeen, finished}
 use Rattle.group_commit.specs.Journal.HasCopyKept.{OfPending, OfUnfinished}
 use Rattle.group_commit.proofs.Sealing.{copy-good}
 
 -- the last effect of transactions is that of the first, and then of those behind
-last-from : (b r : ℕ) (ts : History) → last_effect b ts ≡ later (last_effect b (take r ts)) (last_effect b (drop r ts))
+pub last-from : (b r : ℕ) (ts : History) → last_effect b ts ≡ later (last_effect b (take r ts)) (last_effect b (drop r ts))
 last-from b zero ts = sym (later-none (last_effect b ts))
 last-from b (suc r) [] = refl
 last-from b (suc r) (t ∷ ts) =
@@ -117,22 +117,22 @@ module _ (e : Engine) (ts : History) (b : ℕ) (plain : IsPlain e) (are : AreBat
 
 module _ (j : Journal) (agrees : Agrees j) (plain : IsPlain j.engine) where
   -- as many transactions are finished as are committed
-  finished-is : finished j ≡ j.engine.committed
+  pub finished-is : finished j ≡ j.engine.committed
   finished-is = let told = agrees.finished in omega arith
 
   -- they are among the sealed ones
-  few : j.engine.committed ≤ length j.front.sealed
+  pub few : j.engine.committed ≤ length j.front.sealed
   few =
       let same = same-length j.front.sealed j.engine.accepted agrees.batches in
       let least = committed-few j.engine j.engine.stage plain.stage in
       omega arith
 
   -- all transactions
-  abbrev all : History
+  abbrev pub all : History
   all = j.front.sealed ++ j.front.running ∷ []
 
   -- the front leaves the others
-  unfinished-is : unfinished j.front ≡ drop (finished j) all
+  pub unfinished-is : unfinished j.front ≡ drop (finished j) all
   unfinished-is =
       let same = same-length j.front.sealed j.engine.accepted agrees.batches in
       let number = agrees.number in
@@ -195,5 +195,5 @@ kept-whole j b v agrees plain made =
 -- a copy that is kept is pending where none of these has an entry
 pub kept-pending : (j : Journal) (b : ℕ) (P : Type 0) → last_effect b (unfinished j.front) ≡ None →
     ((i : ℕ) (v : List ℕ) → IsPending j.engine i b v → P) → HasCopyKept j b → P
-kept-pending j b P none pending (OfUnfinished e some) = absurd (none-some e (sym none ∙ some))
+kept-pending j b P none pending (OfUnfinished v some) = absurd (none-some (Copy v) (sym none ∙ some))
 kept-pending j b P none pending (OfPending i v is) = pending i v is

@@ -19,7 +19,8 @@ use Rattle.group_commit.specs.declared.journal.CheckTurn.TheVariants.{Idle as Id
 use Rattle.group_commit.specs.Journal.{Agrees, CheckTurnDid, CheckTurnRefused, ReadRefused as JournalReadRefused}
 use Rattle.group_commit.specs.Journal.CheckTurnRefused.{CheckAborted, CheckFailed}
 use Rattle.group_commit.specs.Journal.ReadRefused.{ReadFailed as FailedRead}
-use Rattle.group_commit.specs.Front.{MayTouch, unfinished}
+use Rattle.journal_world.specs.Front.{unfinished}
+use Rattle.group_commit.specs.Front.{MayTouch}
 use Rattle.group_commit.proofs.Reading.{kept-pending}
 use Rattle.group_commit.proofs.Sealing.{agrees-moved, agrees-told, allowed-here}
 use Rattle.group_commit.proofs.Turning.{round-fault-keeps, round-keeps}
@@ -49,7 +50,7 @@ agrees-round_refused f front old new before after e agrees told (RoundFailed fau
     (agrees-told f old new agrees keeps.0 true keeps.1 (ap (λ (x : Engine). x.aborted) fault.engine))
 
 -- a front that knows of a failure is as it was once it is told again
-told-again : (f : Front) (e : Engine) → Agrees (record { front = f; engine = e }) → e.aborted ≡ true → aborting f ≡ f
+pub told-again : (f : Front) (e : Engine) → Agrees (record { front = f; engine = e }) → e.aborted ≡ true → aborting f ≡ f
 told-again f e agrees is = ap (λ (b : Bool). record f { aborted = b }) (sym (agrees.aborted ∙ is))
 
 -- a step of a round that is refused refuses the turn
@@ -102,5 +103,5 @@ refused-read state f front old new b e agrees running may none stays told (ReadA
 refused-read state f front old new b e agrees running may none stays told (ReadOutside on outside same) =
     absurd (outside (allowed-here agrees.layout agrees.home_blocks may))
 refused-read state f front old new b e agrees running may none stays told (ReadFailed on touched unkept same counted) =
-    FailedRead may (kept-pending (record { front = f; engine = old.engine }) b ⊥ none unkept)
+    FailedRead may none (kept-pending (record { front = f; engine = old.engine }) b ⊥ none unkept)
     (record { running = running; front = told; engine = same; disk_is = stays.disk }) counted

@@ -17,8 +17,7 @@ use Rattle.journal_model.specs.declared.transaction.Op.TheVariants.{Write, Revok
 use Rattle.journal_model.specs.declared.transaction.Step.{Step}
 use Rattle.journal_model.specs.Block.{IsAllowedBlock}
 use Rattle.journal_model.specs.Layout.{Layout}
-use Rattle.journal_model.specs.OwnText.{copied, revoked}
-use Rattle.journal_model.specs.Room.{need}
+use Rattle.journal_model.specs.OwnText.{copied}
 use Rattle.journal_model.specs.Superblock.{Shape}
 use Rattle.journal_model.specs.Text.{text_blocks}
 use Rattle.journal_model.specs.Opening.{greatest_number}
@@ -31,8 +30,8 @@ use Rattle.journal_world.specs.declared.stage.Stage.TheVariants.{Idle, Superbloc
 use Rattle.block_device.specs.State.{DeviceState}
 use Rattle.journal_world.specs.Call.{Call}
 use Rattle.journal_world.specs.Engine.{AreBatchesOf, CommitSteps, Engine, HasRoom, IsBatch, accepting, call_due, call_in, stepped_from, text_of}
-use Rattle.journal_world.specs.Front.{Front, FrontEvent, FrontHappens, Raises, WritesBlock, aborting, finishing, next_handle, raising, sealing, write_step}
-use Rattle.journal_world.specs.Front.FrontEvent.{Reserve, GiveBack, Join, WriteBlock, StopHandle, Lock, Raise}
+use Rattle.journal_world.specs.Front.{Front, FrontEvent, FrontHappens, Raises, RevokesBlock, WritesBlock, aborting, finishing, next_handle, raising, revoke_step, sealing, write_step}
+use Rattle.journal_world.specs.Front.FrontEvent.{Reserve, GiveBack, Join, WriteBlock, RevokeBlock, StopHandle, Lock, Raise}
 use Rattle.journal_world.specs.Journal.{batch_of}
 use Rattle.journal_world.proofs.Batches.{batches-last}
 use Rattle.journal_world.proofs.Onward.{step-unfailed}
@@ -41,9 +40,8 @@ use Rattle.journal_model.proofs.Taken.{taken-layout}
 use Rattle.log_engine.specs.Engine.{AcceptRefused, MayHandOver, StepRefused}
 use Rattle.log_engine.specs.Engine.AcceptRefused.{AfterFailure, MemoryIsShort, RingIsShort}
 use Rattle.log_engine.specs.Engine.StepRefused.{WasAborted, DeviceFailed}
-use Rattle.log_engine.specs.Text.{IsWholeCopy}
 use Rattle.group_commit.specs.Journal.TurnRefused.{DeviceFailed as FailedTurn, MemoryIsShort as NoMemory}
-use Rattle.group_commit.specs.Journal.{Agrees, FinishesCommit, HasRoomFor, IsGoodStep, IsWholeWrite, SealIsDue, TurnRefused}
+use Rattle.group_commit.specs.Journal.{Agrees, FinishesCommit, HasRoomFor, IsGoodStep, IsWholeTouch, SealIsDue, TurnRefused, need_of}
 use Rattle.group_commit.specs.Values.{JournalValue}
 use Rattle.group_commit.proofs.Turning.{Keeps, fault-keeps, step-keeps}
 
@@ -52,17 +50,23 @@ pub allowed-here : {l m : Layout} {count n b : ℕ} → l ≡ m → count ≡ n 
 allowed-here {l} {m} {count} {n} {b} layout same allowed =
     subst (λ (x : Layout). IsAllowedBlock x n b) layout (subst (λ (k : ℕ). IsAllowedBlock l k b) same allowed)
 
+-- the entry is a copy of so many bytes, or a revoke
+abbrev IsWholeEntry : ℕ → Entry → Type 0
+IsWholeEntry size (Copy v) = length v ≡ size
+IsWholeEntry size Revoke = ⊤
+
 -- an entry that a transaction of good steps may have
 record IsGoodEntry (l : Layout) (shape : Shape) (p : ℕ × Entry) : Type 0 where
-  whole : IsWholeCopy shape.block_size p.1
+  whole : IsWholeEntry shape.block_size p.1
   allowed : IsAllowedBlock l shape.home_blocks p.0
 
 -- what one good step leaves
-op-good : (l : Layout) (shape : Shape) (b : ℕ) (op : Op) (e : Entry) → IsWholeWrite shape.block_size op → IsAllowedBlock l shape.home_blocks b →
+op-good : (l : Layout) (shape : Shape) (b : ℕ) (op : Op) (e : Entry) → IsWholeTouch shape.block_size op → IsAllowedBlock l shape.home_blocks b →
     entry_of op ≡ Some e → IsGoodEntry l shape (b, e)
 op-good l shape b (Write v) e whole allowed leaves =
     subst (λ x. IsGoodEntry l shape (b, x)) (same_Some (Copy v) e leaves) (record { whole = whole; allowed = allowed })
-op-good l shape b RevokeOp e whole allowed leaves = absurd whole
+op-good l shape b RevokeOp e whole allowed leaves =
+    subst (λ x. IsGoodEntry l shape (b, x)) (same_Some Revoke e leaves) (record { whole = tt; allowed = allowed })
 op-good l shape b (Read v) e whole allowed leaves = absurd whole
 
 -- of its own block
@@ -115,7 +119,7 @@ entries-good l shape ss all = each-found (IsGoodEntry l shape) (λ b. option_map
 copies-good : (l : Layout) (shape : Shape) (es : List (ℕ × Entry)) → AllByRecursion (IsGoodEntry l shape) es → AllByRecursion (λ c. length c.1 ≡ shape.block_size) (copied es)
 copies-good l shape [] all = tt
 copies-good l shape ((b, Copy v) ∷ es) all = (all.0.whole, copies-good l shape es all.1)
-copies-good l shape ((b, Revoke) ∷ es) all = absurd all.0.whole
+copies-good l shape ((b, Revoke) ∷ es) all = copies-good l shape es all.1
 
 -- a weaker fact of each element
 each-weaker : {X : Type 0} (P Q : X → Type 0) → ((x : X) → P x → Q x) → (xs : List X) → AllByRecursion P xs → AllByRecursion Q xs
@@ -136,28 +140,11 @@ batch-good l shape t all =
 pub copy-good : (l : Layout) (shape : Shape) (b : ℕ) (ss : List Step) (v : List ℕ) → AllByRecursion (IsGoodStep l shape) ss → effect b ss ≡ Some (Copy v) → length v ≡ shape.block_size
 copy-good l shape b ss v all leaves = (effect-good l shape b ss (Copy v) all leaves).whole
 
--- good entries have as many copies as there are
-length-copied : (l : Layout) (shape : Shape) (es : List (ℕ × Entry)) → AllByRecursion (IsGoodEntry l shape) es → length (copied es) ≡ length es
-length-copied l shape [] all = refl
-length-copied l shape ((b, Copy v) ∷ es) all = ap (λ (n : ℕ). suc n) (length-copied l shape es all.1)
-length-copied l shape ((b, Revoke) ∷ es) all = absurd all.0.whole
-
--- and revoke nothing
-nothing-revoked : (l : Layout) (shape : Shape) (es : List (ℕ × Entry)) → AllByRecursion (IsGoodEntry l shape) es → revoked es ≡ []
-nothing-revoked l shape [] all = refl
-nothing-revoked l shape ((b, Copy v) ∷ es) all = nothing-revoked l shape es all.1
-nothing-revoked l shape ((b, Revoke) ∷ es) all = absurd all.0.whole
-
--- so the ring has room for their batch where it has the blocks that so many copies need
-pub room-good : (e : Engine) (t : Transaction) → IsPlain e → AllByRecursion (IsGoodStep e.layout e.shape) t.steps →
-    e.start + need e.layout (length (entries t.steps)) 0 ≤ e.tail + e.ring.blocks → HasRoom e (batch_of t)
-room-good e t plain all room =
-    let good = entries-good e.layout e.shape t.steps all in
-    let layout = taken-layout plain.layout.0 in
-    let blocks : length (text_blocks (text_of e (batch_of t))) ≡ need e.layout (length (entries t.steps)) 0 =
-    length_own_text e.layout e.uuid t.tid (entries t.steps) layout
-    ∙ ap₂ (λ (c r : ℕ). need e.layout c r)
-    (length-copied e.layout e.shape (entries t.steps) good) (ap length (nothing-revoked e.layout e.shape (entries t.steps) good)) in
+-- the ring has room for its batch where it has the blocks that so many copies and revokes need
+pub room-good : (e : Engine) (t : Transaction) → IsPlain e → e.start + need_of e.layout t ≤ e.tail + e.ring.blocks → HasRoom e (batch_of t)
+room-good e t plain room =
+    let blocks : length (text_blocks (text_of e (batch_of t))) ≡ need_of e.layout t =
+    length_own_text e.layout e.uuid t.tid (entries t.steps) (taken-layout plain.layout.0) in
     omega arith
 
 -- where a call is due, a transaction is being committed
@@ -292,7 +279,7 @@ pub refused-seal : {D : Type 0} (state : D → DeviceState) (f : Front) (d : D) 
     AcceptRefused e (batch_of f.running) r → new ≡ record { device = d; journal = record { front = f; engine = e } } →
     TurnRefused state (record { device = d; journal = record { front = f; engine = e } }) new r
 refused-seal state f d e new r agrees plain due room (AfterFailure is) same = absurd (true≢false (sym is ∙ due.running))
-refused-seal state f d e new r agrees plain due room (RingIsShort running none) same = absurd (none (room-good e f.running plain agrees.steps room))
+refused-seal state f d e new r agrees plain due room (RingIsShort running none) same = absurd (none (room-good e f.running plain room))
 refused-seal state f d e new r agrees plain due room (MemoryIsShort running has) same = NoMemory due room same
 
 -- front and engine agree after a step that was refused, once the front is told
@@ -384,15 +371,16 @@ finished-below f e agrees plain going =
     let number = agrees.number in
     omega arith
 
--- the event is a write
-abbrev pub IsWrite : FrontEvent → Type 0
-IsWrite (Reserve n) = ⊥
-IsWrite (GiveBack n) = ⊥
-IsWrite (Join n) = ⊥
-IsWrite (WriteBlock h b v) = ⊤
-IsWrite (StopHandle h) = ⊥
-IsWrite Lock = ⊥
-IsWrite (Raise t) = ⊥
+-- the event touches a block
+abbrev pub IsTouch : FrontEvent → Type 0
+IsTouch (Reserve n) = ⊥
+IsTouch (GiveBack n) = ⊥
+IsTouch (Join n) = ⊥
+IsTouch (WriteBlock h b v) = ⊤
+IsTouch (RevokeBlock h b) = ⊤
+IsTouch (StopHandle h) = ⊥
+IsTouch Lock = ⊥
+IsTouch (Raise t) = ⊥
 
 -- a front of the same measures and the same transactions agrees with the same engine
 agrees-like : (f made : Front) (e : Engine) → Agrees (record { front = f; engine = e }) → made.layout ≡ f.layout → made.home_blocks ≡ f.home_blocks →
@@ -412,27 +400,28 @@ agrees-like f made e agrees layout home_blocks aborted sealed tid finished mark 
   locked = locked;
 }
 
--- front and engine agree after a step of the front alone that is no write
-pub agrees-unwritten : (f front : Front) (e : Engine) (event : FrontEvent) → (IsWrite event → ⊥) → FrontHappens f event front →
+-- front and engine agree after a step of the front alone that touches no block
+pub agrees-untouched : (f front : Front) (e : Engine) (event : FrontEvent) → (IsTouch event → ⊥) → FrontHappens f event front →
     Agrees (record { front = f; engine = e }) → Agrees (record { front = front; engine = e })
-agrees-unwritten f front e (Reserve n) other step agrees =
+agrees-untouched f front e (Reserve n) other step agrees =
     subst (λ (x : Front). Agrees (record { front = x; engine = e })) (sym step.after)
     (agrees-like f _ e agrees refl refl refl refl refl refl refl agrees.steps agrees.joined agrees.locked)
-agrees-unwritten f front e (GiveBack n) other step agrees =
+agrees-untouched f front e (GiveBack n) other step agrees =
     subst (λ (x : Front). Agrees (record { front = x; engine = e })) (sym step.after)
     (agrees-like f _ e agrees refl refl refl refl refl refl refl agrees.steps agrees.joined agrees.locked)
-agrees-unwritten f front e (Join n) other step agrees =
+agrees-untouched f front e (Join n) other step agrees =
     let one = length-append f.running.handles (next_handle f ∷ []) in
     subst (λ (x : Front). Agrees (record { front = x; engine = e })) (sym step.after)
     (agrees-like f _ e agrees refl refl refl refl refl refl refl agrees.steps (λ some. step.may.number) (λ is. omega arith))
-agrees-unwritten f front e (WriteBlock h b v) other step agrees = absurd (other tt)
-agrees-unwritten f front e (StopHandle h) other step agrees =
+agrees-untouched f front e (WriteBlock h b v) other step agrees = absurd (other tt)
+agrees-untouched f front e (RevokeBlock h b) other step agrees = absurd (other tt)
+agrees-untouched f front e (StopHandle h) other step agrees =
     subst (λ (x : Front). Agrees (record { front = x; engine = e })) (sym step.after)
     (agrees-like f _ e agrees refl refl refl refl refl refl refl agrees.steps agrees.joined agrees.locked)
-agrees-unwritten f front e Lock other step agrees =
+agrees-untouched f front e Lock other step agrees =
     subst (λ (x : Front). Agrees (record { front = x; engine = e })) (sym step.after)
     (agrees-like f _ e agrees refl refl refl refl refl refl refl agrees.steps agrees.joined (λ is. step.joined))
-agrees-unwritten f front e (Raise t) other step agrees =
+agrees-untouched f front e (Raise t) other step agrees =
     subst (λ (x : Front). Agrees (record { front = x; engine = e })) (sym step.after)
     (agrees-like f _ e agrees refl refl refl refl refl refl (max-eq_left (let mark = agrees.mark in let low = step.finished in omega arith)) agrees.steps agrees.joined agrees.locked)
 
@@ -447,3 +436,12 @@ agrees-written f front e h b v agrees size step =
     subst (λ (x : Front). Agrees (record { front = x; engine = e })) (sym step.after)
     (agrees-like f _ e agrees refl refl refl refl refl refl refl
     (each-append (IsGoodStep e.layout e.shape) f.running.steps (write_step h b v ∷ []) agrees.steps (good, tt)) agrees.joined agrees.locked)
+
+-- and after a revoke
+pub agrees-revoked : (f front : Front) (e : Engine) (h b : ℕ) → Agrees (record { front = f; engine = e }) → RevokesBlock f h b front →
+    Agrees (record { front = front; engine = e })
+agrees-revoked f front e h b agrees step =
+    let good : IsGoodStep e.layout e.shape (revoke_step h b) = record { whole = tt; allowed = allowed-here agrees.layout agrees.home_blocks step.allowed } in
+    subst (λ (x : Front). Agrees (record { front = x; engine = e })) (sym step.after)
+    (agrees-like f _ e agrees refl refl refl refl refl refl refl
+    (each-append (IsGoodStep e.layout e.shape) f.running.steps (revoke_step h b ∷ []) agrees.steps (good, tt)) agrees.joined agrees.locked)

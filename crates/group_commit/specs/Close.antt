@@ -3,8 +3,7 @@ use Rattle.std.specs.Prelude.{◌≡◌, ◌⊎◌, ⊤, ℕ, ◌<◌, ◌≤◌
 use Rattle.journal_model.specs.declared.refusal.JournalError.{JournalError}
 use Rattle.journal_model.specs.declared.refusal.JournalError.TheVariants.{Aborted, Device, Memory, NeedSpace}
 use Rattle.journal_model.specs.Disk.{Disk}
-use Rattle.journal_model.specs.Room.{need}
-use Rattle.journal_model.specs.Transaction.{History, Transaction, entries}
+use Rattle.journal_model.specs.Transaction.{History, Transaction}
 use Rattle.block_device.specs.State.{DeviceState, one_more_fault}
 use Rattle.journal_world.specs.Engine.{Engine}
 use Rattle.journal_world.specs.Front.{Front, locking}
@@ -17,7 +16,7 @@ use Rattle.log_engine.specs.Close.{IsAllReleased}
 use Rattle.log_engine.specs.Left.{round_calls}
 use Rattle.group_commit.specs.declared.journal.CheckTurn.{CheckTurn}
 use Rattle.group_commit.specs.declared.journal.CheckTurn.TheVariants.{Idle as IdleCheck, Step as StepCheck, Released}
-use Rattle.group_commit.specs.Journal.{HasRoomFor}
+use Rattle.group_commit.specs.Journal.{HasRoomFor, need_of}
 use Rattle.group_commit.specs.Values.{JournalValue}
 
 -- the sealed transactions, with the running one where these handles have joined it
@@ -35,7 +34,7 @@ IsSealedInClose f ts = (ts ≡ f.sealed) ⊎ (ts ≡ closing f)
 
 -- a whole ring has as many blocks as the running transaction needs
 abbrev pub FitsRing : Journal → Type 0
-FitsRing j = need j.engine.layout (length (entries j.front.running.steps)) 0 ≤ j.engine.ring.blocks
+FitsRing j = need_of j.engine.layout j.front.running ≤ j.engine.ring.blocks
 
 -- the world in which this journal, in this epoch, works on this disk
 abbrev pub world_with : JournalWorld → Epoch → Journal → Disk → Phase → JournalWorld

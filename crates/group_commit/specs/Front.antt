@@ -1,5 +1,5 @@
 -- The front as contracts see it: the transaction that handles join, and what it keeps for them.
-use Rattle.std.specs.Prelude.{◌≡◌, ℕ, ◌+◌, ◌-◌, ◌^◌, ◌<◌, ◌≤◌, nat_eq, true, false, [], ◌∷◌, ◌++◌, length, drop, Some}
+use Rattle.std.specs.Prelude.{◌≡◌, ℕ, ◌+◌, ◌-◌, ◌^◌, ◌<◌, ◌≤◌, nat_eq, true, false, length, Some}
 use Rattle.std.specs.List.{AllByRecursion}
 use Rattle.std.specs.Map.{lookup}
 use Rattle.journal_model.specs.declared.refusal.JournalError.{JournalError}
@@ -7,7 +7,6 @@ use Rattle.journal_model.specs.declared.refusal.JournalError.TheVariants.{Aborte
 use Rattle.journal_model.specs.Block.{IsAllowedBlock}
 use Rattle.journal_model.specs.Layout.{IsTaken}
 use Rattle.journal_model.specs.Opening.{greatest_number}
-use Rattle.journal_model.specs.Transaction.{History}
 use Rattle.journal_world.specs.Front.{Front, IsFirstTouch, MayJoin, held, next_handle}
 use Rattle.group_commit.specs.Values.{HandleValue}
 
@@ -30,10 +29,6 @@ pub record IsOpenHandle (f : Front) (h : HandleValue) : Type 0 where
 abbrev pub MayTouch : Front → ℕ → Type 0
 MayTouch f b = IsAllowedBlock f.layout f.home_blocks b
 
--- the transactions that are not finished, the running one last
-abbrev pub unfinished : Front → History
-unfinished f = drop (f.finished + 1 + length f.sealed - f.running.tid) (f.sealed ++ f.running ∷ [])
-
 -- why credits are not granted: a transaction can never have so many, or the credits held leave fewer
 pub data ReserveRefused (f : Front) (n : ℕ) : JournalError → Type 0 where
   BeyondCapacity : f.capacity < n → ReserveRefused f n TooMany
@@ -48,10 +43,26 @@ pub data JoinRefused (f : Front) (n : ℕ) : JournalError → Type 0 where
   NotGranted : f.aborted ≡ false → MayJoin f → f.reserved < n → JoinRefused f n NoCredit
   NoMemory : f.aborted ≡ false → MayJoin f → n ≤ f.reserved → JoinRefused f n Memory
 
--- why a handle may not write a block: a handle that is not open has no credit, nor has one at a first touch that has none left
-pub data WriteRefused (f : Front) (h : HandleValue) (b : ℕ) : JournalError → Type 0 where
-  WhileAborted : f.aborted ≡ true → WriteRefused f h b Aborted
-  OutOfHome : f.aborted ≡ false → (MayTouch f b → ⊥) → WriteRefused f h b BadBlock
-  NotOpen : f.aborted ≡ false → MayTouch f b → (IsOpenHandle f h → ⊥) → WriteRefused f h b NoCredit
-  WithoutCredit : f.aborted ≡ false → MayTouch f b → IsOpenHandle f h → IsFirstTouch f b → h.left ≡ 0 → WriteRefused f h b NoCredit
-  WithoutMemory : f.aborted ≡ false → MayTouch f b → IsOpenHandle f h → (IsFirstTouch f b → 0 < h.left) → WriteRefused f h b Memory
+-- a handle may make a step on the block, but for the credit that a first touch takes
+pub record MayStep (f : Front) (h : HandleValue) (b : ℕ) : Type 0 where
+  pub running : f.aborted ≡ false
+  pub allowed : MayTouch f b
+  pub open_handle : IsOpenHandle f h
+
+-- why it may not: a handle that is not open has no credit
+pub data IsKeptOut (f : Front) (h : HandleValue) (b : ℕ) : JournalError → Type 0 where
+  WhileAborted : f.aborted ≡ true → IsKeptOut f h b Aborted
+  OutOfHome : f.aborted ≡ false → (MayTouch f b → ⊥) → IsKeptOut f h b BadBlock
+  NotOpen : f.aborted ≡ false → MayTouch f b → (IsOpenHandle f h → ⊥) → IsKeptOut f h b NoCredit
+
+-- why a handle may not touch a block, by a write or a revoke: it is kept out, or has no credit left for a first touch, or
+-- memory runs out
+pub data TouchRefused (f : Front) (h : HandleValue) (b : ℕ) (e : JournalError) : Type 0 where
+  KeptOut : IsKeptOut f h b e → TouchRefused f h b e
+  WithoutCredit : MayStep f h b → IsFirstTouch f b → h.left ≡ 0 → e ≡ NoCredit → TouchRefused f h b e
+  WithoutMemory : MayStep f h b → (IsFirstTouch f b → 0 < h.left) → e ≡ Memory → TouchRefused f h b e
+
+-- what a touch leaves of the handle: a first one takes one of its credits, any other none
+pub record Spends (f : Front) (b : ℕ) (old new : HandleValue) : Type 0 where
+  pub first : IsFirstTouch f b → (0 < old.left) × (new ≡ record old { left = old.left - 1 })
+  pub later : (IsFirstTouch f b → ⊥) → new ≡ old

@@ -1,10 +1,10 @@
 -- What the calls of a journal do, each as one step of the pure machine, and why they are refused.
-use Rattle.std.specs.Prelude.{◌≡◌, ◌≢◌, ℕ, ◌+◌, ◌-◌, ◌<◌, ◌≤◌, true, false, List, [], ◌∷◌, ◌++◌, length, Some, Ok}
+use Rattle.std.specs.Prelude.{◌≡◌, ◌≢◌, ⊤, ℕ, ◌+◌, ◌-◌, ◌<◌, ◌≤◌, true, false, List, [], ◌∷◌, ◌++◌, length, Some, None, Ok}
 use Rattle.std.specs.List.{AllByRecursion}
-use Rattle.journal_model.specs.declared.entry.Entry.{Entry}
+use Rattle.journal_model.specs.declared.entry.Entry.TheVariants.{Copy, Revoke as RevokeEntry}
 use Rattle.journal_model.specs.declared.number.Area.TheVariants.{Home}
 use Rattle.journal_model.specs.declared.refusal.JournalError.{JournalError}
-use Rattle.journal_model.specs.declared.refusal.JournalError.TheVariants.{Aborted, BadBlock, Device, Memory, NeedSpace}
+use Rattle.journal_model.specs.declared.refusal.JournalError.TheVariants.{Aborted, BadBlock, Device, Memory, NeedSpace, Revoked}
 use Rattle.journal_model.specs.declared.transaction.Op.{Op}
 use Rattle.journal_model.specs.declared.transaction.Op.TheVariants.{Write, Revoke, Read}
 use Rattle.journal_model.specs.declared.transaction.Step.{Step as HandleStep}
@@ -12,16 +12,17 @@ use Rattle.journal_model.specs.Block.{IsAllowedBlock}
 use Rattle.journal_model.specs.Disk.{Disk, Image, Leaves}
 use Rattle.journal_model.specs.Layout.{Layout}
 use Rattle.journal_model.specs.Opening.{Opens, IsCountOf, greatest_number}
+use Rattle.journal_model.specs.OwnText.{copied, revoked}
 use Rattle.journal_model.specs.Reading.{seen}
 use Rattle.journal_model.specs.Room.{need}
 use Rattle.journal_model.specs.Superblock.{Shape}
-use Rattle.journal_model.specs.Transaction.{History, entries, last_effect}
+use Rattle.journal_model.specs.Transaction.{History, Transaction, entries, last_effect}
 use Rattle.block_device.specs.State.{DeviceState, Stays, one_more_fault}
 use Rattle.journal_world.specs.declared.round.Round.TheVariants.{Idle as NoRound}
 use Rattle.journal_world.specs.declared.stage.Stage.TheVariants.{Idle}
 use Rattle.journal_world.specs.Checkpoint.{IsPending}
 use Rattle.journal_world.specs.Engine.{AreBatchesOf, Engine}
-use Rattle.journal_world.specs.Front.{Front, IsFirstTouch}
+use Rattle.journal_world.specs.Front.{Front, unfinished}
 use Rattle.journal_world.specs.Front.FrontEvent.{Lock, Raise}
 use Rattle.journal_world.specs.Journal.{Event, Happens, Journal}
 use Rattle.journal_world.specs.Journal.Event.{CheckpointFault, CheckpointStep, CommitFault, CommitStep, Finish, FrontStep, ReadFault, Seal}
@@ -32,21 +33,22 @@ use Rattle.group_commit.specs.declared.journal.CheckTurn.{CheckTurn}
 use Rattle.group_commit.specs.declared.journal.CheckTurn.TheVariants.{Idle as IdleCheck, Step as StepCheck, Released}
 use Rattle.group_commit.specs.declared.journal.Turn.{Turn}
 use Rattle.group_commit.specs.declared.journal.Turn.TheVariants.{Idle as IdleTurn, Waiting, Step, Sealed, Committed}
-use Rattle.group_commit.specs.Front.{MayTouch, unfinished}
-use Rattle.group_commit.specs.Values.{HandleValue, JournalValue}
+use Rattle.group_commit.specs.Front.{MayTouch}
+use Rattle.group_commit.specs.Values.{JournalValue}
 
 -- the journal and the disk of its device go from old to new by this one step
 abbrev pub Does : {D : Type 0} → (D → DeviceState) → JournalValue D → Event → JournalValue D → Type 0
 Does state old event new = Happens old.journal (state old.device).disk event new.journal (state new.device).disk
 
--- the write of a whole block that may be touched
-abbrev pub IsWholeWrite : ℕ → Op → Type 0
-IsWholeWrite size (Write v) = length v ≡ size
-IsWholeWrite size Revoke = ⊥
-IsWholeWrite size (Read v) = ⊥
+-- the write of a whole block, or a revoke
+abbrev pub IsWholeTouch : ℕ → Op → Type 0
+IsWholeTouch size (Write v) = length v ≡ size
+IsWholeTouch size Revoke = ⊤
+IsWholeTouch size (Read v) = ⊥
 
+-- of a block that may be touched
 pub record IsGoodStep (l : Layout) (shape : Shape) (s : HandleStep) : Type 0 where
-  pub whole : IsWholeWrite shape.block_size s.op
+  pub whole : IsWholeTouch shape.block_size s.op
   pub allowed : IsAllowedBlock l shape.home_blocks s.block
 
 -- front and engine agree: what is sealed is what is accepted, what is finished is what is committed, and callers are told
@@ -71,23 +73,20 @@ finished j = j.front.finished + 1 - j.engine.first
 abbrev pub IsSeen : Journal → Disk → ℕ → List ℕ → Type 0
 IsSeen j disk b v = seen (j.front.sealed ++ j.front.running ∷ []) (finished j) b (disk Home b).reads ≡ Ok v
 
--- a copy of the block is kept: a transaction that is not finished has an entry of it, or one is pending
+-- a copy of the block is kept: it is the last entry of the transactions that are not finished, or one is pending
 pub data HasCopyKept (j : Journal) (b : ℕ) : Type 0 where
-  OfUnfinished : (e : Entry) → last_effect b (unfinished j.front) ≡ Some e → HasCopyKept j b
+  OfUnfinished : (v : List ℕ) → last_effect b (unfinished j.front) ≡ Some (Copy v) → HasCopyKept j b
   OfPending : (i : ℕ) (v : List ℕ) → IsPending j.engine i b v → HasCopyKept j b
 
--- why a read is refused: the device failed before, the block is none that may be touched, or no copy of it is kept and the
--- device failed in the read
+-- why a read is refused: the device failed before, the block is none that may be touched, the last entry of the transactions
+-- that are not finished is a revoke, or no copy of it is kept and the device failed in the read
 pub data ReadRefused {D : Type 0} (state : D → DeviceState) (old : JournalValue D) (b : ℕ) (new : JournalValue D) : JournalError → Type 0 where
   ReadAborted : old.journal.engine.aborted ≡ true → new ≡ old → ReadRefused state old b new Aborted
   ReadOutside : old.journal.engine.aborted ≡ false → (MayTouch old.journal.front b → ⊥) → new ≡ old → ReadRefused state old b new BadBlock
-  ReadFailed : MayTouch old.journal.front b → (HasCopyKept old.journal b → ⊥) → Does state old ReadFault new →
+  ReadRevoked : old.journal.engine.aborted ≡ false → MayTouch old.journal.front b →
+      last_effect b (unfinished old.journal.front) ≡ Some RevokeEntry → new ≡ old → ReadRefused state old b new Revoked
+  ReadFailed : MayTouch old.journal.front b → last_effect b (unfinished old.journal.front) ≡ None → (HasCopyKept old.journal b → ⊥) → Does state old ReadFault new →
       (state new.device).faults ≡ one_more_fault (state old.device).faults → ReadRefused state old b new Device
-
--- what a write leaves of the handle: a first touch takes one of its credits, any other write none
-pub record Spends (f : Front) (b : ℕ) (old new : HandleValue) : Type 0 where
-  pub first : IsFirstTouch f b → (0 < old.left) × (new ≡ record old { left = old.left - 1 })
-  pub later : (IsFirstTouch f b → ⊥) → new ≡ old
 
 -- a request locks the ticket's transaction where that is still running, and a handle has joined it; else it does nothing
 pub record Requests {D : Type 0} (state : D → DeviceState) (tid : ℕ) (old new : JournalValue D) : Type 0 where
@@ -101,10 +100,14 @@ abbrev pub StatusIs : Status → ℕ → Front → Type 0
 StatusIs IsCommitted tid f = tid ≤ f.mark
 StatusIs Open tid f = f.mark < tid
 
+-- the log blocks that a transaction needs
+abbrev pub need_of : Layout → Transaction → ℕ
+need_of l t = need l (length (copied (entries t.steps))) (length (revoked (entries t.steps)))
+
 -- the ring has as many free blocks as the running transaction needs
 abbrev pub HasRoomFor : Journal → Type 0
 HasRoomFor j =
-    j.engine.start + need j.engine.layout (length (entries j.front.running.steps)) 0 ≤ j.engine.tail + j.engine.ring.blocks
+    j.engine.start + need_of j.engine.layout j.front.running ≤ j.engine.tail + j.engine.ring.blocks
 
 -- nothing is being committed, and the running transaction takes no further handles and has no open one
 pub record SealIsDue (j : Journal) : Type 0 where

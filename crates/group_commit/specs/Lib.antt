@@ -1,4 +1,5 @@
 pub mod Close
+pub mod Direct
 pub mod Front
 pub mod FrontView
 pub mod Journal

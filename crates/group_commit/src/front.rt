@@ -1,24 +1,25 @@
-//! The transaction that handles join and write to, the ones that are sealed, the open handles, and the credits. It knows the
-//! measures of log and device and whether the device has failed, and asks nobody else.
-ghost use Rattle.std.specs.Prelude.{◌≡◌, ◌+◌, ◌-◌, ◌<◌, ◌≤◌, ◌↔◌, nat_eq, true, false, [], IsTrue, length, Some, None, IfSome, IfNone, OnOk, OnErr, IfOk, IfErr};
+//! The transaction that handles join, write to and revoke blocks in, the ones that are sealed, the open handles, and the
+//! credits. It knows the measures of log and device and whether the device has failed, and asks nobody else.
+ghost use Rattle.std.specs.Prelude.{◌≡◌, ◌+◌, ◌-◌, ◌<◌, ◌≤◌, ◌↔◌, nat_eq, true, false, [], IsTrue, length, None, OnOk, IfOk, IfErr, Some};
 ghost use Rattle.std.specs.Map.{lookup};
-ghost use Rattle.journal_model.specs.declared.entry.Entry.TheVariants.{Copy};
+ghost use Rattle.std.specs.Option.{option_copied};
+ghost use Rattle.journal_model.specs.declared.refusal.JournalError.TheVariants.{Memory};
 ghost use Rattle.journal_model.specs.Layout.{IsTaken};
 ghost use Rattle.journal_model.specs.Opening.{greatest_number};
+ghost use Rattle.journal_model.specs.OwnText.{copied, revoked};
 ghost use Rattle.journal_model.specs.Transaction.{entries, last_effect};
-ghost use Rattle.journal_world.specs.Front.{FrontHappens, IsFirstTouch, aborting, empty_transaction, finishing, fresh_front, left_after, next_handle, sealing};
-ghost use Rattle.journal_world.specs.Front.FrontEvent.{GiveBack, Join, Lock, Raise, Reserve, StopHandle, WriteBlock};
+ghost use Rattle.journal_world.specs.Front.{FrontHappens, IsUntouched, aborting, finishing, fresh_front, next_handle, sealing, unfinished};
+ghost use Rattle.journal_world.specs.Front.FrontEvent.{GiveBack, Join, Lock, Raise, Reserve, RevokeBlock, StopHandle, WriteBlock};
 ghost use Rattle.journal_world.specs.Journal.{batch_of};
-ghost use Rattle.group_commit.specs.Front.{IsOpenHandle, JoinRefused, MayTouch, ReserveRefused, unfinished};
+ghost use Rattle.group_commit.specs.Front.{IsKeptOut, IsOpenHandle, JoinRefused, MayStep, MayTouch, ReserveRefused, Spends, TouchRefused};
 
 use crate::handle::Handle;
 use indexmap::IndexMap;
 use journal_model::layout::GREATEST_NUMBER;
-use journal_model::{
-    Batch, Block, BlockNo, Entry, HandleNo, Items, JournalError, LogLayout, Op, Sealed, Step, Tid,
-};
-use std::alloc::{AllocError, Global};
+use journal_model::{Batch, BlockNo, Entry, HandleNo, JournalError, LogLayout, Sealed, Tid};
+use std::alloc::Global;
 use std::marker::Model;
+use transaction::{Entries, Transaction};
 
 /// The front of a journal.
 #[derive(Drop)]
@@ -40,16 +41,13 @@ pub(crate) struct Front {
     mark: u32,
     /// The transactions sealed since the opening.
     sealed: Vec<Sealed>,
-    /// The one that handles join and write to.
-    running: Sealed,
-    /// What its steps leave of each block that they touch, in the order of the first touches.
-    entries: IndexMap<BlockNo, Entry>,
+    /// The one that handles join.
+    running: Transaction,
     /// The entries of the last sealed transaction, while it is not finished.
-    committing: IndexMap<BlockNo, Entry>,
-    /// Those of its handles that have not stopped, in the order in which they joined, with the credits that each has left.
+    committing: Entries,
+    /// The handles of the running one that have not stopped, in the order in which they joined, with the credits that each
+    /// has left.
     open_handles: IndexMap<HandleNo, u64>,
-    /// It takes no further handles.
-    locked: bool,
     /// How many handle numbers have been given out.
     given: u64,
     /// The device has failed.
@@ -66,17 +64,6 @@ impl Model for Front {
     ghost view = { front_of };
 
     ghost invariant = { KeepsFront };
-}
-
-/// A transaction that no handle has joined.
-fn empty_transaction(alloc: Global, tid: Tid) -> Sealed
-    ensures { result ≡ empty_transaction tid }
-{
-    Sealed {
-        tid,
-        handles: Items::new(alloc),
-        steps: Items::new(alloc),
-    }
 }
 
 impl Front {
@@ -104,11 +91,9 @@ impl Front {
             finished: first.0 - 1,
             mark: first.0 - 1,
             sealed: Vec::new(alloc),
-            running: empty_transaction(alloc, first),
-            entries: IndexMap::new(alloc),
-            committing: IndexMap::new(alloc),
+            running: Transaction::new(alloc, first),
+            committing: Entries::new(alloc),
             open_handles: IndexMap::new(alloc),
-            locked: false,
             given: 0,
             aborted: false,
         }
@@ -150,10 +135,10 @@ impl Front {
         if self.aborted {
             return Err(JournalError::Aborted);
         }
-        if self.locked {
+        if self.running.is_locked() {
             return Err(JournalError::NotRunning);
         }
-        let tid = self.running.tid;
+        let tid = self.running.tid();
         if tid.0 > GREATEST_NUMBER || self.given == u64::MAX {
             return Err(JournalError::SequenceEnd);
         }
@@ -163,7 +148,7 @@ impl Front {
         self.sealed.try_reserve(1)?;
         self.open_handles.reserve(1)?;
         let number = HandleNo(self.given + 1);
-        self.running.handles.push(number)?;
+        self.running.join(number)?;
         match self.open_handles.insert(number, n) {
             Ok(_) => {}
             Err(_) => unreachable!(),
@@ -178,7 +163,7 @@ impl Front {
         ensures { IsTrue result ↔ IsOpenHandle self.now handle.now }
     {
         match self.open_handles.get(&handle.number()) {
-            Some(left) => *left == handle.left() && self.running.tid == handle.tid(),
+            Some(left) => *left == handle.left() && self.running.tid() == handle.tid(),
             None => false,
         }
     }
@@ -197,6 +182,13 @@ impl Front {
         self.aborted
     }
 
+    /// Notes whether the device has failed.
+    pub(crate) fn learn(&mut self, aborted: bool)
+        ensures { self.new ≡ record self.old { aborted = aborted } }
+    {
+        self.aborted = aborted;
+    }
+
     /// Notes that the device has failed.
     pub(crate) fn abort(&mut self)
         ensures { self.new ≡ aborting self.old }
@@ -204,69 +196,79 @@ impl Front {
         self.aborted = true;
     }
 
-    /// Whether no step of the running transaction has touched the block.
-    pub(crate) fn is_first_touch(&self, block: BlockNo) -> bool
-        ensures { IsTrue result ↔ IsFirstTouch self.now block }
+    /// The last entry of a block in the transactions that are not finished: the running one's or, where that has none, that
+    /// of the sealed one.
+    pub(crate) fn newest(&self, block: BlockNo) -> Option<&Entry>
+        ensures { option_copied result ≡ last_effect block (unfinished self.now) }
     {
-        self.entries.get(&block).is_none()
-    }
-
-    /// The last copy of a block in the running transaction or, where that has none, in the sealed one that is not finished.
-    pub(crate) fn copy_of(&self, block: BlockNo) -> Option<&[u8]>
-        ensures copy { IfSome result (λ copy. last_effect block (unfinished self.now) ≡ Some (Copy copy.now)) }
-        ensures none { IfNone result (last_effect block (unfinished self.now) ≡ None) }
-    {
-        let entry = match self.entries.get(&block) {
-            Some(entry) => entry,
-            None => self.committing.get(&block)?,
-        };
-        match entry {
-            Entry::Copy(copy) => Some(copy.bytes()),
-            Entry::Revoke => None,
+        match self.running.get(block) {
+            Some(entry) => Some(entry),
+            None => self.committing.get(block),
         }
     }
 
-    /// How many credits a handle has left once it has written the block, which has so many before.
-    fn left_after(&self, block: BlockNo, left: u64) -> u64
-        requires { IsFirstTouch self.now block → 0 < left }
-        ensures { result ≡ left_after self.now block left }
+    /// Whether no transaction that is not finished has an entry of the block.
+    pub(crate) fn is_untouched(&self, block: BlockNo) -> bool
+        ensures { IsTrue result ↔ IsUntouched self.now block }
     {
-        if self.is_first_touch(block) {
-            left - 1
-        } else {
-            left
-        }
+        self.newest(block).is_none()
     }
 
-    /// Notes a write of an open handle, which has so many credits left; a first touch takes one of them. Where memory runs out
-    /// nothing is noted.
+    /// Whether a handle may make a step on the block, but for the credit of a first touch.
+    fn admit(&self, handle: &Handle, block: BlockNo) -> Result<(), JournalError>
+        ensures ok { OnOk result (MayStep self.now handle.now block) }
+        ensures err { IfErr result (λ e. IsKeptOut self.now handle.now block e) }
+    {
+        if self.aborted {
+            return Err(JournalError::Aborted);
+        }
+        if !self.may_touch(block) {
+            return Err(JournalError::BadBlock);
+        }
+        if !self.is_open(handle) {
+            return Err(JournalError::NoCredit);
+        }
+        Ok(())
+    }
+
+    /// A handle writes a block, of one block of bytes; a first touch takes one of its credits. Where it is refused nothing
+    /// has changed.
     pub(crate) fn write(
         &mut self,
-        handle: HandleNo,
-        left: u64,
+        handle: &mut Handle,
         block: BlockNo,
         bytes: &[u8],
-    ) -> Result<(), AllocError>
-        requires running { self.old.aborted ≡ false }
-        requires open { lookup (nat_eq handle) self.old.open_handles ≡ Some left }
-        requires credit { IsFirstTouch self.old block → 0 < left }
-        requires allowed { MayTouch self.old block }
-        requires whole { length bytes.now ≡ self.old.layout.block_size }
-        ensures ok { OnOk result (FrontHappens self.old (WriteBlock handle block bytes.now) self.new) }
-        ensures left { OnOk result (lookup (nat_eq handle) self.new.open_handles ≡ Some (left_after self.old block left)) }
-        ensures same { OnOk result (self.new.running.tid ≡ self.old.running.tid) }
-        ensures err { OnErr result (self.new ≡ self.old) }
+    ) -> Result<(), JournalError>
+        requires { length bytes.now ≡ self.old.layout.block_size }
+        ensures ok { OnOk result (FrontHappens self.old (WriteBlock handle.old.number block bytes.now) self.new) }
+        ensures open { OnOk result (IsOpenHandle self.old handle.old × IsOpenHandle self.new handle.new) }
+        ensures spends { OnOk result (Spends self.old block handle.old handle.new) }
+        ensures err { IfErr result (λ e. TouchRefused self.old handle.old block e × (self.new ≡ self.old) × (handle.new ≡ handle.old)) }
     {
-        let left = self.left_after(block, left);
-        let copy = Block::copy_of(self.alloc, bytes)?;
-        let op = Op::Write(copy.try_clone()?);
-        self.entries.reserve(1)?;
-        self.running.steps.push(Step { handle, block, op })?;
-        match self.entries.insert(block, Entry::Copy(copy)) {
-            Ok(_) => {}
+        self.admit(handle, block)?;
+        let touch = self
+            .running
+            .touch_write(handle.number(), handle.left(), block, bytes)?;
+        handle.pay(touch);
+        match self.open_handles.insert(handle.number(), handle.left()) {
+            Ok(_) => Ok(()),
             Err(_) => unreachable!(),
         }
-        match self.open_handles.insert(handle, left) {
+    }
+
+    /// A handle revokes a block; a first touch takes one of its credits. Where it is refused nothing has changed.
+    pub(crate) fn revoke(&mut self, handle: &mut Handle, block: BlockNo) -> Result<(), JournalError>
+        ensures ok { OnOk result (FrontHappens self.old (RevokeBlock handle.old.number block) self.new) }
+        ensures open { OnOk result (IsOpenHandle self.old handle.old × IsOpenHandle self.new handle.new) }
+        ensures spends { OnOk result (Spends self.old block handle.old handle.new) }
+        ensures err { IfErr result (λ e. TouchRefused self.old handle.old block e × (self.new ≡ self.old) × (handle.new ≡ handle.old)) }
+    {
+        self.admit(handle, block)?;
+        let touch = self
+            .running
+            .touch_revoke(handle.number(), handle.left(), block)?;
+        handle.pay(touch);
+        match self.open_handles.insert(handle.number(), handle.left()) {
             Ok(_) => Ok(()),
             Err(_) => unreachable!(),
         }
@@ -287,23 +289,21 @@ impl Front {
         ensures joined { 0 < length self.old.running.handles → FrontHappens self.old Lock self.new }
         ensures empty { length self.old.running.handles ≡ 0 → self.new ≡ self.old }
     {
-        if self.running.handles.len() > 0 {
-            self.locked = true;
-        }
+        self.running.lock();
     }
 
     /// Whether the running transaction takes no further handles.
     pub(crate) fn is_locked(&self) -> bool
         ensures { result ≡ self.now.locked }
     {
-        self.locked
+        self.running.is_locked()
     }
 
     /// Whether a handle has joined the running transaction.
     pub(crate) fn has_joined(&self) -> bool
         ensures { IsTrue result ↔ (0 < length self.now.running.handles) }
     {
-        self.running.handles.len() > 0
+        self.running.is_joined()
     }
 
     /// Whether a handle of the running transaction has not stopped.
@@ -318,7 +318,7 @@ impl Front {
     pub(crate) fn tid(&self) -> Tid
         ensures { result ≡ self.now.running.tid }
     {
-        self.running.tid
+        self.running.tid()
     }
 
     /// The number of the last transaction that callers are told is committed.
@@ -328,25 +328,20 @@ impl Front {
         Tid(self.mark)
     }
 
-    /// How many blocks the running transaction has touched.
-    pub(crate) fn touched(&self) -> usize
-        ensures { result ≡ length (entries self.now.running.steps) }
+    /// How many entries of the running transaction are copies, and how many are revokes.
+    pub(crate) fn counts(&self) -> (usize, usize)
+        ensures copies { result.0 ≡ length (copied (entries self.now.running.steps)) }
+        ensures revokes { result.1 ≡ length (revoked (entries self.now.running.steps)) }
     {
-        self.entries.len()
+        self.running.counts()
     }
 
     /// The entries of the running transaction. It fails where memory runs out.
-    pub(crate) fn batch(&self) -> Result<Batch, AllocError>
-        ensures { IfOk result (λ batch. batch ≡ batch_of self.now.running) }
+    pub(crate) fn batch(&self) -> Result<Batch, JournalError>
+        ensures ok { IfOk result (λ batch. batch ≡ batch_of self.now.running) }
+        ensures err { IfErr result (λ e. e ≡ Memory) }
     {
-        let mut entries = Items::new(self.alloc);
-        for (block, entry) in self.entries.iter() {
-            entries.push((*block, entry.try_clone()?))?;
-        }
-        Ok(Batch {
-            tid: self.running.tid,
-            entries,
-        })
+        self.running.batch()
     }
 
     /// The running transaction is sealed, and the next one begins.
@@ -356,13 +351,10 @@ impl Front {
         requires finished { self.old.finished + 1 ≡ self.old.running.tid }
         ensures { self.new ≡ sealing self.old }
     {
-        let next = Tid(self.running.tid.0 + 1);
-        let sealed = std::mem::replace(&mut self.running, empty_transaction(self.alloc, next));
-        self.held = self.held.saturating_sub(self.entries.len() as u64);
-        std::mem::swap(&mut self.entries, &mut self.committing);
-        self.entries.clear();
+        let (sealed, entries) = self.running.seal();
+        self.held = self.held.saturating_sub(entries.len() as u64);
+        self.committing = entries;
         self.sealed.push_reserved(sealed);
-        self.locked = false;
     }
 
     /// One more transaction is committed. No caller is told yet.
@@ -371,7 +363,7 @@ impl Front {
         ensures { self.new ≡ finishing self.old }
     {
         self.finished += 1;
-        self.committing.clear();
+        self.committing = Entries::new(self.alloc);
     }
 
     /// Callers are told that the transactions up to this one are committed, which are finished. The mark never falls.
@@ -399,10 +391,8 @@ impl Front {
             mark: _,
             sealed,
             running: _,
-            entries: _,
             committing: _,
             open_handles: _,
-            locked: _,
             given: _,
             aborted: _,
         } = self;

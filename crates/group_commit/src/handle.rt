@@ -1,6 +1,7 @@
 //! What callers hold of a journal: credits, seats, handles, tickets and receipts.
 use journal_model::{HandleNo, Tid};
 use std::marker::Model;
+use transaction::Touch;
 
 /// Credits that were granted: the right of one handle to touch so many further blocks. Make a handle of them, or give
 /// them back to the journal that granted them: while they are held, others can have the fewer.
@@ -66,7 +67,8 @@ impl Model for Handle {
 }
 
 impl Handle {
-    ghost use Rattle.std.specs.Prelude.{◌≡◌, ◌-◌, ◌<◌};
+    ghost use Rattle.std.specs.Prelude.{◌≡◌, ◌-◌, ◌≤◌};
+    ghost use Rattle.transaction.specs.Transaction.{cost};
 
     pub(crate) fn new(number: HandleNo, tid: Tid, left: u64) -> Self
         ensures { result ≡ record { number = number; tid = tid; left = left } }
@@ -95,12 +97,12 @@ impl Handle {
         self.left
     }
 
-    /// Takes one of its credits.
-    pub(crate) fn spend(&mut self)
-        requires { 0 < self.old.left }
-        ensures { self.new ≡ record self.old { left = self.old.left - 1 } }
+    /// Takes what a touch costs of its credits.
+    pub(crate) fn pay(&mut self, touch: Touch)
+        requires { cost touch ≤ self.old.left }
+        ensures { self.new ≡ record self.old { left = self.old.left - cost touch } }
     {
-        self.left -= 1;
+        self.left -= touch.cost();
     }
 }
 

@@ -5,7 +5,7 @@ ghost use Rattle.journal_model.specs.Disk.{Image, Leaves};
 ghost use Rattle.block_device.specs.State.{EachMoment, MakesAtMostOneCall, Stays, one_more_fault};
 ghost use Rattle.journal_world.specs.declared.stage.Stage.TheVariants.{Idle};
 ghost use Rattle.journal_world.specs.Front.{next_handle};
-ghost use Rattle.journal_world.specs.Front.FrontEvent.{GiveBack, Join, Reserve, StopHandle, WriteBlock};
+ghost use Rattle.journal_world.specs.Front.FrontEvent.{GiveBack, Join, Reserve, RevokeBlock, StopHandle, WriteBlock};
 ghost use Rattle.journal_world.specs.Sound.{IsPlain};
 ghost use Rattle.journal_world.specs.Journal.{IsFresh};
 ghost use Rattle.journal_world.specs.Journal.Event.{FrontStep, Seal};
@@ -16,14 +16,14 @@ ghost use Rattle.log_engine.specs.Call.{IsOneMoment};
 ghost use Rattle.log_engine.specs.Close.{IsAllReleased};
 ghost use Rattle.log_engine.specs.Left.{commit_calls};
 ghost use Rattle.group_commit.specs.Close.{CloseDid, CloseRefused, EndsWith, LeavesFewerRounds, SealRefused, closing, locked_journal};
-ghost use Rattle.group_commit.specs.Front.{IsOpenHandle, JoinRefused, MayTouch, ReserveRefused, WriteRefused};
-ghost use Rattle.group_commit.specs.Journal.{Agrees, CheckTurnDid, CheckTurnRefused, Does, HasCopyKept, HasRoomFor, IsDuringCheckTurn, IsDuringTurn, IsSeen, OpensNow, OpensOver, ReadRefused, Requests, SealIsDue, Spends, StatusIs, TurnDid, TurnRefused};
+ghost use Rattle.group_commit.specs.Front.{IsOpenHandle, JoinRefused, MayTouch, ReserveRefused, Spends, TouchRefused};
+ghost use Rattle.group_commit.specs.Journal.{Agrees, CheckTurnDid, CheckTurnRefused, Does, HasCopyKept, HasRoomFor, IsDuringCheckTurn, IsDuringTurn, IsSeen, OpensNow, OpensOver, ReadRefused, Requests, SealIsDue, StatusIs, TurnDid, TurnRefused};
 
 use crate::close::finish;
 use crate::front::Front;
 use crate::handle::{Credits, Handle, Receipt, Seat, Status, Ticket};
 use block_device::Device;
-use journal_model::{BlockNo, JournalError, Sealed, Tid};
+use journal_model::{BlockNo, Entry, JournalError, Sealed, Tid};
 use log_engine::{Engine, Progress};
 use log_ring::Layout;
 use recovery::Opened;
@@ -33,8 +33,8 @@ use std::marker::Model;
 /// A journal on an opened log.
 #[derive(Drop)]
 pub struct Journal<D: Device> {
-    front: Front,
-    engine: Engine<D>,
+    pub(crate) front: Front,
+    pub(crate) engine: Engine<D>,
 }
 
 /// What a commit turn did.
@@ -99,7 +99,7 @@ impl<D: Device> Journal<D> {
             shape = (D.state r.0.device).shape;
             disk = (D.state r.0.device).disk;
             phase = Running;
-            epoch = Some (record { opening = (D.state opened.device).disk; engine = r.0.journal.engine; pin = None });
+            epoch = Some (record { opening = (D.state opened.device).disk; engine = r.0.journal.engine; directs = []; pin = None });
             ended = [];
           };
           told = record { front = r.0.journal.front; answered = [] };
@@ -188,29 +188,29 @@ impl<D: Device> Journal<D> {
         ensures ok { OnOk result (Does D.state self.old (FrontStep (WriteBlock handle.old.number block bytes.now)) self.new) }
         ensures open { OnOk result (IsOpenHandle self.old.journal.front handle.old × IsOpenHandle self.new.journal.front handle.new) }
         ensures spends { OnOk result (Spends self.old.journal.front block handle.old handle.new) }
-        ensures err { IfErr result (λ e. WriteRefused self.old.journal.front handle.old block e × (self.new ≡ self.old) × (handle.new ≡ handle.old)) }
+        ensures err { IfErr result (λ e. TouchRefused self.old.journal.front handle.old block e × (self.new ≡ self.old) × (handle.new ≡ handle.old)) }
         ensures device { self.new.device ≡ self.old.device }
     {
         self.engine.recall_invariant();
-        if self.front.is_aborted() {
-            return Err(JournalError::Aborted);
-        }
-        if !self.front.may_touch(block) {
-            return Err(JournalError::BadBlock);
-        }
-        if !self.front.is_open(handle) {
-            return Err(JournalError::NoCredit);
-        }
-        let first = self.front.is_first_touch(block);
-        if first && handle.left() == 0 {
-            return Err(JournalError::NoCredit);
-        }
-        self.front
-            .write(handle.number(), handle.left(), block, bytes)?;
-        if first {
-            handle.spend();
-        }
-        Ok(())
+        self.front.write(handle, block, bytes)
+    }
+
+    /// Revokes a block of the home area as a part of the handle's transaction: no older copy of the block is to come home
+    /// behind its commit, neither by a checkpoint nor by an opening. The first touch of a block in the transaction takes one of
+    /// the handle's credits; a revoke of a block that is revoked changes nothing more.
+    ///
+    /// # Errors
+    ///
+    /// Nothing changes. Those of `write`, in the same order.
+    /// Source: journalling.rst (`journal_revoke`), fs/jbd2/revoke.c by behaviour.
+    pub fn revoke(&mut self, handle: &mut Handle, block: BlockNo) -> Result<(), JournalError>
+        ensures ok { OnOk result (Does D.state self.old (FrontStep (RevokeBlock handle.old.number block)) self.new) }
+        ensures open { OnOk result (IsOpenHandle self.old.journal.front handle.old × IsOpenHandle self.new.journal.front handle.new) }
+        ensures spends { OnOk result (Spends self.old.journal.front block handle.old handle.new) }
+        ensures err { IfErr result (λ e. TouchRefused self.old.journal.front handle.old block e × (self.new ≡ self.old) × (handle.new ≡ handle.old)) }
+        ensures device { self.new.device ≡ self.old.device }
+    {
+        self.front.revoke(handle, block)
     }
 
     /// Reads a block of the home area into a buffer of one block: the running transaction's copy, else that of the one that
@@ -219,8 +219,8 @@ impl<D: Device> Journal<D> {
     ///
     /// # Errors
     ///
-    /// `Aborted` after a device failure; `BadBlock` where home has no such block, or its number is not below 2^32: nothing
-    /// changes. `Device` where the device failed: the journal is aborted, and the buffer's bytes are unspecified.
+    /// `Aborted` after a device failure; `BadBlock` where home has no such block, or its number is not below 2^32; `Revoked`
+    /// where its last entry in the transactions that are not committed is a revoke: nothing changes. `Device` where the device failed: the journal is aborted, and the buffer's bytes are unspecified.
     /// Source: journalling.rst (handles see the running transaction).
     pub fn read(
         &mut self,
@@ -250,9 +250,13 @@ impl<D: Device> Journal<D> {
         if !self.front.may_touch(block) {
             return Err(JournalError::BadBlock);
         }
-        if let Some(copy) = self.front.copy_of(block) {
-            into.copy_from_slice(copy);
-            return Ok(());
+        match self.front.newest(block) {
+            Some(Entry::Copy(copy)) => {
+                into.copy_from_slice(copy.bytes());
+                return Ok(());
+            }
+            Some(Entry::Revoke) => return Err(JournalError::Revoked),
+            None => {}
         }
         match self.engine.read(block, into) {
             Ok(()) => Ok(()),
@@ -417,7 +421,7 @@ impl<D: Device> Journal<D> {
         ensures err { IfErr result (λ e. TurnRefused D.state self.old self.new e) }
         ensures device { self.new.device ≡ self.old.device }
     {
-        if !self.engine.has_room(self.front.touched(), 0) {
+        if !self.has_room() {
             return Err(JournalError::NeedSpace);
         }
         let tid = self.front.tid();
@@ -497,7 +501,8 @@ impl<D: Device> Journal<D> {
         requires { self.now.journal.engine.stage ≡ Idle }
         ensures { IsTrue result ↔ HasRoomFor self.now.journal }
     {
-        self.engine.has_room(self.front.touched(), 0)
+        let (copies, revokes) = self.front.counts();
+        self.engine.has_room(copies, revokes)
     }
 
     /// States what every journal keeps, for the proofs of callers: its engine knows what agrees, and front and engine agree.

@@ -9,13 +9,17 @@ use Rattle.journal_world.specs.declared.round.Round.{Round}
 use Rattle.journal_world.specs.declared.round.Round.TheVariants.{Idle as NoRound, Copies, TailWrite, TailFlush}
 use Rattle.journal_world.specs.declared.stage.Stage.{Stage}
 use Rattle.journal_world.specs.declared.stage.Stage.TheVariants.{Idle, SuperblockWrite, SuperblockFlush, Blocks, CommitWrite, CommitFlush}
-use Rattle.journal_world.specs.Call.{Call}
+use Rattle.journal_world.specs.Call.{Call, IsAfterFault, after_success}
+use Rattle.journal_world.specs.Call.IsAfterFault.{Undone}
 use Rattle.journal_world.specs.Checkpoint.{HasRound, RoundCall, RoundFaults, RoundSteps, begun, begun_from}
 use Rattle.journal_world.specs.Checkpoint.RoundCall.{CopyHome, FlushHome, WriteTail, FlushTail}
+use Rattle.journal_world.specs.Direct.{DirectCall, DirectFaults, DirectSteps}
+use Rattle.journal_world.specs.Direct.DirectCall.{SyncDirect, WriteDirect}
 use Rattle.journal_world.specs.Engine.{Accepts, CommitFaults, CommitSteps, Engine, accepting, stepped_from}
 use Rattle.journal_world.specs.Journal.{fresh_engine}
 use Rattle.journal_world.specs.Opening.{IsOpenedLog}
 use Rattle.journal_world.specs.Sound.{IsPlain, StageAgrees, durable_cell}
+use Rattle.journal_world.proofs.Copying.{home-fault, home-written}
 use Rattle.log_engine.specs.Close.{KeepsClean}
 use Rattle.log_engine.proofs.Stepping.{busy}
 
@@ -116,3 +120,24 @@ round-fault-clean old new disk after plain fault =
       started = ap (λ (e : Engine). e.started) fault.engine ∙ begins.started;
       stage = ap (λ (e : Engine). e.stage) fault.engine ∙ begins.stage;
     })
+
+-- a direct call that succeeds leaves the log alone
+direct-log : (e : Engine) (disk : Disk) (call : Call) → DirectCall e call → (n : ℕ) → after_success call disk Log n ≡ disk Log n
+direct-log e disk call (WriteDirect b v left allowed whole) n = (home-written disk b v).log n
+direct-log e disk call SyncDirect n = refl
+
+-- so does one that fails
+fault-log : (e : Engine) (disk after : Disk) (call : Call) → DirectCall e call → IsAfterFault call disk after → (n : ℕ) → after Log n ≡ disk Log n
+fault-log e disk after call (WriteDirect b v left allowed whole) fault n = (home-fault disk after b v fault).log n
+fault-log e disk after call SyncDirect (Undone flush x y same) n = ap (λ (d : Disk). d Log n) same
+
+-- so block 0 stays as it is
+pub direct-clean : (old new : Engine) (disk after : Disk) (call : Call) → DirectSteps old disk call new after → KeepsClean old disk → KeepsClean new after
+direct-clean old new disk after call step keeps =
+    subst (λ (e : Engine). KeepsClean e after) (sym step.engine)
+    (record { durable = λ fresh idle. ap (λ (d : Disk). d Log 0) step.disk_is ∙ direct-log old disk call step.due 0 ∙ keeps.durable fresh idle })
+
+pub direct-fault-clean : (old new : Engine) (disk after : Disk) (call : Call) → DirectFaults old disk call new after → KeepsClean old disk → KeepsClean new after
+direct-fault-clean old new disk after call fault keeps =
+    subst (λ (e : Engine). KeepsClean e after) (sym fault.engine)
+    (record { durable = λ fresh idle. fault-log old disk after call fault.due fault.disk_is 0 ∙ keeps.durable fresh idle })

@@ -3,9 +3,12 @@ pub mod Advancing
 pub mod Calls
 pub mod Closing
 pub mod Copies
+pub mod Directs
+pub mod Effects
 pub mod FewerCalls
 pub mod KeptClean
 pub mod Ledgers
+pub mod LeftBlocks
 pub mod PendingCommits
 pub mod PendingLists
 pub mod PendingRounds

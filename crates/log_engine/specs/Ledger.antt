@@ -1,10 +1,11 @@
 -- The engine as the pure machine sees it, and what its ledger keeps.
-use Rattle.std.specs.Prelude.{◌≡◌, ◌⊎◌, ⊤, ℕ, ◌+◌, ◌<◌, ◌≤◌, nat_le, List, length, filter, Some, slice_get, Contains}
+use Rattle.std.specs.Prelude.{◌≡◌, ◌⊎◌, ⊤, ℕ, ◌+◌, ◌<◌, ◌≤◌, nat_le, List, length, filter, Some, slice_get, None, Contains}
 use Rattle.journal_model.specs.declared.entry.Batch.{Batch}
 use Rattle.journal_model.specs.declared.entry.Entry.TheVariants.{Copy}
 use Rattle.journal_model.specs.Superblock.{Shape}
 use Rattle.checkpoint.specs.declared.version.Version.{Version}
 use Rattle.checkpoint.specs.Pending.{ArePending, PendingValue, newest_of}
+use Rattle.last_effects.specs.Effects.{EffectsValue, effect_on, last_effect}
 use Rattle.journal_world.specs.declared.round.Round.{Round}
 use Rattle.journal_world.specs.declared.round.Round.TheVariants.{Idle as NoRound, Copies, TailWrite, TailFlush}
 use Rattle.journal_world.specs.Checkpoint.{IsFrom, IsPending}
@@ -43,6 +44,10 @@ pub record HasTaken (shape : Shape) (l : Ledger) : Type 0 where
 -- the plan is that of the transaction that is being committed, where one is
 abbrev pub HasPlan : Engine → Plan → Type 0
 HasPlan e plan = (b : Batch) → slice_get e.accepted e.committed ≡ Some b → IsPlanOf b.entries plan
+
+-- the table has the last effect on each block of the transactions that were handed over
+abbrev pub HasEffects : Engine → EffectsValue → Type 0
+HasEffects e table = (b : ℕ) → effect_on table b ≡ last_effect e.accepted b None
 
 -- entry k of transaction i is a pending copy of block b
 pub record IsPlaced (e : Engine) (i b k : ℕ) : Type 0 where

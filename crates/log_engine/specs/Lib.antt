@@ -1,5 +1,6 @@
 pub mod Call
 pub mod Close
+pub mod Direct
 pub mod Engine
 pub mod Ledger
 pub mod Left

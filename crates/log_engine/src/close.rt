@@ -17,8 +17,8 @@ use block_device::{Device, DeviceFault};
 use journal_model::Area;
 
 impl Ledger {
-    /// The number of the next transaction.
-    fn next_number(&self) -> u32
+    /// The number of the first transaction that is not committed.
+    pub(crate) fn next_number(&self) -> u32
         requires { CanRunOn self.now (length self.now.superblock.items) }
         ensures { result ≡ self.now.first + self.now.committed }
     {

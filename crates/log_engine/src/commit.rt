@@ -22,7 +22,7 @@ use log_format::Super;
 
 impl Ledger {
     /// The batch that is being committed.
-    fn batch_due(&self) -> &Batch
+    pub(crate) fn batch_due(&self) -> &Batch
         requires { self.now.committed < length self.now.accepted.items }
         ensures { slice_get self.now.accepted.items self.now.committed ≡ Some result.now }
     {

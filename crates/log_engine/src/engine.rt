@@ -26,6 +26,7 @@ use block_device::Device;
 use checkpoint::Pending;
 use journal_model::{Area, Batch, BlockNo, JournalError, LogLayout, Tid};
 use journal_world::Stage;
+use last_effects::LastEffects;
 use log_format::Super;
 use recovery::Opened;
 use std::alloc::Global;
@@ -45,10 +46,13 @@ pub enum Progress {
 /// The transactions of an opened log, and the device that it lies on.
 #[derive(Drop)]
 pub struct Engine<D: Device> {
-    device: D,
-    ledger: Ledger,
-    plan: Plan,
-    writer: TextWriter,
+    pub(crate) device: D,
+    pub(crate) ledger: Ledger,
+    /// Of the batch that is being committed.
+    pub(crate) plan: Plan,
+    /// Of the transactions that were handed over.
+    pub(crate) effects: LastEffects,
+    pub(crate) writer: TextWriter,
 }
 
 impl<D: Device> Model for Engine<D> {
@@ -56,7 +60,7 @@ impl<D: Device> Model for Engine<D> {
     ghost use Rattle.journal_world.specs.Sound.{Sound};
     ghost use Rattle.log_engine.specs.Close.{KeepsClean};
     ghost use Rattle.log_engine.specs.Engine.{EngineValue};
-    ghost use Rattle.log_engine.specs.Ledger.{HasPlan, Runs, engine_of};
+    ghost use Rattle.log_engine.specs.Ledger.{HasEffects, HasPlan, Runs, engine_of};
 
     ghost Value = { EngineValue D };
 
@@ -66,7 +70,8 @@ impl<D: Device> Model for Engine<D> {
         × (length e.writer ≡ (D.state e.device).shape.block_size)
         × (D.honest e.device → Sound (engine_of (D.state e.device).shape e.ledger) (D.state e.device).disk)
         × (D.honest e.device → KeepsClean (engine_of (D.state e.device).shape e.ledger) (D.state e.device).disk)
-        × HasPlan (engine_of (D.state e.device).shape e.ledger) e.plan };
+        × HasPlan (engine_of (D.state e.device).shape e.ledger) e.plan
+        × HasEffects (engine_of (D.state e.device).shape e.ledger) e.effects };
 }
 
 impl<D: Device> Engine<D> {
@@ -93,6 +98,7 @@ impl<D: Device> Engine<D> {
             device,
             ledger: Ledger::new(alloc, superblock, next.0, pending),
             plan: Plan::new(alloc),
+            effects: LastEffects::new(alloc),
             writer,
         })
     }
@@ -187,9 +193,13 @@ impl<D: Device> Engine<D> {
         if self.plan.make(batch.entries.as_slice()).is_err() {
             return Err((batch, JournalError::Memory));
         }
+        if self.effects.reserve(batch.entries.len()).is_err() {
+            return Err((batch, JournalError::Memory));
+        }
         if let Err(batch) = self.ledger.take(batch, blocks) {
             return Err((batch, JournalError::Memory));
         }
+        self.effects.note(self.ledger.batch_due());
         Ok(())
     }
 
@@ -322,6 +332,7 @@ impl<D: Device> Engine<D> {
             mut device,
             ledger,
             plan: _,
+            effects: _,
             mut writer,
         } = self;
         if ledger.aborted {
@@ -348,6 +359,7 @@ impl<D: Device> Engine<D> {
             device,
             ledger,
             plan: _,
+            effects: _,
             writer: _,
         } = self;
         (device, ledger.committed)

@@ -7,6 +7,7 @@
 mod call;
 mod close;
 mod commit;
+mod direct;
 mod engine;
 mod ledger;
 mod plan;

@@ -2,6 +2,7 @@ ghost use Rattle.std.specs.Prelude.{◌≡◌, ◌+◌, ◌-◌, ◌<◌, ◌^�
 ghost use Rattle.std.specs.Option.{option_copied, option_map_or};
 ghost use Rattle.indexmap.specs.IndexMap.{insert_entry, spare};
 ghost use Rattle.journal_model.specs.declared.refusal.JournalError.TheVariants.{Memory};
+ghost use Rattle.journal_model.specs.OwnText.{copied, revoked};
 ghost use Rattle.journal_model.specs.Transaction.{effect, entries, entry_of};
 ghost use Rattle.transaction.specs.Transaction.{LacksCredit, MayTouch, TouchRefused, Touches, batch_of, begun, cost, joined_by, locking, noting, reserving, revoke_step, touch_of, write_step};
 
@@ -122,6 +123,21 @@ impl Transaction {
         ensures { result ≡ length (entries self.now.transaction.steps) }
     {
         self.entries.len()
+    }
+
+    /// How many of its entries are copies, and how many are revokes. It looks at each of them.
+    pub fn counts(&self) -> (usize, usize)
+        ensures copies { result.0 ≡ length (copied (entries self.now.transaction.steps)) }
+        ensures revokes { result.1 ≡ length (revoked (entries self.now.transaction.steps)) }
+    {
+        let all = self.entries.len();
+        let mut copies = 0;
+        for (_, entry) in self.entries.iter() {
+            if let Entry::Copy(_) = entry {
+                copies += 1;
+            }
+        }
+        (copies, all - copies)
     }
 
     /// The entry of a block: what the last write or revoke of it leaves, or nothing where no step touches it.

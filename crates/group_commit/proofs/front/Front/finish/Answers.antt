@@ -1,5 +1,5 @@
 use Rattle.std.proofs.Common.{arith, ◌<◌, ◌+◌}
-use Rattle.group_commit.proofs.Unfinished.{committing-none, copies-none, one-untold}
+use Rattle.group_commit.proofs.Unfinished.{committing-none, one-untold}
 use Rattle.group_commit.proofs.front.Front.finish.Goals as goal
 
 -- no entries of sealed transactions are left
@@ -7,8 +7,8 @@ pub invariant_of-self : goal.invariant_of-self
 invariant_of-self c =
     let f = c.self.inside in
     let front = c.self.invariant.front in
-    let less : f.finished + 1 < f.running.tid = rw (← c.self.view_is) at c.requires in
-    let told = one-untold f.sealed.items f.finished f.running.tid f.committing.entries c.self.invariant.committing_are less in
+    let less : f.finished + 1 < f.running.transaction.tid = rw (← c.self.view_is) at c.requires in
+    let told = one-untold f.sealed.items f.finished f.running.transaction.tid f.committing c.self.invariant.committing_are less in
     record {
       front = record {
         layout = front.layout;
@@ -19,9 +19,6 @@ invariant_of-self c =
         number = front.number;
       };
       held_are = c.self.invariant.held_are;
-      entries_are = c.self.invariant.entries_are;
-      committing_are = committing-none f.sealed.items (f.finished + 1) f.running.tid c.clear.new.self.entries c.clear.ensures.empty (omega arith);
-      copies = c.self.invariant.copies;
-      committing_copies = copies-none c.clear.new.self.entries c.clear.ensures.empty;
+      committing_are = committing-none f.sealed.items (f.finished + 1) f.running.transaction.tid _ c.new.ensures (omega arith);
       room = c.self.invariant.room;
     }

@@ -37,9 +37,6 @@ invariant_of-self c =
     record {
       front = is-front (front_of f) (reserving (front_of f) c.args.n) (Reserve c.args.n) step c.self.invariant.front;
       held_are = omega arith;
-      entries_are = c.self.invariant.entries_are;
       committing_are = c.self.invariant.committing_are;
-      copies = c.self.invariant.copies;
-      committing_copies = c.self.invariant.committing_copies;
       room = c.self.invariant.room;
     }

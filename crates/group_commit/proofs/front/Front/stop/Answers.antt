@@ -30,9 +30,6 @@ invariant_of-self c =
     record {
       front = is-front f _ (StopHandle c.args.handle) (stops f c.args.handle c.args.left c.shift_remove.new.self.entries found taken) c.self.invariant.front;
       held_are = omega arith;
-      entries_are = c.self.invariant.entries_are;
       committing_are = c.self.invariant.committing_are;
-      copies = c.self.invariant.copies;
-      committing_copies = c.self.invariant.committing_copies;
       room = c.self.invariant.room;
     }

@@ -1,5 +1,5 @@
 use Rattle.std.proofs.Common.{refl, sym, ap, ap₂, ◌∙◌, ◌≡◌, subst, ◌<◌, ℕ}
-use Rattle.std.specs.Prelude.{Some, None}
+use Rattle.std.specs.Prelude.{Some, None, []}
 use Rattle.journal_model.specs.Layout.{Layout}
 use Rattle.journal_model.specs.Room.{IsCapacity}
 use Rattle.journal_model.specs.Superblock.{Shape}
@@ -47,8 +47,8 @@ returns-clause-begins g c = λ honest.
     subst (λ (d : g.row.D.Denot). IsOpenedLog (g.D.Device.state d).shape (g.D.Device.state d).disk opened.superblock opened.next)
     (sym device) (c.in_ok-engine.ensures.log honest) in
     let epoch =
-    ap₂ (λ (d : Disk) (e : Engine). Some (record { opening = d; engine = e; pin = None })) disk engine
-    ∙ ap (λ (s : Shape). Some (record { opening = (g.D.Device.state c.in_ok-engine.engine.device).disk; engine = fresh_engine s opened.superblock opened.next; pin = None })) shape in
+    ap₂ (λ (d : Disk) (e : Engine). Some (record { opening = d; engine = e; directs = []; pin = None })) disk engine
+    ∙ ap (λ (s : Shape). Some (record { opening = (g.D.Device.state c.in_ok-engine.engine.device).disk; engine = fresh_engine s opened.superblock opened.next; directs = []; pin = None })) shape in
     record {
       below = Made opened.superblock opened.next log refl epoch refl;
       fresh = record { journal = fresh-itself _ _ _ _ fresh; unanswered = refl };

@@ -1,4 +1,4 @@
-use Rattle.std.proofs.Common.{refl, sym, ap, subst, ◌∙◌, ◌≡◌, ℕ, length}
+use Rattle.std.proofs.Common.{Some, refl, sym, ap, subst, ◌∙◌, ◌≡◌, ℕ, length}
 use Rattle.std.proofs.lemmas.Bool.{true≢false}
 use Rattle.journal_model.specs.Block.{IsAllowedBlock}
 use Rattle.journal_model.specs.Superblock.{Shape}
@@ -26,8 +26,8 @@ returns-then-not-may_touch-clause-err g c =
     rw (← c.self.view_is) (ReadRefused.ReadOutside running no refl)
 
 -- the journal runs, and the block may be touched
-pub returns-in-Some-clause-may : goal.returns-in-Some-clause-may
-returns-in-Some-clause-may g c =
+pub returns-in-Some-Copy-clause-may : goal.returns-in-Some-Copy-clause-may
+returns-in-Some-Copy-clause-may g c =
     let running = sym c.is_aborted.ensures ∙ c.if-is_aborted.false in
     rw (← c.self.view_is) (running, c.may_touch.ensures.0 c.if-not-may_touch.false)
 
@@ -37,15 +37,25 @@ copy_from_slice-requires g c =
     let j : Journal = record { front = c.self.inside.front; engine = c.self.inside.engine.engine } in
     let size = subst (λ (v : JournalValue g.row.D.Denot). length c.args.into.now ≡ (g.D.Device.state v.device).shape.block_size) (sym c.self.view_is) c.requires
     ∙ ap (λ (s : Shape). s.block_size) (sym c.recall_invariant.ensures.shape) in
-    size ∙ sym (kept-whole j c.args.block _ c.self.invariant c.recall_invariant.ensures.plain c.in-Some.ensures.copy)
+    let last = sym c.in-Some-Copy.ensures ∙ ap Some c.in-Some-Copy.field-0-is in
+    size ∙ sym (kept-whole j c.args.block _ c.self.invariant c.recall_invariant.ensures.plain last) ∙ ap length (sym (c.bytes.ensures ∙ c.in-Some-Copy.copy-is))
 
 -- it is what the read answers
-pub returns-in-Some-clause-seen : goal.returns-in-Some-clause-seen
-returns-in-Some-clause-seen g c =
+pub returns-in-Some-Copy-clause-seen : goal.returns-in-Some-Copy-clause-seen
+returns-in-Some-Copy-clause-seen g c =
     let j : Journal = record { front = c.self.inside.front; engine = c.self.inside.engine.engine } in
     let disk = (g.D.Device.state c.self.inside.engine.device).disk in
-    rw (← c.self.view_is) (λ honest. subst (IsSeen j disk c.args.block) (sym c.copy_from_slice.ensures.after)
-    (seen-kept j c.self.invariant c.recall_invariant.ensures.plain disk c.args.block _ c.in-Some.ensures.copy))
+    let last = sym c.in-Some-Copy.ensures ∙ ap Some c.in-Some-Copy.field-0-is in
+    rw (← c.self.view_is)
+    (λ honest. subst (IsSeen j disk c.args.block) (sym (c.copy_from_slice.ensures.after ∙ c.bytes.ensures ∙ c.in-Some-Copy.copy-is))
+    (seen-kept j c.self.invariant c.recall_invariant.ensures.plain disk c.args.block _ last))
+
+-- the block's last entry is a revoke
+pub returns-in-Some-Revoke-clause-err : goal.returns-in-Some-Revoke-clause-err
+returns-in-Some-Revoke-clause-err g c =
+    let running = sym c.is_aborted.ensures ∙ c.if-is_aborted.false in
+    let last = sym c.in-Some-Revoke.ensures ∙ ap Some c.in-Some-Revoke.field-0-is in
+    rw (← c.self.view_is) (ReadRefused.ReadRevoked running (c.may_touch.ensures.0 c.if-not-may_touch.false) last refl)
 
 -- front and engine agree after the engine's read
 pub invariant_of-self : goal.invariant_of-self
@@ -71,14 +81,14 @@ returns-in-Ok-clause-seen g c =
     let j : Journal = record { front = c.self.inside.front; engine = c.self.inside.engine.engine } in
     let disk = (g.D.Device.state c.self.inside.engine.device).disk in
     rw (← c.self.view_is)
-    (λ honest. seen-read j c.self.invariant c.recall_invariant.ensures.plain disk c.args.block _ c.in_default.ensures.none (c.in-Ok.ensures.ok.0 honest))
+    (λ honest. seen-read j c.self.invariant c.recall_invariant.ensures.plain disk c.args.block _ (sym c.in-None.ensures) (c.in-Ok.ensures.ok.0 honest))
 
 -- a pending copy is read without a device call
 pub returns-in-Ok-clause-kept : goal.returns-in-Ok-clause-kept
 returns-in-Ok-clause-kept g c =
     let j : Journal = record { front = c.self.inside.front; engine = c.self.inside.engine.engine } in
     rw (← c.self.view_is)
-    (λ kept. kept-pending j c.args.block _ c.in_default.ensures.none
+    (λ kept. kept-pending j c.args.block _ (sym c.in-None.ensures)
     (λ i v is. ap (λ (x : EngineValue g.row.D.Denot). record { device = x.device; journal = record { front = c.self.inside.front; engine = x.engine } }) (c.in-Ok.ensures.pending i v is).1)
     kept)
 
@@ -88,4 +98,4 @@ returns-in-Err-clause-err g c =
     let running = sym c.is_aborted.ensures ∙ c.if-is_aborted.false in
     let may = c.may_touch.ensures.0 c.if-not-may_touch.false in
     rw (← c.self.view_is)
-    (refused-read g.D.Device.state _ _ _ _ _ _ c.self.invariant running may c.in_default.ensures.none c.read.ensures.stays c.abort.ensures c.in-Err.ensures.err)
+    (refused-read g.D.Device.state _ _ _ _ _ _ c.self.invariant running may (sym c.in-None.ensures) c.read.ensures.stays c.abort.ensures c.in-Err.ensures.err)

@@ -1,15 +1,20 @@
-use Rattle.std.proofs.Common.{refl, sym, ap, subst, ◌∙◌, ◌≡◌, ◌+◌, List, ℕ, length, Option, Some, None, IsTrue, is_some}
+use Rattle.std.proofs.Common.{refl, sym, ap, subst, ◌∙◌, ◌≡◌, ◌+◌, ◌≤◌, List, ℕ, length, Option, Some, None, IsTrue, is_some, slice_get}
+use Rattle.std.proofs.lemmas.Option.{same_Some, slice_get_within}
+use Rattle.journal_model.specs.declared.entry.Batch.{Batch}
 use Rattle.journal_model.specs.declared.entry.Entry.{Entry}
 use Rattle.journal_model.specs.OwnText.{copied}
 use Rattle.journal_world.proofs.Accepted.{accepts-sound}
 use Rattle.journal_world.specs.Engine.{Engine, HasRoom}
 use Rattle.journal_world.specs.Sound.{Sound}
+use Rattle.last_effects.specs.Effects.{effect_on, last_among}
 use Rattle.log_engine.specs.Close.{KeepsClean}
 use Rattle.log_engine.specs.Engine.{AcceptRefused, EngineValue, MayHandOver}
 use Rattle.log_engine.specs.Ledger.{engine_of}
 use Rattle.log_engine.specs.Text.{IsPlanOf}
 use Rattle.log_engine.proofs.Advancing.{needed-told, room-told, same-runs, takes-on}
+use Rattle.log_engine.proofs.Effects.{roomy-noted, same-noted, taken-noted}
 use Rattle.log_engine.proofs.KeptClean.{taken-clean}
+use Rattle.log_engine.proofs.Ledgers.{batch-there}
 use Rattle.log_engine.proofs.Plans.{idle-planned, taken-planned}
 use Rattle.log_engine.proofs.Running.{takes}
 use Rattle.log_engine.proofs.Stepping.{at-ok}
@@ -50,11 +55,21 @@ invariant_of-self g c =
       c.self.invariant.2,
       c.self.invariant.3,
       idle-planned (engine_of shape l) c.make.new.self c.self.invariant.0.plain may.idle,
+      c.self.invariant.5,
     )
 
 -- that is what the answer says
 pub returns-then-is_err-clause-err : goal.returns-then-is_err-clause-err
 returns-then-is_err-clause-err g c =
+    let shape = (g.D.Device.state c.self.inside.device).shape in
+    let l = c.self.inside.ledger in
+    let copies = c.count_copies-copies.ensures.count ∙ ap (λ (es : List (ℕ × Entry)). length (copied es)) c.as_slice.ensures in
+    let told = room-told shape l c.args.batch c.count_copies-copies.result c.len.result _ c.self.invariant.0 copies c.len.ensures c.room_for.ensures.room in
+    rw (← c.self.view_is) (refl, AcceptRefused.MemoryIsShort c.if-self.false (told.0 (is-there c.room_for.result _ c.in-Some.is)), refl)
+
+-- or for its blocks in the table of effects
+pub returns-then-is_err-2-clause-err : goal.returns-then-is_err-2-clause-err
+returns-then-is_err-2-clause-err g c =
     let shape = (g.D.Device.state c.self.inside.device).shape in
     let l = c.self.inside.ledger in
     let copies = c.count_copies-copies.ensures.count ∙ ap (λ (es : List (ℕ × Entry)). length (copied es)) c.as_slice.ensures in
@@ -92,6 +107,8 @@ invariant_of-self-in-Err g c =
       λ honest. subst (λ (e : Engine). Sound e state.disk) (sym (same.0 state.shape)) (c.self.invariant.2 honest),
       λ honest. subst (λ (e : Engine). KeepsClean e state.disk) (sym (same.0 state.shape)) (c.self.invariant.3 honest),
       idle-planned (engine_of state.shape c.take.new.self) c.make.new.self runs.plain (ap (λ (x : Engine). x.stage) (same.0 state.shape) ∙ may.idle),
+      same-noted e (engine_of state.shape c.take.new.self) c.reserve.new.self (ap (λ (x : Engine). x.accepted) (same.0 state.shape))
+          (roomy-noted e c.self.inside.effects c.reserve.new.self c.reserve.ensures.same c.self.invariant.5),
     )
 
 -- that is what the answer says
@@ -108,7 +125,40 @@ returns-in-Err-clause-err g c =
       ap (λ (e : Engine). record { device = c.self.inside.device; engine = e }) (same.0 shape),
     )
 
--- the engine can run with the batch, and has its plan
+-- the batch is then the one that is to be committed
+pub batch_due-requires : goal.batch_due-requires
+batch_due-requires g c =
+    let shape = (g.D.Device.state c.self.inside.device).shape in
+    let l = c.self.inside.ledger in
+    let may : MayHandOver (engine_of shape l) c.args.batch =
+    subst (λ (v : EngineValue g.row.D.Denot). MayHandOver v.engine c.args.batch) (sym c.self.view_is) c.requires in
+    let is = c.in_default-take.ensures.ok shape in
+    let accepted = ap (λ (x : Engine). x.accepted) is in
+    let committed = ap (λ (x : Engine). x.committed) is in
+    slice_get_within c.take.new.self.accepted.items c.take.new.self.committed c.args.batch
+    (ap (slice_get c.take.new.self.accepted.items) committed
+    ∙ batch-there shape l c.args.batch c.take.new.self.accepted.items c.self.invariant.0 may accepted)
+
+-- and the table has room for its blocks
+pub note-requires : goal.note-requires
+note-requires g c =
+    let shape = (g.D.Device.state c.self.inside.device).shape in
+    let l = c.self.inside.ledger in
+    let may : MayHandOver (engine_of shape l) c.args.batch =
+    subst (λ (v : EngineValue g.row.D.Denot). MayHandOver v.engine c.args.batch) (sym c.self.view_is) c.requires in
+    let is = c.in_default-take.ensures.ok shape in
+    let accepted = ap (λ (x : Engine). x.accepted) is in
+    let committed = ap (λ (x : Engine). x.committed) is in
+    let there : c.args.batch ≡ c.batch_due.result.now =
+    same_Some c.args.batch c.batch_due.result.now
+    (sym (batch-there shape l c.args.batch c.take.new.self.accepted.items c.self.invariant.0 may accepted)
+    ∙ ap (slice_get c.take.new.self.accepted.items) (sym committed) ∙ c.batch_due.ensures) in
+    let made = sym c.is_err-2.ensures.value ∙ c.if-is_err-2.false in
+    let room : c.len-2.result ≤ c.reserve.new.self.room = at-ok c.reserve.result made c.reserve.ensures.ok in
+    subst (λ (x : Batch). length x.entries ≤ c.reserve.new.self.room) there
+    (subst (λ (n : ℕ). n ≤ c.reserve.new.self.room) c.len-2.ensures room)
+
+-- the engine can run with the batch, has its plan, and its effects are noted
 pub invariant_of-self-2 : goal.invariant_of-self-2
 invariant_of-self-2 g c =
     let state = g.D.Device.state c.self.inside.device in
@@ -123,12 +173,21 @@ invariant_of-self-2 g c =
     let is = c.in_default-take.ensures.ok state.shape in
     let made = sym c.is_err.ensures.value ∙ c.if-is_err.false in
     let plan : IsPlanOf c.args.batch.entries c.make.new.self =
-    subst (λ (es : List (ℕ × Entry)). IsPlanOf es c.make.new.self) c.as_slice-2.ensures (at-ok c.make.result made c.make.ensures) in (
+    subst (λ (es : List (ℕ × Entry)). IsPlanOf es c.make.new.self) c.as_slice-2.ensures (at-ok c.make.result made c.make.ensures) in
+    let accepted = ap (λ (x : Engine). x.accepted) is in
+    let committed = ap (λ (x : Engine). x.committed) is in
+    let there : c.args.batch ≡ c.batch_due.result.now =
+    same_Some c.args.batch c.batch_due.result.now
+    (sym (batch-there state.shape l c.args.batch c.take.new.self.accepted.items c.self.invariant.0 may accepted)
+    ∙ ap (slice_get c.take.new.self.accepted.items) (sym committed) ∙ c.batch_due.ensures) in (
       takes-on state.shape l c.take.new.self c.args.batch c.if-self.false may room is head c.take.ensures.pending c.self.invariant.0,
       c.self.invariant.1,
       λ honest. accepts-sound e c.args.batch _ state.disk (c.self.invariant.2 honest) (takes e _ c.args.batch c.if-self.false may room is),
       λ honest. taken-clean e _ c.args.batch state.disk (takes e _ c.args.batch c.if-self.false may room is),
       taken-planned e _ c.args.batch c.make.new.self c.self.invariant.0.plain may is plan,
+      taken-noted e _ c.args.batch c.reserve.new.self c.note.new.self is
+          (subst (λ (x : Batch). (b : ℕ) → effect_on c.note.new.self b ≡ last_among x.tid x.entries b (effect_on c.reserve.new.self b)) (sym there) c.note.ensures)
+          (roomy-noted e c.self.inside.effects c.reserve.new.self c.reserve.ensures.same c.self.invariant.5),
     )
 
 -- it has taken the batch

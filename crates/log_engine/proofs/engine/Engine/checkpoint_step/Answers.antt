@@ -6,6 +6,7 @@ use Rattle.journal_world.proofs.RoundSteps.{round-sound}
 use Rattle.log_engine.specs.Call.{call_of}
 use Rattle.log_engine.specs.Engine.{RoundRefused}
 use Rattle.log_engine.specs.Ledger.{Runs, engine_of}
+use Rattle.log_engine.proofs.Effects.{round-fault-noted, round-noted}
 use Rattle.log_engine.proofs.FewerCalls.{round-fewer}
 use Rattle.log_engine.proofs.KeptClean.{round-clean, round-fault-clean}
 use Rattle.log_engine.proofs.Plans.{round-fault-planned, round-planned}
@@ -46,6 +47,7 @@ invariant_of-self-then-is_err g c =
       λ honest. round-fault-sound e _ before.disk after.disk (c.self.invariant.2 (c.make_call.ensures.honest honest)) fault,
       λ honest. round-fault-clean e _ before.disk after.disk c.self.invariant.0.plain fault,
       round-fault-planned e _ before.disk after.disk c.self.inside.plan fault c.self.invariant.4,
+      round-fault-noted e _ before.disk after.disk c.self.inside.effects fault c.self.invariant.5,
     )
 
 -- that is what the answer says
@@ -97,6 +99,7 @@ invariant_of-self-2 g c =
       λ honest. round-sound e _ before.disk after.disk (c.self.invariant.2 (c.make_call.ensures.honest honest)) steps,
       λ honest. round-clean e _ before.disk after.disk c.self.invariant.0.plain steps,
       round-planned e _ before.disk after.disk c.self.inside.plan steps c.self.invariant.4,
+      round-noted e _ before.disk after.disk c.self.inside.effects steps c.self.invariant.5,
     )
 
 -- that is what the answer says

@@ -7,6 +7,7 @@ use Rattle.log_engine.specs.Call.{call_of}
 use Rattle.log_engine.specs.Engine.{IsProgress, StepRefused}
 use Rattle.log_engine.specs.Ledger.{Runs, engine_of}
 use Rattle.log_engine.proofs.Advancing.{faults-on}
+use Rattle.log_engine.proofs.Effects.{step-noted}
 use Rattle.log_engine.proofs.FewerCalls.{step-fewer}
 use Rattle.log_engine.proofs.KeptClean.{fault-clean, step-clean}
 use Rattle.log_engine.proofs.Plans.{step-planned}
@@ -52,6 +53,7 @@ invariant_of-self-then-is_err g c =
       λ honest. fault-sound e _ before.disk after.disk (c.self.invariant.2 (c.make_call.ensures.honest honest)) fault,
       λ honest. fault-clean e _ before.disk after.disk fault,
       c.self.invariant.4,
+      c.self.invariant.5,
     )
 
 -- that is what the answer says
@@ -100,6 +102,7 @@ invariant_of-self-2 g c =
       λ honest. step-sound e new before.disk after.disk (c.self.invariant.2 (c.make_call.ensures.honest honest)) step,
       λ honest. step-clean e new before.disk after.disk c.self.invariant.0.plain step,
       step-planned e new before.disk after.disk c.self.inside.plan c.self.invariant.0.plain step c.self.invariant.4,
+      step-noted e new before.disk after.disk c.self.inside.effects step c.self.invariant.5,
     )
 
 -- that is what the answer says

@@ -9,6 +9,7 @@ use Rattle.journal_world.specs.Sound.{IsPlain, Sound}
 use Rattle.journal_world.proofs.Fresh.{fresh-sound}
 use Rattle.log_engine.specs.Close.{KeepsClean}
 use Rattle.log_engine.specs.Ledger.{HasPlan, KeepsPending, engine_of}
+use Rattle.log_engine.proofs.Effects.{none-noted}
 use Rattle.log_engine.proofs.KeptClean.{fresh-clean}
 use Rattle.log_engine.proofs.Ledgers.{fresh-taken}
 use Rattle.log_engine.proofs.Pendings.{fresh-keeps}
@@ -75,6 +76,7 @@ invariant_of-result g c =
       λ honest. subst (λ (e : Engine). Sound e state.disk) (sym is) (fresh-sound state.shape state.disk superblock next (log honest)),
       λ honest. subst (λ (e : Engine). KeepsClean e state.disk) (sym is) (fresh-clean state.shape state.disk superblock next (log honest)),
       subst (λ (e : Engine). HasPlan e c.new-4.result) (sym is) (none-planned (fresh_engine state.shape superblock next) c.new-4.result (omega arith)),
+      none-noted (engine_of state.shape c.new-3.result) c.new-5.result (ap (λ (e : Engine). e.accepted) is) c.new-5.ensures,
     )
 
 -- it is the machine's

@@ -102,6 +102,7 @@ invariant_of-self g c =
       λ honest. aborted-sound before.shape after.shape l before.disk after.disk stays.shape stays.disk (c.self.invariant.2 (c.read.ensures.honest honest)),
       λ honest. same-clean (engine_of before.shape l) _ before.disk after.disk refl refl refl stays.disk (c.self.invariant.3 (c.read.ensures.honest honest)),
       c.self.invariant.4,
+      c.self.invariant.5,
     )
 
 -- that is what the answer says

@@ -1,6 +1,0 @@
-use Rattle.std.proofs.Common.{◌≡◌, ◌++◌}
-use Rattle.group_commit.proofs.front.Front.batch.Given as goal
-
--- the copied entries, and those that are left
-abbrev pub invariant-loop-block : goal.invariant-loop-block
-invariant-loop-block l = l.entries ++ l.block-iterator ≡ l.self-inside.entries.entries

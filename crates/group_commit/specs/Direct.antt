@@ -1,0 +1,45 @@
+-- Direct writes of a journal and the flush of home behind them: what holds at each moment, and why they are refused.
+use Rattle.std.specs.Prelude.{◌≡◌, ℕ, true, false, List, length}
+use Rattle.journal_model.specs.declared.refusal.JournalError.{JournalError}
+use Rattle.journal_model.specs.declared.refusal.JournalError.TheVariants.{Aborted, BadBlock, Device, NotDirect}
+use Rattle.journal_model.specs.Disk.{Disk}
+use Rattle.journal_model.specs.HomeChange.{HomeAddsOnly}
+use Rattle.journal_model.specs.Reading.{HasDirectRight}
+use Rattle.block_device.specs.State.{DeviceState, one_more_fault}
+use Rattle.journal_world.specs.Direct.{DirectsHome}
+use Rattle.journal_world.specs.Front.{finished_count, transactions}
+use Rattle.journal_world.specs.Journal.{Journal}
+use Rattle.journal_world.specs.Journal.Event.{DirectSyncFault, DirectWriteFault}
+use Rattle.log_engine.specs.Direct.{NoAddition}
+use Rattle.group_commit.specs.Front.{MayTouch}
+use Rattle.group_commit.specs.Journal.{Does, OpensNow}
+use Rattle.group_commit.specs.Values.{JournalValue}
+
+-- the block may be written directly, by all transactions since the opening
+abbrev pub MayWriteDirectly : Journal → ℕ → Type 0
+MayWriteDirectly j b = HasDirectRight (transactions j.front) j.engine.committed (finished_count j.front) b
+
+-- why a direct write is refused: the device failed before, the block is none that may be touched, it has not the right to it,
+-- or the device failed in the write
+pub data DirectWriteRefused {D : Type 0} (state : D → DeviceState) (old : JournalValue D) (b : ℕ) (v : List ℕ) (new : JournalValue D) : JournalError → Type 0 where
+  WriteAborted : old.journal.engine.aborted ≡ true → new ≡ old → DirectWriteRefused state old b v new Aborted
+  WriteOutside : old.journal.engine.aborted ≡ false → (MayTouch old.journal.front b → ⊥) → new ≡ old → DirectWriteRefused state old b v new BadBlock
+  WriteNotDirect : old.journal.engine.aborted ≡ false → MayTouch old.journal.front b → (MayWriteDirectly old.journal b → ⊥) → new ≡ old →
+      DirectWriteRefused state old b v new NotDirect
+  WriteFailed : Does state old (DirectWriteFault b v) new → (state new.device).faults ≡ one_more_fault (state old.device).faults →
+      DirectWriteRefused state old b v new Device
+
+-- why a flush of home is: the device failed before, or in it
+pub data DirectSyncRefused {D : Type 0} (state : D → DeviceState) (old new : JournalValue D) : JournalError → Type 0 where
+  SyncAborted : old.journal.engine.aborted ≡ true → new ≡ old → DirectSyncRefused state old new Aborted
+  SyncFailed : Does state old DirectSyncFault new → (state new.device).faults ≡ one_more_fault (state old.device).faults → DirectSyncRefused state old new Device
+
+-- a moment of a direct write: home has changed by it alone, and what a stop leaves opens
+pub record IsDuringDirectWrite (j : Journal) (b : ℕ) (v : List ℕ) (old disk : Disk) : Type 0 where
+  pub home : DirectsHome j.engine b v old disk
+  pub opens : OpensNow j disk
+
+-- a moment of the flush of home: nothing is added to home, and what a stop leaves opens
+pub record IsDuringDirectSync (j : Journal) (old disk : Disk) : Type 0 where
+  pub home : HomeAddsOnly NoAddition old disk
+  pub opens : OpensNow j disk

@@ -1,0 +1,87 @@
+//! Direct writes: bytes that go straight to home, past the log, to a block that the transactions leave to it; and the flush
+//! of home that makes them durable.
+//! Source: this project's own, by what journal.rst says of revokes (a block that is no longer journalled may be written in
+//! place).
+ghost use Rattle.std.specs.Prelude.{◌≡◌, length, IfErr, OnOk};
+ghost use Rattle.block_device.specs.State.{EachMoment, MakesAtMostOneCall};
+ghost use Rattle.journal_world.specs.Journal.Event.{DirectSync, DirectWrite};
+ghost use Rattle.log_engine.specs.Call.{IsOneMoment};
+ghost use Rattle.group_commit.specs.Direct.{DirectSyncRefused, DirectWriteRefused, IsDuringDirectSync, IsDuringDirectWrite, MayWriteDirectly};
+ghost use Rattle.group_commit.specs.Journal.{Does};
+
+use crate::journal::Journal;
+use block_device::Device;
+use journal_model::{BlockNo, JournalError};
+
+impl<D: Device> Journal<D> {
+    /// Writes a block of the home area directly, of one block of bytes, past the log: its last entry in the transactions that
+    /// were committed since the opening, released ones too, is a revoke, or it has none, and no transaction that is not
+    /// committed has an entry of it. What was written is durable behind a `sync_direct` that answers Ok. It takes no memory,
+    /// makes one device call, and takes no longer where there were more transactions.
+    ///
+    /// # Errors
+    ///
+    /// `Aborted` after a device failure; `BadBlock` where home has no such block, or its number is not below 2^32; `NotDirect`
+    /// where the transactions have a copy of the block, or one that is not committed has an entry of it: nothing changes.
+    /// `Device` where the device failed: the journal is aborted, and home reads the block as before or as these bytes, and a
+    /// stop may leave either.
+    /// Source: this project's own, by what journal.rst says of revokes.
+    pub fn write_direct(&mut self, block: BlockNo, bytes: &[u8]) -> Result<(), JournalError>
+        requires { length bytes.now ≡ (D.state self.old.device).shape.block_size }
+        ensures right { OnOk result (MayWriteDirectly self.old.journal block) }
+        ensures ok { OnOk result (Does D.state self.old (DirectWrite block bytes.now) self.new) }
+        ensures err { IfErr result (λ e. DirectWriteRefused D.state self.old block bytes.now self.new e) }
+        ensures no_fault { OnOk result ((D.state self.new.device).faults ≡ (D.state self.old.device).faults) }
+        ensures shape { (D.state self.new.device).shape ≡ (D.state self.old.device).shape }
+        ensures moments { D.honest self.old.device →
+            EachMoment (IsDuringDirectWrite self.old.journal block bytes.now (D.state self.old.device).disk) (D.state self.old.device) (D.state self.new.device) }
+        ensures one { IsOneMoment (D.state self.old.device) (D.state self.new.device) }
+        ensures calls { MakesAtMostOneCall (D.state self.old.device) (D.state self.new.device) }
+        ensures honest { D.honest self.new.device → D.honest self.old.device }
+    {
+        self.engine.recall_invariant();
+        if self.engine.is_aborted() {
+            return Err(JournalError::Aborted);
+        }
+        if !self.front.may_touch(block) {
+            return Err(JournalError::BadBlock);
+        }
+        if !self.front.is_untouched(block) {
+            return Err(JournalError::NotDirect);
+        }
+        match self.engine.write_direct(block, bytes) {
+            Ok(()) => Ok(()),
+            Err(e) => {
+                self.front.learn(self.engine.is_aborted());
+                Err(e)
+            }
+        }
+    }
+
+    /// Flushes the home area, so that every direct write that answered Ok before is durable.
+    ///
+    /// # Errors
+    ///
+    /// `Aborted` after a device failure: nothing changes. `Device` where the device failed: the journal is aborted, and nothing
+    /// more is durable.
+    /// Source: this project's own; a flush request (the kernel's writeback_cache_control.rst).
+    pub fn sync_direct(&mut self) -> Result<(), JournalError>
+        ensures ok { OnOk result (Does D.state self.old DirectSync self.new) }
+        ensures err { IfErr result (λ e. DirectSyncRefused D.state self.old self.new e) }
+        ensures no_fault { OnOk result ((D.state self.new.device).faults ≡ (D.state self.old.device).faults) }
+        ensures shape { (D.state self.new.device).shape ≡ (D.state self.old.device).shape }
+        ensures moments { D.honest self.old.device →
+            EachMoment (IsDuringDirectSync self.old.journal (D.state self.old.device).disk) (D.state self.old.device) (D.state self.new.device) }
+        ensures one { IsOneMoment (D.state self.old.device) (D.state self.new.device) }
+        ensures calls { MakesAtMostOneCall (D.state self.old.device) (D.state self.new.device) }
+        ensures honest { D.honest self.new.device → D.honest self.old.device }
+    {
+        match self.engine.sync_direct() {
+            Ok(()) => Ok(()),
+            Err(e) => {
+                self.front.abort();
+                Err(e)
+            }
+        }
+    }
+}
