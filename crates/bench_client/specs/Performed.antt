@@ -2,9 +2,9 @@
 use Rattle.std.specs.Prelude.{◌≡◌, ⊤, ℕ, ◌-◌, ◌++◌, List, length, replicate, take}
 use Rattle.block_device.specs.State.{DeviceState}
 use Rattle.bench_script.specs.declared.script.Operation.{Operation}
-use Rattle.bench_script.specs.declared.script.Operation.TheVariants.{Start, Write, Read, Stop, Request, Turn, Commit, CheckpointTurn, Check, Status, Wait}
-use Rattle.journal_world.specs.Front.FrontEvent.{WriteBlock}
-use Rattle.journal_world.specs.Journal.Event.{FrontStep}
+use Rattle.bench_script.specs.declared.script.Operation.TheVariants.{Start, Write, Revoke, Read, Stop, Request, Turn, Commit, CheckpointTurn, Check, Status, Wait, WriteDirect, SyncDirect}
+use Rattle.journal_world.specs.Front.FrontEvent.{RevokeBlock, WriteBlock}
+use Rattle.journal_world.specs.Journal.Event.{DirectSync, DirectWrite, FrontStep}
 use Rattle.group_commit.specs.Journal.{Does}
 use Rattle.group_commit.specs.Values.{JournalValue}
 use Rattle.bench_client.specs.declared.outcome.Outcome.{Outcome}
@@ -19,9 +19,21 @@ pub record WritesBlock {D : Type 0} (state : D → DeviceState) (block : ℕ) (b
   pub handle : ℕ
   pub writes : Does state old (FrontStep (WriteBlock handle block (block_from (state old.device).shape.block_size bytes))) new
 
--- a write of a script that came to 'ok' was one
+-- a handle revoked the block
+pub record RevokesBlock {D : Type 0} (state : D → DeviceState) (block : ℕ) (old new : JournalValue D) : Type 0 where
+  pub handle : ℕ
+  pub revokes : Does state old (FrontStep (RevokeBlock handle block)) new
+
+-- the block was written directly, with these bytes and zeros behind them
+abbrev pub WritesDirectly : {D : Type 0} → (D → DeviceState) → ℕ → List ℕ → JournalValue D → JournalValue D → Type 0
+WritesDirectly state block bytes old new = Does state old (DirectWrite block (block_from (state old.device).shape.block_size bytes)) new
+
+-- a write of a script that came to 'ok' was one, and so was a revoke, a direct write and a sync of these
 abbrev pub HasDone : {D : Type 0} → (D → DeviceState) → Operation → Outcome → JournalValue D → JournalValue D → Type 0
 HasDone state (Write name block bytes) outcome old new = outcome ≡ Done → WritesBlock state block bytes.items old new
+HasDone state (Revoke name block) outcome old new = outcome ≡ Done → RevokesBlock state block old new
+HasDone state (WriteDirect block bytes) outcome old new = outcome ≡ Done → WritesDirectly state block bytes.items old new
+HasDone state SyncDirect outcome old new = outcome ≡ Done → Does state old DirectSync new
 HasDone state (Start name credits) outcome old new = ⊤
 HasDone state (Read name block) outcome old new = ⊤
 HasDone state (Stop name) outcome old new = ⊤

@@ -1,7 +1,7 @@
 -- What the client of a journal records, and the moves of the machine that led there.
 use Rattle.std.specs.Prelude.{◌≡◌, ℕ, max, replicate, List, [], ◌∷◌, Option, Some, None}
 use Rattle.journal_model.specs.declared.number.Area.TheVariants.{Home}
-use Rattle.journal_model.specs.Disk.{Disk}
+use Rattle.journal_model.specs.Disk.{Disk, IsOneOf}
 use Rattle.journal_model.specs.Superblock.{Shape}
 use Rattle.journal_model.specs.Transaction.{History}
 use Rattle.block_device.specs.State.{DeviceState}
@@ -9,12 +9,15 @@ use Rattle.journal_world.specs.Journal.{Journal}
 use Rattle.journal_world.specs.Sound.{durable_cell}
 use Rattle.log_epochs.specs.EngineWorld.Phase.{Running}
 use Rattle.log_epochs.specs.JournalWorld.{Begins, JournalWorld, Leads, Move}
+use Rattle.bench_script.specs.declared.script.Operation.{Operation}
+use Rattle.bench_script.specs.Named.{IsDirectOf}
 use Rattle.group_commit.specs.Values.{JournalValue}
 
--- a client as contracts see it: the journal that it calls, on its device, and the greatest transaction that it was shown
--- committed, if there is one
+-- a client as contracts see it: the journal that it calls, on its device, the operations that it performs, and the greatest
+-- transaction that it was shown committed, if there is one
 pub record ClientValue (D : Type 0) : Type 0 where
   pub journal : JournalValue D
+  pub operations : List Operation
   pub shown : Option ℕ
 
 -- the greater of this number and of the one before, if there is one
@@ -27,37 +30,44 @@ abbrev pub greatest_of : List ℕ → Option ℕ
 greatest_of [] = None
 greatest_of (tid ∷ tids) = with_told tid (greatest_of tids)
 
--- the world in which a journal runs on a device that its log was opened on with this disk, and these transactions were answered
--- committed
-abbrev pub running_world : (opening : Disk) → Journal → DeviceState → (answered : List ℕ) → JournalWorld
-running_world opening j state answered = record {
+-- each of these direct writes is of a block that one of the operations writes directly
+abbrev pub AreDirectsOf : List Operation → List (ℕ × List ℕ) → Type 0
+AreDirectsOf operations directs = (b : ℕ) (v : List ℕ) → IsOneOf directs (b, v) → IsDirectOf operations b
+
+-- the world in which a journal runs on a device that its log was opened on with this disk; these were its direct writes, and
+-- these transactions were answered committed
+abbrev pub running_world : (opening : Disk) → Journal → DeviceState → (directs : List (ℕ × List ℕ)) → (answered : List ℕ) → JournalWorld
+running_world opening j state directs answered = record {
   below = record {
     shape = state.shape;
     disk = state.disk;
     phase = Running;
-    epoch = Some (record { opening = opening; engine = j.engine; pin = None });
+    epoch = Some (record { opening = opening; engine = j.engine; directs = directs; pin = None });
     ended = [];
   };
   told = record { front = j.front; answered = answered };
   past = [];
 }
 
--- Moves of the machine led from a journal that was just made, on a device of which this fact was known then, to this one. The
--- greatest transaction that a wait or a status answered committed is the one that is noted.
-pub record HasLedTo (Fact : Shape → Disk → Type 0) (j : Journal) (state : DeviceState) (shown : Option ℕ) : Type 0 where
+-- Moves of the machine led from a journal that was just made, on a device of which this fact was known then, to this one. Its
+-- direct writes are those of these operations. The greatest transaction that a wait or a status answered committed is the one that
+-- is noted.
+pub record HasLedTo (Fact : Shape → Disk → Type 0) (operations : List Operation) (j : Journal) (state : DeviceState) (shown : Option ℕ) : Type 0 where
   pub opening : Disk
   pub fact : Fact state.shape opening
   pub start : JournalWorld
   pub begins : Begins start
   pub moves : List Move
+  pub directs : List (ℕ × List ℕ)
+  pub written : AreDirectsOf operations directs
   pub answered : List ℕ
-  pub leads : Leads start moves (running_world opening j state answered)
+  pub leads : Leads start moves (running_world opening j state directs answered)
   pub greatest : shown ≡ greatest_of answered
 
 -- so they did to what is left of a journal: its device, the transactions that were sealed, and the one that is noted
-pub record IsLedTo (Fact : Shape → Disk → Type 0) (state : DeviceState) (sealed : History) (shown : Option ℕ) : Type 0 where
+pub record IsLedTo (Fact : Shape → Disk → Type 0) (operations : List Operation) (state : DeviceState) (sealed : History) (shown : Option ℕ) : Type 0 where
   pub journal : Journal
-  pub led : HasLedTo Fact journal state shown
+  pub led : HasLedTo Fact operations journal state shown
   pub sealed_is : sealed ≡ journal.front.sealed
 
 -- every block of home is zeros, durably

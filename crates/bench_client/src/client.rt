@@ -1,11 +1,13 @@
 //! The client of a journal: it calls it, and records what it is shown.
-ghost use Rattle.std.specs.Prelude.{◌≡◌, ◌≤◌, length, OnOk};
+ghost use Rattle.std.specs.Prelude.{◌≡◌, ◌≤◌, length, IfOk, OnOk};
 ghost use Rattle.journal_model.specs.Disk.{Disk};
 ghost use Rattle.journal_model.specs.Superblock.{Shape};
-ghost use Rattle.journal_world.specs.Front.FrontEvent.{WriteBlock};
-ghost use Rattle.journal_world.specs.Journal.Event.{FrontStep};
+ghost use Rattle.journal_world.specs.Front.FrontEvent.{RevokeBlock, WriteBlock};
+ghost use Rattle.journal_world.specs.Journal.Event.{DirectSync, DirectWrite, FrontStep};
+ghost use Rattle.bench_script.specs.Named.{IsDirectOf};
 ghost use Rattle.group_commit.specs.Journal.{Does};
 
+use bench_script::Operation;
 use block_device::Device;
 use group_commit::{
     CheckTurn, Credits, Handle, Journal, Parts, Receipt, Seat, Status, Ticket, Turn,
@@ -37,24 +39,25 @@ impl HomeFact for ZeroHome {
     ghost holds = { IsZeroHome };
 }
 
-/// A journal on a device, and what its client was shown.
+/// A journal on a device, the operations that its client performs, and what it was shown.
 #[derive(Drop)]
-pub struct Client<D: Device, H: HomeFact> {
+pub struct Client<'a, D: Device, H: HomeFact> {
     journal: Journal<D>,
     seat: Seat,
+    operations: &'a [Operation],
     /// The greatest transaction that a wait or a status answered committed.
     acknowledged: Option<Tid>,
     of: PhantomData<H>,
 }
 
-impl<D: Device, H: HomeFact> Model for Client<D, H> {
+impl<'a, D: Device, H: HomeFact> Model for Client<'a, D, H> {
     ghost use Rattle.bench_client.specs.Told.{ClientValue, HasLedTo};
 
     ghost Value = { ClientValue D };
 
-    ghost view = { λ c. record { journal = c.journal; shown = c.acknowledged } };
+    ghost view = { λ c. record { journal = c.journal; operations = c.operations.now; shown = c.acknowledged } };
 
-    ghost invariant = { λ c. HasLedTo H.holds c.journal.journal (D.state c.journal.device) c.acknowledged };
+    ghost invariant = { λ c. HasLedTo H.holds c.operations.now c.journal.journal (D.state c.journal.device) c.acknowledged };
 }
 
 /// What a wait came to.
@@ -67,23 +70,29 @@ pub enum Waited {
     Refused(Ticket, JournalError),
 }
 
-impl<D: Device + Drop, H: HomeFact> Client<D, H> {
+impl<'a, D: Device + Drop, H: HomeFact> Client<'a, D, H> {
     ghost use Rattle.bench_client.specs.Shown.{IsNoted, IsShown};
     ghost use Rattle.bench_client.specs.Told.{IsLedTo, with_told};
 
-    /// A client of a new journal on an opened log, who was shown nothing.
+    /// A client of a new journal on an opened log, who is to perform these operations, and was shown nothing.
     ///
     /// # Errors
     ///
     /// `Memory`.
-    pub fn new(alloc: Global, opened: Opened<D>) -> Result<Self, JournalError>
+    pub fn new(
+        alloc: Global,
+        opened: Opened<D>,
+        operations: &'a [Operation],
+    ) -> Result<Self, JournalError>
         requires honest { D.honest opened.device }
         requires fact { H.holds (D.state opened.device).shape (D.state opened.device).disk }
+        ensures { IfOk result (λ client. client.operations ≡ operations.now) }
     {
         match Journal::new(alloc, opened) {
             Ok((journal, seat)) => Ok(Client {
                 journal,
                 seat,
+                operations,
                 acknowledged: None,
                 of: PhantomData,
             }),
@@ -103,12 +112,16 @@ impl<D: Device + Drop, H: HomeFact> Client<D, H> {
     /// # Errors
     ///
     /// `TooMany` and `Full`.
-    pub fn reserve(&mut self, credits: u64) -> Result<Credits, JournalError> {
+    pub fn reserve(&mut self, credits: u64) -> Result<Credits, JournalError>
+        ensures operations { self.new.operations ≡ self.old.operations }
+    {
         self.journal.reserve(&mut self.seat, credits)
     }
 
     /// Takes back credits that no handle was made of.
-    pub fn give_back(&mut self, credits: Credits) {
+    pub fn give_back(&mut self, credits: Credits)
+        ensures operations { self.new.operations ≡ self.old.operations }
+    {
         self.journal.give_back(credits);
     }
 
@@ -117,7 +130,9 @@ impl<D: Device + Drop, H: HomeFact> Client<D, H> {
     /// # Errors
     ///
     /// Those of a join: the credits come back.
-    pub fn try_join(&mut self, credits: Credits) -> Result<Handle, (Credits, JournalError)> {
+    pub fn try_join(&mut self, credits: Credits) -> Result<Handle, (Credits, JournalError)>
+        ensures operations { self.new.operations ≡ self.old.operations }
+    {
         self.journal.try_join(credits)
     }
 
@@ -133,9 +148,48 @@ impl<D: Device + Drop, H: HomeFact> Client<D, H> {
         bytes: &[u8],
     ) -> Result<(), JournalError>
         requires { length bytes.now ≡ (D.state self.old.journal.device).shape.block_size }
-        ensures { OnOk result (Does D.state self.old.journal (FrontStep (WriteBlock handle.old.number block bytes.now)) self.new.journal) }
+        ensures does { OnOk result (Does D.state self.old.journal (FrontStep (WriteBlock handle.old.number block bytes.now)) self.new.journal) }
+        ensures operations { self.new.operations ≡ self.old.operations }
     {
         self.journal.write(handle, block, bytes)
+    }
+
+    /// Revokes a block through a handle.
+    ///
+    /// # Errors
+    ///
+    /// Those of a revoke: nothing changes.
+    pub fn revoke(&mut self, handle: &mut Handle, block: BlockNo) -> Result<(), JournalError>
+        ensures does { OnOk result (Does D.state self.old.journal (FrontStep (RevokeBlock handle.old.number block)) self.new.journal) }
+        ensures operations { self.new.operations ≡ self.old.operations }
+    {
+        self.journal.revoke(handle, block)
+    }
+
+    /// Writes a block directly, as one of its operations does.
+    ///
+    /// # Errors
+    ///
+    /// Those of a direct write.
+    pub fn write_direct(&mut self, block: BlockNo, bytes: &[u8]) -> Result<(), JournalError>
+        requires named { IsDirectOf self.old.operations block }
+        requires length { length bytes.now ≡ (D.state self.old.journal.device).shape.block_size }
+        ensures does { OnOk result (Does D.state self.old.journal (DirectWrite block bytes.now) self.new.journal) }
+        ensures operations { self.new.operations ≡ self.old.operations }
+    {
+        self.journal.write_direct(block, bytes)
+    }
+
+    /// Makes direct writes durable.
+    ///
+    /// # Errors
+    ///
+    /// Those of a direct sync.
+    pub fn sync_direct(&mut self) -> Result<(), JournalError>
+        ensures does { OnOk result (Does D.state self.old.journal DirectSync self.new.journal) }
+        ensures operations { self.new.operations ≡ self.old.operations }
+    {
+        self.journal.sync_direct()
     }
 
     /// Reads a block through a handle.
@@ -150,13 +204,16 @@ impl<D: Device + Drop, H: HomeFact> Client<D, H> {
         into: &mut [u8],
     ) -> Result<(), JournalError>
         requires { length into.old ≡ (D.state self.old.journal.device).shape.block_size }
-        ensures { length into.new ≡ length into.old }
+        ensures length { length into.new ≡ length into.old }
+        ensures operations { self.new.operations ≡ self.old.operations }
     {
         self.journal.read(handle, block, into)
     }
 
     /// Ends a handle.
-    pub fn stop(&mut self, handle: Handle) -> Ticket {
+    pub fn stop(&mut self, handle: Handle) -> Ticket
+        ensures operations { self.new.operations ≡ self.old.operations }
+    {
         self.journal.stop(handle)
     }
 
@@ -165,7 +222,9 @@ impl<D: Device + Drop, H: HomeFact> Client<D, H> {
     /// # Errors
     ///
     /// `Aborted`.
-    pub fn request(&mut self, ticket: &Ticket) -> Result<(), JournalError> {
+    pub fn request(&mut self, ticket: &Ticket) -> Result<(), JournalError>
+        ensures operations { self.new.operations ≡ self.old.operations }
+    {
         self.journal.request(ticket)
     }
 
@@ -174,7 +233,9 @@ impl<D: Device + Drop, H: HomeFact> Client<D, H> {
     /// # Errors
     ///
     /// Those of a commit turn.
-    pub fn commit_turn(&mut self) -> Result<Turn, JournalError> {
+    pub fn commit_turn(&mut self) -> Result<Turn, JournalError>
+        ensures operations { self.new.operations ≡ self.old.operations }
+    {
         self.journal.commit_turn()
     }
 
@@ -183,7 +244,9 @@ impl<D: Device + Drop, H: HomeFact> Client<D, H> {
     /// # Errors
     ///
     /// Those of a checkpoint turn.
-    pub fn checkpoint_turn(&mut self) -> Result<CheckTurn, JournalError> {
+    pub fn checkpoint_turn(&mut self) -> Result<CheckTurn, JournalError>
+        ensures operations { self.new.operations ≡ self.old.operations }
+    {
         self.journal.checkpoint_turn()
     }
 
@@ -194,7 +257,8 @@ impl<D: Device + Drop, H: HomeFact> Client<D, H> {
 
     /// Whether a ticket's transaction is committed. Where it is, that is noted.
     pub fn status(&mut self, ticket: &Ticket) -> Status
-        ensures { IsShown result ticket.now.tid self.old.shown self.new.shown }
+        ensures shown { IsShown result ticket.now.tid self.old.shown self.new.shown }
+        ensures operations { self.new.operations ≡ self.old.operations }
     {
         let status = self.journal.status(ticket, &mut self.seat);
         if matches!(status, Status::Committed) {
@@ -205,7 +269,8 @@ impl<D: Device + Drop, H: HomeFact> Client<D, H> {
 
     /// Takes the receipt of a committed transaction, which is noted. Of any other nothing is awaited.
     pub fn wait(&mut self, ticket: Ticket) -> Waited
-        ensures { IsNoted result self.old.shown self.new.shown }
+        ensures noted { IsNoted result self.old.shown self.new.shown }
+        ensures operations { self.new.operations ≡ self.old.operations }
     {
         match self.journal.status(&ticket, &mut self.seat) {
             Status::Committed => self.wait_for(ticket),
@@ -216,7 +281,8 @@ impl<D: Device + Drop, H: HomeFact> Client<D, H> {
     /// Takes the receipt for the ticket of a committed transaction.
     fn wait_for(&mut self, ticket: Ticket) -> Waited
         requires { ticket.tid ≤ self.old.journal.journal.front.mark }
-        ensures { IsNoted result self.old.shown self.new.shown }
+        ensures noted { IsNoted result self.old.shown self.new.shown }
+        ensures operations { self.new.operations ≡ self.old.operations }
     {
         match self.journal.wait(ticket, &mut self.seat) {
             Ok(receipt) => {
@@ -232,6 +298,7 @@ impl<D: Device + Drop, H: HomeFact> Client<D, H> {
         requires { tid ≤ self.old.journal.journal.front.mark }
         ensures journal { self.new.journal ≡ self.old.journal }
         ensures shown { self.new.shown ≡ with_told tid self.old.shown }
+        ensures operations { self.new.operations ≡ self.old.operations }
     {
         self.acknowledged = match self.acknowledged {
             Some(other) => Some(Tid(other.0.max(tid.0))),
@@ -241,11 +308,12 @@ impl<D: Device + Drop, H: HomeFact> Client<D, H> {
 
     /// Ends the journal: its device with what was sealed, and the greatest transaction that was shown committed.
     pub fn finish(self) -> (Parts<D>, Option<Tid>)
-        ensures { IsLedTo H.holds (D.state result.0.device) result.0.sealed.items result.1 }
+        ensures { IsLedTo H.holds self.entry.operations (D.state result.0.device) result.0.sealed.items result.1 }
     {
         let Client {
             journal,
             seat: _,
+            operations: _,
             acknowledged,
             of: PhantomData,
         } = self;

@@ -1,5 +1,5 @@
 //! Runs the operations of a script on a journal.
-ghost use Rattle.std.specs.Prelude.{◌≡◌, ◌++◌, IfOk, OnOk, drop, length, min, take};
+ghost use Rattle.std.specs.Prelude.{◌≡◌, ◌++◌, Contains, IfOk, OnOk, drop, length, min, take};
 ghost use Rattle.bench_client.specs.Performed.{block_from};
 
 use crate::client::{Client, HomeFact, Waited};
@@ -18,9 +18,9 @@ const MOST_TURNS: u32 = 2_000_000;
 
 /// The client of a journal, and what the names of a script stand for.
 #[derive(Drop)]
-pub struct Interpreter<D: Device, H: HomeFact> {
+pub struct Interpreter<'a, D: Device, H: HomeFact> {
     alloc: Global,
-    client: Client<D, H>,
+    client: Client<'a, D, H>,
     slots: Slots,
     /// Whether an operation was refused because the device failed, so that the journal is aborted.
     aborted: bool,
@@ -50,22 +50,30 @@ fn block_of(alloc: Global, size: usize, bytes: &[u8]) -> Result<Vec<u8>, AllocEr
     Ok(block)
 }
 
-impl<D: Device + Drop, H: HomeFact> Interpreter<D, H> {
-    ghost use Rattle.bench_client.specs.Performed.{HasDone, WritesBlock};
+impl<'a, D: Device + Drop, H: HomeFact> Interpreter<'a, D, H> {
+    ghost use Rattle.journal_world.specs.Journal.Event.{DirectSync};
+    ghost use Rattle.bench_script.specs.Named.{IsDirectOf};
+    ghost use Rattle.group_commit.specs.Journal.{Does};
+    ghost use Rattle.bench_client.specs.Performed.{HasDone, RevokesBlock, WritesBlock, WritesDirectly};
     ghost use Rattle.bench_client.specs.Told.{IsLedTo};
     ghost use Rattle.bench_client.specs.declared.outcome.Outcome.TheVariants.{Done};
 
-    /// An interpreter on an opened log.
+    /// An interpreter on an opened log, which is to run these operations.
     ///
     /// # Errors
     ///
     /// Memory runs out.
-    pub fn new(alloc: Global, opened: Opened<D>) -> Result<Self, JournalError>
+    pub fn new(
+        alloc: Global,
+        opened: Opened<D>,
+        operations: &'a [Operation],
+    ) -> Result<Self, JournalError>
         requires honest { D.honest opened.device }
         requires fact { H.holds (D.state opened.device).shape (D.state opened.device).disk }
+        ensures { IfOk result (λ interpreter. interpreter.client.operations ≡ operations.now) }
     {
         let slots = Slots::new(alloc)?;
-        match Client::new(alloc, opened) {
+        match Client::new(alloc, opened, operations) {
             Ok(client) => Ok(Interpreter {
                 alloc,
                 client,
@@ -76,9 +84,11 @@ impl<D: Device + Drop, H: HomeFact> Interpreter<D, H> {
         }
     }
 
-    /// Runs one operation.
+    /// Runs one of its operations.
     pub fn perform(&mut self, operation: &Operation) -> Outcome
-        ensures { HasDone D.state operation.now result self.old.client.journal self.new.client.journal }
+        requires { Contains self.old.client.operations operation.now }
+        ensures done { HasDone D.state operation.now result self.old.client.journal self.new.client.journal }
+        ensures operations { self.new.client.operations ≡ self.old.client.operations }
     {
         let outcome = self.outcome_of(operation);
         if matches!(outcome, Outcome::Refused(JournalError::Device)) {
@@ -89,11 +99,14 @@ impl<D: Device + Drop, H: HomeFact> Interpreter<D, H> {
 
     /// Runs one operation, and tells what it came to.
     fn outcome_of(&mut self, operation: &Operation) -> Outcome
-        ensures { HasDone D.state operation.now result self.old.client.journal self.new.client.journal }
+        requires { Contains self.old.client.operations operation.now }
+        ensures done { HasDone D.state operation.now result self.old.client.journal self.new.client.journal }
+        ensures operations { self.new.client.operations ≡ self.old.client.operations }
     {
         match operation {
             Operation::Start(name, credits) => self.start(*name, *credits),
             Operation::Write(name, block, bytes) => self.write(*name, *block, bytes),
+            Operation::Revoke(name, block) => self.revoke(*name, *block),
             Operation::Read(name, block) => self.read(*name, *block),
             Operation::Stop(name) => self.stop(*name),
             Operation::Request(name) => self.request(*name),
@@ -103,13 +116,15 @@ impl<D: Device + Drop, H: HomeFact> Interpreter<D, H> {
             Operation::Check => self.check(),
             Operation::Status(name) => self.status(*name),
             Operation::Wait(name) => self.wait(*name),
+            Operation::WriteDirect(block, bytes) => self.write_direct(*block, bytes),
+            Operation::SyncDirect => self.sync_direct(),
         }
     }
 
     /// Stops all open handles and ends the journal: its device with its record, and the greatest transaction that was shown
     /// committed.
     pub fn finish(self) -> (Parts<D>, Option<Tid>)
-        ensures { IsLedTo H.holds (D.state result.0.device) result.0.sealed.items result.1 }
+        ensures { IsLedTo H.holds self.entry.client.operations (D.state result.0.device) result.0.sealed.items result.1 }
     {
         let Interpreter {
             alloc: _,
@@ -126,7 +141,9 @@ impl<D: Device + Drop, H: HomeFact> Interpreter<D, H> {
     }
 
     /// Starts a handle. Where it is refused the name stands for nothing.
-    fn start(&mut self, name: HandleName, credits: u64) -> Outcome {
+    fn start(&mut self, name: HandleName, credits: u64) -> Outcome
+        ensures operations { self.new.client.operations ≡ self.old.client.operations }
+    {
         match self.join(credits) {
             Ok(handle) => {
                 let tid = handle.tid();
@@ -141,7 +158,9 @@ impl<D: Device + Drop, H: HomeFact> Interpreter<D, H> {
     }
 
     /// Reserves credits and makes a handle of them.
-    fn join(&mut self, credits: u64) -> Result<Handle, JournalError> {
+    fn join(&mut self, credits: u64) -> Result<Handle, JournalError>
+        ensures operations { self.new.client.operations ≡ self.old.client.operations }
+    {
         match self.client.reserve(credits) {
             Ok(credits) => self.join_with(credits),
             Err(e) => Err(e),
@@ -149,7 +168,9 @@ impl<D: Device + Drop, H: HomeFact> Interpreter<D, H> {
     }
 
     /// Makes a handle of these credits; where that is refused they are given back.
-    fn join_with(&mut self, credits: Credits) -> Result<Handle, JournalError> {
+    fn join_with(&mut self, credits: Credits) -> Result<Handle, JournalError>
+        ensures operations { self.new.client.operations ≡ self.old.client.operations }
+    {
         match self.client.try_join(credits) {
             Ok(handle) => Ok(handle),
             Err((credits, e)) => {
@@ -161,7 +182,8 @@ impl<D: Device + Drop, H: HomeFact> Interpreter<D, H> {
 
     /// Writes these bytes, with zeros behind them.
     fn write(&mut self, name: HandleName, block: BlockNo, bytes: &[u8]) -> Outcome
-        ensures { result ≡ Done → WritesBlock D.state block bytes.now self.old.client.journal self.new.client.journal }
+        ensures done { result ≡ Done → WritesBlock D.state block bytes.now self.old.client.journal self.new.client.journal }
+        ensures operations { self.new.client.operations ≡ self.old.client.operations }
     {
         match self.slots.take(name) {
             Slot::Open(mut handle) => {
@@ -186,14 +208,38 @@ impl<D: Device + Drop, H: HomeFact> Interpreter<D, H> {
         block: BlockNo,
         bytes: &[u8],
     ) -> Result<(), JournalError>
-        ensures { OnOk result (WritesBlock D.state block bytes.now self.old.client.journal self.new.client.journal) }
+        ensures done { OnOk result (WritesBlock D.state block bytes.now self.old.client.journal self.new.client.journal) }
+        ensures operations { self.new.client.operations ≡ self.old.client.operations }
     {
         let bytes = block_of(self.alloc, self.client.block_size(), bytes)?;
         self.client.write(handle, block, &bytes)
     }
 
+    /// Revokes a block.
+    fn revoke(&mut self, name: HandleName, block: BlockNo) -> Outcome
+        ensures done { result ≡ Done → RevokesBlock D.state block self.old.client.journal self.new.client.journal }
+        ensures operations { self.new.client.operations ≡ self.old.client.operations }
+    {
+        match self.slots.take(name) {
+            Slot::Open(mut handle) => {
+                let answer = self.client.revoke(&mut handle, block);
+                self.slots.put(name, Slot::Open(handle));
+                match answer {
+                    Ok(()) => Outcome::Done,
+                    Err(e) => Outcome::Refused(e),
+                }
+            }
+            other => {
+                self.slots.put(name, other);
+                Outcome::Skipped
+            }
+        }
+    }
+
     /// Reads a block through a handle.
-    fn read(&mut self, name: HandleName, block: BlockNo) -> Outcome {
+    fn read(&mut self, name: HandleName, block: BlockNo) -> Outcome
+        ensures operations { self.new.client.operations ≡ self.old.client.operations }
+    {
         match self.slots.take(name) {
             Slot::Open(mut handle) => {
                 let answer = self.read_block(&mut handle, block);
@@ -215,14 +261,18 @@ impl<D: Device + Drop, H: HomeFact> Interpreter<D, H> {
         &mut self,
         handle: &mut Handle,
         block: BlockNo,
-    ) -> Result<[u8; PRINTED_BYTES], JournalError> {
+    ) -> Result<[u8; PRINTED_BYTES], JournalError>
+        ensures operations { self.new.client.operations ≡ self.old.client.operations }
+    {
         let mut bytes = vec![in self.alloc; 0; self.client.block_size()]?;
         self.client.read(handle, block, &mut bytes)?;
         Ok(front_of(&bytes))
     }
 
     /// Stops a handle.
-    fn stop(&mut self, name: HandleName) -> Outcome {
+    fn stop(&mut self, name: HandleName) -> Outcome
+        ensures operations { self.new.client.operations ≡ self.old.client.operations }
+    {
         match self.slots.take(name) {
             Slot::Open(handle) => {
                 let ticket = self.client.stop(handle);
@@ -238,7 +288,9 @@ impl<D: Device + Drop, H: HomeFact> Interpreter<D, H> {
     }
 
     /// Asks for a commit. The transaction of a receipt is committed already, so nothing is left to ask the journal for.
-    fn request(&mut self, name: HandleName) -> Outcome {
+    fn request(&mut self, name: HandleName) -> Outcome
+        ensures operations { self.new.client.operations ≡ self.old.client.operations }
+    {
         match self.slots.get(name) {
             Some(Slot::Stopped(ticket)) => match self.client.request(ticket) {
                 Ok(()) => Outcome::Done,
@@ -250,7 +302,9 @@ impl<D: Device + Drop, H: HomeFact> Interpreter<D, H> {
     }
 
     /// Takes one commit turn.
-    fn turn(&mut self) -> Outcome {
+    fn turn(&mut self) -> Outcome
+        ensures operations { self.new.client.operations ≡ self.old.client.operations }
+    {
         match self.client.commit_turn() {
             Ok(turn) => Outcome::Turn(turn),
             Err(e) => Outcome::Refused(e),
@@ -258,7 +312,9 @@ impl<D: Device + Drop, H: HomeFact> Interpreter<D, H> {
     }
 
     /// Takes one checkpoint turn.
-    fn checkpoint_turn(&mut self) -> Outcome {
+    fn checkpoint_turn(&mut self) -> Outcome
+        ensures operations { self.new.client.operations ≡ self.old.client.operations }
+    {
         match self.client.checkpoint_turn() {
             Ok(turn) => Outcome::CheckTurn(turn),
             Err(e) => Outcome::Refused(e),
@@ -266,7 +322,9 @@ impl<D: Device + Drop, H: HomeFact> Interpreter<D, H> {
     }
 
     /// Takes checkpoint turns until one has nothing to do.
-    fn check(&mut self) -> Outcome {
+    fn check(&mut self) -> Outcome
+        ensures operations { self.new.client.operations ≡ self.old.client.operations }
+    {
         for _ in 0..MOST_TURNS {
             match self.client.checkpoint_turn() {
                 Ok(CheckTurn::Idle) => break,
@@ -278,7 +336,9 @@ impl<D: Device + Drop, H: HomeFact> Interpreter<D, H> {
     }
 
     /// Takes commit turns until one has nothing to do.
-    fn commit(&mut self) -> Outcome {
+    fn commit(&mut self) -> Outcome
+        ensures operations { self.new.client.operations ≡ self.old.client.operations }
+    {
         for _ in 0..MOST_TURNS {
             match self.client.commit_turn() {
                 Ok(Turn::Idle | Turn::Waiting) => break,
@@ -290,7 +350,9 @@ impl<D: Device + Drop, H: HomeFact> Interpreter<D, H> {
     }
 
     /// Says whether a transaction is committed. That of a receipt is, as was noted when it was taken.
-    fn status(&mut self, name: HandleName) -> Outcome {
+    fn status(&mut self, name: HandleName) -> Outcome
+        ensures operations { self.new.client.operations ≡ self.old.client.operations }
+    {
         match self.slots.get(name) {
             Some(Slot::Stopped(ticket)) => match self.client.status(ticket) {
                 Status::Committed => Outcome::Committed,
@@ -302,7 +364,9 @@ impl<D: Device + Drop, H: HomeFact> Interpreter<D, H> {
     }
 
     /// Takes the receipt of a committed transaction. Of any other nothing is awaited.
-    fn wait(&mut self, name: HandleName) -> Outcome {
+    fn wait(&mut self, name: HandleName) -> Outcome
+        ensures operations { self.new.client.operations ≡ self.old.client.operations }
+    {
         match self.slots.take(name) {
             Slot::Stopped(ticket) => self.wait_for(name, ticket),
             Slot::Waited(receipt) => {
@@ -318,7 +382,9 @@ impl<D: Device + Drop, H: HomeFact> Interpreter<D, H> {
     }
 
     /// Takes the receipt for a ticket, where its transaction is committed.
-    fn wait_for(&mut self, name: HandleName, ticket: Ticket) -> Outcome {
+    fn wait_for(&mut self, name: HandleName, ticket: Ticket) -> Outcome
+        ensures operations { self.new.client.operations ≡ self.old.client.operations }
+    {
         match self.client.wait(ticket) {
             Waited::Committed(receipt) => {
                 let tid = receipt.tid();
@@ -333,6 +399,39 @@ impl<D: Device + Drop, H: HomeFact> Interpreter<D, H> {
                 self.slots.put(name, Slot::Stopped(ticket));
                 Outcome::Refused(e)
             }
+        }
+    }
+
+    /// Writes these bytes directly, with zeros behind them.
+    fn write_direct(&mut self, block: BlockNo, bytes: &[u8]) -> Outcome
+        requires { IsDirectOf self.old.client.operations block }
+        ensures done { result ≡ Done → WritesDirectly D.state block bytes.now self.old.client.journal self.new.client.journal }
+        ensures operations { self.new.client.operations ≡ self.old.client.operations }
+    {
+        match self.write_block_directly(block, bytes) {
+            Ok(()) => Outcome::Done,
+            Err(e) => Outcome::Refused(e),
+        }
+    }
+
+    /// Writes a block of these bytes directly, with zeros behind them.
+    fn write_block_directly(&mut self, block: BlockNo, bytes: &[u8]) -> Result<(), JournalError>
+        requires { IsDirectOf self.old.client.operations block }
+        ensures done { OnOk result (WritesDirectly D.state block bytes.now self.old.client.journal self.new.client.journal) }
+        ensures operations { self.new.client.operations ≡ self.old.client.operations }
+    {
+        let whole = block_of(self.alloc, self.client.block_size(), bytes)?;
+        self.client.write_direct(block, &whole)
+    }
+
+    /// Makes direct writes durable.
+    fn sync_direct(&mut self) -> Outcome
+        ensures done { result ≡ Done → Does D.state self.old.client.journal DirectSync self.new.client.journal }
+        ensures operations { self.new.client.operations ≡ self.old.client.operations }
+    {
+        match self.client.sync_direct() {
+            Ok(()) => Outcome::Done,
+            Err(e) => Outcome::Refused(e),
         }
     }
 

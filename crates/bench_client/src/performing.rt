@@ -1,5 +1,5 @@
 //! The operations of a script, one after the other.
-ghost use Rattle.std.specs.Prelude.{IfOk};
+ghost use Rattle.std.specs.Prelude.{◌≡◌, IfOk};
 ghost use Rattle.bench_client.specs.Told.{IsLedTo};
 
 use crate::client::HomeFact;
@@ -50,9 +50,9 @@ pub fn perform<D: Device + Drop, H: HomeFact>(
 ) -> Result<Performed<D>, Fault>
     requires honest { D.honest opened.device }
     requires fact { H.holds (D.state opened.device).shape (D.state opened.device).disk }
-    ensures { IfOk result (λ performed. IsLedTo H.holds (D.state performed.device) performed.sealed.items performed.acknowledged) }
+    ensures { IfOk result (λ performed. IsLedTo H.holds operations.now (D.state performed.device) performed.sealed.items performed.acknowledged) }
 {
-    let mut interpreter = Interpreter::<D, H>::new(alloc, opened)?;
+    let mut interpreter = Interpreter::<D, H>::new(alloc, opened, operations)?;
     let performed = perform_all(&mut interpreter, operations, after, out);
     let left = left_of(interpreter);
     match performed {
@@ -61,13 +61,16 @@ pub fn perform<D: Device + Drop, H: HomeFact>(
     }
 }
 
-/// Performs operations, and prints a line for each.
+/// Performs the operations of an interpreter, and prints a line for each.
 fn perform_all<D: Device + Drop, H: HomeFact>(
-    interpreter: &mut Interpreter<D, H>,
+    interpreter: &mut Interpreter<'_, D, H>,
     operations: &[Operation],
     after: AfterFailure,
     out: &mut impl Write,
-) -> io::Result<()> {
+) -> io::Result<()>
+    requires { interpreter.old.client.operations ≡ operations.now }
+    ensures { interpreter.new.client.operations ≡ interpreter.old.client.operations }
+{
     for operation in operations {
         let outcome = interpreter.perform(operation);
         writeln!(out, "{operation} = {outcome}")?;
@@ -84,8 +87,8 @@ fn is_last(outcome: Outcome, after: AfterFailure) -> bool {
 }
 
 /// What the performed operations leave.
-fn left_of<D: Device + Drop, H: HomeFact>(interpreter: Interpreter<D, H>) -> Performed<D>
-    ensures { IsLedTo H.holds (D.state result.device) result.sealed.items result.acknowledged }
+fn left_of<D: Device + Drop, H: HomeFact>(interpreter: Interpreter<'_, D, H>) -> Performed<D>
+    ensures { IsLedTo H.holds interpreter.entry.client.operations (D.state result.device) result.sealed.items result.acknowledged }
 {
     let (parts, acknowledged) = interpreter.finish();
     Performed {

@@ -13,6 +13,8 @@ use Rattle.block_device.specs.Memory.{MemState, crashed, state_of}
 use Rattle.block_device.specs.State.{DeviceState, Stays}
 use Rattle.recovery.specs.Opening.{Tells}
 use Rattle.recovery.specs.Opening.Tells.{OfClean, OfChain}
+use Rattle.std.specs.BTreeSet.{keys}
+use Rattle.bench_script.specs.declared.script.NamedBlocks.{NamedBlocks}
 use Rattle.bench_run.specs.Verdict.{IsImageVerdict, IsLeft, IsRight, IsVerdict, owed}
 
 or_false : (b : Bool) → b ≡ (b || false)
@@ -24,16 +26,16 @@ pub count_up_to-owed : (n : ℕ) (ts : History) → count_by (λ t. nat_le t.tid
 count_up_to-owed n ts = λ i. count_by (λ t. or_false (nat_le t.tid n) i) ts
 
 -- on a device that stays, the same blocks are as they were left
-pub IsLeft-stays : (last : ℕ → Option Entry) (b : ℕ) (old new : DeviceState) → Stays old new
-    → IsLeft last new.shape.block_size (reading new.disk Home) b
-    → IsLeft last old.shape.block_size (reading old.disk Home) b
-IsLeft-stays last b old new s h =
-    let on_shape : Shape → Type 0 = λ shape. IsLeft last shape.block_size (reading new.disk Home) b in
-    let on_disk : Disk → Type 0 = λ disk. IsLeft last old.shape.block_size (reading disk Home) b in
+pub IsLeft-stays : (last : ℕ → Option Entry) (directs : List ℕ) (b : ℕ) (old new : DeviceState) → Stays old new
+    → IsLeft last directs new.shape.block_size (reading new.disk Home) b
+    → IsLeft last directs old.shape.block_size (reading old.disk Home) b
+IsLeft-stays last directs b old new s h =
+    let on_shape : Shape → Type 0 = λ shape. IsLeft last directs shape.block_size (reading new.disk Home) b in
+    let on_disk : Disk → Type 0 = λ disk. IsLeft last directs old.shape.block_size (reading disk Home) b in
     subst on_disk s.disk (subst on_shape s.shape h)
 
 -- and it is as right
-pub IsRight-stays : (sealed : History) (shown : Option ℕ) (named : List ℕ) (n : ℕ) (right : Bool) (old new : DeviceState) → Stays old new
+pub IsRight-stays : (sealed : History) (shown : Option ℕ) (named : NamedBlocks) (n : ℕ) (right : Bool) (old new : DeviceState) → Stays old new
     → (IsTrue right ↔ IsRight sealed shown named n new.shape.block_size (reading new.disk Home))
     → (IsTrue right ↔ IsRight sealed shown named n old.shape.block_size (reading old.disk Home))
 IsRight-stays sealed shown named n right old new s h =
@@ -48,12 +50,12 @@ HasLimit-from_tells shape image clean ends_at transactions (OfClean h) = CleanLi
 HasLimit-from_tells shape image clean ends_at transactions (OfChain texts h) = ChainLimit texts h
 
 -- the verdict on an image: what opening it gave, which stays until it is judged
-pub IsImageVerdict-from : (sealed : History) (shown : Option ℕ) (named : List ℕ) (right : Bool) (image opened : MemState) (limit n : ℕ)
+pub IsImageVerdict-from : (sealed : History) (shown : Option ℕ) (named : NamedBlocks) (right : Bool) (image opened : MemState) (limit n : ℕ)
     → HasLimit image.shape (reading (state_of image).disk) limit
     → OpensAs image.shape (reading (state_of image).disk) (reading (state_of opened).disk Home)
     → opened.shape ≡ image.shape
     → n ≡ numbered_below limit sealed
-    → All (λ b. b < opened.shape.home_blocks) named
+    → All (λ b. b < opened.shape.home_blocks) (keys named.blocks)
     → (IsTrue right ↔ IsRight sealed shown named n opened.shape.block_size (reading (state_of opened).disk Home))
     → IsImageVerdict image.shape (reading (state_of image).disk) sealed shown named right
 IsImageVerdict-from sealed shown named right image opened limit n has_limit opens shape count there right_is =
@@ -64,12 +66,12 @@ IsImageVerdict-from sealed shown named right image opened limit n has_limit open
       has_limit = has_limit;
       got = reading (state_of opened).disk Home;
       opens = opens;
-      there = subst (λ (s : Shape). All (λ b. b < s.home_blocks) named) shape there;
+      there = subst (λ (s : Shape). All (λ b. b < s.home_blocks) (keys named.blocks)) shape there;
       right_is = subst on_shape shape (subst on_count count right_is);
     }
 
 -- the verdict on a device: that on what a crash left, which stays until it is opened
-pub IsVerdict-from : (device : MemState) (keep : List ℕ) (sealed : History) (shown : Option ℕ) (named : List ℕ) (right : Bool) (left image : MemState)
+pub IsVerdict-from : (device : MemState) (keep : List ℕ) (sealed : History) (shown : Option ℕ) (named : NamedBlocks) (right : Bool) (left image : MemState)
     → ((a : Area) (n : ℕ) → (state_of left).disk a n ≡ record { reads = crashed keep device a n; others = [] })
     → left.shape ≡ device.shape
     → Stays (state_of left) (state_of image)

@@ -21,13 +21,13 @@ use Rattle.bench_client.specs.Told.{running_world}
 use Rattle.log_epochs.proofs.Leading.{leads-more}
 
 -- the world behind a stop that left this image, with this disk now, in this phase
-abbrev pub stopped_world : (opening : Disk) → Journal → Shape → (answered : List ℕ) → (pin : Image) → Disk → Phase → JournalWorld
-stopped_world opening j shape answered pin disk phase = record {
+abbrev pub stopped_world : (opening : Disk) → Journal → Shape → (directs : List (ℕ × List ℕ)) → (answered : List ℕ) → (pin : Image) → Disk → Phase → JournalWorld
+stopped_world opening j shape directs answered pin disk phase = record {
   below = record {
     shape = shape;
     disk = disk;
     phase = phase;
-    epoch = Some (record { opening = opening; engine = j.engine; pin = Some pin });
+    epoch = Some (record { opening = opening; engine = j.engine; directs = directs; pin = Some pin });
     ended = [];
   };
   told = record { front = j.front; answered = answered };
@@ -44,22 +44,22 @@ further : (start mid new : JournalWorld) (move : Move) → Moves mid move new �
 further start mid new move on is = record { moves = is.moves ++ move ∷ []; leads = leads-more start mid new is.moves move is.leads on }
 
 -- the stop of the run
-pub stop-reaches : (start : JournalWorld) (opening : Disk) (j : Journal) (state : DeviceState) (answered : List ℕ) (image : Image)
-    → Leaves state.disk image → IsReached start (running_world opening j state answered)
-    → IsReached start (stopped_world opening j state.shape answered image (disk_of image) Shut)
-stop-reaches start opening j state answered image leaves is =
-    further start (running_world opening j state answered) (stopped_world opening j state.shape answered image (disk_of image) Shut) (Below (Stop image))
+pub stop-reaches : (start : JournalWorld) (opening : Disk) (j : Journal) (state : DeviceState) (directs : List (ℕ × List ℕ)) (answered : List ℕ) (image : Image)
+    → Leaves state.disk image → IsReached start (running_world opening j state directs answered)
+    → IsReached start (stopped_world opening j state.shape directs answered image (disk_of image) Shut)
+stop-reaches start opening j state directs answered image leaves is =
+    further start (running_world opening j state directs answered) (stopped_world opening j state.shape directs answered image (disk_of image) Shut) (Below (Stop image))
     (record { below = record { leaves = leaves; after = refl }; tells = record { told = refl; past = refl } }) is
 
-module _ (start : JournalWorld) (opening : Disk) (j : Journal) (shape : Shape) (answered : List ℕ) (pin : Image) where
+module _ (start : JournalWorld) (opening : Disk) (j : Journal) (shape : Shape) (directs : List (ℕ × List ℕ)) (answered : List ℕ) (pin : Image) where
   abbrev world_with : Disk → Phase → Option Epoch → World
   world_with disk phase epoch = record { shape = shape; disk = disk; phase = phase; epoch = epoch; ended = [] }
 
   abbrev at : Disk → Phase → JournalWorld
-  at disk phase = stopped_world opening j shape answered pin disk phase
+  at disk phase = stopped_world opening j shape directs answered pin disk phase
 
   abbrev epoch_at : Epoch
-  epoch_at = record { opening = opening; engine = j.engine; pin = Some pin }
+  epoch_at = record { opening = opening; engine = j.engine; directs = directs; pin = Some pin }
 
   -- what is pinned stays so
   pinned-stays : (stage : OpeningStage) (image : Image) → Some epoch_at ≡ pinning_at stage (Some epoch_at) image

@@ -21,6 +21,8 @@ use Rattle.recovery.specs.Calls.{HasMade, IsInterrupted, disk_after, opening_cal
 use Rattle.recovery.specs.Calls.IsInterrupted.{Before, Within}
 use Rattle.recovery.specs.Opening.{IsBroken, IsDone, Tells}
 use Rattle.recovery.specs.Opening.IsBroken.{Reading, Writing}
+use Rattle.std.specs.BTreeSet.{keys}
+use Rattle.bench_script.specs.declared.script.NamedBlocks.{NamedBlocks}
 use Rattle.bench_run.specs.declared.opening.OpenedImage.{OpenedImage}
 use Rattle.bench_run.specs.declared.reopening.Attempt.{Attempt}
 use Rattle.bench_run.specs.declared.reopening.Attempt.TheVariants.{Whole, Stopped}
@@ -151,9 +153,9 @@ IsStoppedAt-stays k device old new s h =
     }
 
 -- the verdict on an image that was opened
-pub image-verdict : (sealed : History) (shown : Option ℕ) (named : List ℕ) (right : Bool) (image : MemState) (opened : OpenedImage)
+pub image-verdict : (sealed : History) (shown : Option ℕ) (named : NamedBlocks) (right : Bool) (image : MemState) (opened : OpenedImage)
     → IsOpenedImage image.shape (state_of image).disk opened
-    → All (λ b. b < opened.device.shape.home_blocks) named
+    → All (λ b. b < opened.device.shape.home_blocks) (keys named.blocks)
     → (IsTrue right ↔ IsRight sealed shown named (numbered_below opened.report.ends_at sealed) opened.device.shape.block_size (reading (state_of opened.device).disk Home))
     → IsImageVerdict image.shape (reading (state_of image).disk) sealed shown named right
 image-verdict sealed shown named right image opened is there right_is =
@@ -162,15 +164,15 @@ image-verdict sealed shown named right image opened is there right_is =
     is.opens is.shape_is refl there right_is
 
 -- the verdict on what a stop within an opening left, which was opened
-pub second-verdict : (sealed : History) (shown : Option ℕ) (named : List ℕ) (right : Bool) (left : MemState) (opened : OpenedImage) (first : Report)
+pub second-verdict : (sealed : History) (shown : Option ℕ) (named : NamedBlocks) (right : Bool) (left : MemState) (opened : OpenedImage) (first : Report)
     → IsOpenedImage left.shape (state_of left).disk opened
-    → All (λ b. b < opened.device.shape.home_blocks) named
+    → All (λ b. b < opened.device.shape.home_blocks) (keys named.blocks)
     → (IsTrue right ↔ FollowsOn first.clean first.ends_at opened.report.clean opened.report.ends_at
     × IsRight sealed shown named (numbered_below first.ends_at sealed) opened.device.shape.block_size (reading (state_of opened.device).disk Home))
     → IsSecondVerdict left.shape (reading (state_of left).disk) first.clean first.ends_at sealed shown named right
 second-verdict sealed shown named right left opened first is there right_is =
     let got : Volume = reading (state_of opened.device).disk Home in
-    let P : Shape → Type 0 = λ s. All (λ b. b < s.home_blocks) named × (IsTrue right ↔ FollowsOn first.clean first.ends_at opened.report.clean opened.report.ends_at
+    let P : Shape → Type 0 = λ s. All (λ b. b < s.home_blocks) (keys named.blocks) × (IsTrue right ↔ FollowsOn first.clean first.ends_at opened.report.clean opened.report.ends_at
     × IsRight sealed shown named (numbered_below first.ends_at sealed) s.block_size got) in
     let both : P left.shape = subst P is.shape_is (there, right_is) in
     record {
@@ -185,9 +187,9 @@ second-verdict sealed shown named right left opened first is there right_is =
     }
 
 -- the verdict where the opening was not stopped
-pub verdict-once : (sealed : History) (shown : Option ℕ) (named : List ℕ) (k : ℕ) (keep : List ℕ) (right : Bool) (image mid : MemState) (opened : OpenedImage)
+pub verdict-once : (sealed : History) (shown : Option ℕ) (named : NamedBlocks) (k : ℕ) (keep : List ℕ) (right : Bool) (image mid : MemState) (opened : OpenedImage)
     → Stays (state_of image) (state_of mid) → IsAttempt (state_of mid) k (Whole opened)
-    → All (λ b. b < opened.device.shape.home_blocks) named
+    → All (λ b. b < opened.device.shape.home_blocks) (keys named.blocks)
     → (IsTrue right ↔ IsRight sealed shown named (numbered_below opened.report.ends_at sealed) opened.device.shape.block_size (reading (state_of opened.device).disk Home))
     → IsOpeningVerdict (state_of image) k keep sealed shown named right
 verdict-once sealed shown named k keep right image mid opened stays is there right_is =
@@ -202,7 +204,7 @@ verdict-once sealed shown named k keep right image mid opened stays is there rig
     })
 
 -- the verdict where it was: what a crash of the stopped device kept was opened
-pub verdict-twice : (sealed : History) (shown : Option ℕ) (named : List ℕ) (k : ℕ) (keep : List ℕ) (right was_clean : Bool) (limit count : ℕ) (image mid device left : MemState)
+pub verdict-twice : (sealed : History) (shown : Option ℕ) (named : NamedBlocks) (k : ℕ) (keep : List ℕ) (right was_clean : Bool) (limit count : ℕ) (image mid device left : MemState)
     → Stays (state_of image) (state_of mid) → Tells image.shape (reading (state_of image).disk) was_clean limit count
     → IsStoppedAt (state_of mid) k device
     → ((a : Area) (n : ℕ) → (state_of left).disk a n ≡ record { reads = crashed keep device a n; others = [] })
@@ -218,7 +220,7 @@ verdict-twice sealed shown named k keep right was_clean limit count image mid de
     Twice (record { was_clean = was_clean; limit = limit; count = count; first = first; device = device; stopped = at; verdict = subst on_disk disk (subst on_shape shape verdict) })
 
 -- a verdict does not hang on the counts of a device
-verdict-stays : (sealed : History) (shown : Option ℕ) (named : List ℕ) (k : ℕ) (keep : List ℕ) (right : Bool) (image mid : DeviceState)
+verdict-stays : (sealed : History) (shown : Option ℕ) (named : NamedBlocks) (k : ℕ) (keep : List ℕ) (right : Bool) (image mid : DeviceState)
     → Stays image mid → IsOpeningVerdict mid k keep sealed shown named right → IsOpeningVerdict image k keep sealed shown named right
 verdict-stays sealed shown named k keep right image mid stays (Once v) =
     let here : DeviceState = state_of v.device in
@@ -244,7 +246,7 @@ verdict-stays sealed shown named k keep right image mid stays (Twice v) =
     })
 
 -- so an image that was only read has the same verdict
-pub left-verdict : (at_write : Option ℕ) (keep : List ℕ) (image mid : MemState) (sealed : History) (shown : Option ℕ) (named : List ℕ) (right : Bool)
+pub left-verdict : (at_write : Option ℕ) (keep : List ℕ) (image mid : MemState) (sealed : History) (shown : Option ℕ) (named : NamedBlocks) (right : Bool)
     → Stays (state_of image) (state_of mid) → IsVerdictBy at_write keep mid sealed shown named right → IsVerdictBy at_write keep image sealed shown named right
 left-verdict None keep image mid sealed shown named right stays is =
     let on_shape : Shape → Type 0 = λ s. IsImageVerdict s (reading (state_of mid).disk) sealed shown named right in

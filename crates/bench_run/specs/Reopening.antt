@@ -8,6 +8,8 @@ use Rattle.block_device.specs.Memory.{MemState, crashed, state_of, writes_of}
 use Rattle.block_device.specs.State.{DeviceState}
 use Rattle.log_epochs.specs.OpeningRun.{IsMoment}
 use Rattle.recovery.specs.Opening.{IsBroken, IsDone, Tells}
+use Rattle.std.specs.BTreeSet.{keys}
+use Rattle.bench_script.specs.declared.script.NamedBlocks.{NamedBlocks}
 use Rattle.bench_run.specs.declared.opening.OpenedImage.{OpenedImage}
 use Rattle.bench_run.specs.declared.reopening.Attempt.{Attempt}
 use Rattle.bench_run.specs.declared.reopening.Attempt.TheVariants.{Whole, Stopped}
@@ -52,24 +54,24 @@ IsStoppedAttempt device k (Stopped same) = (same ≡ device) × (writes_of devic
 
 -- The verdict on what a stop within an opening left, where the transactions of what was opened first end at this limit: it was
 -- opened. The verdict is ok just where that found what such a stop can leave, and what it gave is right by the first count.
-pub record IsSecondVerdict (shape : Shape) (left : Image) (was_clean : Bool) (limit : ℕ) (sealed : History) (shown : Option ℕ) (named : List ℕ) (right : Bool) : Type 0 where
+pub record IsSecondVerdict (shape : Shape) (left : Image) (was_clean : Bool) (limit : ℕ) (sealed : History) (shown : Option ℕ) (named : NamedBlocks) (right : Bool) : Type 0 where
   pub clean : Bool
   pub ends_at : ℕ
   pub transactions : ℕ
   pub tells : Tells shape left clean ends_at transactions
   pub got : Volume
   pub opens : OpensAs shape left got
-  pub there : All (λ b. b < shape.home_blocks) named
+  pub there : All (λ b. b < shape.home_blocks) (keys named.blocks)
   pub right_is : IsTrue right ↔ FollowsOn was_clean limit clean ends_at × IsRight sealed shown named (numbered_below limit sealed) shape.block_size got
 
 -- an opening of this image makes fewer writes than k, and this is the verdict on what it gave
-pub record IsVerdictWithoutStop (image : DeviceState) (k : ℕ) (sealed : History) (shown : Option ℕ) (named : List ℕ) (right : Bool) : Type 0 where
+pub record IsVerdictWithoutStop (image : DeviceState) (k : ℕ) (sealed : History) (shown : Option ℕ) (named : NamedBlocks) (right : Bool) : Type 0 where
   pub device : MemState
   pub before : IsBefore image k device
   pub verdict : IsImageVerdict image.shape (reading image.disk) sealed shown named right
 
 -- a device stopped at write k of an opening of this image, and this is the verdict on what it kept
-pub record IsVerdictBehindStop (image : DeviceState) (k : ℕ) (keep : List ℕ) (sealed : History) (shown : Option ℕ) (named : List ℕ) (right : Bool) : Type 0 where
+pub record IsVerdictBehindStop (image : DeviceState) (k : ℕ) (keep : List ℕ) (sealed : History) (shown : Option ℕ) (named : NamedBlocks) (right : Bool) : Type 0 where
   pub was_clean : Bool
   pub limit : ℕ
   pub count : ℕ
@@ -79,6 +81,6 @@ pub record IsVerdictBehindStop (image : DeviceState) (k : ℕ) (keep : List ℕ)
   pub verdict : IsSecondVerdict image.shape (crashed keep device) was_clean limit sealed shown named right
 
 -- the verdict on an image of which an opening stops at its write k: it made fewer writes, or it did stop there
-pub data IsOpeningVerdict (image : DeviceState) (k : ℕ) (keep : List ℕ) (sealed : History) (shown : Option ℕ) (named : List ℕ) (right : Bool) : Type 0 where
+pub data IsOpeningVerdict (image : DeviceState) (k : ℕ) (keep : List ℕ) (sealed : History) (shown : Option ℕ) (named : NamedBlocks) (right : Bool) : Type 0 where
   Once : IsVerdictWithoutStop image k sealed shown named right → IsOpeningVerdict image k keep sealed shown named right
   Twice : IsVerdictBehindStop image k keep sealed shown named right → IsOpeningVerdict image k keep sealed shown named right

@@ -9,12 +9,11 @@ ghost use Rattle.bench_run.specs.Left.{IsLeftVerdict};
 
 use crate::running::{Left, end_of_run, judge_left};
 use crate::stops::{Stop, Stops};
-use bench_script::Script;
+use bench_script::{NamedBlocks, Script};
 use block_device::{Device, DeviceFault, MemDevice};
 use journal_model::{Area, JournalError};
 use log_dump::Fault;
 use std::alloc::Global;
-use std::collections::BTreeSet;
 use std::io::Write;
 
 /// Runs a script as `run` does, and writes what its stop left to a device of the script's measures, durably, before that is
@@ -48,10 +47,10 @@ pub fn judge_copied<D: Device>(
     left: Left,
     to: &mut D,
     opening: Stop<'_>,
-    named: &BTreeSet<u64>,
+    named: &NamedBlocks,
     out: &mut impl Write,
 ) -> Result<bool, Fault>
-    ensures verdict { IfOk result (IsLeftVerdict left.image opening.entry left.recorded.sealed.items left.recorded.acknowledged (keys named.now)) }
+    ensures verdict { IfOk result (IsLeftVerdict left.image opening.entry left.recorded.sealed.items left.recorded.acknowledged named.now) }
     ensures copy { IfOk result (λ _. IsCopy left.image (D.state to.new)) }
     ensures tried { IsCopyTried left.image (D.state to.old) (D.state to.new) }
 {

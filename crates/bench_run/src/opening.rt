@@ -12,12 +12,12 @@ ghost use Rattle.bench_run.specs.Verdict.{IsImageVerdict, IsRight};
 use crate::blocks::read_block;
 use crate::verdict::Record;
 use bench_client::{Hex, PRINTED_BYTES};
+use bench_script::NamedBlocks;
 use block_device::{Device, MemDevice};
 use journal_model::{Area, JournalError, Tid};
 use log_dump::Fault;
 use recovery::{Report, open};
 use std::alloc::Global;
-use std::collections::BTreeSet;
 use std::io;
 use std::io::Write;
 
@@ -37,10 +37,10 @@ pub(crate) fn judge_image(
     alloc: Global,
     image: MemDevice,
     recorded: &Record,
-    named: &BTreeSet<u64>,
+    named: &NamedBlocks,
     out: &mut impl Write,
 ) -> Result<bool, Fault>
-    ensures { IfOk result (IsImageVerdict image.shape (reading (state_of image).disk) recorded.now.sealed.items recorded.now.acknowledged (keys named.now)) }
+    ensures { IfOk result (IsImageVerdict image.shape (reading (state_of image).disk) recorded.now.sealed.items recorded.now.acknowledged named.now) }
 {
     let opened = open_image(alloc, image)?;
     judge_opened(alloc, opened, recorded, named, out)
@@ -56,11 +56,11 @@ pub fn judge_opened(
     alloc: Global,
     opened: OpenedImage,
     recorded: &Record,
-    named: &BTreeSet<u64>,
+    named: &NamedBlocks,
     out: &mut impl Write,
 ) -> Result<bool, Fault>
-    ensures { IfOk result (λ right. All (λ b. b < opened.device.shape.home_blocks) (keys named.now) × (IsTrue right ↔
-        IsRight recorded.now.sealed.items recorded.now.acknowledged (keys named.now) (numbered_below opened.report.ends_at recorded.now.sealed.items)
+    ensures { IfOk result (λ right. All (λ b. b < opened.device.shape.home_blocks) (keys named.now.blocks) × (IsTrue right ↔
+        IsRight recorded.now.sealed.items recorded.now.acknowledged named.now (numbered_below opened.report.ends_at recorded.now.sealed.items)
         opened.device.shape.block_size (reading (state_of opened.device).disk Home))) }
 {
     let n = recorded.count_below(opened.report.ends_at);
@@ -77,12 +77,12 @@ pub(crate) fn judge_home<D: Device>(
     alloc: Global,
     device: &mut D,
     recorded: &Record,
-    named: &BTreeSet<u64>,
+    named: &NamedBlocks,
     n: usize,
     out: &mut impl Write,
 ) -> Result<bool, Fault>
-    ensures { IfOk result (λ right. D.honest device.new → All (λ b. b < (D.state device.old).shape.home_blocks) (keys named.now) × (IsTrue right ↔
-        IsRight recorded.now.sealed.items recorded.now.acknowledged (keys named.now) n (D.state device.old).shape.block_size (reading (D.state device.old).disk Home))) }
+    ensures { IfOk result (λ right. D.honest device.new → All (λ b. b < (D.state device.old).shape.home_blocks) (keys named.now.blocks) × (IsTrue right ↔
+        IsRight recorded.now.sealed.items recorded.now.acknowledged named.now n (D.state device.old).shape.block_size (reading (D.state device.old).disk Home))) }
 {
     write_home(alloc, device, named, out)?;
     Ok(recorded.judge(alloc, device, named, n)?)
@@ -131,13 +131,13 @@ pub(crate) fn write_opening(
 fn write_home<D: Device>(
     alloc: Global,
     device: &mut D,
-    named: &BTreeSet<u64>,
+    named: &NamedBlocks,
     out: &mut impl Write,
 ) -> Result<(), Fault>
     ensures stays { Stays (D.state device.old) (D.state device.new) }
-    ensures there { OnOk result (All (λ b. b < (D.state device.old).shape.home_blocks) (keys named.now)) }
+    ensures there { OnOk result (All (λ b. b < (D.state device.old).shape.home_blocks) (keys named.now.blocks)) }
 {
-    for block in named {
+    for block in &named.blocks {
         write_block(alloc, device, *block, out)?;
     }
     Ok(())

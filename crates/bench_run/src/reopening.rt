@@ -13,12 +13,12 @@ use crate::opening::{
     OpenedImage, judge_home, judge_opened, open_image, write_opening, write_verdict,
 };
 use crate::verdict::Record;
+use bench_script::NamedBlocks;
 use block_device::{MemDevice, StopAt};
 use journal_model::{JournalError, Tid};
 use log_dump::Fault;
 use recovery::{Report, open};
 use std::alloc::Global;
-use std::collections::BTreeSet;
 use std::io::Write;
 
 /// What came of an opening over a device that stops at one of its writes.
@@ -39,10 +39,10 @@ pub(crate) fn judge_stopped_opening(
     k: u64,
     keep: &[u64],
     recorded: &Record,
-    named: &BTreeSet<u64>,
+    named: &NamedBlocks,
     out: &mut impl Write,
 ) -> Result<bool, Fault>
-    ensures { IfOk result (IsOpeningVerdict (state_of image) k keep.now recorded.now.sealed.items recorded.now.acknowledged (keys named.now)) }
+    ensures { IfOk result (IsOpeningVerdict (state_of image) k keep.now recorded.now.sealed.items recorded.now.acknowledged named.now) }
 {
     let mut image = image;
     let first = report_of(alloc, &mut image)?;
@@ -106,10 +106,10 @@ fn judge_second(
     left: MemDevice,
     first: Report,
     recorded: &Record,
-    named: &BTreeSet<u64>,
+    named: &NamedBlocks,
     out: &mut impl Write,
 ) -> Result<bool, Fault>
-    ensures { IfOk result (IsSecondVerdict left.shape (reading (state_of left).disk) first.clean first.ends_at recorded.now.sealed.items recorded.now.acknowledged (keys named.now)) }
+    ensures { IfOk result (IsSecondVerdict left.shape (reading (state_of left).disk) first.clean first.ends_at recorded.now.sealed.items recorded.now.acknowledged named.now) }
 {
     let opened = open_image(alloc, left)?;
     judge_reopened(alloc, opened, first, recorded, named, out)
@@ -127,12 +127,12 @@ pub fn judge_reopened(
     opened: OpenedImage,
     first: Report,
     recorded: &Record,
-    named: &BTreeSet<u64>,
+    named: &NamedBlocks,
     out: &mut impl Write,
 ) -> Result<bool, Fault>
-    ensures { IfOk result (λ right. All (λ b. b < opened.device.shape.home_blocks) (keys named.now) × (IsTrue right ↔
+    ensures { IfOk result (λ right. All (λ b. b < opened.device.shape.home_blocks) (keys named.now.blocks) × (IsTrue right ↔
         FollowsOn first.clean first.ends_at opened.report.clean opened.report.ends_at
-        × IsRight recorded.now.sealed.items recorded.now.acknowledged (keys named.now) (numbered_below first.ends_at recorded.now.sealed.items)
+        × IsRight recorded.now.sealed.items recorded.now.acknowledged named.now (numbered_below first.ends_at recorded.now.sealed.items)
         opened.device.shape.block_size (reading (state_of opened.device).disk Home))) }
 {
     let n = recorded.count_below(first.ends_at);

@@ -1,8 +1,9 @@
 //! A script's operations over a device that stops, or of which a call fails, and then the verdict on what openings give back.
-ghost use Rattle.std.specs.Prelude.{◌≡◌, ℕ, [], IfOk, true};
+ghost use Rattle.std.specs.Prelude.{◌≡◌, ℕ, List, [], IfOk, true};
 ghost use Rattle.std.specs.BTreeSet.{keys};
 ghost use Rattle.journal_model.specs.declared.number.Area.{Area};
 ghost use Rattle.block_device.specs.Memory.{crashed, state_of, writes_of};
+ghost use Rattle.bench_script.specs.declared.script.Operation.{Operation};
 ghost use Rattle.bench_client.specs.Told.{IsLedTo, IsZeroHome};
 ghost use Rattle.bench_run.specs.Disks.{run_state};
 ghost use Rattle.bench_run.specs.Left.{IsEndOf, IsLeftVerdict, IsRunOf};
@@ -14,13 +15,12 @@ use crate::reopening::judge_stopped_opening;
 use crate::stops::{Stop, Stops};
 use crate::verdict::Record;
 use bench_client::{AfterFailure, HomeFact, Performed, ZeroHome, perform};
-use bench_script::{Operation, Script};
+use bench_script::{NamedBlocks, Operation, Script};
 use block_device::MemDevice;
 use journal_model::JournalError;
 use log_dump::{Fault, dump};
 use recovery::Opened;
 use std::alloc::Global;
-use std::collections::BTreeSet;
 use std::io;
 use std::io::Write;
 
@@ -91,13 +91,13 @@ pub fn run(
     judge_left(alloc, ended.left, stops.opening, &ended.named, out)
 }
 
-/// What the stop of a script's run left, and the home blocks that the script names.
+/// What the stop of a script's run left, and the blocks that the script names.
 #[derive(Drop)]
 pub(crate) struct Ended {
     /// What the stop left.
     pub(crate) left: Left,
-    /// The home blocks that are judged.
-    pub(crate) named: BTreeSet<u64>,
+    /// The blocks that the script names.
+    pub(crate) named: NamedBlocks,
 }
 
 /// Runs a script's operations up to its stop, and prints a line for each.
@@ -113,7 +113,7 @@ pub(crate) fn end_of_run(
     failing_call: Option<u64>,
     out: &mut impl Write,
 ) -> Result<Ended, Fault>
-    ensures { IfOk result (λ ended. IsEndOf script.now stop.entry ended.left.image ended.left.recorded.sealed.items ended.left.recorded.acknowledged (keys ended.named)) }
+    ensures { IfOk result (λ ended. IsEndOf script.now stop.entry ended.left.image ended.left.recorded.sealed.items ended.left.recorded.acknowledged ended.named) }
 {
     let named = match script.named_blocks(alloc) {
         Ok(named) => named,
@@ -140,7 +140,7 @@ pub fn run_operations(
     failing_call: Option<u64>,
     out: &mut impl Write,
 ) -> Result<Stopped, Fault>
-    ensures { IfOk result (λ stopped. IsLedTo IsZeroHome (state_of stopped.device) stopped.recorded.sealed.items stopped.recorded.acknowledged) }
+    ensures { IfOk result (λ stopped. IsLedTo IsZeroHome script.now.operations.items (state_of stopped.device) stopped.recorded.sealed.items stopped.recorded.acknowledged) }
 {
     let after = if failing_call.is_some() {
         AfterFailure::GoOn
@@ -167,7 +167,7 @@ pub fn run_operations_over<H: HomeFact>(
     out: &mut impl Write,
 ) -> Result<Stopped, Fault>
     requires { H.holds (run_state opened.device).shape (run_state opened.device).disk }
-    ensures { IfOk result (λ stopped. IsLedTo H.holds (state_of stopped.device) stopped.recorded.sealed.items stopped.recorded.acknowledged) }
+    ensures { IfOk result (λ stopped. IsLedTo H.holds operations.now (state_of stopped.device) stopped.recorded.sealed.items stopped.recorded.acknowledged) }
 {
     let performed = perform::<RunDevice, H>(alloc, opened, operations, after, out)?;
     Ok(stopped_of::<H>(performed, stop))
@@ -175,8 +175,8 @@ pub fn run_operations_over<H: HomeFact>(
 
 /// What the performed operations leave.
 fn stopped_of<H: HomeFact>(performed: Performed<RunDevice>, stop: Option<u64>) -> Stopped
-    requires { IsLedTo H.holds (run_state performed.device) performed.sealed.items performed.acknowledged }
-    ensures { IsLedTo H.holds (state_of result.device) result.recorded.sealed.items result.recorded.acknowledged }
+    ensures { (operations : List Operation) → IsLedTo H.holds operations (run_state performed.device) performed.sealed.items performed.acknowledged
+        → IsLedTo H.holds operations (state_of result.device) result.recorded.sealed.items result.recorded.acknowledged }
 {
     let device = performed.device.into_inner();
     Stopped {
@@ -200,10 +200,10 @@ pub fn judge(
     alloc: Global,
     stopped: Stopped,
     keep: &[u64],
-    named: &BTreeSet<u64>,
+    named: &NamedBlocks,
     out: &mut impl Write,
 ) -> Result<bool, Fault>
-    ensures { IfOk result (IsVerdict stopped.device keep.now stopped.recorded.sealed.items stopped.recorded.acknowledged (keys named.now)) }
+    ensures { IfOk result (IsVerdict stopped.device keep.now stopped.recorded.sealed.items stopped.recorded.acknowledged named.now) }
 {
     let none = Stop {
         at_write: None,
@@ -224,10 +224,10 @@ pub fn judge_left(
     alloc: Global,
     left: Left,
     opening: Stop<'_>,
-    named: &BTreeSet<u64>,
+    named: &NamedBlocks,
     out: &mut impl Write,
 ) -> Result<bool, Fault>
-    ensures { IfOk result (IsLeftVerdict left.image opening.entry left.recorded.sealed.items left.recorded.acknowledged (keys named.now)) }
+    ensures { IfOk result (IsLeftVerdict left.image opening.entry left.recorded.sealed.items left.recorded.acknowledged named.now) }
 {
     write_stop(out, left.at_write)?;
     let mut image = left.image;

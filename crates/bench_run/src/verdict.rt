@@ -1,5 +1,5 @@
 //! Judges what an opening gave back by what the run had recorded.
-ghost use Rattle.std.specs.Prelude.{◌≡◌, ◌↔◌, All, IfOk, IsTrue, count_by, length, nat_le, replicate};
+ghost use Rattle.std.specs.Prelude.{◌≡◌, ◌↔◌, All, Contains, IfOk, IsTrue, None, count_by, length, nat_le, replicate};
 ghost use Rattle.std.specs.BTreeSet.{keys};
 ghost use Rattle.journal_model.specs.declared.number.Area.TheVariants.{Home};
 ghost use Rattle.journal_model.specs.Disk.{reading};
@@ -11,10 +11,11 @@ ghost use Rattle.bench_run.specs.Verdict.{IsAsLeft, IsLeft, IsLeftBy, IsRight, o
 
 use crate::blocks::read_block;
 use crate::last_entries::last_entries;
+use bench_script::NamedBlocks;
 use block_device::Device;
 use journal_model::{Area, JournalError, Op, Sealed, Tid};
 use std::alloc::Global;
-use std::collections::{BTreeMap, BTreeSet};
+use std::collections::BTreeMap;
 
 /// What a run recorded.
 #[derive(Debug, Drop)]
@@ -58,7 +59,8 @@ impl Record {
 
     /// Whether an opening that found the first `n` recorded transactions gave back what it owes: none acknowledged is lost,
     /// none is there that was not sealed, and each named block is as those `n` left it. A block of which they have no entry is
-    /// zeros; of one that they revoked last nothing is asked.
+    /// zeros, unless a direct write names it; of one that a direct write names so, and of one that they revoked last, nothing is
+    /// asked.
     ///
     /// # Errors
     ///
@@ -67,11 +69,11 @@ impl Record {
         &self,
         alloc: Global,
         device: &mut D,
-        named: &BTreeSet<u64>,
+        named: &NamedBlocks,
         n: usize,
     ) -> Result<bool, JournalError>
         ensures { IfOk result (λ right. D.honest device.new → IsTrue right ↔
-            IsRight self.now.sealed.items self.now.acknowledged (keys named.now) n (D.state device.old).shape.block_size (reading (D.state device.old).disk Home)) }
+            IsRight self.now.sealed.items self.now.acknowledged named.now n (D.state device.old).shape.block_size (reading (D.state device.old).disk Home)) }
     {
         if n < self.count_acknowledged() || n > self.sealed.len() {
             return Ok(false);
@@ -84,11 +86,11 @@ impl Record {
         &self,
         alloc: Global,
         device: &mut D,
-        named: &BTreeSet<u64>,
+        named: &NamedBlocks,
         n: usize,
     ) -> Result<bool, JournalError>
         ensures { IfOk result (λ right. D.honest device.new → IsTrue right ↔
-            All (IsAsLeft self.now.sealed.items n (D.state device.old).shape.block_size (reading (D.state device.old).disk Home)) (keys named.now)) }
+            All (IsAsLeft self.now.sealed.items (keys named.now.directs) n (D.state device.old).shape.block_size (reading (D.state device.old).disk Home)) (keys named.now.blocks)) }
     {
         let last = last_entries(alloc, &self.sealed, n)?;
         are_left(alloc, device, named, &last)
@@ -99,14 +101,14 @@ impl Record {
 fn are_left<D: Device>(
     alloc: Global,
     device: &mut D,
-    named: &BTreeSet<u64>,
+    named: &NamedBlocks,
     last: &BTreeMap<u64, &Op>,
 ) -> Result<bool, JournalError>
     ensures { IfOk result (λ right. D.honest device.new → IsTrue right ↔
-        All (IsLeft (entry_in last.now) (D.state device.old).shape.block_size (reading (D.state device.old).disk Home)) (keys named.now)) }
+        All (IsLeft (entry_in last.now) (keys named.now.directs) (D.state device.old).shape.block_size (reading (D.state device.old).disk Home)) (keys named.now.blocks)) }
 {
-    for block in named {
-        if !is_left(alloc, device, *block, last)? {
+    for block in &named.blocks {
+        if !is_left(alloc, device, *block, named, last)? {
             return Ok(false);
         }
     }
@@ -118,36 +120,49 @@ fn is_left<D: Device>(
     alloc: Global,
     device: &mut D,
     block: u64,
+    named: &NamedBlocks,
     last: &BTreeMap<u64, &Op>,
 ) -> Result<bool, JournalError>
     ensures right { IfOk result (λ right. D.honest device.new → IsTrue right ↔
-        IsLeft (entry_in last.now) (D.state device.old).shape.block_size (reading (D.state device.old).disk Home) block) }
+        IsLeft (entry_in last.now) (keys named.now.directs) (D.state device.old).shape.block_size (reading (D.state device.old).disk Home) block) }
     ensures stays { Stays (D.state device.old) (D.state device.new) }
     ensures honest { D.honest device.new → D.honest device.old }
 {
     let home = read_block(alloc, device, Area::Home, block)?;
-    Ok(are_bytes_left(last, block, home.bytes()))
+    Ok(are_bytes_left(last, named, block, home.bytes()))
 }
 
 /// Whether these are bytes of a block as these last operations left it.
-fn are_bytes_left(last: &BTreeMap<u64, &Op>, block: u64, bytes: &[u8]) -> bool
-    ensures { IsTrue result ↔ IsLeftBy (entry_in last.now block) (length bytes.now) bytes.now }
+fn are_bytes_left(
+    last: &BTreeMap<u64, &Op>,
+    named: &NamedBlocks,
+    block: u64,
+    bytes: &[u8],
+) -> bool
+    ensures { IsTrue result ↔ IsLeftBy (entry_in last.now block) (Contains (keys named.now.directs) block) (length bytes.now) bytes.now }
 {
     match last.get(&block) {
-        Some(op) => are_left_by(op, bytes),
-        None => are_zeros(bytes),
+        Some(op) => are_left_by(op, named, block, bytes),
+        None => are_untouched(named, block, bytes),
     }
 }
 
 /// Whether these are bytes of a block on which this was the last operation that could leave an entry.
-fn are_left_by(op: &Op, bytes: &[u8]) -> bool
-    ensures { IsTrue result ↔ IsLeftBy (entry_of op.now) (length bytes.now) bytes.now }
+fn are_left_by(op: &Op, named: &NamedBlocks, block: u64, bytes: &[u8]) -> bool
+    ensures { IsTrue result ↔ IsLeftBy (entry_of op.now) (Contains (keys named.now.directs) block) (length bytes.now) bytes.now }
 {
     match op {
-        Op::Write(block) => block.bytes() == bytes,
+        Op::Write(written) => written.bytes() == bytes,
         Op::Revoke => true,
-        Op::Read(_) => are_zeros(bytes),
+        Op::Read(_) => are_untouched(named, block, bytes),
     }
+}
+
+/// Whether these are bytes of a block without an entry: zeros, unless a direct write names it.
+fn are_untouched(named: &NamedBlocks, block: u64, bytes: &[u8]) -> bool
+    ensures { IsTrue result ↔ IsLeftBy None (Contains (keys named.now.directs) block) (length bytes.now) bytes.now }
+{
+    named.is_direct(block) || are_zeros(bytes)
 }
 
 /// Whether all of these bytes are 0.

@@ -15,4 +15,4 @@ pub use measures::{
     DEFAULTS, HOMES, LENGTHS, Measures, block_size_of, is_block_size, limited, uuid_of,
 };
 pub use reading::read;
-pub use script::{HANDLE_NAMES, HandleName, MOST_OPERATIONS, Operation, Script};
+pub use script::{HANDLE_NAMES, HandleName, MOST_OPERATIONS, NamedBlocks, Operation, Script};

@@ -18,7 +18,9 @@ enum State {
 fn state_behind(state: State, operation: &Operation) -> Option<State> {
     match (operation, state) {
         (Operation::Start(..), State::Unused | State::Stopped) => Some(State::Open),
-        (Operation::Write(..) | Operation::Read(..), State::Open) => Some(State::Open),
+        (Operation::Write(..) | Operation::Revoke(..) | Operation::Read(..), State::Open) => {
+            Some(State::Open)
+        }
         (Operation::Stop(_), State::Open) => Some(State::Stopped),
         (Operation::Request(_) | Operation::Status(_) | Operation::Wait(_), State::Stopped) => {
             Some(State::Stopped)

@@ -160,7 +160,7 @@ fn read_operation(
     match words.as_slice() {
         [name] => plain_operation(name),
         [name, handle] => handle_operation(name, handle),
-        [name, handle, number] => number_operation(name, handle, number),
+        [name, first, second] => pair_operation(alloc, name, first, second, block_size),
         [name, handle, block, hex] => write_operation(alloc, name, handle, block, hex, block_size),
         _ => Err(ScriptError::BadScript),
     }
@@ -173,6 +173,7 @@ fn plain_operation(name: &Value) -> Result<Operation, ScriptError> {
         Some("commit") => Ok(Operation::Commit),
         Some("ckturn") => Ok(Operation::CheckpointTurn),
         Some("check") => Ok(Operation::Check),
+        Some("sync") => Ok(Operation::SyncDirect),
         _ => Err(ScriptError::BadScript),
     }
 }
@@ -189,6 +190,32 @@ fn handle_operation(name: &Value, handle: &Value) -> Result<Operation, ScriptErr
     }
 }
 
+/// An operation of two values: a direct write, or an operation of a handle and a number.
+fn pair_operation(
+    alloc: Global,
+    name: &Value,
+    first: &Value,
+    second: &Value,
+    block_size: usize,
+) -> Result<Operation, ScriptError> {
+    match name.as_str() {
+        Some("direct") => direct_operation(alloc, first, second, block_size),
+        _ => number_operation(name, first, second),
+    }
+}
+
+/// A direct write of a block and its bytes, where a block has so many.
+fn direct_operation(
+    alloc: Global,
+    block: &Value,
+    hex: &Value,
+    block_size: usize,
+) -> Result<Operation, ScriptError> {
+    let block = BlockNo(number_of(block)?);
+    let bytes = bytes_of(alloc, hex, block_size)?;
+    Ok(Operation::WriteDirect(block, bytes))
+}
+
 /// An operation of a handle and a number: credits, or a block.
 fn number_operation(
     name: &Value,
@@ -199,6 +226,7 @@ fn number_operation(
     let number = number_of(number)?;
     match name.as_str() {
         Some("start") => Ok(Operation::Start(handle, number)),
+        Some("revoke") => Ok(Operation::Revoke(handle, BlockNo(number))),
         Some("read") => Ok(Operation::Read(handle, BlockNo(number))),
         _ => Err(ScriptError::BadScript),
     }

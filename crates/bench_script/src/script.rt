@@ -1,5 +1,5 @@
 //! What a script is: its operations, and the line that each begins.
-ghost use Rattle.std.specs.Prelude.{ℕ, ◌≡◌, ◌<◌, ◌↔◌, Contains, IfOk, IfSome, IsSome, OnOk, Some};
+ghost use Rattle.std.specs.Prelude.{ℕ, ◌≡◌, [], ◌⊎◌, ◌<◌, ◌↔◌, Contains, IfOk, IfSome, IsSome, IsTrue, OnOk, Some};
 
 use crate::measures::Measures;
 use journal_model::BlockNo;
@@ -33,6 +33,8 @@ pub enum Operation {
     Start(HandleName, u64),
     /// Writes a home block: these bytes, and zeros behind them.
     Write(HandleName, BlockNo, Vec<u8>),
+    /// Revokes a home block: no copy of it so far is to come back.
+    Revoke(HandleName, BlockNo),
     /// Reads a home block, as its handle's transaction sees it.
     Read(HandleName, BlockNo),
     /// Stops a handle.
@@ -51,6 +53,19 @@ pub enum Operation {
     Status(HandleName),
     /// Takes a stopped handle's receipt, where its transaction is committed.
     Wait(HandleName),
+    /// Writes a home block directly, past the log: these bytes, and zeros behind them.
+    WriteDirect(BlockNo, Vec<u8>),
+    /// Makes direct writes durable.
+    SyncDirect,
+}
+
+/// The blocks that a script names, whether its operations will run or not.
+#[derive(Debug, Drop)]
+pub struct NamedBlocks {
+    /// The home blocks that any of its operations names.
+    pub blocks: BTreeSet<u64>,
+    /// The blocks that one of its direct writes names, those that home does not have among them.
+    pub directs: BTreeSet<u64>,
 }
 
 /// A script whose operations all have a right form, and name handles in the right state.
@@ -84,20 +99,25 @@ impl HandleName {
 
 impl Operation {
     ghost use Rattle.std.specs.BTreeSet.{keys};
-    ghost use Rattle.bench_script.specs.Named.{block_in};
+    ghost use Rattle.bench_script.specs.Named.{block_in, direct_in};
 
     /// The handle that it names.
     pub fn handle(&self) -> Option<HandleName> {
         match self {
             Operation::Start(handle, _)
             | Operation::Write(handle, _, _)
+            | Operation::Revoke(handle, _)
             | Operation::Read(handle, _)
             | Operation::Stop(handle)
             | Operation::Request(handle)
             | Operation::Status(handle)
             | Operation::Wait(handle) => Some(*handle),
-            Operation::Turn | Operation::Commit | Operation::CheckpointTurn | Operation::Check =>
-                None,
+            Operation::Turn
+            | Operation::Commit
+            | Operation::CheckpointTurn
+            | Operation::Check
+            | Operation::WriteDirect(..)
+            | Operation::SyncDirect => None,
         }
     }
 
@@ -106,7 +126,20 @@ impl Operation {
         ensures { result ≡ block_in self.now }
     {
         match self {
-            Operation::Write(_, block, _) | Operation::Read(_, block) => Some(*block),
+            Operation::Write(_, block, _)
+            | Operation::Revoke(_, block)
+            | Operation::Read(_, block)
+            | Operation::WriteDirect(block, _) => Some(*block),
+            _ => None,
+        }
+    }
+
+    /// The block that it writes directly.
+    fn direct_block(&self) -> Option<BlockNo>
+        ensures { result ≡ direct_in self.now }
+    {
+        match self {
+            Operation::WriteDirect(block, _) => Some(*block),
             _ => None,
         }
     }
@@ -125,11 +158,27 @@ impl Operation {
         }
     }
 
+    /// Notes the block that it writes directly, where it is such a write.
+    fn note_direct(&self, directs: &mut BTreeSet<u64>) -> Result<(), AllocError>
+        ensures keeps { OnOk result ((b : ℕ) → Contains (keys directs.old) b → Contains (keys directs.new) b) }
+        ensures notes { OnOk result ((b : ℕ) → direct_in self.now ≡ Some b → Contains (keys directs.new) b) }
+        ensures no_others { OnOk result ((b : ℕ) → Contains (keys directs.new) b → Contains (keys directs.old) b ⊎ (direct_in self.now ≡ Some b)) }
+    {
+        match self.direct_block() {
+            Some(BlockNo(block)) => {
+                directs.insert(block)?;
+                Ok(())
+            }
+            None => Ok(()),
+        }
+    }
+
     /// The word that its line begins with.
     fn word(&self) -> &'static str {
         match self {
             Operation::Start(..) => "start",
             Operation::Write(..) => "write",
+            Operation::Revoke(..) => "revoke",
             Operation::Read(..) => "read",
             Operation::Stop(_) => "stop",
             Operation::Request(_) => "request",
@@ -139,6 +188,8 @@ impl Operation {
             Operation::Check => "check",
             Operation::Status(_) => "status",
             Operation::Wait(_) => "wait",
+            Operation::WriteDirect(..) => "direct",
+            Operation::SyncDirect => "sync",
         }
     }
 
@@ -155,18 +206,41 @@ impl Operation {
 }
 
 impl Script {
-    ghost use Rattle.std.specs.BTreeSet.{keys};
-    ghost use Rattle.bench_script.specs.Named.{HasAllNamed};
+    ghost use Rattle.bench_script.specs.Named.{AreNamedBy};
 
-    /// The home blocks that its operations name, whether these will run or not.
-    pub fn named_blocks(&self, alloc: Global) -> Result<BTreeSet<u64>, AllocError>
-        ensures { IfOk result (λ named. HasAllNamed self.now (keys named)) }
+    /// The blocks that its operations name, whether these will run or not.
+    pub fn named_blocks(&self, alloc: Global) -> Result<NamedBlocks, AllocError>
+        ensures { IfOk result (AreNamedBy self.now) }
     {
-        let mut named = BTreeSet::new(alloc);
+        let mut blocks = BTreeSet::new(alloc);
+        let mut directs = BTreeSet::new(alloc);
         for operation in &self.operations {
-            operation.note_block(self.measures.home_blocks, &mut named)?;
+            operation.note_block(self.measures.home_blocks, &mut blocks)?;
+            operation.note_direct(&mut directs)?;
         }
-        Ok(named)
+        Ok(NamedBlocks { blocks, directs })
+    }
+}
+
+impl NamedBlocks {
+    ghost use Rattle.std.specs.BTreeSet.{keys};
+
+    /// No blocks.
+    pub fn none(alloc: Global) -> Self
+        ensures blocks { keys result.blocks ≡ [] }
+        ensures directs { keys result.directs ≡ [] }
+    {
+        NamedBlocks {
+            blocks: BTreeSet::new(alloc),
+            directs: BTreeSet::new(alloc),
+        }
+    }
+
+    /// Whether a direct write names the block.
+    pub fn is_direct(&self, block: u64) -> bool
+        ensures { IsTrue result ↔ Contains (keys self.now.directs) block }
+    {
+        self.directs.contains(&block)
     }
 }
 

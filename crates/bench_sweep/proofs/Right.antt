@@ -6,6 +6,8 @@ use Rattle.journal_model.specs.Disk.{reading}
 use Rattle.journal_model.specs.Opening.{numbered_below}
 use Rattle.block_device.specs.Memory.{MemState, state_of}
 use Rattle.recovery.specs.declared.opening.Report.{Report}
+use Rattle.std.specs.BTreeSet.{keys}
+use Rattle.bench_script.specs.declared.script.NamedBlocks.{NamedBlocks}
 use Rattle.bench_run.specs.declared.opening.OpenedImage.{OpenedImage}
 use Rattle.bench_run.specs.declared.running.Stopped.{Stopped}
 use Rattle.bench_run.specs.Left.{IsCrashOf}
@@ -14,30 +16,30 @@ use Rattle.bench_run.specs.Reopening.{FollowsOn, IsStoppedAt}
 use Rattle.bench_run.specs.Verdict.{IsRight}
 use Rattle.bench_run.proofs.Openings.{image-verdict, second-verdict, verdict-twice}
 use Rattle.bench_run.proofs.Verdicts.{by-right}
-use Rattle.bench_sweep.specs.Swept.{HasRun, IsFirst}
+use Rattle.bench_sweep.specs.Swept.{HasRunNamed, IsFirst}
 
 -- what an opening of a stopped run's image gave is right
-pub first-right : (stopped : Stopped) (keep : List ℕ) (image : MemState) (opened : OpenedImage) (named : List ℕ) (right : Bool) → HasRun stopped
+pub first-right : (stopped : Stopped) (keep : List ℕ) (image : MemState) (opened : OpenedImage) (named : NamedBlocks) (right : Bool) → HasRunNamed stopped named
     → IsCrashOf stopped.device keep image → IsOpenedImage image.shape (state_of image).disk opened
-    → All (λ b. b < opened.device.shape.home_blocks) named
+    → All (λ b. b < opened.device.shape.home_blocks) (keys named.blocks)
     → (IsTrue right ↔ IsRight stopped.recorded.sealed.items stopped.recorded.acknowledged named (numbered_below opened.report.ends_at stopped.recorded.sealed.items) opened.device.shape.block_size (reading (state_of opened.device).disk Home))
     → right ≡ true
 first-right stopped keep image opened named right run crash is there verdict =
-    by-right stopped.device keep stopped.recorded.sealed.items stopped.recorded.acknowledged image None [] named right run crash
+    by-right run.operations stopped.device keep stopped.recorded.sealed.items stopped.recorded.acknowledged image None [] named right run.run run.directs crash
     (image-verdict stopped.recorded.sealed.items stopped.recorded.acknowledged named right image opened is there verdict)
 
 -- and so is what an opening gave of what a stop within it left
 pub again-right : (stopped : Stopped) (keep : List ℕ) (image : MemState) (first : Report) (j : ℕ) (device : MemState) (keep_again : List ℕ) (left : MemState) (opened : OpenedImage)
-    (named : List ℕ) (right : Bool) → HasRun stopped → IsCrashOf stopped.device keep image → IsFirst image first → IsStoppedAt (state_of image) j device
+    (named : NamedBlocks) (right : Bool) → HasRunNamed stopped named → IsCrashOf stopped.device keep image → IsFirst image first → IsStoppedAt (state_of image) j device
     → IsCrashOf device keep_again left → IsOpenedImage left.shape (state_of left).disk opened
-    → All (λ b. b < opened.device.shape.home_blocks) named
+    → All (λ b. b < opened.device.shape.home_blocks) (keys named.blocks)
     → (IsTrue right ↔ FollowsOn first.clean first.ends_at opened.report.clean opened.report.ends_at
     × IsRight stopped.recorded.sealed.items stopped.recorded.acknowledged named (numbered_below first.ends_at stopped.recorded.sealed.items) opened.device.shape.block_size (reading (state_of opened.device).disk Home))
     → right ≡ true
 again-right stopped keep image first j device keep_again left opened named right run crash tells stop crash_again is there verdict =
     let sealed = stopped.recorded.sealed.items in
     let shown = stopped.recorded.acknowledged in
-    by-right stopped.device keep sealed shown image (Some j) keep_again named right run crash
+    by-right run.operations stopped.device keep sealed shown image (Some j) keep_again named right run.run run.directs crash
     (verdict-twice sealed shown named j keep_again right first.clean first.ends_at first.transactions image image device left
     (record { shape = refl; disk = refl; past = refl }) tells stop crash_again.each crash_again.shape_is
     (second-verdict sealed shown named right left opened first is there verdict))

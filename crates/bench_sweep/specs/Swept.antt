@@ -1,14 +1,25 @@
 -- What is known within a sweep of a journal that keeps its contracts.
+use Rattle.std.specs.Prelude.{List}
+use Rattle.std.specs.BTreeSet.{keys}
 use Rattle.journal_model.specs.Disk.{reading}
 use Rattle.block_device.specs.Memory.{MemState, state_of}
 use Rattle.recovery.specs.declared.opening.Report.{Report}
 use Rattle.recovery.specs.Opening.{Tells}
+use Rattle.bench_script.specs.declared.script.NamedBlocks.{NamedBlocks}
+use Rattle.bench_script.specs.declared.script.Operation.{Operation}
+use Rattle.bench_script.specs.Named.{HasDirects}
 use Rattle.bench_client.specs.Told.{IsLedTo, IsZeroHome}
 use Rattle.bench_run.specs.declared.running.Stopped.{Stopped}
 
--- the run was led to what it left
-abbrev pub HasRun : Stopped → Type 0
-HasRun stopped = IsLedTo IsZeroHome (state_of stopped.device) stopped.recorded.sealed.items stopped.recorded.acknowledged
+-- a run of these operations was led to what it left
+abbrev pub HasRun : List Operation → Stopped → Type 0
+HasRun operations stopped = IsLedTo IsZeroHome operations (state_of stopped.device) stopped.recorded.sealed.items stopped.recorded.acknowledged
+
+-- so was one of operations of which these are the direct writes
+pub record HasRunNamed (stopped : Stopped) (named : NamedBlocks) : Type 0 where
+  pub operations : List Operation
+  pub run : HasRun operations stopped
+  pub directs : HasDirects operations (keys named.directs)
 
 -- this is what an opening finds in the image
 abbrev pub IsFirst : MemState → Report → Type 0

@@ -1,21 +1,21 @@
 //! A sweep, from stop to stop.
 ghost use Rattle.std.specs.Prelude.{◌≡◌, IfOk, true};
 ghost use Rattle.block_device.specs.Memory.{state_of};
+ghost use Rattle.bench_script.specs.Named.{AreNamedBy};
 ghost use Rattle.bench_run.specs.Left.{IsCrashOf};
 ghost use Rattle.bench_run.specs.OpenedImages.{IsOpenedImage};
 ghost use Rattle.bench_run.specs.Reopening.{IsStoppedAt};
-ghost use Rattle.bench_sweep.specs.Swept.{HasRun, IsFirst};
+ghost use Rattle.bench_sweep.specs.Swept.{HasRunNamed, IsFirst};
 
 use crate::counts::Counts;
 use crate::place::{Options, Place, choice, choices};
 use crate::swept::Swept;
 use bench_run::{Attempt, Fault, OpenedImage, Stopped, judge_opened, judge_reopened};
-use bench_script::Script;
+use bench_script::{NamedBlocks, Script};
 use block_device::MemDevice;
 use journal_model::JournalError;
 use recovery::Report;
 use std::alloc::Global;
-use std::collections::BTreeSet;
 use std::io;
 use std::io::Write;
 
@@ -72,11 +72,12 @@ fn sweep_stops<J: Swept>(
     alloc: Global,
     journal: &J,
     script: &Script,
-    named: &BTreeSet<u64>,
+    named: &NamedBlocks,
     counts: &mut Counts,
     watch: &mut impl Watch,
     err: &mut impl Write,
 ) -> Result<(), Fault>
+    requires { AreNamedBy script.now named.now }
     ensures { J.keeps → counts.new.wrong ≡ counts.old.wrong }
 {
     let writes = counts.writes;
@@ -94,13 +95,13 @@ fn sweep_stops<J: Swept>(
     Ok(())
 }
 
-/// A run that stopped, on a journal, and the home blocks that its script names.
+/// A run that stopped, on a journal, and the blocks that its script names.
 #[derive(Clone, Copy)]
 struct Ran<'a, J> {
     alloc: Global,
     journal: &'a J,
     stopped: &'a Stopped,
-    named: &'a BTreeSet<u64>,
+    named: &'a NamedBlocks,
 }
 
 /// Where a run stopped, and what its opening found.
@@ -113,7 +114,7 @@ struct First<'a> {
 impl<J: Swept> Ran<'_, J> {
     /// Sweeps all that a stop at write `k` may have left.
     fn sweep_stop<E: Write>(&self, k: u64, counts: &mut Counts, err: &mut E) -> Result<(), Fault>
-        requires { J.keeps → HasRun self.now.stopped.now }
+        requires { J.keeps → HasRunNamed self.now.stopped.now self.now.named.now }
         ensures { J.keeps → counts.new.wrong ≡ counts.old.wrong }
     {
         for bits in 0..choices(k) {
@@ -130,7 +131,7 @@ impl<J: Swept> Ran<'_, J> {
         counts: &mut Counts,
         err: &mut E,
     ) -> Result<(), Fault>
-        requires { J.keeps → HasRun self.now.stopped.now }
+        requires { J.keeps → HasRunNamed self.now.stopped.now self.now.named.now }
         ensures { J.keeps → counts.new.wrong ≡ counts.old.wrong }
     {
         let keep = kept(self.alloc, k, bits)?;
@@ -151,7 +152,7 @@ impl<J: Swept> Ran<'_, J> {
         counts: &mut Counts,
         err: &mut E,
     ) -> Result<(), Fault>
-        requires run { J.keeps → HasRun self.now.stopped.now }
+        requires run { J.keeps → HasRunNamed self.now.stopped.now self.now.named.now }
         requires crash { IsCrashOf self.now.stopped.now.device place.keep.now image.now }
         ensures { J.keeps → counts.new.wrong ≡ counts.old.wrong }
     {
@@ -180,7 +181,7 @@ impl<J: Swept> Ran<'_, J> {
         counts: &mut Counts,
         err: &mut E,
     ) -> Result<(), Fault>
-        requires run { J.keeps → HasRun self.now.stopped.now }
+        requires run { J.keeps → HasRunNamed self.now.stopped.now self.now.named.now }
         requires crash { IsCrashOf self.now.stopped.now.device place.keep.now image.now }
         requires opened { J.keeps → IsOpenedImage image.now.shape (state_of image.now).disk opened }
         ensures { J.keeps → counts.new.wrong ≡ counts.old.wrong }
@@ -200,7 +201,7 @@ impl<J: Swept> Ran<'_, J> {
         counts: &mut Counts,
         err: &mut E,
     ) -> Result<(), Fault>
-        requires run { J.keeps → HasRun self.now.stopped.now }
+        requires run { J.keeps → HasRunNamed self.now.stopped.now self.now.named.now }
         requires crash { IsCrashOf self.now.stopped.now.device first.place.keep.now image.now }
         requires first { J.keeps → IsFirst image.now first.report }
         ensures { J.keeps → counts.new.wrong ≡ counts.old.wrong }
@@ -225,7 +226,7 @@ impl<J: Swept> Ran<'_, J> {
         counts: &mut Counts,
         err: &mut E,
     ) -> Result<(), Fault>
-        requires run { J.keeps → HasRun self.now.stopped.now }
+        requires run { J.keeps → HasRunNamed self.now.stopped.now self.now.named.now }
         requires crash { IsCrashOf self.now.stopped.now.device first.place.keep.now image.now }
         requires first { J.keeps → IsFirst image.now first.report }
         requires stopped { J.keeps → IsStoppedAt (state_of image.now) j device.now }
@@ -249,7 +250,7 @@ impl<J: Swept> Ran<'_, J> {
         counts: &mut Counts,
         err: &mut E,
     ) -> Result<(), Fault>
-        requires run { J.keeps → HasRun self.now.stopped.now }
+        requires run { J.keeps → HasRunNamed self.now.stopped.now self.now.named.now }
         requires crash { IsCrashOf self.now.stopped.now.device first.place.keep.now image.now }
         requires first { J.keeps → IsFirst image.now first.report }
         requires stopped { J.keeps → IsStoppedAt (state_of image.now) j device.now }

@@ -23,7 +23,7 @@ pub trait Swept {
     ///
     /// `Fault::Refused` where memory runs out.
     fn run(&self, alloc: Global, script: &Script, stop: Option<u64>) -> Result<Stopped, Fault>
-        ensures { IfOk result (λ stopped. keeps → HasRun stopped) };
+        ensures { IfOk result (λ stopped. keeps → HasRun script.now.operations.items stopped) };
 
     /// Opens what a crash left.
     ///

@@ -55,7 +55,8 @@ pub fn measures_text(alloc: Global, measures: &Measures) -> Result<String, Alloc
     Ok(text)
 }
 
-/// The operations as which a script is read, one a line: its word, handle and number, and behind a write its bytes.
+/// The operations as which a script is read, one a line: its word, handle and number, and behind a write, of a handle or a
+/// direct one, its bytes.
 pub fn operations(alloc: Global, given: &str) -> Result<String, RowError> {
     let script = given_script(alloc, given)?;
     let mut all = String::new(alloc);
@@ -68,7 +69,7 @@ pub fn operations(alloc: Global, given: &str) -> Result<String, RowError> {
 /// Writes the line of an operation.
 fn write_operation(all: &mut String, operation: &Operation) -> Result<(), AllocError> {
     write!(all, "{operation}")?;
-    if let Operation::Write(_, _, bytes) = operation {
+    if let Operation::Write(_, _, bytes) | Operation::WriteDirect(_, bytes) = operation {
         all.push(' ')?;
         write_hex(all, bytes)?;
     }

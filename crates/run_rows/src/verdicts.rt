@@ -4,12 +4,12 @@
 //! `acknowledged 2` the greatest transaction that was shown committed, `end 3` the end that an opening found, and `home 3 07` a
 //! block of home that is named, and reads so. A block has 16 bytes.
 use bench_run::Record;
+use bench_script::NamedBlocks;
 use block_device::{Device, MemDevice};
 use format_rows::RowError;
 use format_rows::words::{cut, hex_bytes, number, number32};
 use journal_model::{Area, Block, BlockNo, HandleNo, Items, Op, Sealed, Step, Tid};
 use std::alloc::{AllocError, Global};
-use std::collections::BTreeSet;
 
 /// Bytes of a block.
 const SIZE: usize = 16;
@@ -23,7 +23,7 @@ struct Left {
     record: Record,
     end: u64,
     device: MemDevice,
-    named: BTreeSet<u64>,
+    named: NamedBlocks,
 }
 
 /// How many recorded transactions are below the end, and the verdict on the named blocks for these: as `n=1, right true`.
@@ -49,7 +49,7 @@ fn nothing_left(alloc: Global) -> Left {
         },
         end: 0,
         device: MemDevice::new(alloc, SIZE, 4, HOME),
-        named: BTreeSet::new(alloc),
+        named: NamedBlocks::none(alloc),
     }
 }
 
@@ -97,7 +97,7 @@ fn write_home(alloc: Global, left: &mut Left, written: &str) -> Result<(), RowEr
     if block >= left.device.blocks(Area::Home) || left.device.block_size() != SIZE {
         return Err(RowError::Unread);
     }
-    left.named.insert(block).map_err(AllocError::from)?;
+    left.named.blocks.insert(block).map_err(AllocError::from)?;
     match left.device.write(Area::Home, block, &bytes) {
         Ok(()) => Ok(()),
         Err(_) => Err(RowError::Memory),

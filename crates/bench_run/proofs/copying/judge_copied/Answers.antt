@@ -12,6 +12,6 @@ returns-clause-verdict g c =
     let opening = c.args.opening in
     let sealed = left.recorded.sealed.items in
     let shown = left.recorded.acknowledged in
-    let named = keys c.args.named.now in
+    let named = c.args.named.now in
     IfOk-weaker c.judge_left.result (IsLeftVerdict mid opening sealed shown named) (IsLeftVerdict left.image opening sealed shown named)
     (λ right is. left-verdict opening.at_write opening.keep.now left.image mid sealed shown named right (only-read-stays left.image mid c.copy_image.ensures.same) is) c.judge_left.ensures

@@ -16,7 +16,7 @@ both (Err e) P Q first second = tt
 pub returns-clause-run : goal.returns-clause-run
 returns-clause-run g c =
     let left = c.in_ok-ended.ended.left in
-    let named = keys c.in_ok-ended.ended.named in
+    let named = c.in_ok-ended.ended.named in
     let to = g.D.Device.state c.judge_copied.new.to in
     let Judged = IsLeftVerdict left.image c.args.stops.now.opening left.recorded.sealed.items left.recorded.acknowledged named in
     IfOk-weaker c.judge_copied.result (λ right. Judged right × IsCopy left.image to) (IsCopiedRun c.args.script.now c.args.stops.now to)

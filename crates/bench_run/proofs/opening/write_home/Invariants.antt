@@ -11,4 +11,4 @@ invariant-loop-block g l =
     (goal.iterator-loop-block g).can_next l.block-iterator
     × (goal.iterator-loop-block g).is_finite l.block-iterator
     × Stays old (g.D.Device.state l.device)
-    × (All P l.block-iterator → All P (keys l.named))
+    × (All P l.block-iterator → All P (keys l.named.blocks))

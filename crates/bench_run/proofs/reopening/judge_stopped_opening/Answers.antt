@@ -15,9 +15,9 @@ pub returns-in-Whole : goal.returns-in-Whole
 returns-in-Whole g c =
     let recorded = c.args.recorded.now in
     let opened = c.in-Whole.opened in
-    let named = keys c.args.named.now in
+    let named = c.args.named.now in
     IfOk-weaker c.judge_opened.result
-    (λ right. All (λ b. b < opened.device.shape.home_blocks) named
+    (λ right. All (λ b. b < opened.device.shape.home_blocks) (keys named.blocks)
     × (IsTrue right ↔ IsRight recorded.sealed.items recorded.acknowledged named (numbered_below opened.report.ends_at recorded.sealed.items) opened.device.shape.block_size (reading (state_of opened.device).disk Home)))
     (IsOpeningVerdict (state_of c.args.image) c.args.k c.args.keep.now recorded.sealed.items recorded.acknowledged named)
     (λ right is.
@@ -30,7 +30,7 @@ pub returns-in_ok-writeln-in-Stopped : goal.returns-in_ok-writeln-in-Stopped
 returns-in_ok-writeln-in-Stopped g c =
     let recorded = c.args.recorded.now in
     let left = c.crash.result in
-    let named = keys c.args.named.now in
+    let named = c.args.named.now in
     let first = c.in_ok-first.first in
     IfOk-weaker c.judge_second.result
     (IsSecondVerdict left.shape (reading (state_of left).disk) first.clean first.ends_at recorded.sealed.items recorded.acknowledged named)

@@ -1,5 +1,4 @@
 use Rattle.std.proofs.Common.{subst, sym}
-use Rattle.std.specs.BTreeSet.{keys}
 use Rattle.bench_run.specs.declared.verdict.Record.{Record}
 use Rattle.bench_run.specs.Left.{IsEndOf}
 use Rattle.bench_run.proofs.running.end_of_run.Goals as goal
@@ -9,10 +8,10 @@ pub returns : goal.returns
 returns g c =
     let stopped = c.in_ok-stopped.stopped in
     let left = c.crash.result in
-    subst (λ (r : Record). IsEndOf c.args.script.now c.args.stop left.image r.sealed.items r.acknowledged (keys c.in-Ok.named)) (sym c.crash.ensures.recorded)
+    subst (λ (r : Record). IsEndOf c.args.script.now c.args.stop left.image r.sealed.items r.acknowledged c.in-Ok.named) (sym c.crash.ensures.recorded)
     (record {
       device = stopped.device;
       led = c.in_ok-stopped.ensures;
       crash = record { each = c.crash.ensures.image; shape_is = c.crash.ensures.shape };
-      all = c.in-Ok.ensures;
+      names = c.in-Ok.ensures;
     })

@@ -12,7 +12,7 @@ pub returns : goal.returns
 returns g c =
     let left = c.crash.result in
     let stopped = c.args.stopped in
-    let named = keys c.args.named.now in
+    let named = c.args.named.now in
     IfOk-weaker c.judge_left.result
     (IsImageVerdict left.image.shape (reading (state_of left.image).disk) left.recorded.sealed.items left.recorded.acknowledged named)
     (IsVerdict stopped.device c.args.keep.now stopped.recorded.sealed.items stopped.recorded.acknowledged named)

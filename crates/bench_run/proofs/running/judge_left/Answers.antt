@@ -16,7 +16,7 @@ returns-in-Some g c =
     let keep = c.args.opening.keep.now in
     let sealed = left.recorded.sealed.items in
     let shown = left.recorded.acknowledged in
-    let named = keys c.args.named.now in
+    let named = c.args.named.now in
     IfOk-weaker c.judge_stopped_opening.result (IsOpeningVerdict (state_of mid) c.in-Some.k keep sealed shown named) (IsLeftVerdict left.image c.args.opening sealed shown named)
     (λ right is. subst (λ (at : Option ℕ). IsVerdictBy at keep left.image sealed shown named right) (sym c.in-Some.is)
     (left-verdict (Some c.in-Some.k) keep left.image mid sealed shown named right c.dump.ensures.stays is)) c.judge_stopped_opening.ensures

@@ -9,7 +9,7 @@ use Rattle.bench_run.proofs.running.run.Goals as goal
 pub returns-clause-run : goal.returns-clause-run
 returns-clause-run g c =
     let left = c.in_ok-ended.ended.left in
-    let named = keys c.in_ok-ended.ended.named in
+    let named = c.in_ok-ended.ended.named in
     IfOk-weaker c.judge_left.result
     (IsLeftVerdict left.image c.args.stops.now.opening left.recorded.sealed.items left.recorded.acknowledged named)
     (IsRunOf c.args.script.now c.args.stops.now)

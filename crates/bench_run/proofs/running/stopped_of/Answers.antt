@@ -4,6 +4,6 @@ use Rattle.bench_run.proofs.Ends.{led-behind}
 use Rattle.bench_run.proofs.running.stopped_of.Goals as goal
 
 pub returns : goal.returns
-returns g c =
-    led-behind g.H.HomeFact.holds c.args.performed.sealed.items c.args.performed.acknowledged c.args.performed.device c.into_inner.result
-    (c.into_inner.ensures ∙ ap inner_of c.into_inner-device.ensures) c.requires
+returns g c = λ operations led.
+    led-behind g.H.HomeFact.holds operations c.args.performed.sealed.items c.args.performed.acknowledged c.args.performed.device c.into_inner.result
+    (c.into_inner.ensures ∙ ap inner_of c.into_inner-device.ensures) led

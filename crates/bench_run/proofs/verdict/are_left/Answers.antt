@@ -1,4 +1,5 @@
 use Rattle.std.proofs.Common.{rules}
+use Rattle.std.specs.BTreeSet.{keys}
 use Rattle.std.proofs.lemmas.List.Elements.{All-cons, All-rest}
 use Rattle.journal_model.specs.declared.number.Area.TheVariants.{Home}
 use Rattle.journal_model.specs.Disk.{reading}
@@ -17,14 +18,15 @@ loop-block-preserved g c =
     let before = c.loop-block.invariant in
     let step = c.in_ok-is_left.ensures in
     let last = entry_in c.args.last.now in
-    let P = IsLeft last old.shape.block_size (reading old.disk Home) in
+    let directs = keys c.args.named.now.directs in
+    let P = IsLeft last directs old.shape.block_size (reading old.disk Home) in
     let list = c.in-Some.ensures.steps in (
       tt,
       tt,
       search rules,
       λ honest. before.3 (step.honest honest),
       λ honest rest.
-          let right = IsLeft-stays last block old mid before.2 ((step.right honest).0 (search rules)) in
+          let right = IsLeft-stays last directs block old mid before.2 ((step.right honest).0 (search rules)) in
           before.4 (step.honest honest) (rw list (All-cons P block c.next.new.self right rest)),
       λ all. All-rest P block c.next.new.self _ list (before.5 all),
     )

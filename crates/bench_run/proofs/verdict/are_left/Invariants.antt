@@ -11,10 +11,10 @@ use Rattle.bench_run.proofs.verdict.are_left.Given as goal
 abbrev pub invariant-loop-block : goal.invariant-loop-block
 invariant-loop-block g l =
     let old = g.D.Device.state l.fn.device in
-    let P = IsLeft (entry_in l.last) old.shape.block_size (reading old.disk Home) in
+    let P = IsLeft (entry_in l.last) (keys l.named.directs) old.shape.block_size (reading old.disk Home) in
     (goal.iterator-loop-block g).can_next l.block-iterator
     × (goal.iterator-loop-block g).is_finite l.block-iterator
     × Stays old (g.D.Device.state l.device)
     × (g.D.Device.honest l.device → g.D.Device.honest l.fn.device)
-    × (g.D.Device.honest l.device → All P l.block-iterator → All P (keys l.named))
-    × (All P (keys l.named) → All P l.block-iterator)
+    × (g.D.Device.honest l.device → All P l.block-iterator → All P (keys l.named.blocks))
+    × (All P (keys l.named.blocks) → All P l.block-iterator)

@@ -11,9 +11,11 @@ invariant_of-result g c =
     record {
       opening = opening;
       fact = subst (λ (d : _). g.H.HomeFact.holds (g.D.Device.state d).shape opening) (sym c.in-Ok.ensures.device) c.requires.fact;
-      start = running_world opening journal.journal (g.D.Device.state journal.device) [];
+      start = running_world opening journal.journal (g.D.Device.state journal.device) [] [];
       begins = c.in-Ok.ensures.begins c.requires.honest;
       moves = [];
+      directs = [];
+      written = λ b v one. absurd one;
       answered = [];
       leads = refl;
       greatest = refl;

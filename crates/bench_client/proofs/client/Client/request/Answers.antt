@@ -8,5 +8,5 @@ pub invariant_of-self : goal.invariant_of-self
 invariant_of-self g c =
     let new = c.request.new.self in
     let old = c.self.inside.journal in
-    request-comes g.H.HomeFact.holds g.D.Device.state old new c.self.inside.acknowledged c.args.ticket.now.tid c.request.result
+    request-comes g.H.HomeFact.holds c.self.inside.operations.now g.D.Device.state old new c.self.inside.acknowledged c.args.ticket.now.tid c.request.result
     c.request.ensures.ok (IfErr-weaker c.request.result _ (λ e. new ≡ old) (λ e is. is.2) c.request.ensures.err) c.request.ensures.device c.self.invariant

@@ -11,6 +11,6 @@ pub invariant_of-self : goal.invariant_of-self
 invariant_of-self g c =
     let new = c.reserve.new.self in
     let old = c.self.inside.journal in
-    front-comes g.H.HomeFact.holds g.D.Device.state old new c.self.inside.acknowledged (FrontStep (Reserve c.args.credits)) c.reserve.result
+    front-comes g.H.HomeFact.holds c.self.inside.operations.now g.D.Device.state old new c.self.inside.acknowledged (Reserve c.args.credits) c.reserve.result
     (IfOk-weaker c.reserve.result _ (λ credits. Does g.D.Device.state old (FrontStep (Reserve c.args.credits)) new) (λ credits is. is.1) c.reserve.ensures.ok)
     (IfErr-weaker c.reserve.result _ (λ e. new ≡ old) (λ e is. is.1) c.reserve.ensures.err) c.reserve.ensures.device c.self.invariant

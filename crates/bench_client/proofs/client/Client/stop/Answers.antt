@@ -4,5 +4,5 @@ use Rattle.bench_client.proofs.client.Client.stop.Goals as goal
 -- the handle stopped, or nothing changed
 pub invariant_of-self : goal.invariant_of-self
 invariant_of-self g c =
-    stop-comes g.H.HomeFact.holds g.D.Device.state c.self.inside.journal c.stop.new.self c.self.inside.acknowledged c.args.handle
+    stop-comes g.H.HomeFact.holds c.self.inside.operations.now g.D.Device.state c.self.inside.journal c.stop.new.self c.self.inside.acknowledged c.args.handle
     c.stop.ensures.stops c.stop.ensures.other c.stop.ensures.device c.self.invariant

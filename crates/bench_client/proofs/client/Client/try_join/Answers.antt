@@ -11,6 +11,6 @@ pub invariant_of-self : goal.invariant_of-self
 invariant_of-self g c =
     let new = c.try_join.new.self in
     let old = c.self.inside.journal in
-    front-comes g.H.HomeFact.holds g.D.Device.state old new c.self.inside.acknowledged (FrontStep (Join c.args.credits)) c.try_join.result
+    front-comes g.H.HomeFact.holds c.self.inside.operations.now g.D.Device.state old new c.self.inside.acknowledged (Join c.args.credits) c.try_join.result
     (IfOk-weaker c.try_join.result _ (λ handle. Does g.D.Device.state old (FrontStep (Join c.args.credits)) new) (λ handle is. is.0) c.try_join.ensures.ok)
     (IfErr-weaker c.try_join.result _ (λ e. new ≡ old) (λ e is. is.2) c.try_join.ensures.err) c.try_join.ensures.device c.self.invariant

@@ -10,6 +10,6 @@ pub invariant_of-self : goal.invariant_of-self
 invariant_of-self g c =
     let new = c.write.new.self in
     let old = c.self.inside.journal in
-    front-comes g.H.HomeFact.holds g.D.Device.state old new c.self.inside.acknowledged (FrontStep (WriteBlock c.args.handle.now.number c.args.block c.args.bytes.now)) c.write.result
+    front-comes g.H.HomeFact.holds c.self.inside.operations.now g.D.Device.state old new c.self.inside.acknowledged (WriteBlock c.args.handle.now.number c.args.block c.args.bytes.now) c.write.result
     c.write.ensures.ok
     (IfErr-weaker c.write.result _ (λ e. new ≡ old) (λ e is. is.1) c.write.ensures.err) c.write.ensures.device c.self.invariant

@@ -1,4 +1,3 @@
-use Rattle.std.specs.BTreeSet.{keys}
 use Rattle.bench_sweep.proofs.Right.{first-right}
 use Rattle.bench_sweep.proofs.sweeping.Ran.judge_first.Goals as goal
 
@@ -7,5 +6,5 @@ pub returns : goal.returns
 returns g c = λ keeps.
     let stopped = c.args.self.now.stopped.now in
     c.note_verdict.ensures
-    (first-right stopped c.args.place.keep.now c.args.image.now c.args.opened (keys c.args.self.now.named.now) c.in_ok-right.right (c.requires.run keeps) c.requires.crash
+    (first-right stopped c.args.place.keep.now c.args.image.now c.args.opened c.args.self.now.named.now c.in_ok-right.right (c.requires.run keeps) c.requires.crash
     (c.requires.opened keeps) c.in_ok-right.ensures.0 c.in_ok-right.ensures.1)

@@ -1,4 +1,3 @@
-use Rattle.std.specs.BTreeSet.{keys}
 use Rattle.bench_sweep.proofs.Right.{again-right}
 use Rattle.bench_sweep.proofs.sweeping.Ran.sweep_again.Goals as goal
 
@@ -7,5 +6,5 @@ pub returns : goal.returns
 returns g c = λ keeps.
     c.note_verdict.ensures
     (again-right c.args.self.now.stopped.now c.args.first.place.keep.now c.args.image.now c.args.first.report c.args.j c.args.device.now c.deref.result.now c.in_ok-left.left c.in-Ok.opened
-    (keys c.args.self.now.named.now) c.in_ok-right.right (c.requires.run keeps) c.requires.crash (c.requires.first keeps) (c.requires.stopped keeps)
+    c.args.self.now.named.now c.in_ok-right.right (c.requires.run keeps) c.requires.crash (c.requires.first keeps) (c.requires.stopped keeps)
     c.in_ok-left.ensures (c.in-Ok.ensures keeps) c.in_ok-right.ensures.0 c.in_ok-right.ensures.1)
