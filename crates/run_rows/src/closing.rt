@@ -1,6 +1,7 @@
 //! A journal over a device that stops or fails, and its close.
 ghost use Rattle.std.specs.Prelude.{◌≡◌, length, IfOk};
 
+use bench_script::NamedBlocks;
 use block_device::{FailOnce, MemDevice, StopAt};
 use format_rows::RowError;
 use format_rows::telling::refusal_text;
@@ -9,7 +10,6 @@ use group_commit::{Handle, Journal, Parts, Seat};
 use journal_model::{BlockNo, JournalError, Sealed};
 use recovery::{Opened, format, open};
 use std::alloc::{AllocError, Global};
-use std::collections::BTreeSet;
 
 /// What happens to the device of a journal.
 #[derive(Clone, Copy)]
@@ -35,7 +35,7 @@ pub struct Closed {
     /// The device, with its cache.
     pub device: MemDevice,
     /// The home blocks that handles wrote.
-    pub named: BTreeSet<u64>,
+    pub named: NamedBlocks,
 }
 
 /// A journal, the seat of its callers, and the home blocks that handles wrote.
@@ -43,7 +43,7 @@ pub struct Closed {
 struct User {
     journal: Journal<FaultyDevice>,
     seat: Seat,
-    named: BTreeSet<u64>,
+    named: NamedBlocks,
 }
 
 /// Closes a journal after these steps, on a log of 33 blocks of 1024 bytes that was just formatted, with 64 home blocks.
@@ -56,7 +56,7 @@ pub fn close_after(alloc: Global, fault: Fault, steps: &str) -> Result<Closed, R
     let mut user = User {
         journal,
         seat,
-        named: BTreeSet::new(alloc),
+        named: NamedBlocks::none(alloc),
     };
     for step in steps.split(" | ") {
         make_step(alloc, &mut user, step)?;
@@ -179,7 +179,7 @@ fn write_all(
     for word in words.split_whitespace() {
         let (block, byte) = cut(word, "=")?;
         let (block, byte) = (number(block)?, hex_byte(byte)?);
-        if user.named.insert(block).is_err() {
+        if user.named.blocks.insert(block).is_err() {
             return Err(RowError::Memory);
         }
         let bytes = block_of(alloc, user.journal.block_size(), byte)?;
