@@ -20,14 +20,14 @@ pub call_directly-requires-clause-direct : goal.call_directly-requires-clause-di
 call_directly-requires-clause-direct g c = (Flush Home, refl, SyncDirect)
 
 -- one that fails aborts the journal
-pub returns-clause-err : goal.returns-clause-err
-returns-clause-err g c =
+pub returns-else-self-clause-err : goal.returns-else-self-clause-err
+returns-else-self-clause-err g c =
     let made = c.call_directly.ensures in
     sync-lost g.D.Device.state c.args.self.now c.call_directly.new.self c.call_directly.result (made.err (Flush Home) refl) made.device made.faults
 
 -- at each of its moments a stop opens
-pub returns-clause-moments : goal.returns-clause-moments
-returns-clause-moments g c =
+pub returns-else-self-clause-moments : goal.returns-else-self-clause-moments
+returns-else-self-clause-moments g c =
     let made = c.call_directly.ensures in
     let sound : g.D.Device.honest c.args.self.now.device → Sound c.args.self.now.engine (g.D.Device.state c.args.self.now.device).disk =
     rw (← c.self.view_is) c.self.invariant.2 in λ honest.
