@@ -170,7 +170,8 @@ impl<D: Device> Engine<D> {
 
     /// Takes the entries of a transaction, which is then to be committed: copies of one block each and revokes, in any mix,
     /// of different blocks that may be touched, with the next number, while nothing is being committed. It makes every
-    /// growth that the commit will need, so that a commit takes time in proportion to its log blocks and its entries.
+    /// growth that the commit and direct writes will need, so that a commit takes time in proportion to its log blocks and its
+    /// entries, and a direct write looks at none of these.
     ///
     /// # Errors
     ///
