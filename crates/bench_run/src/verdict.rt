@@ -133,12 +133,7 @@ fn is_left<D: Device>(
 }
 
 /// Whether these are bytes of a block as these last operations left it.
-fn are_bytes_left(
-    last: &BTreeMap<u64, &Op>,
-    named: &NamedBlocks,
-    block: u64,
-    bytes: &[u8],
-) -> bool
+fn are_bytes_left(last: &BTreeMap<u64, &Op>, named: &NamedBlocks, block: u64, bytes: &[u8]) -> bool
     ensures { IsTrue result ↔ IsLeftBy (entry_in last.now block) (Contains (keys named.now.directs) block) (length bytes.now) bytes.now }
 {
     match last.get(&block) {
