@@ -139,9 +139,10 @@ def opening(log, home_blocks):
         return f"refusal {refused}", {}, 0, log[0]
     if not start:
         return f"clean next={end + 1}", {}, 0, log[0]
+    covered = {number: tid for tid, number in revokes}  # by home block: the greatest transaction that revokes it
     home = {}  # in the order in which the newest copies stand in the chain
     for tid, number, copy in copies:
-        if not any(other == number and revoked >= tid for revoked, other in revokes):
+        if tid > covered.get(number, -1):
             home.pop(number, None)
             home[number] = copy
     left = log[0][:0x18] + (end + 1).to_bytes(4, "big") + bytes(4) + log[0][0x20:]
@@ -518,10 +519,15 @@ def main():
         kind, seed, count = sys.argv[2:]
         print(drawn_rows(kind, int(seed), int(count)))
         return
-    for path in sys.argv[1:]:
+    tell_rows(sys.argv[1:], TELL)
+
+
+def tell_rows(paths, tell):
+    """Prints how many rows of each file want what the model of their kind says, and each other row."""
+    for path in paths:
         with open(path) as file:
             kind, rows = rows_of(file.read())
-        others = [(name, wanted, said) for name, given, wanted in rows if (said := TELL[kind](given)) != wanted]
+        others = [(name, wanted, said) for name, given, wanted in rows if (said := tell[kind](given)) != wanted]
         print(f"{path}: {len(rows) - len(others)} of {len(rows)} rows want what the model says")
         for name, wanted, said in others:
             print(f"  {name}\n    wanted:\n{indented(wanted)}\n    by the model:\n{indented(said)}")

@@ -11,10 +11,11 @@ import json
 import sys
 from pathlib import Path
 
-from openings import COMMIT, DESCRIPTOR, MAGIC, SUPERBLOCK, has_magic, opening, tags_of, word, words_of
+from openings import COMMIT, DESCRIPTOR, MAGIC, REVOKE, SUPERBLOCK, has_magic, numbers_of, opening, tags_of, word, words_of
 
 DEFAULTS = {"block": 1024, "length": 33, "home": 64, "uuid": "aa" * 16}
 TAGS = {1024: 122, 2048: 250, 4096: 506}
+NUMBERS = {1024: 252, 2048: 508, 4096: 1020}
 ESCAPED, SAME_UUID, LAST_TAG = 1, 2, 8
 
 
@@ -74,7 +75,8 @@ class Device:
 
     def blocks(self, area):
         """All flushed blocks of an area."""
-        return [self.flushed[area].get(place, bytes(self.size)) for place in range(self.counts[area])]
+        zeros = bytes(self.size)
+        return [self.flushed[area].get(place, zeros) for place in range(self.counts[area])]
 
 
 # ---- the bytes of the log
@@ -91,9 +93,11 @@ def with_start(superblock, sequence, start):
     return superblock[:0x18] + words_of([sequence, start]) + superblock[0x20:]
 
 
-def text_of(tid, copies, size, uuid):
-    """The log blocks of a transaction that copies these home blocks: descriptors, each before its copies, and a commit block."""
-    blocks, left = [], list(copies.items())
+def text_of(tid, entries, size, uuid):
+    """The log blocks of a transaction: revoke blocks, then descriptors, each before its copies, and a commit block."""
+    revoked = [number for number, copy in entries.items() if copy is None]
+    blocks = [revoke_block(tid, revoked[i : i + NUMBERS[size]], size) for i in range(0, len(revoked), NUMBERS[size])]
+    left = [(number, copy) for number, copy in entries.items() if copy is not None]
     while left:
         descriptor, stored, is_last = words_of([MAGIC, DESCRIPTOR, tid]), [], False
         while not is_last:
@@ -107,8 +111,14 @@ def text_of(tid, copies, size, uuid):
     return blocks + [words_of([MAGIC, COMMIT, tid]).ljust(size, b"\0")]
 
 
-def need(count, size):
-    return count + -(-count // TAGS[size]) + 1
+def revoke_block(tid, numbers, size):
+    return words_of([MAGIC, REVOKE, tid, 16 + 4 * len(numbers), *numbers]).ljust(size, b"\0")
+
+
+def need(entries, size):
+    revokes = sum(copy is None for copy in entries.values())
+    copies = len(entries) - revokes
+    return copies + -(-copies // TAGS[size]) + -(-revokes // NUMBERS[size]) + 1
 
 
 def capacity(size, ring):
@@ -130,16 +140,23 @@ class Handle:
 
 
 class Journal:
-    """A journal on a device that was just formatted and opened. A transaction's copies are a dict, in first-touch order."""
+    """A journal on a device that was just formatted and opened.
+
+    A transaction's entries are a dict in first-touch order, from home blocks to the bytes of their copies, or to None where they
+    are revoked.
+    """
 
     def __init__(self, device):
         self.device = device
         self.superblock = device.read("log", 0)
         self.ring = device.counts["log"] - 1
         self.capacity = capacity(device.size, self.ring)
-        self.sealed = []  # number and copies of each
-        self.number, self.copies, self.handles, self.is_locked = 2, {}, [], False  # of the running transaction
-        self.committing, self.calls = {}, []  # the copies of the transaction that is being committed, and the calls that are left
+        self.sealed = []  # number and entries of each
+        self.number, self.entries, self.handles, self.is_locked = 2, {}, [], False  # of the running transaction
+        self.committing, self.calls = {}, []  # the entries of the transaction that is being committed, and the calls that are left
+        self.copied = set()  # the blocks whose last committed entry is a copy, released or not
+        self.direct = {}  # by home block: its direct writes, each as how many transactions were sealed then, and its bytes
+        self.synced = {}  # by home block: which of these is the last that was synced
         self.mark = self.released = 1
         self.ends = {1: 0}  # the position behind each transaction's blocks, over all laps
         self.pending = {}  # by home block: transaction and bytes of its newest committed copy that is not released
@@ -150,7 +167,7 @@ class Journal:
         return 1 + position % self.ring
 
     def held(self):
-        return len(self.copies) + sum(handle.left for handle in self.handles if handle.is_open)
+        return len(self.entries) + sum(handle.left for handle in self.handles if handle.is_open)
 
     def start(self, credits):
         if credits > self.capacity:
@@ -166,20 +183,34 @@ class Journal:
         if number >= self.device.counts["home"] or number >= 2**32:
             raise Refused("8 BadBlock")
 
-    def write(self, handle, number, block):
+    def touch(self, handle, number, copy):
+        """A write of a block by a handle, or its revoke, where there is no copy."""
         self.test_block(number)
-        if number not in self.copies:
+        if number not in self.entries:
             if handle.left == 0:
                 raise Refused("4 NoCredit")
             handle.left -= 1
-        self.copies[number] = block
+        self.entries[number] = copy
 
     def read(self, number):
         self.test_block(number)
-        for copies in (self.copies, self.committing):
-            if number in copies:
-                return copies[number]
+        for entries in (self.entries, self.committing):
+            if number in entries:
+                if entries[number] is None:
+                    raise Refused("12 Revoked")
+                return entries[number]
         return self.pending[number][1] if number in self.pending else self.device.read("home", number)
+
+    def write_direct(self, number, block):
+        self.test_block(number)
+        if number in self.copied or number in self.committing or number in self.entries:
+            raise Refused("9 NotDirect")
+        self.direct.setdefault(number, []).append((len(self.sealed), block))
+        self.device.write("home", number, block)
+
+    def sync_direct(self):
+        self.device.flush("home")
+        self.synced = {number: len(writes) - 1 for number, writes in self.direct.items()}
 
     def request(self, ticket):
         if ticket.tid == self.number:
@@ -199,9 +230,9 @@ class Journal:
     def seal(self):
         """Seals the running transaction, and lists the device calls of its commit."""
         device, tid, position = self.device, self.number, self.ends[self.number - 1]
-        if need(len(self.copies), device.size) > self.ring - (position - self.ends[self.released]):
+        if need(self.entries, device.size) > self.ring - (position - self.ends[self.released]):
             raise Refused("11 NeedSpace")
-        *blocks, commit_block = text_of(tid, self.copies, device.size, self.superblock[0x30:0x40])
+        *blocks, commit_block = text_of(tid, self.entries, device.size, self.superblock[0x30:0x40])
         if word(self.superblock, 0x1C) == 0:
             self.calls = [(self.write_superblock, tid, self.place(position)), (device.flush, "log")]
         for i, block in enumerate(blocks):
@@ -209,16 +240,20 @@ class Journal:
         end = position + len(blocks)
         self.calls += [(device.flush, "log"), (device.write, "log", self.place(end), commit_block), (device.flush, "log")]
         self.ends[tid] = end + 1
-        self.sealed.append((tid, self.copies))
-        self.committing = self.copies
-        self.number, self.copies, self.handles, self.is_locked = tid + 1, {}, [], False
+        self.sealed.append((tid, self.entries))
+        self.committing = self.entries
+        self.number, self.entries, self.handles, self.is_locked = tid + 1, {}, [], False
         return f"sealed {tid}"
 
     def finish(self):
         self.mark += 1
-        for number, block in self.committing.items():
-            self.pending[number] = (self.mark, block)
+        for number, copy in self.committing.items():
+            self.pending.pop(number, None)
             self.is_home.discard(number)
+            self.copied.discard(number)
+            if copy is not None:
+                self.pending[number] = (self.mark, copy)
+                self.copied.add(number)
         self.committing = {}
         return f"committed {self.mark}"
 
@@ -270,8 +305,8 @@ class Run:
 
     def line(self, operation):
         name, *words = operation
-        left = " ".join(map(str, operation[:3]))
-        if words and name != "start" and self.names[words[0]] is None:
+        left = " ".join(map(str, operation[: 2 if name == "direct" else 3]))
+        if words and name not in ("start", "direct") and self.names[words[0]] is None:
             return f"{left} = skipped"
         try:
             return f"{left} = {getattr(self, 'do_' + name)(*words)}"
@@ -286,8 +321,15 @@ class Run:
         return self.names[name].tid
 
     def do_write(self, name, number, data):
-        self.journal.write(self.names[name], number, bytes.fromhex(data).ljust(self.device.size, b"\0"))
+        self.journal.touch(self.names[name], number, self.block_of(data))
         return "ok"
+
+    def do_revoke(self, name, number):
+        self.journal.touch(self.names[name], number, None)
+        return "ok"
+
+    def block_of(self, data):
+        return bytes.fromhex(data).ljust(self.device.size, b"\0")
 
     def do_read(self, _, number):
         return self.journal.read(number)[:8].hex()
@@ -316,6 +358,14 @@ class Run:
             pass
         return "idle"
 
+    def do_direct(self, number, data):
+        self.journal.write_direct(number, self.block_of(data))
+        return "ok"
+
+    def do_sync(self):
+        self.journal.sync_direct()
+        return "ok"
+
     def do_status(self, name):
         return "committed" if self.show(name) else "open"
 
@@ -341,7 +391,9 @@ class Outcome:
         self.n = sum(tid < self.next - 1 for tid, _ in run.journal.sealed)
         self.lines = run.lines + dump_lines(log)
         self.left, follows_on = self.open_image(stop2, keep2)
-        self.named = sorted({operation[2] for operation in run.script["ops"] if operation[0] in ("write", "read")})
+        self.direct = {operation[1] for operation in run.script["ops"] if operation[0] == "direct"}
+        touched = {operation[2] for operation in run.script["ops"] if operation[0] in ("write", "revoke", "read")}
+        self.named = sorted(touched | self.direct)
         for number in self.named_blocks():
             self.lines.append(f"home {number} {self.home(number)[:8].hex()}")
         self.lines.append(f"verdict {'ok' if follows_on and self.is_right() else 'false'}")
@@ -370,8 +422,38 @@ class Outcome:
         sealed = self.run.journal.sealed
         if not sum(tid <= self.run.shown for tid, _ in sealed) <= self.n <= len(sealed):
             return False
-        copies = {number: block for _, copies in sealed[: self.n] for number, block in copies.items()}
-        return all(self.home(number) == copies.get(number, bytes(self.image.size)) for number in self.named_blocks())
+        last = {number: copy for _, entries in sealed[: self.n] for number, copy in entries.items()}
+        return all(self.is_right_block(number, last) for number in self.named_blocks())
+
+    def is_right_block(self, number, last):
+        """Whether a block is its last copy; of one that was revoked, or that a script writes directly, nothing is asked."""
+        if number in last:
+            return last[number] in (None, self.home(number))
+        return number in self.direct or not any(self.home(number))
+
+    def keeps_promises(self):
+        """Whether each named block is as the journal promises, which is more than the verdict asks: a test of the model's own rules."""
+        return all(self.is_left_rightly(number) and self.keeps_synced(number) for number in self.named_blocks())
+
+    def is_left_rightly(self, number):
+        """Whether a block is its last copy, or as it is in the image: zeros, one of its copies, or a direct write of it."""
+        journal, found = self.run.journal, self.home(number)
+        entries = [entries[number] for _, entries in journal.sealed[: self.n] if number in entries]
+        if entries and entries[-1] is not None:
+            return found == entries[-1]
+        zeros = bytes(self.image.size)
+        held = [zeros, *entries, *(block for _, block in journal.direct.get(number, []))]
+        return found in held and found == self.image.flushed["home"].get(number, zeros)
+
+    def keeps_synced(self, number):
+        """Whether a block is the direct write that was synced last, or a later one, where no transaction sealed since that has it."""
+        journal = self.run.journal
+        if number not in journal.synced:
+            return True
+        since, writes = journal.synced[number], journal.direct[number]
+        if any(number in entries for _, entries in journal.sealed[writes[since][0] :]):
+            return True
+        return self.home(number) in [block for _, block in writes[since:]]
 
     def recovered(self):
         """The line of `jbench recover` of the image, and what it leaves."""
@@ -413,11 +495,15 @@ def dump_lines(log):
     place = lambda position: first + (start - first + position) % ring
     while taken < ring:
         block = log[place(taken)]
-        if not has_magic(block) or word(block, 8) != due or word(block, 4) not in (DESCRIPTOR, COMMIT):
+        if not has_magic(block) or word(block, 8) != due or word(block, 4) not in (DESCRIPTOR, COMMIT, REVOKE):
             break
         if word(block, 4) == COMMIT:
             lines += of_due + [f"{place(taken)} commit {due}"]
             taken, of_due, due = taken + 1, [], due + 1
+            continue
+        if word(block, 4) == REVOKE:
+            of_due.append(f"{place(taken)} revoke {due} blocks=" + ",".join(map(str, numbers_of(block, 2**32))))
+            taken += 1
             continue
         tags = tags_of(block, 2**32)
         if taken + 1 + len(tags) > ring:
@@ -432,13 +518,23 @@ def dump_lines(log):
 # ---- words
 
 
+def options_of(words):
+    """The options that words as `--stop 4 --keep 3,4` are, by their names."""
+    options = {}
+    for name, value in zip(words[::2], words[1::2]):
+        is_list = name.startswith("--keep")
+        options[name.removeprefix("--")] = [int(text) for text in value.split(",") if text] if is_list else int(value)
+    return options
+
+
+def outcome_of(text, options):
+    run = Run(text, options.get("stop"))
+    return Outcome(run, options.get("keep", ()), options.get("stop2"), options.get("keep2", ()))
+
+
 def main():
     path, *words = sys.argv[1:]
-    options = dict(zip(words[::2], words[1::2]))
-    number = lambda name: int(options[name]) if name in options else None
-    numbers = lambda name: [int(text) for text in options.get(name, "").split(",") if text]
-    run = Run(Path(path).read_text(), number("--stop"))
-    print("\n".join(Outcome(run, numbers("--keep"), number("--stop2"), numbers("--keep2")).lines))
+    print("\n".join(outcome_of(Path(path).read_text(), options_of(words)).lines))
 
 
 if __name__ == "__main__":

@@ -4,12 +4,16 @@
 usage: runs.py [--program PATH] [COUNT] [SEED]             runs of so many random scripts (default: 200 from seed 1)
        runs.py [--program PATH] --e2fsck [COUNT] [SEED]    images of such runs, recovered by e2fsck (default: 40 from seed 1)
        runs.py [--program PATH] --kernel [COUNT] [SEED]    the same by the running kernel
+       runs.py --alone [--e2fsck] [COUNT] [SEED]           the model alone, or beside e2fsck, without a program
 
 The model is run_model.py, which shares nothing with the journal. Each script is run to its end, with stops at random writes, and
 one in six with a stop at each write; the writes that an image keeps are drawn too. Of one image in three the opening is stopped as
 well, and of some at each of its writes. Now and then the image also goes to two files: they have to hold the model's bytes,
 `jbench dump` has to print what the run printed of the log, and `jbench recover` has to end as the run's own opening does and to
 leave the model's bytes. One script in twenty is made a bad one, which has to be refused before anything runs.
+
+The model itself has to keep what is promised of home beyond the verdict: a block that is not its last copy is as home of the image
+had it, and a direct write that was synced stays, until a transaction with an entry of its block is sealed.
 
 With --e2fsck and --kernel the blocks of an image's log are put into the journal of an ext4 file system, and those of its home area
 in the place of blocks that no file has. e2fsck, or the kernel that mounts the file system, then brings home what the log has, and
@@ -30,7 +34,7 @@ from collections import Counter
 from pathlib import Path
 
 from openings import word
-from run_model import DEFAULTS, TAGS, Outcome, Run, capacity, dump_lines, number_behind
+from run_model import DEFAULTS, NUMBERS, TAGS, Run, capacity, dump_lines, outcome_of
 
 TOP = Path(__file__).resolve().parent.parent
 
@@ -41,34 +45,39 @@ TOP = Path(__file__).resolve().parent.parent
 class RandomScript:
     """A script that is no bad one. Its operations are drawn as phrases, each of one operation or several."""
 
-    MIXED = {"start": 5, "write": 12, "read": 4, "stop": 4, "request": 4, "turn": 8, "commit": 3, "ckturn": 6, "check": 1,
-             "status": 2, "wait": 2, "transaction": 6}
-    STEADY = {"transaction": 20, "read": 2, "commit": 2, "ckturn": 1, "status": 1, "wait": 1}
+    MIXED = {"start": 5, "write": 12, "revoke": 4, "read": 4, "stop": 4, "request": 4, "turn": 8, "commit": 3, "ckturn": 6,
+             "check": 1, "status": 2, "wait": 2, "direct": 4, "sync": 2, "transaction": 6, "reuse": 1}
+    STEADY = {"transaction": 20, "read": 2, "commit": 2, "ckturn": 1, "status": 1, "wait": 1, "direct": 4, "sync": 2, "reuse": 3}
 
-    def __init__(self, draw, blocks=None, home=None, length=None):
+    def __init__(self, draw, blocks=None, length=None):
         self.draw, self.ops = draw, []
-        is_wide = not blocks and draw.random() < 0.03
         self.size = draw.choice((1024,) * 8 + (2048, 4096))
-        self.length = length or self.draw_length(is_wide)
-        self.home = home or (2 * TAGS[self.size] if is_wide else draw.choice((64, 64, 64, 1, 5, 1000)))
+        # how many entries the first transactions have, where they are to fill more than a descriptor or a revoke block
+        wide = self.draw_wide_count() if not length and draw.random() < (0.1 if blocks else 0.03) else 0
+        self.length = length or self.draw_length(wide)
+        self.home = FileSystems.BLOCKS if blocks else 2 * wide if wide else draw.choice((64, 64, 64, 1, 5, 1000))
         self.uuid = draw.choice(("aa" * 16, draw.randbytes(16).hex(), "C03B3998" * 4))
         self.blocks = blocks or self.draw_blocks()
         self.capacity = capacity(self.size, self.length - 1)
         names = draw.sample(range(10000), draw.choice((1, 2, 3, 5)))
         self.names = dict.fromkeys(names, "new")  # then "open" or "stopped", as if each start were accepted
         self.checks = draw.choice((0, 0.1, 0.1, 0.3))  # how often a round follows a transaction
-        self.draw_phrases(self.STEADY if blocks else draw.choice((self.MIXED, self.STEADY)), is_wide)
+        self.revokes = draw.choice((0, 0.1, 0.3, 0.5, 0.9, 1))  # how often a transaction revokes a block and does not write it
+        self.directs = draw.choice((0, 0, 0.2, 0.5))  # how often a block is written directly between turns
+        for _ in range(draw.choice((1, 2, 5)) if wide else 0):
+            revokes = 1 if blocks else draw.choice((0, 0.5, 1))  # other blocks than these may be revoked, and not written
+            self.draw_transaction(self.capacity, draw.sample(range(self.home), wide), revokes)
+        self.draw_phrases(self.STEADY if blocks else draw.choice((self.MIXED, self.STEADY)))
 
-    def draw_phrases(self, phrases, is_wide):
+    def draw_phrases(self, phrases):
         weights = [weight * self.draw.choice((0.2, 1, 1, 4)) for weight in phrases.values()]
-        for _ in range(self.draw.choice((1, 2, 5)) if is_wide else 0):
-            self.draw_transaction(self.capacity, self.draw.sample(range(self.home), self.draw_wide_count()))
         for _ in range(self.draw.choice((3, 10, 30, 60) if self.length < 1000 else (30, 600))):
             getattr(self, "draw_" + self.draw.choices(list(phrases), weights)[0])()
 
-    def draw_length(self, is_wide):
-        if is_wide:
-            return self.draw.choice((4 * TAGS[self.size] + 40, 5 * TAGS[self.size]))
+    def draw_length(self, wide):
+        """Blocks of the log: enough of them for transactions of so many entries."""
+        if wide:
+            return 4 * (wide + -(-wide // TAGS[self.size]) + 1) + 1 + self.draw.choice((0, 20, wide))
         return self.draw.choice((17, 17, 18, 20, 24, 33, 33, 33, 40, 64, 100, self.draw.randrange(17, 300)))
 
     def draw_blocks(self):
@@ -111,6 +120,9 @@ class RandomScript:
     def draw_write(self):
         self.add_with(("open",), "write", self.draw.choice(self.blocks), self.draw_data())
 
+    def draw_revoke(self):
+        self.add_with(("open",), "revoke", self.draw.choice(self.blocks))
+
     def draw_read(self):
         self.add_with(("open",), "read", self.draw.choice(self.blocks))
 
@@ -132,15 +144,39 @@ class RandomScript:
     def draw_ckturn(self):
         self.ops += [["ckturn"]] * self.draw.choice((1, 1, 2, 5))
 
+    def draw_part_of_round(self):
+        self.ops += [["ckturn"]] * self.draw.choice((0, 0, 1, 2, 4))
+
     def draw_commit(self):
         self.ops.append(["commit"])
 
     def draw_check(self):
         self.ops.append(["check"])
 
-    def draw_transaction(self, credits=None, blocks=None):
+    def draw_direct(self, number=None):
+        self.ops.append(["direct", self.draw.choice(self.blocks) if number is None else number, self.draw_data()])
+
+    def draw_sync(self):
+        self.ops.append(["sync"])
+
+    def draw_reuse(self):
+        """A block that is written, revoked, written directly and written once more, with turns or a part of a round behind each."""
+        number = self.draw.choice(self.blocks)
+        for revokes, others in (0, self.draw.choice((0, 1, 1))), (1, 0):
+            self.draw_transaction(1 + others, [*self.draw.choices(self.blocks, k=others), number], revokes)
+            self.draw_part_of_round()
+        for _ in range(self.draw.choice((1, 1, 2))):
+            self.draw_direct(number)
+            self.draw_part_of_round()
+            if self.draw.random() < 0.7:
+                self.draw_sync()
+        if self.draw.random() < 0.5:
+            self.draw_transaction(1, [number])
+
+    def draw_transaction(self, credits=None, blocks=None, revokes=None):
         """A handle from its start to the request, and then turns."""
         credits = self.draw_credits() if credits is None else credits
+        revokes = self.revokes if revokes is None else revokes
         name = self.add_with(("new", "stopped"), "start", credits)
         if name is None:
             return
@@ -149,24 +185,33 @@ class RandomScript:
         for number in blocks:
             if self.draw.random() < 0.15:
                 self.ops.append(["read", name, self.draw.choice(self.blocks)])
-            self.ops.append(["write", name, number, self.draw_data()])
+            is_revoke = self.draw.random() < revokes
+            self.ops.append(["revoke", name, number] if is_revoke else ["write", name, number, self.draw_data()])
         self.ops += [["stop", name], ["request", name]]
         self.names[name] = "stopped"
         self.draw_turns()
 
     def draw_turns(self):
-        """A commit, or commit turns with turns of a round between them, and perhaps a whole round."""
+        """A commit, or commit turns with turns of a round and direct writes between them, and perhaps a whole round."""
         if self.draw.random() < 0.6:
             self.ops.append(["commit"])
         else:
-            turns = ["turn", "turn", "ckturn" if self.checks else "turn"]
-            self.ops += [[self.draw.choice(turns)] for _ in range(self.draw.randrange(14))]
+            self.draw_single_turns()
+        if self.draw.random() < self.directs:
+            self.draw_direct()
         if self.draw.random() < self.checks:
             self.ops.append(["check"])
 
+    def draw_single_turns(self):
+        turns = ["turn", "turn", "ckturn" if self.checks else "turn"]
+        for _ in range(self.draw.randrange(14)):
+            self.ops.append([self.draw.choice(turns)])
+            if self.draw.random() < self.directs / 4:
+                self.draw.choice((self.draw_direct, self.draw_sync))()
+
     def draw_wide_count(self):
-        """About as many copies as a descriptor has tags."""
-        return TAGS[self.size] + self.draw.choice((-1, 0, 0, 1, 2))
+        """About as many entries as a descriptor has tags, or a revoke block numbers."""
+        return self.draw.choice((TAGS, NUMBERS))[self.size] + self.draw.choice((-1, 0, 0, 1, 2))
 
     def text(self):
         """The script, in which a key that has its default may be missing, and a key may stand twice, of which the last counts."""
@@ -213,16 +258,20 @@ BAD_OPERATIONS = (
     ["start", 10000, 1], ["start", -1, 1], ["start", 1.0, 1], ["start", "1", 1], ["start", True, 1], ["start", 1, 2**64],
     ["start", 1, -1], ["start", 1, 1.5], ["start", 1, None], ["start", 1], ["start", 1, 1, 1], ["start"], ["Start", 1, 1],
     ["turn", 1], ["commit", 1], ["ckturn", 1], ["check", 1], ["check", []], ["turns"], [1], [None], [["turn"]], [], {"turn": 1},
-    ["lock"], ["sync"], ["direct", 1, "00"],
+    ["lock"], ["sync", 1], ["sync", []], ["direct"], ["direct", 1], ["direct", 1, 0], ["direct", 1, "0"], ["direct", 1, "0g"],
+    ["direct", -1, "00"], ["direct", 1.0, "00"], ["direct", 2**64, "00"], ["direct", "1", "00"], ["direct", 1, "00", 1],
+    ["direct", 1, "00" * 4097],
 )
 WRONG_STATES = (
-    [["stop"]], [["read", 1]], [["write", 1, "00"]], [["request"]], [["status"]], [["wait"]],
+    [["stop"]], [["read", 1]], [["write", 1, "00"]], [["revoke", 1]], [["request"]], [["status"]], [["wait"]],
     [["start", 1], ["start", 1]], [["start", 1], ["request"]], [["start", 1], ["status"]], [["start", 1], ["wait"]],
     [["start", 1], ["stop"], ["stop"]], [["start", 1], ["stop"], ["write", 1, "00"]], [["start", 1], ["stop"], ["read", 1]],
     [["start", 1], ["write", 1, "0"]], [["start", 1], ["write", 1, "0g"]], [["start", 1], ["write", 1, "00" * 4097]],
     [["start", 1], ["write", 1, 0]], [["start", 1], ["write", 1]], [["start", 1], ["write", 1.0, "00"]],
     [["start", 1], ["write", 2**64, "00"]], [["start", 1], ["read", 1, 1]], [["start", 1], ["read"]], [["start", 1], ["read", "1"]],
-    [["start", 1], ["stop", 1]], [["start", 1], ["revoke", 1]], [["start", 1], ["extend", 1]], [["start", 1], ["restart", 1]],
+    [["start", 1], ["stop"], ["revoke", 1]], [["start", 1], ["revoke"]], [["start", 1], ["revoke", 1, "00"]],
+    [["start", 1], ["revoke", -1]], [["start", 1], ["revoke", 1.0]], [["start", 1], ["revoke", 2**64]],
+    [["start", 1], ["stop", 1]], [["start", 1], ["extend", 1]], [["start", 1], ["restart", 1]],
 )
 
 
@@ -250,11 +299,6 @@ def stopped_at(draw, text, stop, writes):
     return {**options, "keep": kept} if kept or draw.random() < 0.2 else options
 
 
-def outcome_of(text, options):
-    run = Run(text, options.get("stop"))
-    return Outcome(run, options.get("keep", ()), options.get("stop2"), options.get("keep2", ()))
-
-
 def cases_of(draw, text):
     """The options of the runs of a script."""
     writes = Run(text).device.writes
@@ -269,7 +313,8 @@ def cases_of(draw, text):
 
 def stops_of_opening(draw, options, writes):
     """The same options with a stop at a write of the opening, which makes so many, or with a stop at each of them."""
-    for stop in range(1, writes + 2) if draw.random() < 1 / 5 else [draw.randrange(1, writes + 2)]:
+    is_each = writes <= 150 and draw.random() < 1 / 5
+    for stop in range(1, writes + 2) if is_each else [draw.randrange(1, writes + 2)]:
         yield {**options, "stop2": stop, "keep2": draw_kept(draw, range(1, stop + 1), writes)}
 
 
@@ -323,6 +368,8 @@ class Comparison:
     def compare(self, text, options, with_files=False):
         """Compares a run, and with files what stands in these; answers what the model says of it."""
         outcome = outcome_of(text, options)
+        if not outcome.keeps_promises():
+            raise Difference(f"script: {text}\noptions: {options}\nthe model itself leaves a block that is not as promised")
         words = ["run", self.path("script", text), *words_of(options)]
         if with_files:
             words += ["--image-log", self.path("log"), "--image-home", self.path("home")]
@@ -353,17 +400,22 @@ class Comparison:
 
     def count(self, outcome):
         run, size = outcome.run, outcome.image.size
+        sealed = [list(entries.values()) for _, entries in run.journal.sealed]
         self.cases["runs"] += 1
         self.cases["stopped at a write"] += run.device.is_stopped
         self.cases["opened twice"] += any(line.startswith("reopen") for line in outcome.lines)
         self.cases["over several laps"] += max(run.journal.ends.values()) > run.journal.ring
-        self.cases["with several descriptors"] += any(len(copies) > TAGS[size] for _, copies in run.journal.sealed)
+        self.cases["with several descriptors"] += any(len(copies) - copies.count(None) > TAGS[size] for copies in sealed)
+        self.cases["with revokes"] += any(None in copies for copies in sealed)
+        self.cases["with several revoke blocks"] += any(copies.count(None) > NUMBERS[size] for copies in sealed)
+        self.cases["with direct writes"] += bool(run.journal.direct)
         self.answers["lines"] += len(outcome.lines)
         for line in outcome.lines:
             told = line.partition(" = ")[2]
             if told.startswith(("refused", "skipped", "waiting", "released")):
                 self.answers[told if told.startswith("refused") else told.split()[0]] += 1
             self.answers["escaped copies in dumps"] += line.endswith(" escaped")
+            self.answers["direct writes"] += line.startswith("direct ") and line.endswith(" = ok")
 
     def text(self):
         return "\n".join(", ".join(f"{count} {name}" for name, count in each.items()) for each in (self.cases, self.answers))
@@ -379,6 +431,16 @@ def compare_scripts(comparison, count, seed):
         comparison.cases["scripts"] += 1
         for options in cases_of(draw, text):
             comparison.compare(text, options, draw.random() < 1 / 10)
+
+
+class Alone(Comparison):
+    """The model without a program: what it says is compared with what is promised, and with nothing else."""
+
+    def expect(self, *_):
+        pass
+
+    def compare_image(self, *_):
+        pass
 
 
 # ---- e2fsck and the kernel
@@ -403,33 +465,35 @@ def recover_by_kernel(image, folder):
 
 
 class FileSystems:
-    """File systems of so many blocks, one for each block size, with a journal of 1024 blocks that is still to be recovered."""
+    """File systems with a journal that is still to be recovered, made once for each block size and length of the journal."""
 
-    BLOCKS, JOURNAL, FREE = 4096, 1024, range(3000, 3040)
+    JOURNALS = {1024: 8192, 6144: 20480}  # how many blocks the file system has, by those of its journal
+    BLOCKS, FREE = JOURNALS[1024], range(7000, 7040)
 
     def __init__(self, folder):
         self.folder, self.made = folder, {}
 
-    def of_size(self, size):
-        """The blocks of a file system, and the places of those of its journal."""
-        if size not in self.made:
+    def with_journal(self, size, length):
+        """The blocks of a file system, and the places of those of its journal, which has as many as the log at least."""
+        journal = min(journal for journal in self.JOURNALS if journal >= length)
+        if (size, journal) not in self.made:
             image = self.folder / "new"
             image.write_bytes(b"")
-            os.truncate(image, self.BLOCKS * size)
+            os.truncate(image, self.JOURNALS[journal] * size)
             command("mke2fs", "-q", "-F", "-t", "ext4", "-b", size, "-O", "^metadata_csum,^64bit,^resize_inode,has_journal",
-                    "-J", f"size={self.JOURNAL * size // 2**20}", "-N", 64, image)
+                    "-J", f"size={journal * size // 2**20}", "-N", 64, image)
             command("debugfs", "-w", "-R", "feature needs_recovery", image)
-            told = command("debugfs", image, text="".join(f"bmap <8> {i}\n" for i in range(self.JOURNAL)))
+            told = command("debugfs", image, text="".join(f"bmap <8> {i}\n" for i in range(journal)))
             places = [int(line) for line in told.splitlines() if line.isdigit()]
             told = command("debugfs", "-R", f"testb {self.FREE[0]} {len(self.FREE)}", image)
-            assert len(places) == self.JOURNAL and told.count("not in use") == len(self.FREE)
-            self.made[size] = blocks_of(image, size), places
-        return self.made[size]
+            assert len(places) == journal and told.count("not in use") == len(self.FREE)
+            self.made[size, journal] = blocks_of(image, size), places
+        return self.made[size, journal]
 
     def recovered(self, log, home, recover):
         """What these home blocks, in the place of those that no file has, become where a file system's journal is this log."""
         size = len(log[0])
-        blocks, places = self.of_size(size)
+        blocks, places = self.with_journal(size, len(log))
         before = list(blocks)
         for place, block in [*zip(places, log), *((number, home[number]) for number in self.FREE)]:
             before[place] = block
@@ -453,7 +517,7 @@ def compare_by(recover, length):
         for each in range(seed, seed + count):
             draw = random.Random(each)
             blocks = draw.sample(FileSystems.FREE, draw.choice((1, 3, 8, 20)))
-            text = RandomScript(draw, blocks, FileSystems.BLOCKS, length).text()
+            text = RandomScript(draw, blocks, length).text()
             comparison.cases["scripts"] += 1
             writes = Run(text).device.writes
             for _ in range(3):
@@ -483,19 +547,21 @@ def compare_recovered(comparison, systems, outcome, recover, given):
 
 def main():
     words = sys.argv[1:]
-    program = TOP / "jbench"
+    program, kind = TOP / "jbench", Comparison
     if words[:1] == ["--program"]:
         program, words = Path(words[1]).absolute(), words[2:]
+    elif words[:1] == ["--alone"]:
+        kind, words = Alone, words[1:]
     else:
         subprocess.run([program, "--help"], capture_output=True)
     comparing, usual = compare_scripts, 200
     if words[:1] == ["--e2fsck"]:
         comparing, usual, words = compare_by(recover_by_e2fsck, None), 40, words[1:]
     elif words[:1] == ["--kernel"]:
-        comparing, usual, words = compare_by(recover_by_kernel, FileSystems.JOURNAL), 40, words[1:]
+        comparing, usual, words = compare_by(recover_by_kernel, min(FileSystems.JOURNALS)), 40, words[1:]
     count, seed = [int(text) for text in words] + [usual, 1][len(words) :]
     with tempfile.TemporaryDirectory() as folder:
-        comparison = Comparison(program, Path(folder))
+        comparison = kind(program, Path(folder))
         try:
             comparing(comparison, count, seed)
         except Difference as difference:
