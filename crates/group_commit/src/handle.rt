@@ -48,8 +48,8 @@ impl Seat {
     }
 }
 
-/// A handle: it writes blocks as a part of one transaction, and all that it writes is there after a stop, or nothing of
-/// it. Stop it when it is done: until then its transaction can't be committed.
+/// A handle: it writes and revokes blocks as a part of one transaction, and all that it does is there after a stop, or
+/// nothing of it. Stop it when it is done: until then its transaction can't be committed.
 /// Source: journalling.rst (`journal_start` and `journal_stop`).
 #[derive(Debug, Drop)]
 pub struct Handle {
@@ -145,8 +145,8 @@ impl Ticket {
     }
 }
 
-/// The proof that a handle's transaction is committed: whatever stops come, its writes are there, or what later
-/// transactions made of those blocks.
+/// The proof that a handle's transaction is committed: whatever stops come, what it did is there, or what later
+/// transactions, and direct writes behind them, made of those blocks.
 #[derive(Debug, Drop)]
 pub struct Receipt {
     handle: HandleNo,

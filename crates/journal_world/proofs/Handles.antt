@@ -1,7 +1,7 @@
 -- The handles of transactions: each belongs to one of them, and none has a number that is still to be given.
-use Rattle.std.proofs.Common.{◌≡◌, ℕ, ◌+◌, ◌<◌, ◌≤◌, false, List, [], ◌∷◌, ◌++◌, Some, arith, refl, sym, ◌∙◌, ap, subst, append-nil}
+use Rattle.std.proofs.Common.{◌≡◌, ℕ, suc, ◌+◌, ◌<◌, ◌≤◌, false, List, [], ◌∷◌, ◌++◌, Some, arith, refl, sym, ◌∙◌, ap, subst, append-nil}
 use Rattle.std.specs.Prelude.{nat_eq, All}
-use Rattle.std.specs.List.{AllByRecursion, Contains, IsDistinct, flat_map, list_any}
+use Rattle.std.specs.List.{AllByRecursion, Contains, IsDistinct, list_any}
 use Rattle.std.proofs.lemmas.Bool.Decides.{nat_tests}
 use Rattle.std.proofs.lemmas.Cmp.{nat_eq_equiv}
 use Rattle.std.proofs.lemmas.List.{append_assoc}
@@ -12,20 +12,17 @@ use Rattle.journal_model.proofs.OwnTextEach.{each-append}
 use Rattle.journal_model.specs.declared.transaction.Step.{Step}
 use Rattle.journal_model.specs.Record.{EachHandleOnce}
 use Rattle.journal_model.specs.Transaction.{History, Transaction}
-use Rattle.journal_world.specs.Front.{empty_transaction}
+use Rattle.journal_world.specs.Front.{empty_transaction, handle_numbers, handles_of}
 use Rattle.journal_world.proofs.Elements.{all-weaker, none-passes}
-
--- the handles of a history, in order
-abbrev pub handles_of : History → List ℕ
-handles_of ts = flat_map (λ t. t.handles) ts
 
 -- each step of the transaction is of a handle of it
 abbrev pub OwnsSteps : Transaction → Type 0
 OwnsSteps t = All (λ s. Contains t.handles s.handle) t.steps
 
--- each handle is of one transaction, and its number is among the first so many
+-- each handle is of one transaction, and the handles are those of the first so many numbers
 pub record HasHandles (given : ℕ) (ts : History) : Type 0 where
   pub each : EachHandleOnce ts
+  pub all : handles_of ts ≡ handle_numbers given
   pub least : AllByRecursion (λ h. h ≤ given) (handles_of ts)
 
 -- the handles of a history with one transaction behind it
@@ -49,6 +46,12 @@ above-none : (most n : ℕ) (hs : List ℕ) → AllByRecursion (λ h. h ≤ most
 above-none most n hs least above =
     none-passes (nat_eq n) hs (all-weaker (λ h. h ≤ most) (λ h. nat_eq n h ≡ false) (λ h low. grind (arith, nat_tests)) hs least)
 
+-- the numbers of one handle more
+numbers-more : (given : ℕ) → handle_numbers given ++ (given + 1) ∷ [] ≡ handle_numbers (given + 1)
+numbers-more given =
+    let next : suc given ≡ given + 1 = omega arith in
+    subst (λ n. handle_numbers given ++ n ∷ [] ≡ handle_numbers n) next refl
+
 -- one transaction without handles has none
 pub handles-empty : (n : ℕ) → HasHandles 0 (empty_transaction n ∷ [])
 handles-empty n = record {
@@ -56,6 +59,7 @@ handles-empty n = record {
     once = unfold IsDistinct in tt;
     own = All-push OwnsSteps [] (empty_transaction n) (All-nil OwnsSteps) (All-nil (λ s. Contains [] s.handle));
   };
+  all = refl;
   least = tt;
 }
 
@@ -75,6 +79,7 @@ handles-join given ts t has =
             (All-weaker (λ s. Contains t.handles s.handle) (λ s. Contains (t.handles ++ (given + 1) ∷ []) s.handle)
             (λ s m. Contains-append_left t.handles ((given + 1) ∷ []) s.handle m) t.steps own.1);
       };
+      all = same ∙ ap (λ hs. hs ++ (given + 1) ∷ []) has.all ∙ numbers-more given;
       least = subst (AllByRecursion (λ h. h ≤ given + 1)) (sym same)
           (each-append (λ h. h ≤ given + 1) (handles_of (ts ++ t ∷ [])) ((given + 1) ∷ []) least (omega arith, tt));
     }
@@ -91,6 +96,7 @@ handles-step given ts t s joined has =
         once = subst (IsDistinct nat_eq) same has.each.once;
         own = All-push OwnsSteps ts u own.0 (All-push (λ x. Contains t.handles x.handle) t.steps s own.1 joined);
       };
+      all = sym same ∙ has.all;
       least = subst (AllByRecursion (λ h. h ≤ given)) same has.least;
     }
 
@@ -104,5 +110,6 @@ handles-begin given ts n has =
         once = subst (IsDistinct nat_eq) same has.each.once;
         own = All-push OwnsSteps ts (empty_transaction n) has.each.own (All-nil (λ s. Contains [] s.handle));
       };
+      all = sym same ∙ has.all;
       least = subst (AllByRecursion (λ h. h ≤ given)) same has.least;
     }

@@ -1,8 +1,8 @@
 -- The front: the transaction that handles join and write to, the ones that are sealed, the handles that are open, and the
 -- credits; and each step of it alone, none of which reads the engine. Source: journalling.rst (handles, transactions,
 -- credits), fs/jbd2/transaction.c by behaviour.
-use Rattle.std.specs.Prelude.{◌≡◌, ℕ, suc, ◌+◌, ◌-◌, ◌^◌, ◌<◌, ◌≤◌, Bool, true, false, if◌then◌else◌, max, List, [], ◌∷◌, ◌++◌, length, drop, is_some, None}
-use Rattle.std.specs.List.{sum_by}
+use Rattle.std.specs.Prelude.{◌≡◌, ℕ, zero, suc, ◌+◌, ◌-◌, ◌^◌, ◌<◌, ◌≤◌, Bool, true, false, if◌then◌else◌, max, List, [], ◌∷◌, ◌++◌, length, drop, is_some, None}
+use Rattle.std.specs.List.{flat_map, sum_by}
 use Rattle.journal_model.specs.declared.transaction.Op.{Op}
 use Rattle.journal_model.specs.declared.transaction.Op.TheVariants.{Write, Revoke}
 use Rattle.journal_model.specs.declared.transaction.Step.{Step}
@@ -58,6 +58,15 @@ held f = f.reserved + left_in f.open_handles + length (entries f.running.steps)
 -- the number of the next handle
 abbrev pub next_handle : Front → ℕ
 next_handle f = f.given + 1
+
+-- the handles of a history's transactions, in order
+abbrev pub handles_of : History → List ℕ
+handles_of ts = flat_map (λ t. t.handles) ts
+
+-- the numbers of so many handles, in the order in which they are given out
+abbrev pub handle_numbers : ℕ → List ℕ
+handle_numbers zero = []
+handle_numbers (suc n) = handle_numbers n ++ suc n ∷ []
 
 -- a further handle may join: the transaction is not locked, and neither its number nor the handle's is too great
 pub record MayJoin (f : Front) : Type 0 where

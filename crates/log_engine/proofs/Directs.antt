@@ -1,5 +1,5 @@
 -- A direct call of a device: what it does to the engine and the disk, and what holds at each of its moments.
-use Rattle.std.proofs.Common.{refl, sym, ap, subst, ◌∙◌}
+use Rattle.std.proofs.Common.{refl, sym, ap, subst}
 use Rattle.std.specs.Prelude.{◌≡◌, ℕ, true, false, List, length, Result, Ok, Err, IfErr, OnErr, OnOk}
 use Rattle.journal_model.specs.declared.number.Area.TheVariants.{Home}
 use Rattle.journal_model.specs.declared.refusal.JournalError.{JournalError}

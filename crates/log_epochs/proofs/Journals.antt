@@ -265,6 +265,7 @@ image-kept shape epoch told image agrees keeps =
       opens = kept.opens;
       others = kept.others;
       numbered = kept.numbered;
+      joined = agrees.handles.all;
       handles = agrees.handles.each;
     }
 

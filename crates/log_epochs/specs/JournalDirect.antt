@@ -79,8 +79,8 @@ pub data IsHandedOver (moves : List Move) (b : ℕ) (v : List ℕ) : Type 0 wher
 abbrev pub IsThatOrLater : List Move → ℕ → List ℕ → List ℕ → Type 0
 IsThatOrLater since b v w = (w ≡ v) ⊎ IsHandedOver since b w
 
--- Home holds nothing else of the block, so that whatever a stop leaves it is one of these; and that is what a journal that
--- runs reads of it, where its transactions have not touched it since.
+-- Home holds nothing else of the block, so that whatever a stop leaves it is one of these; and the engine of a journal that
+-- runs reads nothing else of it. (The front may read an entry of a transaction that is not sealed yet.)
 pub record KeepsDirect (since : List Move) (b : ℕ) (v : List ℕ) (w : JournalWorld) : Type 0 where
   pub holds : (u : List ℕ) → IsOneOf (held (w.below.disk Home b)) u → IsThatOrLater since b v u
   pub reads : (epoch : Epoch) (u : List ℕ) → w.below.phase ≡ Running → w.below.epoch ≡ Some epoch → IsRead epoch.engine w.below.disk b u →

@@ -8,7 +8,7 @@ use Rattle.journal_model.specs.Opening.{IsClean, IsCountOf, Opens}
 use Rattle.journal_model.specs.Record.{EachHandleOnce, acknowledged}
 use Rattle.journal_model.specs.Superblock.{Shape}
 use Rattle.journal_model.specs.Transaction.{AreNumbered, History}
-use Rattle.journal_world.specs.Front.{Front, IsOpen, finished_count, revoke_step, transactions, write_step}
+use Rattle.journal_world.specs.Front.{Front, IsOpen, finished_count, handle_numbers, handles_of, revoke_step, transactions, write_step}
 use Rattle.journal_world.specs.Front.FrontEvent.{RevokeBlock, WriteBlock}
 use Rattle.journal_world.specs.Journal.{Event, KeepsFront}
 use Rattle.journal_world.specs.Journal.Event.{FrontStep, Seal, CommitStep, CommitFault, CheckpointStep, CheckpointFault, ReadFault, DirectWrite, DirectWriteFault, DirectSync, DirectSyncFault, Finish}
@@ -22,8 +22,8 @@ use Rattle.log_epochs.specs.JournalWorld.Move.{Step, Answer, Below}
 
 -- What an image keeps, with one number n: all that was told committed and nothing that was not sealed; n is the count of
 -- what the log of the image that pinned it has, and of its own where none has. An opening makes each block its last copy in
--- the first n transactions, or else leaves it as home held it, and that rightly. The numbers follow one another, and each
--- handle has all its steps in one transaction.
+-- the first n transactions, or else leaves it as home held it, and that rightly. The numbers follow one another; each handle
+-- that was given out lies in exactly one transaction, and has all its steps in that one.
 pub record Kept (shape : Shape) (epoch : Epoch) (told : Told) (image : Image) : Type 0 where
   pub n : ℕ
   pub low : acknowledged told.answered told.front.sealed ≤ n
@@ -32,7 +32,8 @@ pub record Kept (shape : Shape) (epoch : Epoch) (told : Told) (image : Image) : 
   pub opens : Opens shape told.front.sealed n image
   pub others : OthersRightlyHeld shape.home_blocks epoch.opening epoch.directs told.front.sealed n (image Home)
   pub numbered : AreNumbered epoch.engine.first told.front.sealed
-  pub handles : EachHandleOnce (told.front.sealed ++ told.front.running ∷ [])
+  pub joined : handles_of (transactions told.front) ≡ handle_numbers told.front.given
+  pub handles : EachHandleOnce (transactions told.front)
 
 -- each image that a stop may leave now keeps it; before the first opening that answers Ok nothing is promised
 abbrev pub KeepsNow : Shape → Option Epoch → Disk → Told → Type 0

@@ -1,4 +1,4 @@
-use Rattle.std.proofs.Common.{refl, sym, ap, subst, ◌∙◌, ◌≡◌, ℕ, Bool, true, false, length, Some}
+use Rattle.std.proofs.Common.{refl, sym, ap, subst, ◌≡◌, ℕ, Bool, true, false, length, Some}
 use Rattle.journal_model.specs.declared.number.Area.TheVariants.{Home}
 use Rattle.journal_model.specs.Block.{IsAllowedBlock}
 use Rattle.journal_world.specs.Call.Call.{Write}
