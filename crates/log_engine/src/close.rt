@@ -1,6 +1,6 @@
 //! The close: the superblock of a clean log, which has the number of the next transaction, and its flush.
 //! Source: fs/jbd2/journal.c by behaviour (a journal that is destroyed is marked empty); journal.rst (s_start 0).
-ghost use Rattle.std.specs.Prelude.{◌≡◌, ◌+◌, ◌<◌, length, OnOk, OnErr};
+ghost use Rattle.std.specs.Prelude.{◌≡◌, ◌+◌, ◌<◌, ◌≤◌, length, OnOk, OnErr};
 ghost use Rattle.journal_model.specs.declared.number.Area.TheVariants.{Log};
 ghost use Rattle.journal_model.specs.Disk.{flushed, written};
 ghost use Rattle.journal_model.specs.Superblock.{Shape};
@@ -45,6 +45,7 @@ pub(crate) fn write_first<D: Device>(device: &mut D, block: &[u8]) -> Result<(),
     ensures moments { EachMoment (IsWritingFirst block.now (D.state device.old).disk) (D.state device.old) (D.state device.new) }
     ensures shape { (D.state device.new).shape ≡ (D.state device.old).shape }
     ensures faults { CountsFaults result (D.state device.old) (D.state device.new) }
+    ensures calls { (D.state device.new).calls ≤ (D.state device.old).calls + 2 }
     ensures honest { D.honest device.new → D.honest device.old }
 {
     device.write(Area::Log, 0, block)?;

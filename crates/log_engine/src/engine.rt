@@ -326,6 +326,9 @@ impl<D: Device> Engine<D> {
         ensures shape { MatchResult result
             (λ device. (D.state device).shape ≡ (D.state self.device).shape)
             (λ e. (D.state e.0).shape ≡ (D.state self.device).shape) }
+        ensures calls { MatchResult result
+            (λ device. (D.state device).calls ≤ (D.state self.device).calls + 2)
+            (λ e. (D.state e.0).calls ≤ (D.state self.device).calls + 2) }
         ensures honest { MatchResult result (λ device. D.honest device → D.honest self.device) (λ e. D.honest e.0 → D.honest self.device) }
     {
         let Engine {
