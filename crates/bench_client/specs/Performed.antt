@@ -8,7 +8,8 @@ use Rattle.journal_world.specs.Journal.Event.{DirectSync, DirectWrite, FrontStep
 use Rattle.group_commit.specs.Journal.{Does}
 use Rattle.group_commit.specs.Values.{JournalValue}
 use Rattle.bench_client.specs.declared.outcome.Outcome.{Outcome}
-use Rattle.bench_client.specs.declared.outcome.Outcome.TheVariants.{Done}
+use Rattle.bench_client.specs.declared.outcome.Outcome.TheVariants.{Committed, Done, Transaction}
+use Rattle.bench_client.specs.Told.{ClientValue, with_told}
 
 -- a block of so many bytes: these, at most one block of them, and zeros behind them
 abbrev pub block_from : ℕ → List ℕ → List ℕ
@@ -28,12 +29,23 @@ pub record RevokesBlock {D : Type 0} (state : D → DeviceState) (block : ℕ) (
 abbrev pub WritesDirectly : {D : Type 0} → (D → DeviceState) → ℕ → List ℕ → JournalValue D → JournalValue D → Type 0
 WritesDirectly state block bytes old new = Does state old (DirectWrite block (block_from (state old.device).shape.block_size bytes)) new
 
--- a write of a script that came to 'ok' was one, and so was a revoke, a direct write and a sync of these
-abbrev pub HasDone : {D : Type 0} → (D → DeviceState) → Operation → Outcome → JournalValue D → JournalValue D → Type 0
-HasDone state (Write name block bytes) outcome old new = outcome ≡ Done → WritesBlock state block bytes.items old new
-HasDone state (Revoke name block) outcome old new = outcome ≡ Done → RevokesBlock state block old new
-HasDone state (WriteDirect block bytes) outcome old new = outcome ≡ Done → WritesDirectly state block bytes.items old new
-HasDone state SyncDirect outcome old new = outcome ≡ Done → Does state old DirectSync new
+-- where the answer is that a transaction is committed, this holds of its number
+abbrev pub IfCommitted : Outcome → (ℕ → Type 0) → Type 0
+IfCommitted outcome P = (tid : ℕ) → outcome ≡ Committed tid → P tid
+
+-- where the answer is the number of a transaction, this holds of it
+abbrev pub IfTransaction : Outcome → (ℕ → Type 0) → Type 0
+IfTransaction outcome P = (tid : ℕ) → outcome ≡ Transaction tid → P tid
+
+-- A write of a script that came to 'ok' was one, and so was a revoke, a direct write and a sync of these. A transaction that a
+-- status calls committed, or that a wait answers, is noted.
+abbrev pub HasDone : {D : Type 0} → (D → DeviceState) → Operation → Outcome → ClientValue D → ClientValue D → Type 0
+HasDone state (Write name block bytes) outcome old new = outcome ≡ Done → WritesBlock state block bytes.items old.journal new.journal
+HasDone state (Revoke name block) outcome old new = outcome ≡ Done → RevokesBlock state block old.journal new.journal
+HasDone state (WriteDirect block bytes) outcome old new = outcome ≡ Done → WritesDirectly state block bytes.items old.journal new.journal
+HasDone state SyncDirect outcome old new = outcome ≡ Done → Does state old.journal DirectSync new.journal
+HasDone state (Status name) outcome old new = IfCommitted outcome (λ tid. new.shown ≡ with_told tid old.shown)
+HasDone state (Wait name) outcome old new = IfTransaction outcome (λ tid. new.shown ≡ with_told tid old.shown)
 HasDone state (Start name credits) outcome old new = ⊤
 HasDone state (Read name block) outcome old new = ⊤
 HasDone state (Stop name) outcome old new = ⊤
@@ -42,5 +54,3 @@ HasDone state Turn outcome old new = ⊤
 HasDone state Commit outcome old new = ⊤
 HasDone state CheckpointTurn outcome old new = ⊤
 HasDone state Check outcome old new = ⊤
-HasDone state (Status name) outcome old new = ⊤
-HasDone state (Wait name) outcome old new = ⊤

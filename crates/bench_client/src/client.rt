@@ -267,6 +267,18 @@ impl<'a, D: Device + Drop, H: HomeFact> Client<'a, D, H> {
         status
     }
 
+    /// Whether a receipt's transaction is committed, as it is where this journal gave it. Where it is, that is noted again.
+    pub fn confirm(&mut self, receipt: &Receipt) -> Status
+        ensures shown { IsShown result receipt.now.tid self.old.shown self.new.shown }
+        ensures operations { self.new.operations ≡ self.old.operations }
+    {
+        if receipt.tid() > self.journal.mark() {
+            return Status::Open;
+        }
+        self.acknowledge(receipt.tid());
+        Status::Committed
+    }
+
     /// Takes the receipt of a committed transaction, which is noted. Of any other nothing is awaited.
     pub fn wait(&mut self, ticket: Ticket) -> Waited
         ensures noted { IsNoted result self.old.shown self.new.shown }

@@ -7,7 +7,7 @@ use crate::outcome::{Outcome, PRINTED_BYTES};
 use crate::slots::{Slot, Slots};
 use bench_script::{HandleName, Operation};
 use block_device::Device;
-use group_commit::{CheckTurn, Credits, Handle, Parts, Status, Ticket, Turn};
+use group_commit::{CheckTurn, Credits, Handle, Parts, Receipt, Status, Ticket, Turn};
 use journal_model::{BlockNo, JournalError, Tid};
 use recovery::Opened;
 use std::alloc::{AllocError, Global};
@@ -54,8 +54,8 @@ impl<'a, D: Device + Drop, H: HomeFact> Interpreter<'a, D, H> {
     ghost use Rattle.journal_world.specs.Journal.Event.{DirectSync};
     ghost use Rattle.bench_script.specs.Named.{IsDirectOf};
     ghost use Rattle.group_commit.specs.Journal.{Does};
-    ghost use Rattle.bench_client.specs.Performed.{HasDone, RevokesBlock, WritesBlock, WritesDirectly};
-    ghost use Rattle.bench_client.specs.Told.{IsLedTo};
+    ghost use Rattle.bench_client.specs.Performed.{HasDone, IfCommitted, IfTransaction, RevokesBlock, WritesBlock, WritesDirectly};
+    ghost use Rattle.bench_client.specs.Told.{IsLedTo, with_told};
     ghost use Rattle.bench_client.specs.declared.outcome.Outcome.TheVariants.{Done};
 
     /// An interpreter on an opened log, which is to run these operations.
@@ -87,7 +87,7 @@ impl<'a, D: Device + Drop, H: HomeFact> Interpreter<'a, D, H> {
     /// Runs one of its operations.
     pub fn perform(&mut self, operation: &Operation) -> Outcome
         requires { Contains self.old.client.operations operation.now }
-        ensures done { HasDone D.state operation.now result self.old.client.journal self.new.client.journal }
+        ensures done { HasDone D.state operation.now result self.old.client self.new.client }
         ensures operations { self.new.client.operations ≡ self.old.client.operations }
     {
         let outcome = self.outcome_of(operation);
@@ -100,7 +100,7 @@ impl<'a, D: Device + Drop, H: HomeFact> Interpreter<'a, D, H> {
     /// Runs one operation, and tells what it came to.
     fn outcome_of(&mut self, operation: &Operation) -> Outcome
         requires { Contains self.old.client.operations operation.now }
-        ensures done { HasDone D.state operation.now result self.old.client.journal self.new.client.journal }
+        ensures done { HasDone D.state operation.now result self.old.client self.new.client }
         ensures operations { self.new.client.operations ≡ self.old.client.operations }
     {
         match operation {
@@ -296,7 +296,8 @@ impl<'a, D: Device + Drop, H: HomeFact> Interpreter<'a, D, H> {
                 Ok(()) => Outcome::Done,
                 Err(e) => Outcome::Refused(e),
             },
-            Some(Slot::Waited(_)) => self.unless_aborted(Outcome::Done),
+            Some(Slot::Waited(_)) if self.aborted => Outcome::Refused(JournalError::Aborted),
+            Some(Slot::Waited(_)) => Outcome::Done,
             _ => Outcome::Skipped,
         }
     }
@@ -349,30 +350,33 @@ impl<'a, D: Device + Drop, H: HomeFact> Interpreter<'a, D, H> {
         Outcome::Transaction(self.client.mark())
     }
 
-    /// Says whether a transaction is committed. That of a receipt is, as was noted when it was taken.
+    /// Says whether a transaction is committed. Where it is, that is noted.
     fn status(&mut self, name: HandleName) -> Outcome
+        ensures shown { IfCommitted result (λ tid. self.new.client.shown ≡ with_told tid self.old.client.shown) }
         ensures operations { self.new.client.operations ≡ self.old.client.operations }
     {
-        match self.slots.get(name) {
-            Some(Slot::Stopped(ticket)) => match self.client.status(ticket) {
-                Status::Committed => Outcome::Committed,
-                Status::Open => Outcome::Open,
-            },
-            Some(Slot::Waited(_)) => Outcome::Committed,
-            _ => Outcome::Skipped,
+        let (tid, status) = match self.slots.get(name) {
+            Some(Slot::Stopped(ticket)) => (ticket.tid(), self.client.status(ticket)),
+            Some(Slot::Waited(receipt)) => (receipt.tid(), self.client.confirm(receipt)),
+            _ => return Outcome::Skipped,
+        };
+        match status {
+            Status::Committed => Outcome::Committed(tid),
+            Status::Open => Outcome::Open,
         }
     }
 
-    /// Takes the receipt of a committed transaction. Of any other nothing is awaited.
+    /// Takes the receipt of a committed transaction, which is noted. Of any other nothing is awaited.
     fn wait(&mut self, name: HandleName) -> Outcome
+        ensures shown { IfTransaction result (λ tid. self.new.client.shown ≡ with_told tid self.old.client.shown) }
         ensures operations { self.new.client.operations ≡ self.old.client.operations }
     {
         match self.slots.take(name) {
             Slot::Stopped(ticket) => self.wait_for(name, ticket),
             Slot::Waited(receipt) => {
-                let tid = receipt.tid();
+                let outcome = self.wait_again(&receipt);
                 self.slots.put(name, Slot::Waited(receipt));
-                self.unless_aborted(Outcome::Transaction(tid))
+                outcome
             }
             other => {
                 self.slots.put(name, other);
@@ -381,8 +385,24 @@ impl<'a, D: Device + Drop, H: HomeFact> Interpreter<'a, D, H> {
         }
     }
 
+    /// What is told of a receipt that was taken before: its transaction, which is noted again, or what the journal answers of
+    /// every ticket once it is aborted.
+    fn wait_again(&mut self, receipt: &Receipt) -> Outcome
+        ensures shown { IfTransaction result (λ tid. self.new.client.shown ≡ with_told tid self.old.client.shown) }
+        ensures operations { self.new.client.operations ≡ self.old.client.operations }
+    {
+        if self.aborted {
+            return Outcome::Refused(JournalError::Aborted);
+        }
+        match self.client.confirm(receipt) {
+            Status::Committed => Outcome::Transaction(receipt.tid()),
+            Status::Open => Outcome::Open,
+        }
+    }
+
     /// Takes the receipt for a ticket, where its transaction is committed.
     fn wait_for(&mut self, name: HandleName, ticket: Ticket) -> Outcome
+        ensures shown { IfTransaction result (λ tid. self.new.client.shown ≡ with_told tid self.old.client.shown) }
         ensures operations { self.new.client.operations ≡ self.old.client.operations }
     {
         match self.client.wait(ticket) {
@@ -432,15 +452,6 @@ impl<'a, D: Device + Drop, H: HomeFact> Interpreter<'a, D, H> {
         match self.client.sync_direct() {
             Ok(()) => Outcome::Done,
             Err(e) => Outcome::Refused(e),
-        }
-    }
-
-    /// What is told of a receipt that was taken before: this, or what the journal answers of every ticket once it is aborted.
-    fn unless_aborted(&self, outcome: Outcome) -> Outcome {
-        if self.aborted {
-            Outcome::Refused(JournalError::Aborted)
-        } else {
-            outcome
         }
     }
 }

@@ -19,8 +19,8 @@ pub enum Outcome {
     Turn(Turn),
     /// What a checkpoint turn did.
     CheckTurn(CheckTurn),
-    /// The transaction is committed.
-    Committed,
+    /// The transaction is committed; this is its number, which is not printed.
+    Committed(Tid),
     /// The transaction is not committed.
     Open,
     /// It did not run: its handle's start was refused.
@@ -37,7 +37,7 @@ impl fmt::Display for Outcome {
             Outcome::Begins(bytes) => Hex(bytes).fmt(f),
             Outcome::Turn(turn) => write_turn(f, *turn),
             Outcome::CheckTurn(turn) => write_check_turn(f, *turn),
-            Outcome::Committed => f.write_str("committed"),
+            Outcome::Committed(_) => f.write_str("committed"),
             Outcome::Open => f.write_str("open"),
             Outcome::Skipped => f.write_str("skipped"),
             Outcome::Refused(e) => write_refusal(f, *e),
