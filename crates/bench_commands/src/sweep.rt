@@ -1,60 +1,76 @@
 //! The command `sweep`: reads a script, and sweeps it.
 use crate::fault::{self, Fault, Status};
 use crate::run::read_script;
-pub use bench_sweep::Watch;
-use bench_sweep::{Counts, ThisJournal};
+use crate::words::SweepWords;
+pub use bench_sweep::{Unwatched, Watch};
+use bench_sweep::{Counts, FailureCounts, ThisJournal};
 use std::alloc::Global;
 use std::io;
 use std::io::{Read, Write};
 
 /// Runs a script with a stop at each of its writes, opens and judges all that each stop may have left, and prints what was counted.
-/// What is false is named on `err`. Where it can't go on, one line on `err` says why; `path` names the script.
+/// Where the words say so, each device call of the script then fails in turn: what that leaves is opened and judged too, and a second
+/// line says what was counted. What is false is named on `err`. Where it can't go on, one line on `err` says why.
 ///
 /// # Errors
 ///
 /// The output can't be written.
 pub fn sweep<R: Read + Drop, P: Watch + Drop, W: Write + Drop, E: Write + Drop>(
     alloc: Global,
-    path: &str,
+    words: &SweepWords<'_>,
     script: R,
     watch: P,
     out: W,
     err: E,
 ) -> io::Result<Status> {
-    let mut err = err;
-    match counts_of(alloc, script, watch, &mut err) {
-        Ok(counts) => tell(counts, out),
+    let (mut watch, mut out, mut err) = (watch, out, err);
+    match sweep_script(alloc, words, script, &mut watch, &mut out, &mut err) {
+        Ok(0) => Ok(Status::Fine),
+        Ok(_) => Ok(Status::VerdictFalse),
         Err(Fault::Output(e)) => Err(e),
-        Err(fault) => fault::refuse(&mut err, path, &fault),
+        Err(fault) => fault::refuse(&mut err, words.script, &fault),
     }
 }
 
-/// What a sweep of a script counts.
-fn counts_of<R: Read + Drop, P: Watch + Drop, E: Write>(
+/// Reads a script, and sweeps it. The answer is how many openings were not right.
+fn sweep_script<R: Read + Drop, W: Write>(
     alloc: Global,
+    words: &SweepWords<'_>,
     script: R,
-    watch: P,
-    err: &mut E,
-) -> Result<Counts, Fault> {
-    let mut watch = watch;
-    match read_script(alloc, script) {
-        Ok(script) => Ok(bench_sweep::sweep(alloc, &ThisJournal, &script, &mut watch, err)?),
-        Err(fault) => Err(fault),
+    watch: &mut impl Watch,
+    out: &mut W,
+    err: &mut impl Write,
+) -> Result<u64, Fault> {
+    let script = read_script(alloc, script)?;
+    let counts = bench_sweep::sweep(alloc, &ThisJournal, &script, watch, err)?;
+    tell(counts, out)?;
+    let of_stops = counts.not_right.count();
+    if !words.fails {
+        return Ok(of_stops);
     }
+    let counts = bench_sweep::sweep_failures(alloc, &ThisJournal, &script, watch, err)?;
+    tell_failures(counts, out)?;
+    Ok(of_stops.saturating_add(counts.not_right.count()))
 }
 
-/// Prints what was counted, and tells how the command then ends.
-fn tell<W: Write + Drop>(counts: Counts, out: W) -> io::Result<Status> {
-    let mut out = out;
-    let (writes, images, again) = (counts.writes, counts.images, counts.again);
-    let not_right = counts.not_right();
+/// Prints what a sweep of stops counted.
+fn tell<W: Write>(counts: Counts, out: &mut W) -> io::Result<()> {
     writeln!(
         out,
-        "sweep writes={writes} images={images} again={again} false={not_right}"
-    )?;
-    if not_right == 0 {
-        Ok(Status::Fine)
-    } else {
-        Ok(Status::VerdictFalse)
-    }
+        "sweep writes={} images={} again={} false={}",
+        counts.writes,
+        counts.images,
+        counts.again,
+        counts.not_right.count()
+    )
+}
+
+/// Prints what a sweep of failing calls counted.
+fn tell_failures<W: Write>(counts: FailureCounts, out: &mut W) -> io::Result<()> {
+    writeln!(
+        out,
+        "fail calls={} false={}",
+        counts.calls,
+        counts.not_right.count()
+    )
 }

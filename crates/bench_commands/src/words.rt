@@ -7,7 +7,7 @@ use crate::fault::{self, Fault, Status};
 use bench_run::{Stop, Stops};
 use bench_script::{DEFAULTS, HOMES, LENGTHS, Measures, is_block_size, limited, uuid_of};
 use clap::error::ErrorKind;
-use clap::{Arg, ArgMatches, Command, Error};
+use clap::{Arg, ArgAction, ArgMatches, Command, Error};
 use journal_model::JournalError;
 use std::alloc::{AllocError, Global};
 use std::convert::AsStr;
@@ -25,9 +25,10 @@ struct Usage {
     words: &'static [Word],
 }
 
-/// A value that has to stand behind a command, or one that may, behind `--NAME`.
+/// A value that has to stand behind a command, or one that may, behind `--NAME`; or `--NAME` alone, which takes none.
 struct Word {
     name: &'static str,
+    /// What its help calls the value, empty where it takes none.
     value: &'static str,
     is_option: bool,
     help: &'static str,
@@ -42,7 +43,8 @@ run SCRIPT [--stop K | --fail K] [--keep LIST] [--stop2 K] [--keep2 LIST] [--ima
 a write number from 1 on (default: the device stops at the end, and the opening does not stop), or with --fail the number of a call
 that fails, LIST write numbers with commas (default: none), PATH a file that gets what the stop left. jbench run --help says what a
 script is.
-sweep SCRIPT: runs a script with a stop at each of its writes and judges what each leaves.
+sweep SCRIPT [--fail]: runs a script with a stop at each of its writes and judges what each leaves; with --fail also once for each
+device call, which fails.
 format LOG HOME [--block B] [--length M] [--home N] [--uuid DIGITS]: two files become an empty log of M blocks (default: 33) and
 a home area of N zero blocks (default: 64), of B bytes each (default: 1024).
 dump LOG: prints the log in a file.
@@ -79,6 +81,7 @@ A script is a JSON object with these keys, of which \"ops\" alone has to be ther
   \"ops\"     a list of at most 100,000 operations, where H names a handle, 0 to 9999:
   [\"start\", H, n]       a handle with n credits
   [\"write\", H, b, hex]  home block b becomes these bytes, at most a block, and zeros behind them
+  [\"revoke\", H, b]      home block b is revoked: no copy of it so far is to come back
   [\"read\", H, b]        how home block b begins, as the handle's transaction sees it
   [\"stop\", H]           the handle ends
   [\"request\", H]        asks for the commit of its transaction
@@ -88,6 +91,8 @@ A script is a JSON object with these keys, of which \"ops\" alone has to be ther
   [\"check\"]             takes checkpoint turns until one has nothing to do
   [\"status\", H]         whether its transaction is committed
   [\"wait\", H]           its receipt, where its transaction is committed
+  [\"direct\", b, hex]    home block b becomes these bytes, past the log, where the journal leaves it to home
+  [\"sync\"]              makes direct writes durable
 
 Exit status: 0 done, verdict ok; 1 refused: the words, the file, the script, or the log; 2 verdict false.
 
@@ -155,15 +160,27 @@ each of its own writes in the same way, and what that left is opened once more a
 'sweep writes=W images=I again=A false=F': W writes of the run, I images, A openings behind a stopped one, and F openings of both
 kinds that are refused or whose verdict is false. Each of these is named on standard error, with the options that show it.
 
-Exit status: 0 done, all verdicts ok; 1 refused: the words, the file, or the script; 2 F is not 0.
+With --fail the script is also run once for each of its C device calls (reads, writes and flushes behind the first opening), which
+fails and does nothing: the script goes on, and the device stops at the end. Each choice of that run's last four writes is kept,
+opened and judged. A second line is 'fail calls=C false=F'.
 
-Example: jbench sweep examples/two_blocks.json",
-    words: &[Word {
-        name: "script",
-        value: "SCRIPT",
-        is_option: false,
-        help: "The file that holds the script",
-    }],
+Exit status: 0 done, all verdicts ok; 1 refused: the words, the file, or the script; 2 an F is not 0.
+
+Example: jbench sweep examples/two_blocks.json --fail",
+    words: &[
+        Word {
+            name: "script",
+            value: "SCRIPT",
+            is_option: false,
+            help: "The file that holds the script",
+        },
+        Word {
+            name: "fail",
+            value: "",
+            is_option: true,
+            help: "Let each device call of the script fail in turn, too",
+        },
+    ],
 };
 
 /// The command `format`.
@@ -271,14 +288,23 @@ Example: jbench recover log home",
 pub enum Words<'a> {
     /// To run a script.
     Run(RunWords<'a>),
-    /// To sweep the script in this file.
-    Sweep(&'a str),
+    /// To sweep a script.
+    Sweep(SweepWords<'a>),
     /// To make an empty log.
     Format(FormatWords<'a>),
     /// To print the log in this file.
     Dump(&'a str),
     /// To open a log.
     Recover(RecoverWords<'a>),
+}
+
+/// The words of `sweep`.
+#[derive(Debug, Drop)]
+pub struct SweepWords<'a> {
+    /// The script's file.
+    pub script: &'a str,
+    /// Whether each call of the run is to fail in turn, too.
+    pub fails: bool,
 }
 
 /// The words of `recover`.
@@ -362,9 +388,19 @@ fn bare_arg<'a>(alloc: Global, word: &Word) -> Arg<'a> {
         .help(word.help)
 }
 
+/// A flag, which takes no value.
+fn flag<'a>(alloc: Global, word: &Word) -> Arg<'a> {
+    Arg::new(alloc, word.name)
+        .long(word.name)
+        .help(word.help)
+        .action(ArgAction::SetTrue)
+}
+
 /// A word as `clap` has it.
 fn arg_of<'a>(alloc: Global, word: &Word) -> Arg<'a> {
-    if word.is_option {
+    if word.value.is_empty() {
+        flag(alloc, word)
+    } else if word.is_option {
         bare_arg(alloc, word).long(word.name)
     } else {
         bare_arg(alloc, word).required(true)
@@ -640,6 +676,14 @@ fn format_words<'a>(alloc: Global, matches: &ArgMatches<'a>) -> Result<FormatWor
     })
 }
 
+/// What `sweep` is told.
+fn sweep_words<'a>(matches: &ArgMatches<'a>) -> SweepWords<'a> {
+    SweepWords {
+        script: matches.get_str("script").unwrap_or(""),
+        fails: matches.get_flag("fail"),
+    }
+}
+
 /// What `recover` is told.
 fn recover_words<'a>(matches: &ArgMatches<'a>) -> RecoverWords<'a> {
     RecoverWords {
@@ -654,7 +698,7 @@ fn words_of<'a>(alloc: Global, matches: &ArgMatches<'a>) -> Result<Words<'a>, Wa
         return run_words(alloc, run).map(Words::Run);
     }
     if let Some(sweep) = matches.subcommand_matches("sweep") {
-        return Ok(Words::Sweep(sweep.get_str("script").unwrap_or("")));
+        return Ok(Words::Sweep(sweep_words(sweep)));
     }
     if let Some(format) = matches.subcommand_matches("format") {
         return format_words(alloc, format).map(Words::Format);

@@ -1,5 +1,5 @@
 -- What is known within a sweep of a journal that keeps its contracts.
-use Rattle.std.specs.Prelude.{List}
+use Rattle.std.specs.Prelude.{ℕ, ◌+◌, ◌-◌, ◌^◌, List, min}
 use Rattle.std.specs.BTreeSet.{keys}
 use Rattle.journal_model.specs.Disk.{reading}
 use Rattle.block_device.specs.Memory.{MemState, state_of}
@@ -24,3 +24,7 @@ pub record HasRunNamed (stopped : Stopped) (named : NamedBlocks) : Type 0 where
 -- this is what an opening finds in the image
 abbrev pub IsFirst : MemState → Report → Type 0
 IsFirst image report = Tells image.shape (reading (state_of image).disk) report.clean report.ends_at report.transactions
+
+-- a count with one more, which stays at 2^64 - 1
+abbrev pub one_more : ℕ → ℕ
+one_more n = min (n + 1) (2 ^ 64 - 1)

@@ -1,17 +1,55 @@
-//! Where a device stopped, and what it kept.
+//! What happened to a device, and what it kept.
 use std::alloc::{AllocError, Global};
 use std::fmt;
 
 /// How many of the last writes may be kept or lost.
 const LAST_WRITES: u64 = 4;
 
-/// A write at which a device stopped, and the unflushed writes that it kept.
+/// What happened to a device.
+#[derive(Clone, Copy)]
+pub enum Event {
+    /// It stopped at this write of a run, counted from 1.
+    Stop(u64),
+    /// This call of a run failed, counted from 1, and the device stopped at the end.
+    Failure(u64),
+    /// It stopped at this write of an opening, counted from 1.
+    StopOfOpening(u64),
+}
+
+impl Event {
+    /// The option of `run` that lets it happen, its value, and the option that says what is kept then.
+    fn options(self) -> (&'static str, u64, &'static str) {
+        match self {
+            Event::Stop(k) => ("stop", k, "keep"),
+            Event::Failure(k) => ("fail", k, "keep"),
+            Event::StopOfOpening(k) => ("stop2", k, "keep2"),
+        }
+    }
+}
+
+/// What happened to a device, and the unflushed writes that it kept. It is told by the options of `run` that show it.
 #[derive(Clone, Copy)]
 pub struct Place<'a> {
-    /// The write, counted from 1.
-    pub at_write: u64,
+    /// What happened.
+    pub event: Event,
     /// The writes that were kept.
     pub keep: &'a [u64],
+}
+
+impl fmt::Display for Place<'_> {
+    fn fmt<W: fmt::Write>(&self, f: &mut fmt::Formatter<W>) -> fmt::Result {
+        let (option, number, keep) = self.event.options();
+        write!(f, " --{option} {number}")?;
+        if self.keep.is_empty() {
+            return Ok(());
+        }
+        write!(f, " --{keep} ")?;
+        for (i, number) in self.keep.iter().enumerate() {
+            let comma = if i > 0 { "," } else { "" };
+            write!(f, "{comma}{number}")?;
+        }
+        Ok(())
+    }
 }
 
 /// The first of the last writes up to write `k`.
@@ -34,24 +72,4 @@ pub fn choice(alloc: Global, k: u64, bits: u64) -> Result<Vec<u64>, AllocError> 
         }
     }
     Ok(kept)
-}
-
-/// As the options of `run` say it, with this behind the names of both: nothing of a run, and 2 of an opening.
-#[derive(Clone, Copy)]
-pub struct Options<'a>(pub Place<'a>, pub &'static str);
-
-impl fmt::Display for Options<'_> {
-    fn fmt<W: fmt::Write>(&self, f: &mut fmt::Formatter<W>) -> fmt::Result {
-        let Options(place, which) = self;
-        write!(f, " --stop{which} {}", place.at_write)?;
-        if place.keep.is_empty() {
-            return Ok(());
-        }
-        write!(f, " --keep{which} ")?;
-        for (i, number) in place.keep.iter().enumerate() {
-            let comma = if i > 0 { "," } else { "" };
-            write!(f, "{comma}{number}")?;
-        }
-        Ok(())
-    }
 }

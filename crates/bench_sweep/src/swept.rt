@@ -5,6 +5,7 @@ ghost use Rattle.bench_run.specs.OpenedImages.{IsOpenedImage};
 ghost use Rattle.bench_run.specs.Reopening.{IsAttempt};
 ghost use Rattle.bench_sweep.specs.Swept.{HasRun};
 
+use crate::calls::calls_of_run;
 use bench_run::{Attempt, Fault, OpenedImage, Stopped, open_image, open_to, run_operations};
 use bench_script::Script;
 use block_device::MemDevice;
@@ -17,13 +18,27 @@ pub trait Swept {
     /// It does so as the contracts of this project's journal say.
     ghost keeps: { Type 0 };
 
-    /// Runs a script over a device in memory that stops at write `stop`, counted from 1 behind the first opening, or at the end.
+    /// Runs a script over a device in memory that stops at write `stop`, or at the end. Where `failing_call` is a call, that one fails
+    /// and does nothing, and the operations behind it are performed too. Both are counted from 1 behind the first opening.
     ///
     /// # Errors
     ///
     /// `Fault::Refused` where memory runs out.
-    fn run(&self, alloc: Global, script: &Script, stop: Option<u64>) -> Result<Stopped, Fault>
+    fn run(
+        &self,
+        alloc: Global,
+        script: &Script,
+        stop: Option<u64>,
+        failing_call: Option<u64>,
+    ) -> Result<Stopped, Fault>
         ensures { IfOk result (λ stopped. keeps → HasRun script.now.operations.items stopped) };
+
+    /// How many device calls a run of a script makes behind the first opening, where none fails: its reads, writes and flushes.
+    ///
+    /// # Errors
+    ///
+    /// `Fault::Refused` where memory runs out.
+    fn calls(&self, alloc: Global, script: &Script) -> Result<u64, Fault>;
 
     /// Opens what a crash left.
     ///
@@ -49,8 +64,18 @@ pub struct ThisJournal;
 impl Swept for ThisJournal {
     ghost keeps = { Unit {0} };
 
-    fn run(&self, alloc: Global, script: &Script, stop: Option<u64>) -> Result<Stopped, Fault> {
-        run_operations(alloc, script, stop, None, &mut io::sink())
+    fn run(
+        &self,
+        alloc: Global,
+        script: &Script,
+        stop: Option<u64>,
+        failing_call: Option<u64>,
+    ) -> Result<Stopped, Fault> {
+        run_operations(alloc, script, stop, failing_call, &mut io::sink())
+    }
+
+    fn calls(&self, alloc: Global, script: &Script) -> Result<u64, Fault> {
+        calls_of_run(alloc, script)
     }
 
     fn open(&self, alloc: Global, image: MemDevice) -> Result<OpenedImage, JournalError> {

@@ -8,7 +8,7 @@ mod commands;
 mod progress;
 
 use bench_commands::fault::{Status, refuse_file, refuse_rest};
-use bench_commands::words::{FormatWords, RecoverWords, RunWords, Words};
+use bench_commands::words::{FormatWords, RecoverWords, RunWords, SweepWords, Words};
 use bench_commands::{files, logs, run, sweep, words};
 use file_device::UnknownContents;
 use progress::Progress;
@@ -29,7 +29,7 @@ fn jbench(rt: &HostRuntime) -> io::Result<Status> {
     let words: Vec<String> = env::args(rt)?.collect(alloc)?;
     match words::parse(alloc, &words) {
         Ok(Words::Run(words)) => run_file(rt, &words),
-        Ok(Words::Sweep(path)) => sweep_file(rt, path),
+        Ok(Words::Sweep(words)) => sweep_file(rt, &words),
         Ok(Words::Format(words)) => format_files(rt, &words),
         Ok(Words::Dump(path)) => dump_file(rt, path),
         Ok(Words::Recover(words)) => recover_files(rt, &words),
@@ -64,17 +64,17 @@ fn run_opened(rt: &HostRuntime, words: &RunWords<'_>, script: File) -> io::Resul
 }
 
 /// Sweeps the script in a file.
-fn sweep_file(rt: &HostRuntime, path: &str) -> io::Result<Status> {
-    match fs::open(rt, path) {
+fn sweep_file(rt: &HostRuntime, words: &SweepWords<'_>) -> io::Result<Status> {
+    match fs::open(rt, words.script) {
         Ok(file) => sweep::sweep(
             rt.alloc(),
-            path,
+            words,
             file,
             Progress::new(rt),
             io::writer(rt),
             rt.stderr(),
         ),
-        Err(e) => refuse_file(&mut rt.stderr(), path, e),
+        Err(e) => refuse_file(&mut rt.stderr(), words.script, e),
     }
 }
 

@@ -12,7 +12,8 @@ const FIRST: u64 = 1000;
 const NEXT: u64 = 200;
 
 /// Shows on standard error, where that is a terminal, which block of the log is being read and how many blocks of home are
-/// written, or the stops at which write are being swept, once the command has taken a second. The line goes as the command ends.
+/// written, or the stops at which write are being swept, or which call fails, once the command has taken a second. The line goes as
+/// the command ends.
 #[derive(Drop)]
 pub struct Progress<'a> {
     rt: &'a HostRuntime,
@@ -99,6 +100,17 @@ impl sweep::Watch for Progress<'_> {
         let _shown = write!(
             self.rt.stderr(),
             "\r\x1b[Kjbench: sweeping the stops at write {write} of {writes}"
+        );
+    }
+
+    fn fails_at(&mut self, call: u64, calls: u64) {
+        let Some(taken) = self.time() else {
+            return;
+        };
+        self.show(taken);
+        let _shown = write!(
+            self.rt.stderr(),
+            "\r\x1b[Kjbench: letting call {call} of {calls} fail"
         );
     }
 

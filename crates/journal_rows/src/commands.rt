@@ -1,8 +1,10 @@
 //! Rows of the commands of `jbench`, over readers, writers and devices in memory.
 use bench_commands::fault::Status;
 use bench_commands::watched::Unwatched;
-use bench_commands::words::{FormatWords, RecoverWords, RunWords, StopWords, Words, answer, parse};
-use bench_commands::{logs, run};
+use bench_commands::words::{
+    FormatWords, RecoverWords, RunWords, StopWords, SweepWords, Words, answer, parse,
+};
+use bench_commands::{logs, run, sweep};
 use block_device::MemDevice;
 use format_rows::RowError;
 use format_rows::words::cut;
@@ -27,6 +29,27 @@ fn run_script(alloc: Global, words: &RunWords<'_>, script: &str) -> Result<Strin
     let mut out = Vec::new(alloc);
     let mut err = Vec::new(alloc);
     match run::run(alloc, words, script.as_bytes(), &mut out, &mut err) {
+        Ok(status) => text_of(alloc, &out, &err, status),
+        Err(_) => Err(RowError::Memory),
+    }
+}
+
+/// A sweep of a script. Given: the words of the program on a line, and the script. Found: as of a run.
+pub fn sweep(alloc: Global, given: &str) -> Result<String, RowError> {
+    let (line, script) = cut(given, "\n")?;
+    let words = words_in(alloc, line)?;
+    match parse(alloc, &words) {
+        Ok(Words::Sweep(words)) => sweep_script(alloc, &words, script),
+        _ => Err(RowError::Unread),
+    }
+}
+
+/// What `sweep` says of this script.
+fn sweep_script(alloc: Global, words: &SweepWords<'_>, script: &str) -> Result<String, RowError> {
+    let mut out = Vec::new(alloc);
+    let mut err = Vec::new(alloc);
+    let script = script.as_bytes();
+    match sweep::sweep(alloc, words, script, sweep::Unwatched, &mut out, &mut err) {
         Ok(status) => text_of(alloc, &out, &err, status),
         Err(_) => Err(RowError::Memory),
     }
@@ -107,11 +130,17 @@ pub fn words(alloc: Global, given: &str) -> Result<String, RowError> {
 fn told(alloc: Global, words: &Words<'_>) -> Result<String, RowError> {
     match words {
         Words::Run(words) => Ok(told_run(alloc, words)?),
-        Words::Sweep(script) => Ok(format!(in alloc; "sweep {script}")?),
+        Words::Sweep(words) => told_sweep(alloc, words),
         Words::Format(words) => told_format(alloc, words),
         Words::Dump(log) => Ok(format!(in alloc; "dump {log}")?),
         Words::Recover(words) => Ok(format!(in alloc; "recover {} {}", words.log, words.home)?),
     }
+}
+
+/// What words tell `sweep`.
+fn told_sweep(alloc: Global, words: &SweepWords<'_>) -> Result<String, RowError> {
+    let fails = if words.fails { ", calls fail" } else { "" };
+    Ok(format!(in alloc; "sweep {}{fails}", words.script)?)
 }
 
 /// What words tell `run`.

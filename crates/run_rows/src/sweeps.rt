@@ -2,10 +2,12 @@
 use crate::scripts::given_script;
 use crate::texts::written;
 use crate::wrong_journals::{Order, WrongJournal};
-use bench_sweep::{Counts, Swept, ThisJournal, Unwatched, sweep};
+use bench_sweep::{
+    Counts, FailureCounts, NotRight, Swept, ThisJournal, Unwatched, sweep, sweep_failures,
+};
 use format_rows::RowError;
 use format_rows::words::cut;
-use std::alloc::Global;
+use std::alloc::{AllocError, Global};
 use std::fmt::Write;
 
 /// Sweeps of this project's journal. Given: a script. Found: how many writes, images and openings of images that stopped there were,
@@ -20,7 +22,23 @@ pub fn sweeps(alloc: Global, given: &str) -> Result<String, RowError> {
         counts.writes,
         counts.images,
         counts.again,
-        counts.not_right()
+        counts.not_right.count()
+    )?;
+    told.push_str(written(&err)?)?;
+    Ok(told)
+}
+
+/// Sweeps of the failing calls of this project's journal. Given: a script. Found: how many calls it makes, and how many openings behind
+/// runs of which one failed did not come to a verdict that is ok; and what named itself.
+pub fn failure_sweeps(alloc: Global, given: &str) -> Result<String, RowError> {
+    let mut err = Vec::new(alloc);
+    let counts = failure_counts_of(alloc, &ThisJournal, given, &mut err)?;
+    let mut told = String::new(alloc);
+    writeln!(
+        told,
+        "calls={} false={}",
+        counts.calls,
+        counts.not_right.count()
     )?;
     told.push_str(written(&err)?)?;
     Ok(told)
@@ -32,7 +50,44 @@ pub fn wrong_journals(alloc: Global, given: &str) -> Result<String, RowError> {
     let (name, script) = cut(given, "\n")?;
     let mut err = Vec::new(alloc);
     let counts = counts_of(alloc, &wrong_journal(name)?, script, &mut err)?;
-    let told = if counts.not_right() > 0 {
+    found_text(alloc, counts.not_right)
+}
+
+/// Sweeps of the failing calls of a journal. Given: on a line `heeded`, or `ignored` where the journal goes on as if no call had
+/// failed; and behind it a script. Found: of each call behind whose failure a verdict is false the line that names the first one.
+pub fn ignored_failures(alloc: Global, given: &str) -> Result<String, RowError> {
+    let (word, script) = cut(given, "\n")?;
+    let mut err = Vec::new(alloc);
+    let counts = failure_counts_of(alloc, &failing_journal(word)?, script, &mut err)?;
+    if counts.not_right.count() == 0 {
+        return found_text(alloc, counts.not_right);
+    }
+    Ok(first_of_each_call(alloc, written(&err)?)?)
+}
+
+/// Of the lines that name what is not right the first one of each call.
+fn first_of_each_call(alloc: Global, named: &str) -> Result<String, AllocError> {
+    let mut firsts = String::new(alloc);
+    let mut last = None;
+    for line in named.lines() {
+        let call = call_named(line);
+        if call.is_some() && call != last {
+            writeln!(firsts, "{line}")?;
+            last = call;
+        }
+    }
+    Ok(firsts)
+}
+
+/// The number of the call that a line names, if it names what is not right.
+fn call_named(line: &str) -> Option<u64> {
+    let (options, _) = line.strip_prefix("not right: --fail ")?.split_once(',')?;
+    options.split(' ').next()?.parse().ok()
+}
+
+/// Whether a verdict is false.
+fn found_text(alloc: Global, not_right: NotRight) -> Result<String, RowError> {
+    let told = if not_right.count() > 0 {
         "a verdict is false"
     } else {
         "no verdict is false"
@@ -50,10 +105,28 @@ fn wrong_journal(name: &str) -> Result<WrongJournal, RowError> {
         "a superblock of an opening" => (Order::AsMade, Order::SuperblockFirst),
         _ => return Err(RowError::Unread),
     };
-    Ok(WrongJournal { runs, openings })
+    Ok(WrongJournal {
+        runs,
+        openings,
+        ignores_failures: false,
+    })
 }
 
-/// What a sweep of a journal counts.
+/// The journal whose failed calls are heeded, or ignored.
+fn failing_journal(word: &str) -> Result<WrongJournal, RowError> {
+    let ignores_failures = match word {
+        "heeded" => false,
+        "ignored" => true,
+        _ => return Err(RowError::Unread),
+    };
+    Ok(WrongJournal {
+        runs: Order::AsMade,
+        openings: Order::AsMade,
+        ignores_failures,
+    })
+}
+
+/// What a sweep of the stops of a journal counts.
 fn counts_of<J: Swept>(
     alloc: Global,
     journal: &J,
@@ -62,6 +135,20 @@ fn counts_of<J: Swept>(
 ) -> Result<Counts, RowError> {
     let script = given_script(alloc, script)?;
     match sweep(alloc, journal, &script, &mut Unwatched, err) {
+        Ok(counts) => Ok(counts),
+        Err(_) => Err(RowError::Memory),
+    }
+}
+
+/// What a sweep of the failing calls of a journal counts.
+fn failure_counts_of<J: Swept>(
+    alloc: Global,
+    journal: &J,
+    script: &str,
+    err: &mut Vec<u8>,
+) -> Result<FailureCounts, RowError> {
+    let script = given_script(alloc, script)?;
+    match sweep_failures(alloc, journal, &script, &mut Unwatched, err) {
         Ok(counts) => Ok(counts),
         Err(_) => Err(RowError::Memory),
     }

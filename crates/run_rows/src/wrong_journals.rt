@@ -1,14 +1,15 @@
-//! Journals that are wrong: this project's, over a disk in memory that takes some calls in another order than they are made in.
-//! What such a disk holds at each moment is what a journal leaves on it that makes its calls in that order.
+//! Journals that are wrong: this project's, over a disk in memory that takes some calls in another order than they are made in, or
+//! loses one and tells nothing of that. What such a disk holds at each moment is what a journal leaves on it that makes its calls in
+//! that order, or goes on as if no call had failed.
 ghost use Rattle.std.specs.Prelude.{◌≡◌};
 
 use bench_client::{Performed, perform};
 use bench_run::{AfterFailure, AnyHome, Record, empty_disk};
-use bench_script::Script;
-use bench_sweep::{Attempt, Fault, OpenedImage, Stopped, Swept};
-use block_device::{Device, DeviceFault, MemDevice, StopAt};
+use bench_script::{Measures, Script};
+use bench_sweep::{Attempt, Fault, OpenedImage, Stopped, Swept, calls_of_opening, calls_of_run};
+use block_device::{Device, DeviceFault, FailOnce, MemDevice, StopAt};
 use journal_model::{Area, JournalError};
-use recovery::open;
+use recovery::{Opened, open};
 use std::alloc::Global;
 use std::io;
 
@@ -32,14 +33,26 @@ pub struct WrongJournal {
     pub runs: Order,
     /// The order in openings.
     pub openings: Order,
+    /// Whether it goes on as if no call of a run had failed.
+    pub ignores_failures: bool,
 }
 
-/// A disk that takes calls in another order. It tells its caller what a disk would that takes them as they are made.
+/// What `StopAt`, `FailOnce` and `Reordered` take for no stop, no failure and no lost call.
+const NEVER: u64 = 0;
+
+/// The device of its runs.
+type WrongDevice = FailOnce<StopAt<Reordered>>;
+
+/// A disk that takes calls in another order, and loses one. It tells its caller what a disk would that takes them as they are made.
 #[derive(Drop)]
 struct Reordered {
     told: MemDevice,
     real: MemDevice,
     order: Order,
+    /// The call that is lost, counted from 1.
+    lost: u64,
+    /// How many calls were made.
+    calls: u64,
     /// The flush that waits, if one does.
     waiting: Option<Area>,
     /// Whether the last write was one of the superblock.
@@ -51,12 +64,14 @@ const COMMIT_BLOCK: [u8; 8] = [0xc0, 0x3b, 0x39, 0x98, 0, 0, 0, 2];
 
 impl Reordered {
     /// A disk in the place of this one.
-    fn over(disk: MemDevice, order: Order) -> Result<Self, JournalError> {
+    fn over(disk: MemDevice, order: Order, lost: u64) -> Result<Self, JournalError> {
         match disk.try_clone() {
             Ok(told) => Ok(Reordered {
                 told,
                 real: disk,
                 order,
+                lost,
+                calls: 0,
                 waiting: None,
                 behind_superblock: false,
             }),
@@ -64,12 +79,20 @@ impl Reordered {
         }
     }
 
-    /// What it holds in truth.
-    fn into_real(self) -> MemDevice {
+    /// What it holds in truth when no call comes any more: the flush that waits is done.
+    fn into_real(mut self) -> MemDevice {
+        self.flush_waiting();
+        self.into_stopped()
+    }
+
+    /// What it holds in truth when the power goes away.
+    fn into_stopped(self) -> MemDevice {
         let Reordered {
             told: _,
             real,
             order: _,
+            lost: _,
+            calls: _,
             waiting: _,
             behind_superblock: _,
         } = self;
@@ -90,6 +113,14 @@ impl Reordered {
         }
     }
 
+    /// Counts a call. The answer is whether it is the one that is lost.
+    fn loses(&mut self) -> bool
+        ensures { self.new.told ≡ self.old.told }
+    {
+        self.calls = self.calls.saturating_add(1);
+        self.calls == self.lost
+    }
+
     /// Does the flush that waits.
     fn flush_waiting(&mut self)
         ensures { self.new.told ≡ self.old.told }
@@ -103,6 +134,9 @@ impl Reordered {
     fn write_real(&mut self, area: Area, n: u64, bytes: &[u8])
         ensures { self.new.told ≡ self.old.told }
     {
+        if self.loses() {
+            return;
+        }
         let stays = match self.waiting {
             Some(waiting) => self.overtakes(waiting, area, n, bytes),
             None => false,
@@ -120,6 +154,9 @@ impl Reordered {
     fn flush_real(&mut self, area: Area)
         ensures { self.new.told ≡ self.old.told }
     {
+        if self.loses() {
+            return;
+        }
         self.flush_waiting();
         self.waiting = Some(area);
     }
@@ -133,6 +170,7 @@ impl Device for Reordered {
     ghost honest = { λ _. Unit {0} };
 
     fn read(&mut self, area: Area, n: u64, into: &mut [u8]) -> Result<(), DeviceFault> {
+        let _is_lost = self.loses();
         self.told.read(area, n, into)
     }
 
@@ -158,19 +196,78 @@ impl Device for Reordered {
 impl WrongJournal {
     /// A disk that takes calls in the order of openings, and stops at write `k`, or never.
     fn device(&self, disk: MemDevice, k: u64) -> Result<StopAt<Reordered>, JournalError> {
-        Ok(StopAt::new(Reordered::over(disk, self.openings)?, k))
+        let disk = Reordered::over(disk, self.openings, NEVER)?;
+        Ok(StopAt::new(disk, k))
+    }
+
+    /// An empty disk that takes calls in the order of runs, and stops at write `stop`, or never. Call `call` of it fails, or is lost
+    /// where this journal ignores that.
+    fn run_device(
+        &self,
+        disk: MemDevice,
+        stop: u64,
+        call: u64,
+    ) -> Result<WrongDevice, JournalError> {
+        let (fails, lost) = if self.ignores_failures {
+            (NEVER, call)
+        } else {
+            (call, NEVER)
+        };
+        let disk = Reordered::over(disk, self.runs, lost)?;
+        Ok(FailOnce::new(StopAt::new(disk, stop), fails))
+    }
+
+    /// The opened log of an empty disk for a run. The stop and the call are counted behind the opening.
+    fn opened(
+        &self,
+        alloc: Global,
+        script: &Script,
+        stop: Option<u64>,
+        failing_call: Option<u64>,
+    ) -> Result<Opened<WrongDevice>, JournalError> {
+        let measures = &script.measures;
+        let call = call_behind_opening(alloc, measures, failing_call)?;
+        let disk = empty_disk(alloc, measures)?;
+        let device = self.run_device(disk, stop.unwrap_or(NEVER), call)?;
+        match open(alloc, device) {
+            Ok(opened) => Ok(opened),
+            Err((_, e)) => Err(e),
+        }
     }
 }
 
-/// What operations left on a disk that took calls in another order.
-fn stopped(performed: Performed<StopAt<Reordered>>) -> Stopped {
+/// The number of this call behind the opening of an empty log, counted from before that, or `NEVER` for none.
+fn call_behind_opening(
+    alloc: Global,
+    measures: &Measures,
+    call: Option<u64>,
+) -> Result<u64, JournalError> {
+    match call {
+        Some(call) => Ok(call.saturating_add(calls_of_opening(alloc, measures)?)),
+        None => Ok(NEVER),
+    }
+}
+
+/// What a disk holds in truth that took calls in another order, or lost one.
+fn real_of(device: StopAt<Reordered>) -> MemDevice {
+    let is_stopped = device.is_stopped();
+    let disk = device.into_inner();
+    if is_stopped {
+        disk.into_stopped()
+    } else {
+        disk.into_real()
+    }
+}
+
+/// What operations left on such a disk.
+fn stopped(performed: Performed<WrongDevice>) -> Stopped {
     let Performed {
         device,
         sealed,
         acknowledged,
     } = performed;
     Stopped {
-        device: device.into_inner().into_real(),
+        device: real_of(device.into_inner()),
         recorded: Record {
             sealed,
             acknowledged,
@@ -182,16 +279,21 @@ fn stopped(performed: Performed<StopAt<Reordered>>) -> Stopped {
 impl Swept for WrongJournal {
     ghost keeps = { ⊥ };
 
-    fn run(&self, alloc: Global, script: &Script, stop: Option<u64>) -> Result<Stopped, Fault> {
-        let disk = empty_disk(alloc, &script.measures)?;
-        let device = StopAt::new(Reordered::over(disk, self.runs)?, stop.unwrap_or(0));
-        let opened = match open(alloc, device) {
-            Ok(opened) => opened,
-            Err((_, e)) => return Err(Fault::Refused(e)),
+    fn run(
+        &self,
+        alloc: Global,
+        script: &Script,
+        stop: Option<u64>,
+        failing_call: Option<u64>,
+    ) -> Result<Stopped, Fault> {
+        let opened = self.opened(alloc, script, stop, failing_call)?;
+        let after = if failing_call.is_some() {
+            AfterFailure::GoOn
+        } else {
+            AfterFailure::End
         };
-        let after = AfterFailure::End;
         let operations = &script.operations;
-        Ok(stopped(perform::<StopAt<Reordered>, AnyHome>(
+        Ok(stopped(perform::<WrongDevice, AnyHome>(
             alloc,
             opened,
             operations,
@@ -200,12 +302,17 @@ impl Swept for WrongJournal {
         )?))
     }
 
+    fn calls(&self, alloc: Global, script: &Script) -> Result<u64, Fault> {
+        // It makes the calls of this project's journal, in whatever order.
+        calls_of_run(alloc, script)
+    }
+
     fn open(&self, alloc: Global, image: MemDevice) -> Result<OpenedImage, JournalError> {
-        match open(alloc, self.device(image, 0)?) {
+        match open(alloc, self.device(image, NEVER)?) {
             Ok(opened) => Ok(OpenedImage {
                 report: opened.report(),
                 next: opened.next(),
-                device: opened.into_device().into_inner().into_real(),
+                device: real_of(opened.into_device()),
             }),
             Err((_, e)) => Err(e),
         }
@@ -216,11 +323,9 @@ impl Swept for WrongJournal {
             Ok(opened) => Ok(Attempt::Whole(OpenedImage {
                 report: opened.report(),
                 next: opened.next(),
-                device: opened.into_device().into_inner().into_real(),
+                device: real_of(opened.into_device()),
             })),
-            Err((device, JournalError::Device)) => {
-                Ok(Attempt::Stopped(device.into_inner().into_real()))
-            }
+            Err((device, JournalError::Device)) => Ok(Attempt::Stopped(real_of(device))),
             Err((_, e)) => Err(e),
         }
     }

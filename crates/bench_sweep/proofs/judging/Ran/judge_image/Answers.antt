@@ -1,7 +1,7 @@
 use Rattle.std.proofs.Common.{subst}
 use Rattle.block_device.specs.Memory.{MemState, state_of}
 use Rattle.bench_run.specs.OpenedImages.{IsOpenedImage}
-use Rattle.bench_sweep.proofs.sweeping.Ran.sweep_image.Goals as goal
+use Rattle.bench_sweep.proofs.judging.Ran.judge_image.Goals as goal
 
 -- what was opened is a copy of the image
 pub judge_first-requires-clause-opened : goal.judge_first-requires-clause-opened

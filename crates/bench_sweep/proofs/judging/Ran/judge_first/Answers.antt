@@ -1,10 +1,13 @@
+use Rattle.std.proofs.Common.{ap}
+use Rattle.bench_sweep.specs.declared.counts.NotRight.{NotRight}
 use Rattle.bench_sweep.proofs.Right.{first-right}
-use Rattle.bench_sweep.proofs.sweeping.Ran.judge_first.Goals as goal
+use Rattle.bench_sweep.proofs.judging.Ran.judge_first.Goals as goal
 
 -- the verdict is right, so none is counted
 pub returns : goal.returns
 returns g c = λ keeps.
     let stopped = c.args.self.now.stopped.now in
-    c.note_verdict.ensures
+    ap (λ (counts : NotRight). counts.wrong)
+    (c.note_verdict.ensures.right
     (first-right stopped c.args.place.keep.now c.args.image.now c.args.opened c.args.self.now.named.now c.in_ok-right.right (c.requires.run keeps) c.requires.crash
-    (c.requires.opened keeps) c.in_ok-right.ensures.0 c.in_ok-right.ensures.1)
+    (c.requires.opened keeps) c.in_ok-right.ensures.0 c.in_ok-right.ensures.1))

@@ -1,7 +1,7 @@
 use Rattle.std.proofs.Common.{subst}
 use Rattle.block_device.specs.Memory.{MemState, state_of}
 use Rattle.bench_run.specs.Reopening.{IsStoppedAt}
-use Rattle.bench_sweep.proofs.sweeping.Ran.sweep_opening.Goals as goal
+use Rattle.bench_sweep.proofs.judging.Ran.sweep_opening.Goals as goal
 
 -- what was opened is a copy of the image
 pub sweep_stopped_opening-requires-clause-stopped : goal.sweep_stopped_opening-requires-clause-stopped

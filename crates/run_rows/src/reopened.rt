@@ -1,0 +1,126 @@
+//! Rows of devices that are opened again behind a failed call, without having lost power.
+use crate::endings::{Ending, Given, endings_text, given_of, in_one_line, kept, note};
+use crate::texts::{numbers_in, written};
+use bench_run::{Fault, OpenedImage, Stopped, judge_opened, judge_reopened, open_image};
+use bench_script::NamedBlocks;
+use bench_sweep::{Swept, ThisJournal};
+use block_device::{MemDevice, StopAt};
+use format_rows::RowError;
+use format_rows::words::cut;
+use journal_model::JournalError;
+use recovery::{Opened, Report, open};
+use std::alloc::Global;
+
+/// Runs of which a call fails, and whose device is then opened as it is: it has lost no power, and reads all that was written. That
+/// opening stops at each write, and what it leaves is opened once more. Given: a line as `call 8 fails`, another as `openings that stop
+/// at writes 1 to 4, any of the last 4 writes kept`, and a script. Found: each way in which these end, with what the last opening
+/// finds, the named blocks and the verdict, and the stops of which some kept writes make one end so.
+pub fn reopened_devices(alloc: Global, given: &str) -> Result<String, RowError> {
+    let (line, given) = cut(given, "\n")?;
+    let [call] = numbers_in::<1>(line)?;
+    let given = given_of(alloc, given)?;
+    let failed = failed_of(alloc, &given, call)?;
+    let mut endings = Vec::new(alloc);
+    for k in given.first..=given.last {
+        add_stops(alloc, &given, &failed, k, &mut endings)?;
+    }
+    Ok(endings_text(alloc, &endings, "stops")?)
+}
+
+/// What a run left of which a call failed.
+#[derive(Drop)]
+struct Failed {
+    /// The run, whose device has lost no power.
+    run: Stopped,
+    /// The blocks that its script names.
+    named: NamedBlocks,
+    /// What an opening finds on the device.
+    first: Report,
+}
+
+/// What a run leaves of which this call fails.
+fn failed_of(alloc: Global, given: &Given, call: u64) -> Result<Failed, RowError> {
+    let named = given.script.named_blocks(alloc)?;
+    let Ok(run) = ThisJournal.run(alloc, &given.script, None, Some(call)) else {
+        return Err(RowError::Memory);
+    };
+    let Ok(opened) = open(alloc, run.device.try_clone()?) else {
+        return Err(RowError::Unread);
+    };
+    let first = opened.report();
+    Ok(Failed { run, named, first })
+}
+
+/// Adds how openings of the device end that stop at write `k` and keep any of the last writes up to that.
+fn add_stops(
+    alloc: Global,
+    given: &Given,
+    failed: &Failed,
+    k: u64,
+    endings: &mut Vec<Ending>,
+) -> Result<(), RowError> {
+    let last = failed.run.device.writes().saturating_add(k);
+    for bits in 0..given.choices {
+        let kept = kept(alloc, last, bits)?;
+        add_stop(alloc, failed, k, &kept, endings)?;
+    }
+    Ok(())
+}
+
+/// Adds how an opening of the device ends that stops at write `k` and keeps these.
+fn add_stop(
+    alloc: Global,
+    failed: &Failed,
+    k: u64,
+    kept: &[u64],
+    endings: &mut Vec<Ending>,
+) -> Result<(), RowError> {
+    let mut out = Vec::new(alloc);
+    let device = StopAt::new(failed.run.device.try_clone()?, k);
+    let right = match open(alloc, device) {
+        Ok(opened) => judge_whole(alloc, failed, opened, &mut out)?,
+        Err((device, _)) => judge_left(alloc, failed, device.into_inner().crash(kept), &mut out)?,
+    };
+    let lines = in_one_line(alloc, written(&out)?)?;
+    let text = format!(in alloc; "{lines}, right {right}")?;
+    Ok(note(alloc, endings, text, Some(k))?)
+}
+
+/// Judges an opening that did not stop.
+fn judge_whole(
+    alloc: Global,
+    failed: &Failed,
+    opened: Opened<StopAt<MemDevice>>,
+    out: &mut Vec<u8>,
+) -> Result<bool, RowError> {
+    let opened = OpenedImage {
+        report: opened.report(),
+        next: opened.next(),
+        device: opened.into_device().into_inner(),
+    };
+    let recorded = &failed.run.recorded;
+    right_of(judge_opened(alloc, opened, recorded, &failed.named, out))
+}
+
+/// Opens what a stopped opening left, and judges that.
+fn judge_left(
+    alloc: Global,
+    failed: &Failed,
+    image: MemDevice,
+    out: &mut Vec<u8>,
+) -> Result<bool, RowError> {
+    let Ok(opened) = open_image(alloc, image) else {
+        return Err(RowError::Unread);
+    };
+    let recorded = &failed.run.recorded;
+    right_of(judge_reopened(alloc, opened, failed.first, recorded, &failed.named, out))
+}
+
+/// The verdict, where there is one.
+fn right_of(verdict: Result<bool, Fault>) -> Result<bool, RowError> {
+    match verdict {
+        Ok(right) => Ok(right),
+        Err(Fault::Refused(JournalError::Memory)) => Err(RowError::Memory),
+        Err(_) => Err(RowError::Unread),
+    }
+}
