@@ -1,7 +1,7 @@
 #!/usr/bin/env -S python3 -B
 """What `jbench run` prints of a script, by the documents alone: a model of a whole run that shares nothing with the journal.
 
-usage: run_model.py SCRIPT [--stop K] [--keep LIST] [--stop2 K] [--keep2 LIST]
+usage: run_model.py SCRIPT [--stop K | --fail K] [--keep LIST] [--stop2 K] [--keep2 LIST]
 
 It prints what a run of this file should print. It takes no bad scripts: what it is given is not tested. The rules are those of
 docs/FORMATS.md: scripts and runs, the bytes of the log, device calls and their order, dumps; what an opening finds is said by
@@ -31,21 +31,25 @@ class Refused(Exception):
 
 
 class Device:
-    """Two areas of blocks behind a volatile cache. Writes count from 1; the one of number `stop` fails, as do all later calls."""
+    """Two areas of blocks behind a volatile cache. Writes count from 1; the one of number `stop` fails, as do all later calls.
+
+    Calls count too: reads, writes and flushes. The one of number `fail` fails and does nothing.
+    """
 
     def __init__(self, size, counts, flushed, stop=None):
         self.size, self.counts, self.stop = size, counts, stop
         self.flushed = flushed  # by area and place; every other block is zeros
         self.unflushed = {"log": [], "home": []}  # number, place and bytes
         self.writes, self.is_stopped = 0, False
+        self.calls, self.fail = 0, None
 
     def read(self, area, place):
-        self.test()
+        self.begin_call()
         newest = [block for _, at, block in self.unflushed[area] if at == place][-1:]
         return newest[0] if newest else self.flushed[area].get(place, bytes(self.size))
 
     def write(self, area, place, block):
-        self.test()
+        self.begin_call()
         assert len(block) == self.size and place < self.counts[area]
         self.writes += 1
         self.unflushed[area].append((self.writes, place, block))
@@ -53,10 +57,16 @@ class Device:
         self.test()
 
     def flush(self, area):
-        self.test()
+        self.begin_call()
         for _, place, block in self.unflushed[area]:
             self.flushed[area][place] = block
         self.unflushed[area] = []
+
+    def begin_call(self):
+        self.calls += 1
+        if self.calls == self.fail:
+            raise Stopped
+        self.test()
 
     def test(self):
         if self.is_stopped:
@@ -153,6 +163,7 @@ class Journal:
         self.capacity = capacity(device.size, self.ring)
         self.sealed = []  # number and entries of each
         self.number, self.entries, self.handles, self.is_locked = 2, {}, [], False  # of the running transaction
+        self.is_aborted = False  # whether the device has failed
         self.committing, self.calls = {}, []  # the entries of the transaction that is being committed, and the calls that are left
         self.copied = set()  # the blocks whose last committed entry is a copy, released or not
         self.direct = {}  # by home block: its direct writes, each as how many transactions were sealed then, and its bytes
@@ -174,6 +185,8 @@ class Journal:
             raise Refused("6 TooMany")
         if self.held() + credits > self.capacity:
             raise Refused("5 Full")
+        if self.is_aborted:
+            raise Refused("3 Aborted")
         if self.is_locked:
             raise Refused("7 NotRunning")
         self.handles.append(Handle(self.number, credits))
@@ -289,18 +302,26 @@ class Journal:
 
 
 class Run:
-    """A run of a script up to its stop: its lines, and what has to be known to judge it."""
+    """A run of a script up to its stop: its lines, and what has to be known to judge it.
 
-    def __init__(self, text, stop=None):
+    Where a call is to fail the script goes on behind it; else it ends with the first operation that the device refuses.
+    """
+
+    ALWAYS = ("start", "stop", "status", "wait")  # what answers by itself behind a failed call
+
+    def __init__(self, text, stop=None, fail=None):
         self.script = {**DEFAULTS, **json.loads(text)}
         counts = {"log": self.script["length"], "home": self.script["home"]}
         self.device = Device(self.script["block"], counts, {"log": {0: formatted(self.script)}, "home": {}}, stop)
         self.journal = Journal(self.device)
+        self.device.calls, self.device.fail = 0, fail
         self.names, self.lines, self.shown = {}, [], 0
         for operation in self.script["ops"]:
             self.lines.append(self.line(operation))
             if self.lines[-1].endswith("refused 2 Device"):
-                break
+                if fail is None:
+                    break
+                self.journal.is_aborted = True
         self.lines.append(f"stopped {stop}" if self.device.is_stopped else "stopped at end")
 
     def line(self, operation):
@@ -308,6 +329,8 @@ class Run:
         left = " ".join(map(str, operation[: 2 if name == "direct" else 3]))
         if words and name not in ("start", "direct") and self.names[words[0]] is None:
             return f"{left} = skipped"
+        if self.journal.is_aborted and name not in self.ALWAYS:
+            return f"{left} = refused 3 Aborted"
         try:
             return f"{left} = {getattr(self, 'do_' + name)(*words)}"
         except Stopped:
@@ -370,6 +393,8 @@ class Run:
         return "committed" if self.show(name) else "open"
 
     def do_wait(self, name):
+        if self.journal.is_aborted and self.names[name].tid <= self.journal.mark:
+            raise Refused("3 Aborted")
         return self.names[name].tid if self.show(name) else "open"
 
     def show(self, name):
@@ -528,7 +553,7 @@ def options_of(words):
 
 
 def outcome_of(text, options):
-    run = Run(text, options.get("stop"))
+    run = Run(text, options.get("stop"), options.get("fail"))
     return Outcome(run, options.get("keep", ()), options.get("stop2"), options.get("keep2", ()))
 
 

@@ -4,7 +4,7 @@
 usage: run_rows.py FILE.rows ..             how many rows of each file want what the model says; each other row with both texts
        run_rows.py --wanted NAME FILE.rows  what the model says of the row of this name
 
-Each file has rows of the kind run, stops, stops_of_openings, sweeps or bytes (folder data of the crate journal_rows). The last row
+Each file has rows of the kind run, stops, stops_of_openings, failures, sweeps, failure_sweeps or bytes (folder data of the crate journal_rows). The last row
 of a file is wrong on purpose, so it has to be among those that are printed. Wanted texts of long rows come from here.
 """
 import sys
@@ -22,10 +22,13 @@ def tell_run(given):
 
 
 class Endings:
-    """In which ways runs end, in the order in which these come, and for each the stops behind which runs end so, as series."""
+    """In which ways runs end, in the order in which these come, and for each the stops behind which runs end so, as series.
 
-    def __init__(self):
-        self.stops, self.of_end = {}, set()
+    Of runs that end elsewhere `places` is the word for where they do.
+    """
+
+    def __init__(self, places="stops"):
+        self.places, self.stops, self.of_end = places, {}, set()
 
     def note(self, text, stop):
         series = self.stops.setdefault(text, [])
@@ -40,7 +43,7 @@ class Endings:
         told = []
         for text, series in self.stops.items():
             stops = "".join(f" {first} to {last}" for first, last in series)
-            told.append(f"{text}: stops{stops}" + " and the end" * (text in self.of_end))
+            told.append(f"{text}: {self.places}{stops}" + " and the end" * (text in self.of_end))
         return "\n".join(told)
 
 
@@ -83,6 +86,19 @@ def tell_stops_of_openings(given):
     return endings.text()
 
 
+def tell_failures(given):
+    """Given: a line as `calls 1 to 10, any of the last 4 writes kept`, and a script."""
+    (first, last, back), text = given_of(given)
+    endings, calls = Endings("calls"), Run(text).device.calls
+    for call in range(first, last + 1):
+        run = Run(text, fail=call)
+        for kept in kept_of(run.device.writes, back):
+            lines = Outcome(run, kept).lines
+            _, _, ending = ", ".join(lines).partition(" n=")
+            endings.note(f"n={ending}, right {right(lines)}", call if call <= calls else None)
+    return endings.text()
+
+
 def tell_sweep(text):
     writes = Run(text).device.writes
     images = again = wrong = 0
@@ -97,6 +113,15 @@ def tell_sweep(text):
                     again += 1
                     wrong += Outcome(run, kept, stop2, kept2).lines[-1] != "verdict ok"
     return f"writes={writes} images={images} again={again} false={wrong}"
+
+
+def tell_failure_sweep(text):
+    calls, wrong = Run(text).device.calls, 0
+    for call in range(1, calls + 1):
+        run = Run(text, fail=call)
+        for kept in kept_of(run.device.writes, min(run.device.writes, 4)):
+            wrong += Outcome(run, kept).lines[-1] != "verdict ok"
+    return f"calls={calls} false={wrong}"
 
 
 def tell_bytes(given):
@@ -126,7 +151,9 @@ TELL = {
     "run": tell_run,
     "stops": tell_stops,
     "stops_of_openings": tell_stops_of_openings,
+    "failures": tell_failures,
     "sweeps": tell_sweep,
+    "failure_sweeps": tell_failure_sweep,
     "bytes": tell_bytes,
 }
 

@@ -2,18 +2,22 @@
 """Random scripts for `jbench run`: what it prints has to be, line by line, what a separate model says.
 
 usage: runs.py [--program PATH] [COUNT] [SEED]             runs of so many random scripts (default: 200 from seed 1)
+       runs.py [--program PATH] --sweeps [COUNT] [SEED]    sweeps of such scripts, cut short (default: 40 from seed 1)
        runs.py [--program PATH] --e2fsck [COUNT] [SEED]    images of such runs, recovered by e2fsck (default: 40 from seed 1)
        runs.py [--program PATH] --kernel [COUNT] [SEED]    the same by the running kernel
        runs.py --alone [--e2fsck] [COUNT] [SEED]           the model alone, or beside e2fsck, without a program
 
 The model is run_model.py, which shares nothing with the journal. Each script is run to its end, with stops at random writes, and
 one in six with a stop at each write; the writes that an image keeps are drawn too. Of one image in three the opening is stopped as
-well, and of some at each of its writes. Now and then the image also goes to two files: they have to hold the model's bytes,
+well, and of some at each of its writes. Of some runs a call fails, and the script goes on. Now and then the image also goes to two files: they have to hold the model's bytes,
 `jbench dump` has to print what the run printed of the log, and `jbench recover` has to end as the run's own opening does and to
 leave the model's bytes. One script in twenty is made a bad one, which has to be refused before anything runs.
 
 The model itself has to keep what is promised of home beyond the verdict: a block that is not its last copy is as home of the image
 had it, and a direct write that was synced stays, until a transaction with an entry of its block is sealed.
+
+With --sweeps the first operations of each script, which make few enough writes for that, are swept, with their failing calls: what
+`jbench sweep` counts has to be what the model counts.
 
 With --e2fsck and --kernel the blocks of an image's log are put into the journal of an ext4 file system, and those of its home area
 in the place of blocks that no file has. e2fsck, or the kernel that mounts the file system, then brings home what the log has, and
@@ -35,6 +39,7 @@ from pathlib import Path
 
 from openings import word
 from run_model import DEFAULTS, NUMBERS, TAGS, Run, capacity, dump_lines, outcome_of
+from run_rows import tell_failure_sweep, tell_sweep
 
 TOP = Path(__file__).resolve().parent.parent
 
@@ -309,6 +314,15 @@ def cases_of(draw, text):
         if draw.random() < 1 / 3:
             yield from stops_of_opening(draw, options, outcome_of(text, options).writes)
     yield {**options, "keep2": [1, 2]}
+    yield from failing_calls(random.Random(text), text)
+
+
+def failing_calls(draw, text):
+    """The options of runs of which a call fails, with some of the writes kept that are not flushed at the end."""
+    calls = Run(text).device.calls
+    for call in {draw.randrange(1, calls + 2) for _ in range(2)}:
+        device = Run(text, fail=call).device
+        yield {"fail": call, "keep": draw_kept(draw, device.unflushed_numbers(), device.writes)}
 
 
 def stops_of_opening(draw, options, writes):
@@ -403,6 +417,7 @@ class Comparison:
         sealed = [list(entries.values()) for _, entries in run.journal.sealed]
         self.cases["runs"] += 1
         self.cases["stopped at a write"] += run.device.is_stopped
+        self.cases["with a failed call"] += run.journal.is_aborted
         self.cases["opened twice"] += any(line.startswith("reopen") for line in outcome.lines)
         self.cases["over several laps"] += max(run.journal.ends.values()) > run.journal.ring
         self.cases["with several descriptors"] += any(len(copies) - copies.count(None) > TAGS[size] for copies in sealed)
@@ -431,6 +446,25 @@ def compare_scripts(comparison, count, seed):
         comparison.cases["scripts"] += 1
         for options in cases_of(draw, text):
             comparison.compare(text, options, draw.random() < 1 / 10)
+
+
+def compare_sweeps(comparison, count, seed):
+    for each in range(seed, seed + count):
+        text = cut_script(RandomScript(random.Random(each), length=random.Random(each).choice((17, 18, 25, 33))).text())
+        lines = f"sweep {tell_sweep(text)}\nfail {tell_failure_sweep(text)}\n"
+        comparison.expect(0, lines, "", ["sweep", comparison.path("script", text), "--fail"], text)
+        comparison.cases["sweeps"] += 1
+        for line in lines.splitlines():
+            for name, _, number in (word.partition("=") for word in line.split()[1:]):
+                comparison.answers[name] += int(number)
+
+
+def cut_script(text, most=14):
+    """A script of its first operations, as many as make no more writes than so many."""
+    script = json.loads(text)
+    while Run(json.dumps(script)).device.writes > most:
+        script["ops"].pop()
+    return json.dumps(script)
 
 
 class Alone(Comparison):
@@ -555,7 +589,9 @@ def main():
     else:
         subprocess.run([program, "--help"], capture_output=True)
     comparing, usual = compare_scripts, 200
-    if words[:1] == ["--e2fsck"]:
+    if words[:1] == ["--sweeps"]:
+        comparing, usual, words = compare_sweeps, 40, words[1:]
+    elif words[:1] == ["--e2fsck"]:
         comparing, usual, words = compare_by(recover_by_e2fsck, None), 40, words[1:]
     elif words[:1] == ["--kernel"]:
         comparing, usual, words = compare_by(recover_by_kernel, min(FileSystems.JOURNALS)), 40, words[1:]
