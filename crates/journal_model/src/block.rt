@@ -1,5 +1,5 @@
 //! The bytes of one block.
-ghost use Rattle.std.specs.Prelude.{◌≡◌, List, ℕ, IfOk};
+ghost use Rattle.std.specs.Prelude.{◌≡◌, ◌<◌, List, ℕ, IfOk};
 
 use std::alloc::{AllocError, Global};
 use std::marker::Model;
@@ -52,5 +52,12 @@ impl Block {
         ensures { result.now ≡ self.now }
     {
         self.bytes.as_slice()
+    }
+
+    /// How many blocks share these bytes, this one among them.
+    pub fn holders(&self) -> usize
+        ensures { 0 < result }
+    {
+        Arc::strong_count(&self.bytes)
     }
 }

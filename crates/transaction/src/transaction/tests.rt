@@ -75,3 +75,33 @@ fn the_place_stays_and_the_last_operation_decides(rt: HostRuntime) -> Result<(),
     assert_eq!(rt; (transaction.tid().0, transaction.len()), (3, 0));
     Ok(())
 }
+
+/// How many hold the bytes of a block's copy, or none where it has no copy.
+fn holders(entry: Option<&Entry>) -> Option<usize> {
+    match entry? {
+        Entry::Copy(copy) => Some(copy.holders()),
+        Entry::Revoke => None,
+    }
+}
+
+#[test]
+fn a_write_copies_its_bytes_once(rt: HostRuntime) -> Result<(), Fail> {
+    let block = BlockNo(7);
+    let mut transaction = Transaction::new(rt.alloc(), Tid(2));
+    transaction.join(HandleNo(1))?;
+    let _touch = transaction.touch_write(HandleNo(1), 1, block, &[0x44])?;
+    assert_eq!(rt; holders(transaction.get(block)), Some(2));
+    let batch = transaction.batch()?;
+    assert_eq!(rt; holders(transaction.get(block)), Some(3));
+    transaction.lock();
+    if transaction.tid().0 > 2 {
+        return Err("it has another number".into());
+    }
+    let (sealed, entries) = transaction.seal();
+    assert_eq!(rt; (sealed.steps.len(), holders(entries.get(block))), (1, Some(3)));
+    drop(batch);
+    assert_eq!(rt; holders(entries.get(block)), Some(2));
+    drop(sealed);
+    assert_eq!(rt; holders(entries.get(block)), Some(1));
+    Ok(())
+}
