@@ -86,13 +86,32 @@ impl<J: JournalName> CommitMark<J> {
         Ticket::of(handle, tid, place)
     }
 
+    /// Shows that what a seat has seen of the mark is not above it, by a load of it.
+    pub fn compare(&self, raiser: &mut Raiser<J>, seat: &mut Seat<J>)
+        ensures seen { seat.old.seen ≤ raiser.old }
+        ensures raiser { raiser.new ≡ raiser.old }
+        ensures seat { seat.new ≡ seat.old }
+    {
+        self.compare_place(raiser, &mut seat.place);
+    }
+
     /// Shows that the number of the receipt's transaction is not above the mark, by a load of it.
     pub fn confirm(&self, raiser: &mut Raiser<J>, receipt: &mut Receipt<J>)
         ensures reached { receipt.old.tid ≤ raiser.old }
         ensures raiser { raiser.new ≡ raiser.old }
         ensures receipt { receipt.new ≡ receipt.old }
     {
-        let told = self.words.tell(&mut receipt.ticket.place);
+        self.compare_place(raiser, &mut receipt.ticket.place);
+    }
+
+    /// Shows that what a place has seen of the mark is not above it.
+    fn compare_place(&self, raiser: &mut Raiser<J>, place: &mut Place)
+        requires { place.old.table_id ≡ J.board }
+        ensures seen { place.old.me.0.seen ≤ raiser.old }
+        ensures raiser { raiser.new ≡ raiser.old }
+        ensures place { (place.new.table_id ≡ place.old.table_id) × (place.new.me ≡ place.old.me) }
+    {
+        let told = self.words.tell(place);
         self.words.hear(&mut raiser.place, told);
         self.words.load_mark(&mut raiser.place);
     }

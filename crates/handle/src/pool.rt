@@ -58,6 +58,15 @@ impl<J: JournalName> CreditPool<J> {
         Ok(Credits::of(n, Holding::of(place)))
     }
 
+    /// No credits: a value that others can be joined to. It changes no word, and counts no step of the seat.
+    pub fn none(&self, seat: &mut Seat<J>) -> Credits<J>
+        ensures none { result ≡ 0 }
+        ensures seat { seat.new ≡ seat.old }
+    {
+        let place = self.words.blank(&mut seat.place);
+        Credits::of(0, Holding::of(place))
+    }
+
     /// Loads the credit word.
     pub fn word(&self, seat: &mut Seat<J>) -> u64
         ensures { seat.new ≡ loading_credits seat.old result }

@@ -1,7 +1,9 @@
 //! Reserves and loads of one thread and of two, with answers worked out by hand.
 ghost use Rattle.std.specs.Prelude.{◌≡◌};
 
-use crate::{CommitMark, CreditPool, Handle, JournalName, LaidBoard, Raiser, Seat, Status, board};
+use crate::{
+    CommitMark, CreditPool, Handle, JournalName, LaidBoard, Raiser, Seat, Status, Ticket, board,
+};
 use journal_model::{HandleNo, Tid};
 use std::marker::Brand;
 use std::process::Abort;
@@ -46,7 +48,8 @@ fn credits<J: JournalName, R: Abort>(rt: &R, pool: &CreditPool<J>, seat: &mut Se
     assert_eq!(rt; pool.word(seat), 0);
 }
 
-/// A handle of transaction 2 stops, and asks whether it is committed, where the mark is 1 at first.
+/// A handle of transaction 2 stops, and asks whether it is committed, where the mark is 1 at first. Its credits lie in one value
+/// with that of its entry.
 fn answers<J: JournalName, R: Abort>(
     rt: &R,
     pool: &CreditPool<J>,
@@ -54,16 +57,31 @@ fn answers<J: JournalName, R: Abort>(
     raiser: &mut Raiser<J>,
     seat: &mut Seat<J>,
 ) {
-    let ticket = mark.ticket(raiser, HandleNo(1), Tid(2));
     let Ok(credits) = pool.reserve(seat, 2) else {
         panic!(rt; "2 of 6 credits are refused")
     };
-    let mut handle = Handle::new(pool, ticket, credits);
-    let one = handle.pay();
-    assert_eq!(rt; (handle.left(), pool.word(seat)), (1, 2));
-    one.give_back(pool);
-    let ticket = handle.stop();
+    let mut held = pool.none(seat);
+    held.join(pool, credits);
+    let ticket = mark.ticket(raiser, HandleNo(1), Tid(2));
+    let mut handle = Handle::new(pool, raiser, ticket, 2);
+    handle.pay(raiser, 1);
+    assert_eq!(rt; (handle.left(), held.count(), pool.word(seat)), (1, 2, 2));
+    held.split(pool, handle.left()).give_back(pool);
+    let ticket = handle.end(raiser);
+    assert_eq!(rt; (held.count(), pool.word(seat)), (1, 1));
+    held.give_back(pool);
     assert_eq!(rt; (pool.word(seat), mark.seen(seat).0), (0, 1));
+    asks(rt, mark, raiser, seat, ticket);
+}
+
+/// A ticket of transaction 2 asks before and after the mark comes to it.
+fn asks<J: JournalName, R: Abort>(
+    rt: &R,
+    mark: &CommitMark<J>,
+    raiser: &mut Raiser<J>,
+    seat: &mut Seat<J>,
+    ticket: Ticket<J>,
+) {
     assert!(rt; mark.status(&ticket, seat) == Status::Open);
     let Err(ticket) = ticket.reach(mark) else {
         panic!(rt; "a receipt is given too early")
@@ -72,6 +90,7 @@ fn answers<J: JournalName, R: Abort>(
     mark.raise(raiser, Tid(1));
     assert_eq!(rt; mark.seen(seat).0, 2);
     assert!(rt; mark.status(&ticket, seat) == Status::Committed);
+    mark.compare(raiser, seat);
     let Ok(mut receipt) = ticket.reach(mark) else {
         panic!(rt; "no receipt is given")
     };
