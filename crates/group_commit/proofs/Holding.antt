@@ -15,8 +15,8 @@ use Rattle.journal_model.specs.declared.transaction.Step.{Step}
 use Rattle.journal_model.specs.declared.entry.Entry.{Entry}
 use Rattle.journal_model.specs.Transaction.{History, effect}
 use Rattle.journal_model.proofs.ListElements.{option-known}
-use Rattle.journal_world.specs.Front.{Front, FrontEvent, FrontHappens, IsFirstTouch, IsOpen, Joins, MayJoin, RevokesBlock, StopsHandle, WritesBlock, held, left_after, left_in, next_handle, revoke_step, touching, write_step}
-use Rattle.journal_world.specs.Front.FrontEvent.{Reserve, GiveBack, Join, WriteBlock, RevokeBlock, StopHandle, Lock, Raise}
+use Rattle.journal_world.specs.Front.{ExtendsHandle, Front, FrontEvent, FrontHappens, IsFirstTouch, IsOpen, Joins, MayJoin, RevokesBlock, StopsHandle, WritesBlock, held, left_after, left_in, next_handle, revoke_step, touching, write_step}
+use Rattle.journal_world.specs.Front.FrontEvent.{Reserve, RefuseReserve, TakeBack, GiveBack, LoadCredits, LoadMark, Join, ExtendHandle, WriteBlock, RevokeBlock, StopHandle, Lock, Raise}
 use Rattle.journal_world.proofs.Credits.{held-within, stopped-credits}
 use Rattle.journal_world.proofs.Elements.{all-weaker}
 use Rattle.journal_world.proofs.OpenHandles.{all-changed, all-without, left-among}
@@ -69,6 +69,14 @@ left-held f h left found =
     ap (λ (hs : List (ℕ × ℕ)). left_in hs) at.stands ∙ left-among at.before h left at.behind in
     omega arith
 
+-- with those that no handle was made of
+pub left-reserved : (f : Front) (h left : ℕ) → lookup (nat_eq h) f.open_handles ≡ Some left → left + f.reserved ≤ held f
+left-reserved f h left found =
+    let at = at-handle f.open_handles h left found in
+    let all : left_in f.open_handles ≡ left_in at.before + left + left_in at.behind =
+    ap (λ (hs : List (ℕ × ℕ)). left_in hs) at.stands ∙ left-among at.before h left at.behind in
+    omega arith
+
 -- a look-up finds what was inserted
 pub found-inserted : (hs : List (ℕ × ℕ)) (h n : ℕ) → lookup (nat_eq h) (insert_entry nat_eq hs h n) ≡ Some n
 found-inserted [] h n = rw (eq-eqb h h refl) refl
@@ -108,8 +116,20 @@ is-front old new event step front = by event step (held-within old new event ste
     by : (event : FrontEvent) → FrontHappens old event new → held new ≤ new.capacity → IsFront new
     by (Reserve n) step within =
         on _ step.after (λ fits. like-front old _ front refl fits front.numbers front.given front.joined refl) within
+    by (RefuseReserve n) step within =
+        on _ step.after (λ fits. like-front old _ front refl fits front.numbers front.given front.joined refl) within
+    by (TakeBack n) step within =
+        on _ step.after (λ fits. like-front old _ front refl fits front.numbers front.given front.joined refl) within
     by (GiveBack n) step within =
         on _ step.after (λ fits. like-front old _ front refl fits front.numbers front.given front.joined refl) within
+    by (LoadCredits found) step within = on _ step.after (λ fits. front) within
+    by (LoadMark found) step within = on _ step.after (λ fits. front) within
+    by (ExtendHandle h n) step within =
+        on _ step.after
+        (λ fits. like-front old _ front refl fits
+        (all-changed (λ o. o.0 ≤ old.given) step.handle.before (h, step.handle.left) (h, step.handle.left + n) step.handle.behind (λ low. low)
+        (subst (AllByRecursion (λ o. o.0 ≤ old.given)) step.handle.stands front.numbers))
+        front.given front.joined refl) within
     by (Join n) step within =
         let one = length-append old.running.handles (next_handle old ∷ []) in
         on _ step.after
@@ -197,6 +217,20 @@ revokes f h b left hs running found credit allowed told = record {
   allowed = allowed;
   after = touched f h b left Revoke hs found told;
 }
+
+-- it gets further credits, where these are noted
+pub extends : (f : Front) (h left n : ℕ) (hs : List (ℕ × ℕ)) → f.aborted ≡ false → f.locked ≡ false → lookup (nat_eq h) f.open_handles ≡ Some left →
+    n ≤ f.reserved → hs ≡ insert_entry nat_eq f.open_handles h (left + n) → ExtendsHandle f h n (record f { reserved = f.reserved - n; open_handles = hs })
+unfolding open-at at-handle
+extends f h left n hs running unlocked found granted told =
+    let at = at-handle f.open_handles h left found in
+    record {
+      running = running;
+      unlocked = unlocked;
+      handle = open-at f h left found;
+      credits = granted;
+      after = ap (λ (es : List (ℕ × ℕ)). record f { reserved = f.reserved - n; open_handles = es }) (told ∙ at.inserted (left + n));
+    }
 
 -- a handle joins, where its number is noted with its credits
 pub joins : (f : Front) (n : ℕ) (sealed : History) (handles : List ℕ) (hs : List (ℕ × ℕ)) → f.aborted ≡ false → MayJoin f → n ≤ f.reserved →

@@ -1,6 +1,7 @@
 -- The lemmas of this crate.
 pub mod Closed
 pub mod Directs
+pub mod Extending
 pub mod Finishing
 pub mod Holding
 pub mod Leading

@@ -31,7 +31,7 @@ use Rattle.block_device.specs.State.{DeviceState}
 use Rattle.journal_world.specs.Call.{Call}
 use Rattle.journal_world.specs.Engine.{AreBatchesOf, CommitSteps, Engine, HasRoom, IsBatch, accepting, call_due, call_in, stepped_from, text_of}
 use Rattle.journal_world.specs.Front.{Front, FrontEvent, FrontHappens, Raises, RevokesBlock, WritesBlock, aborting, finishing, next_handle, raising, revoke_step, sealing, write_step}
-use Rattle.journal_world.specs.Front.FrontEvent.{Reserve, GiveBack, Join, WriteBlock, RevokeBlock, StopHandle, Lock, Raise}
+use Rattle.journal_world.specs.Front.FrontEvent.{Reserve, RefuseReserve, TakeBack, GiveBack, LoadCredits, LoadMark, Join, ExtendHandle, WriteBlock, RevokeBlock, StopHandle, Lock, Raise}
 use Rattle.journal_world.specs.Journal.{batch_of}
 use Rattle.journal_world.proofs.Batches.{batches-last}
 use Rattle.journal_world.proofs.Onward.{step-unfailed}
@@ -374,8 +374,13 @@ finished-below f e agrees plain going =
 -- the event touches a block
 abbrev pub IsTouch : FrontEvent → Type 0
 IsTouch (Reserve n) = ⊥
+IsTouch (RefuseReserve n) = ⊥
+IsTouch (TakeBack n) = ⊥
 IsTouch (GiveBack n) = ⊥
+IsTouch (LoadCredits found) = ⊥
+IsTouch (LoadMark found) = ⊥
 IsTouch (Join n) = ⊥
+IsTouch (ExtendHandle h n) = ⊥
 IsTouch (WriteBlock h b v) = ⊤
 IsTouch (RevokeBlock h b) = ⊤
 IsTouch (StopHandle h) = ⊥
@@ -406,7 +411,18 @@ pub agrees-untouched : (f front : Front) (e : Engine) (event : FrontEvent) → (
 agrees-untouched f front e (Reserve n) other step agrees =
     subst (λ (x : Front). Agrees (record { front = x; engine = e })) (sym step.after)
     (agrees-like f _ e agrees refl refl refl refl refl refl refl agrees.steps agrees.joined agrees.locked)
+agrees-untouched f front e (RefuseReserve n) other step agrees =
+    subst (λ (x : Front). Agrees (record { front = x; engine = e })) (sym step.after)
+    (agrees-like f _ e agrees refl refl refl refl refl refl refl agrees.steps agrees.joined agrees.locked)
+agrees-untouched f front e (TakeBack n) other step agrees =
+    subst (λ (x : Front). Agrees (record { front = x; engine = e })) (sym step.after)
+    (agrees-like f _ e agrees refl refl refl refl refl refl refl agrees.steps agrees.joined agrees.locked)
 agrees-untouched f front e (GiveBack n) other step agrees =
+    subst (λ (x : Front). Agrees (record { front = x; engine = e })) (sym step.after)
+    (agrees-like f _ e agrees refl refl refl refl refl refl refl agrees.steps agrees.joined agrees.locked)
+agrees-untouched f front e (LoadCredits found) other step agrees = subst (λ (x : Front). Agrees (record { front = x; engine = e })) (sym step.after) agrees
+agrees-untouched f front e (LoadMark found) other step agrees = subst (λ (x : Front). Agrees (record { front = x; engine = e })) (sym step.after) agrees
+agrees-untouched f front e (ExtendHandle h n) other step agrees =
     subst (λ (x : Front). Agrees (record { front = x; engine = e })) (sym step.after)
     (agrees-like f _ e agrees refl refl refl refl refl refl refl agrees.steps agrees.joined agrees.locked)
 agrees-untouched f front e (Join n) other step agrees =

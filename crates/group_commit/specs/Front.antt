@@ -43,6 +43,21 @@ pub data JoinRefused (f : Front) (n : ℕ) : JournalError → Type 0 where
   NotGranted : f.aborted ≡ false → MayJoin f → f.reserved < n → JoinRefused f n NoCredit
   NoMemory : f.aborted ≡ false → MayJoin f → n ≤ f.reserved → JoinRefused f n Memory
 
+-- an open handle may get further credits
+pub record MayExtend (f : Front) (h : HandleValue) (n : ℕ) : Type 0 where
+  pub running : f.aborted ≡ false
+  pub unlocked : f.locked ≡ false
+  pub granted : n ≤ f.reserved
+  pub open_handle : IsOpenHandle f h
+
+-- why it may not: the device has failed, its transaction takes no further handles, these are no credits that the front has granted,
+-- or it is none of the open ones
+pub data ExtendRefused (f : Front) (h : HandleValue) (n : ℕ) : JournalError → Type 0 where
+  ExtendAborted : f.aborted ≡ true → ExtendRefused f h n Aborted
+  ExtendLocked : f.aborted ≡ false → f.locked ≡ true → ExtendRefused f h n NotRunning
+  ExtendUngranted : f.aborted ≡ false → f.locked ≡ false → f.reserved < n → ExtendRefused f h n NoCredit
+  ExtendUnopened : f.aborted ≡ false → f.locked ≡ false → (IsOpenHandle f h → ⊥) → ExtendRefused f h n NoCredit
+
 -- a handle may make a step on the block, but for the credit that a first touch takes
 pub record MayStep (f : Front) (h : HandleValue) (b : ℕ) : Type 0 where
   pub running : f.aborted ≡ false

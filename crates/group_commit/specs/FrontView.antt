@@ -6,12 +6,14 @@ use Rattle.journal_world.specs.Front.{Front, held}
 use Rattle.group_commit.specs.declared.front.Front.TheInside.{Inside}
 use Rattle.group_commit.specs.Front.{IsFront}
 
+-- nobody reserves beside the front, so that a refused reserve has nothing to take back
 abbrev pub front_of : Inside → Front
 front_of f = record {
   layout = f.layout;
   home_blocks = f.home_blocks;
   capacity = f.capacity;
   reserved = f.reserved;
+  refused = 0;
   finished = f.finished;
   mark = f.mark;
   sealed = f.sealed.items;

@@ -10,6 +10,7 @@ ghost use Rattle.group_commit.specs.Direct.{DirectSyncRefused, DirectWriteRefuse
 ghost use Rattle.group_commit.specs.Journal.{Does};
 
 use crate::journal::Journal;
+use crate::steps;
 use block_device::Device;
 use journal_model::{BlockNo, JournalError};
 
@@ -39,23 +40,7 @@ impl<D: Device> Journal<D> {
         ensures calls { MakesAtMostOneCall (D.state self.old.device) (D.state self.new.device) }
         ensures honest { D.honest self.new.device → D.honest self.old.device }
     {
-        self.engine.recall_invariant();
-        if self.engine.is_aborted() {
-            return Err(JournalError::Aborted);
-        }
-        if !self.front.may_touch(block) {
-            return Err(JournalError::BadBlock);
-        }
-        if !self.front.is_untouched(block) {
-            return Err(JournalError::NotDirect);
-        }
-        match self.engine.write_direct(block, bytes) {
-            Ok(()) => Ok(()),
-            Err(e) => {
-                self.front.learn(self.engine.is_aborted());
-                Err(e)
-            }
-        }
+        steps::write_direct(&mut self.front, &mut self.engine, block, bytes)
     }
 
     /// Flushes the home area, so that every direct write that answered Ok before is durable.
@@ -76,12 +61,6 @@ impl<D: Device> Journal<D> {
         ensures calls { MakesAtMostOneCall (D.state self.old.device) (D.state self.new.device) }
         ensures honest { D.honest self.new.device → D.honest self.old.device }
     {
-        match self.engine.sync_direct() {
-            Ok(()) => Ok(()),
-            Err(e) => {
-                self.front.abort();
-                Err(e)
-            }
-        }
+        steps::sync_direct(&mut self.front, &mut self.engine)
     }
 }

@@ -9,9 +9,9 @@ ghost use Rattle.journal_model.specs.Opening.{greatest_number};
 ghost use Rattle.journal_model.specs.OwnText.{copied, revoked};
 ghost use Rattle.journal_model.specs.Transaction.{entries, last_effect};
 ghost use Rattle.journal_world.specs.Front.{FrontHappens, IsUntouched, aborting, finishing, fresh_front, next_handle, sealing, unfinished};
-ghost use Rattle.journal_world.specs.Front.FrontEvent.{GiveBack, Join, Lock, Raise, Reserve, RevokeBlock, StopHandle, WriteBlock};
+ghost use Rattle.journal_world.specs.Front.FrontEvent.{ExtendHandle, GiveBack, Join, Lock, Raise, Reserve, RevokeBlock, StopHandle, WriteBlock};
 ghost use Rattle.journal_world.specs.Journal.{batch_of};
-ghost use Rattle.group_commit.specs.Front.{IsKeptOut, IsOpenHandle, JoinRefused, MayStep, MayTouch, ReserveRefused, Spends, TouchRefused};
+ghost use Rattle.group_commit.specs.Front.{ExtendRefused, IsKeptOut, IsOpenHandle, JoinRefused, MayExtend, MayStep, MayTouch, ReserveRefused, Spends, TouchRefused};
 
 use crate::handle::Handle;
 use indexmap::IndexMap;
@@ -23,7 +23,7 @@ use transaction::{Entries, Transaction};
 
 /// The front of a journal.
 #[derive(Drop)]
-pub(crate) struct Front {
+pub struct Front {
     alloc: Global,
     /// The layout of the log.
     layout: LogLayout,
@@ -69,7 +69,7 @@ impl Model for Front {
 impl Front {
     /// The front of a journal whose first transaction has the number `first`, with so many credits, on a log of this layout
     /// beside so many home blocks. It takes no memory.
-    pub(crate) fn new(
+    pub fn new(
         alloc: Global,
         layout: LogLayout,
         home_blocks: u64,
@@ -100,7 +100,7 @@ impl Front {
     }
 
     /// Grants credits.
-    pub(crate) fn reserve(&mut self, n: u64) -> Result<(), JournalError>
+    pub fn reserve(&mut self, n: u64) -> Result<(), JournalError>
         ensures ok { OnOk result (FrontHappens self.old (Reserve n) self.new) }
         ensures err { IfErr result (λ e. ReserveRefused self.old n e × (self.new ≡ self.old)) }
     {
@@ -116,7 +116,7 @@ impl Front {
     }
 
     /// Takes credits back, of those that no handle was made of. More than there are were not granted here: nothing changes.
-    pub(crate) fn give_back(&mut self, n: u64)
+    pub fn give_back(&mut self, n: u64)
         ensures granted { n ≤ self.old.reserved → FrontHappens self.old (GiveBack n) self.new }
         ensures other { self.old.reserved < n → self.new ≡ self.old }
     {
@@ -127,7 +127,7 @@ impl Front {
     }
 
     /// Lets one more handle join, with so many of the credits that no other was made of.
-    pub(crate) fn join(&mut self, n: u64) -> Result<(HandleNo, Tid), JournalError>
+    pub fn join(&mut self, n: u64) -> Result<(HandleNo, Tid), JournalError>
         ensures ok { IfOk result (λ r. FrontHappens self.old (Join n) self.new × (r.0 ≡ next_handle self.old) × (r.1 ≡ self.old.running.tid)) }
         ensures open { IfOk result (λ r. lookup (nat_eq r.0) self.new.open_handles ≡ Some n) }
         ensures err { IfErr result (λ e. JoinRefused self.old n e × (self.new ≡ self.old)) }
@@ -159,7 +159,7 @@ impl Front {
     }
 
     /// Whether a handle is one of the open ones, with the credits that it says, of the running transaction.
-    pub(crate) fn is_open(&self, handle: &Handle) -> bool
+    pub fn is_open(&self, handle: &Handle) -> bool
         ensures { IsTrue result ↔ IsOpenHandle self.now handle.now }
     {
         match self.open_handles.get(&handle.number()) {
@@ -169,28 +169,28 @@ impl Front {
     }
 
     /// Whether a block is one that may be touched.
-    pub(crate) fn may_touch(&self, block: BlockNo) -> bool
+    pub fn may_touch(&self, block: BlockNo) -> bool
         ensures { IsTrue result ↔ MayTouch self.now block }
     {
         block.is_allowed(self.layout, self.home_blocks)
     }
 
     /// Whether the device has failed, as far as the front was told.
-    pub(crate) fn is_aborted(&self) -> bool
+    pub fn is_aborted(&self) -> bool
         ensures { result ≡ self.now.aborted }
     {
         self.aborted
     }
 
     /// Notes whether the device has failed.
-    pub(crate) fn learn(&mut self, aborted: bool)
+    pub fn learn(&mut self, aborted: bool)
         ensures { self.new ≡ record self.old { aborted = aborted } }
     {
         self.aborted = aborted;
     }
 
     /// Notes that the device has failed.
-    pub(crate) fn abort(&mut self)
+    pub fn abort(&mut self)
         ensures { self.new ≡ aborting self.old }
     {
         self.aborted = true;
@@ -198,7 +198,7 @@ impl Front {
 
     /// The last entry of a block in the transactions that are not finished: the running one's or, where that has none, that
     /// of the sealed one.
-    pub(crate) fn newest(&self, block: BlockNo) -> Option<&Entry>
+    pub fn newest(&self, block: BlockNo) -> Option<&Entry>
         ensures { option_copied result ≡ last_effect block (unfinished self.now) }
     {
         match self.running.get(block) {
@@ -208,7 +208,7 @@ impl Front {
     }
 
     /// Whether no transaction that is not finished has an entry of the block.
-    pub(crate) fn is_untouched(&self, block: BlockNo) -> bool
+    pub fn is_untouched(&self, block: BlockNo) -> bool
         ensures { IsTrue result ↔ IsUntouched self.now block }
     {
         self.newest(block).is_none()
@@ -233,7 +233,7 @@ impl Front {
 
     /// A handle writes a block, of one block of bytes; a first touch takes one of its credits. Where it is refused nothing
     /// has changed.
-    pub(crate) fn write(
+    pub fn write(
         &mut self,
         handle: &mut Handle,
         block: BlockNo,
@@ -257,7 +257,7 @@ impl Front {
     }
 
     /// A handle revokes a block; a first touch takes one of its credits. Where it is refused nothing has changed.
-    pub(crate) fn revoke(&mut self, handle: &mut Handle, block: BlockNo) -> Result<(), JournalError>
+    pub fn revoke(&mut self, handle: &mut Handle, block: BlockNo) -> Result<(), JournalError>
         ensures ok { OnOk result (FrontHappens self.old (RevokeBlock handle.old.number block) self.new) }
         ensures open { OnOk result (IsOpenHandle self.old handle.old × IsOpenHandle self.new handle.new) }
         ensures spends { OnOk result (Spends self.old block handle.old handle.new) }
@@ -274,8 +274,43 @@ impl Front {
         }
     }
 
+    /// Whether an open handle may get n further credits.
+    fn admit_more(&self, handle: &Handle, n: u64) -> Result<(), JournalError>
+        ensures ok { OnOk result (MayExtend self.now handle.now n) }
+        ensures err { IfErr result (λ e. ExtendRefused self.now handle.now n e) }
+    {
+        if self.aborted {
+            Err(JournalError::Aborted)
+        } else if self.is_locked() {
+            Err(JournalError::NotRunning)
+        } else if self.reserved < n {
+            Err(JournalError::NoCredit)
+        } else if self.is_open(handle) {
+            Ok(())
+        } else {
+            Err(JournalError::NoCredit)
+        }
+    }
+
+    /// Gives an open handle n further credits, of those that no handle was made of.
+    pub fn extend(&mut self, handle: &mut Handle, n: u64) -> Result<(), JournalError>
+        ensures ok { OnOk result (FrontHappens self.old (ExtendHandle handle.old.number n) self.new) }
+        ensures open { OnOk result (IsOpenHandle self.new handle.new) }
+        ensures handle { OnOk result (handle.new ≡ record handle.old { left = handle.old.left + n }) }
+        ensures err { IfErr result (λ e. ExtendRefused self.old handle.old n e × (self.new ≡ self.old) × (handle.new ≡ handle.old)) }
+    {
+        self.admit_more(handle, n)?;
+        handle.extend(n);
+        match self.open_handles.insert(handle.number(), handle.left()) {
+            Ok(_) => {}
+            Err(_) => unreachable!(),
+        }
+        self.reserved -= n;
+        Ok(())
+    }
+
     /// Lets an open handle stop, which has so many credits left.
-    pub(crate) fn stop(&mut self, handle: HandleNo, left: u64)
+    pub fn stop(&mut self, handle: HandleNo, left: u64)
         requires { lookup (nat_eq handle) self.old.open_handles ≡ Some left }
         ensures { FrontHappens self.old (StopHandle handle) self.new }
     {
@@ -284,7 +319,7 @@ impl Front {
     }
 
     /// The running transaction takes no further handles, where one has joined it.
-    pub(crate) fn lock(&mut self)
+    pub fn lock(&mut self)
         requires { self.old.aborted ≡ false }
         ensures joined { 0 < length self.old.running.handles → FrontHappens self.old Lock self.new }
         ensures empty { length self.old.running.handles ≡ 0 → self.new ≡ self.old }
@@ -293,21 +328,21 @@ impl Front {
     }
 
     /// Whether the running transaction takes no further handles.
-    pub(crate) fn is_locked(&self) -> bool
+    pub fn is_locked(&self) -> bool
         ensures { result ≡ self.now.locked }
     {
         self.running.is_locked()
     }
 
     /// Whether a handle has joined the running transaction.
-    pub(crate) fn has_joined(&self) -> bool
+    pub fn has_joined(&self) -> bool
         ensures { IsTrue result ↔ (0 < length self.now.running.handles) }
     {
         self.running.is_joined()
     }
 
     /// Whether a handle of the running transaction has not stopped.
-    pub(crate) fn has_open_handles(&self) -> bool
+    pub fn has_open_handles(&self) -> bool
         ensures some { IsTrue result ↔ (0 < length self.now.open_handles) }
         ensures none { result ≡ false → self.now.open_handles ≡ [] }
     {
@@ -315,21 +350,21 @@ impl Front {
     }
 
     /// The number of the running transaction.
-    pub(crate) fn tid(&self) -> Tid
+    pub fn tid(&self) -> Tid
         ensures { result ≡ self.now.running.tid }
     {
         self.running.tid()
     }
 
     /// The number of the last transaction that callers are told is committed.
-    pub(crate) fn mark(&self) -> Tid
+    pub fn mark(&self) -> Tid
         ensures { result ≡ self.now.mark }
     {
         Tid(self.mark)
     }
 
     /// How many entries of the running transaction are copies, and how many are revokes.
-    pub(crate) fn counts(&self) -> (usize, usize)
+    pub fn counts(&self) -> (usize, usize)
         ensures copies { result.0 ≡ length (copied (entries self.now.running.steps)) }
         ensures revokes { result.1 ≡ length (revoked (entries self.now.running.steps)) }
     {
@@ -337,7 +372,7 @@ impl Front {
     }
 
     /// The entries of the running transaction. It fails where memory runs out.
-    pub(crate) fn batch(&self) -> Result<Batch, JournalError>
+    pub fn batch(&self) -> Result<Batch, JournalError>
         ensures ok { IfOk result (λ batch. batch ≡ batch_of self.now.running) }
         ensures err { IfErr result (λ e. e ≡ Memory) }
     {
@@ -345,7 +380,7 @@ impl Front {
     }
 
     /// The running transaction is sealed, and the next one begins.
-    pub(crate) fn seal(&mut self)
+    pub fn seal(&mut self)
         requires locked { self.old.locked ≡ true }
         requires number { self.old.running.tid ≤ greatest_number }
         requires finished { self.old.finished + 1 ≡ self.old.running.tid }
@@ -358,7 +393,7 @@ impl Front {
     }
 
     /// One more transaction is committed. No caller is told yet.
-    pub(crate) fn finish(&mut self)
+    pub fn finish(&mut self)
         requires { self.old.finished + 1 < self.old.running.tid }
         ensures { self.new ≡ finishing self.old }
     {
@@ -367,7 +402,7 @@ impl Front {
     }
 
     /// Callers are told that the transactions up to this one are committed, which are finished. The mark never falls.
-    pub(crate) fn raise(&mut self, tid: Tid)
+    pub fn raise(&mut self, tid: Tid)
         requires { tid ≤ self.old.finished }
         ensures { FrontHappens self.old (Raise tid) self.new }
     {
@@ -377,7 +412,7 @@ impl Front {
     }
 
     /// The sealed transactions.
-    pub(crate) fn into_sealed(self) -> Vec<Sealed>
+    pub fn into_sealed(self) -> Vec<Sealed>
         ensures { result.items ≡ self.sealed }
     {
         let Front {

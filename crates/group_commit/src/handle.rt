@@ -67,7 +67,7 @@ impl Model for Handle {
 }
 
 impl Handle {
-    ghost use Rattle.std.specs.Prelude.{◌≡◌, ◌-◌, ◌≤◌};
+    ghost use Rattle.std.specs.Prelude.{◌≡◌, ◌+◌, ◌-◌, ◌^◌, ◌<◌, ◌≤◌};
     ghost use Rattle.transaction.specs.Transaction.{cost};
 
     pub(crate) fn new(number: HandleNo, tid: Tid, left: u64) -> Self
@@ -103,6 +103,14 @@ impl Handle {
         ensures { self.new ≡ record self.old { left = self.old.left - cost touch } }
     {
         self.left -= touch.cost();
+    }
+
+    /// Has n further credits.
+    pub(crate) fn extend(&mut self, n: u64)
+        requires { self.old.left + n < 2 ^ 64 }
+        ensures { self.new ≡ record self.old { left = self.old.left + n } }
+    {
+        self.left += n;
     }
 }
 

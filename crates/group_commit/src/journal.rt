@@ -22,9 +22,10 @@ ghost use Rattle.group_commit.specs.Journal.{Agrees, CheckTurnDid, CheckTurnRefu
 use crate::close::finish;
 use crate::front::Front;
 use crate::handle::{Credits, Handle, Receipt, Seat, Status, Ticket};
+use crate::steps;
 use block_device::Device;
-use journal_model::{BlockNo, Entry, JournalError, Sealed, Tid};
-use log_engine::{Engine, Progress};
+use journal_model::{BlockNo, JournalError, Sealed, Tid};
+use log_engine::Engine;
 use log_ring::Layout;
 use recovery::Opened;
 use std::alloc::Global;
@@ -244,28 +245,7 @@ impl<D: Device> Journal<D> {
         ensures length { length into.new ≡ length into.old }
         ensures handle { _handle.new ≡ _handle.old }
     {
-        self.engine.recall_invariant();
-        if self.engine.is_aborted() {
-            return Err(JournalError::Aborted);
-        }
-        if !self.front.may_touch(block) {
-            return Err(JournalError::BadBlock);
-        }
-        match self.front.newest(block) {
-            Some(Entry::Copy(copy)) => {
-                into.copy_from_slice(copy.bytes());
-                return Ok(());
-            }
-            Some(Entry::Revoke) => return Err(JournalError::Revoked),
-            None => {}
-        }
-        match self.engine.read(block, into) {
-            Ok(()) => Ok(()),
-            Err(e) => {
-                self.front.abort();
-                Err(e)
-            }
-        }
+        steps::read(&mut self.front, &mut self.engine, block, into)
     }
 
     /// Ends a handle. Its credits that are left come back. It always succeeds, after a device failure too. Where the handle is
@@ -274,6 +254,8 @@ impl<D: Device> Journal<D> {
     pub fn stop(&mut self, handle: Handle) -> Ticket
         ensures stops { IsOpenHandle self.old.journal.front handle → Does D.state self.old (FrontStep (StopHandle handle.number)) self.new }
         ensures other { (IsOpenHandle self.old.journal.front handle → ⊥) → self.new ≡ self.old }
+        ensures given { self.new.journal.front.given ≡ self.old.journal.front.given }
+        ensures running { self.new.journal.front.running ≡ self.old.journal.front.running }
         ensures ticket { result ≡ record { handle = handle.number; tid = handle.tid } }
         ensures device { self.new.device ≡ self.old.device }
     {
@@ -364,20 +346,7 @@ impl<D: Device> Journal<D> {
         ensures calls { MakesAtMostOneCall (D.state self.old.device) (D.state self.new.device) }
         ensures honest { D.honest self.new.device → D.honest self.old.device }
     {
-        self.engine.recall_invariant();
-        if self.engine.is_aborted() {
-            return Err(JournalError::Aborted);
-        }
-        if !self.engine.is_idle() {
-            return self.commit_step();
-        }
-        if !self.front.is_locked() {
-            return Ok(Turn::Idle);
-        }
-        if self.front.has_open_handles() {
-            return Ok(Turn::Waiting);
-        }
-        self.seal()
+        steps::commit_turn(&mut self.front, &mut self.engine)
     }
 
     /// One step of the commit that is under way.
@@ -396,22 +365,7 @@ impl<D: Device> Journal<D> {
         ensures calls { MakesAtMostOneCall (D.state self.old.device) (D.state self.new.device) }
         ensures honest { D.honest self.new.device → D.honest self.old.device }
     {
-        let progress = match self.engine.commit_step() {
-            Ok(progress) => progress,
-            Err(e) => {
-                self.front.abort();
-                return Err(e);
-            }
-        };
-        match progress {
-            Progress::Idle => Ok(Turn::Idle),
-            Progress::Step => Ok(Turn::Step),
-            Progress::Done(tid) => {
-                self.front.finish();
-                self.front.raise(tid);
-                Ok(Turn::Committed(tid))
-            }
-        }
+        steps::commit_step(&mut self.front, &mut self.engine)
     }
 
     /// Seals the locked transaction, and hands its entries to the engine.
@@ -422,16 +376,7 @@ impl<D: Device> Journal<D> {
         ensures err { IfErr result (λ e. TurnRefused D.state self.old self.new e) }
         ensures device { self.new.device ≡ self.old.device }
     {
-        if !self.has_room() {
-            return Err(JournalError::NeedSpace);
-        }
-        let tid = self.front.tid();
-        let batch = self.front.batch()?;
-        if let Err(refused) = self.engine.accept(batch) {
-            return Err(refused.1);
-        }
-        self.front.seal();
-        Ok(Turn::Sealed(tid))
+        steps::seal(&mut self.front, &mut self.engine)
     }
 
     /// Takes the next step of a checkpoint round: at most one device call. A round writes committed copies home, and frees
@@ -454,18 +399,7 @@ impl<D: Device> Journal<D> {
         ensures calls { MakesAtMostOneCall (D.state self.old.device) (D.state self.new.device) }
         ensures honest { D.honest self.new.device → D.honest self.old.device }
     {
-        let progress = match self.engine.checkpoint_step() {
-            Ok(progress) => progress,
-            Err(e) => {
-                self.front.abort();
-                return Err(e);
-            }
-        };
-        match progress {
-            Progress::Idle => Ok(CheckTurn::Idle),
-            Progress::Step => Ok(CheckTurn::Step),
-            Progress::Done(tid) => Ok(CheckTurn::Released(tid)),
-        }
+        steps::checkpoint_turn(&mut self.front, &mut self.engine)
     }
 
     /// Whether a handle has not stopped.
@@ -502,8 +436,7 @@ impl<D: Device> Journal<D> {
         requires { self.now.journal.engine.stage ≡ Idle }
         ensures { IsTrue result ↔ HasRoomFor self.now.journal }
     {
-        let (copies, revokes) = self.front.counts();
-        self.engine.has_room(copies, revokes)
+        steps::has_room(&self.front, &self.engine)
     }
 
     /// States what every journal keeps, for the proofs of callers: its engine knows what agrees, and front and engine agree.

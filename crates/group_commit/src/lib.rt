@@ -4,15 +4,18 @@
 //!
 //! It is one plain value: its calls take `&mut self`, and there is no lock or thread. Two parts know each other by one
 //! contract each: the engine (`log_engine`) commits batches to the log and writes them home, and `front`, with the `journal`
-//! around both, turns handles and their writes into batches. `direct` writes blocks past
-//! both, and `close` takes the turns that are left before a log is closed.
+//! around both, turns handles and their writes into batches. `extension` is for handles that
+//! need more, `direct` writes blocks past both, and `close` takes the turns that are left before a log is closed.
 #![tactic(auto)]
 
 mod close;
 mod direct;
+mod extension;
 mod front;
 mod handle;
 mod journal;
+pub mod steps;
 
+pub use front::Front;
 pub use handle::{Credits, Handle, Receipt, Seat, Status, Ticket};
 pub use journal::{CheckTurn, Journal, Parts, Turn};

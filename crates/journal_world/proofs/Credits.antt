@@ -1,4 +1,4 @@
--- How many credits are held after each event of a front.
+-- How many credits are held after each event of a front, and how many the credit word has.
 use Rattle.std.proofs.Common.{refl, sym, ap, subst, ◌∙◌, arith, inl, inr}
 use Rattle.std.specs.Prelude.{◌≡◌, ℕ, ◌+◌, ◌-◌, ◌<◌, ◌≤◌, if◌then◌else◌, List, [], ◌∷◌, ◌++◌, length, is_some, Option, Some, None}
 use Rattle.std.proofs.lemmas.List.{length-map, length_push}
@@ -11,8 +11,9 @@ use Rattle.journal_model.specs.declared.transaction.Op.{Op}
 use Rattle.journal_model.specs.declared.transaction.Op.TheVariants.{Write, Revoke as RevokeOp}
 use Rattle.journal_model.specs.declared.transaction.Step.{Step}
 use Rattle.journal_model.specs.Transaction.{effect, entries, entry_of}
-use Rattle.journal_world.specs.Front.{Front, FrontEvent, FrontHappens, GivesBack, HeldAfter, IsFirstTouch, IsOpen, Joins, Reserves, RevokesBlock, StopsHandle, WritesBlock, giving_back, held, joining, left_after, left_in, reserving, stopping, touching}
-use Rattle.journal_world.specs.Front.FrontEvent.{Reserve, GiveBack, Join, WriteBlock, RevokeBlock, StopHandle, Lock, Raise}
+use Rattle.journal_world.specs.Credits.{HeldAfter, IsAtHand, RefusedAfter, beside}
+use Rattle.journal_world.specs.Front.{ExtendsHandle, Front, FrontEvent, FrontHappens, GivesBack, IsFirstTouch, IsOpen, Joins, Reserves, RevokesBlock, StopsHandle, WritesBlock, extending, giving_back, held, joining, left_after, left_in, reserving, stopping, touching}
+use Rattle.journal_world.specs.Front.FrontEvent.{Reserve, RefuseReserve, TakeBack, GiveBack, LoadCredits, LoadMark, Join, ExtendHandle, WriteBlock, RevokeBlock, StopHandle, Lock, Raise}
 use Rattle.journal_world.proofs.OpenHandles.{left-among, left-without}
 
 -- a touch takes a credit of the handle for the entry that it adds, or none
@@ -54,6 +55,17 @@ joined-credits old new n step =
     let granted : n ≤ old.reserved = step.credits in
     omega arith
 
+-- a handle gets further credits
+extended-credits : (old new : Front) (h n : ℕ) → ExtendsHandle old h n new → held new ≡ held old
+extended-credits old new h n step =
+    let handle : IsOpen old h = step.handle in
+    let same : held new ≡ held (extending old h n handle) = ap (λ (f : Front). held f) step.after in
+    let was : left_in old.open_handles ≡ left_in handle.before + handle.left + left_in handle.behind =
+    ap (λ (hs : List (ℕ × ℕ)). left_in hs) handle.stands ∙ left-among handle.before h handle.left handle.behind in
+    let now = left-among handle.before h (handle.left + n) handle.behind in
+    let granted : n ≤ old.reserved = step.credits in
+    omega arith
+
 -- a handle touches a block
 touch-credits : (old new : Front) (h b : ℕ) (op : Op) (e : Entry) (handle : IsOpen old h) → entry_of op ≡ Some e → (IsFirstTouch old b → 0 < handle.left) →
     new ≡ touching old h b op handle → held new ≡ held old
@@ -86,19 +98,51 @@ stopped-credits old new h step =
 -- after each event
 pub event-held : (old new : Front) (event : FrontEvent) → FrontHappens old event new → HeldAfter old event (held new)
 event-held old new (Reserve n) step = reserved-credits old new n step
+event-held old new (RefuseReserve n) step = ap (λ (f : Front). held f) step.after
+event-held old new (TakeBack n) step = ap (λ (f : Front). held f) step.after
 event-held old new (GiveBack n) step = given-credits old new n step
+event-held old new (LoadCredits found) step = ap (λ (f : Front). held f) step.after
+event-held old new (LoadMark found) step = ap (λ (f : Front). held f) step.after
 event-held old new (Join n) step = joined-credits old new n step
+event-held old new (ExtendHandle h n) step = extended-credits old new h n step
 event-held old new (WriteBlock h b v) step = write-credits old new h b v step
 event-held old new (RevokeBlock h b) step = revoke-credits old new h b step
 event-held old new (StopHandle h) step = (step.handle, stopped-credits old new h step)
 event-held old new Lock step = ap (λ (f : Front). held f) step.after
 event-held old new (Raise t) step = ap (λ (f : Front). held f) step.after
 
+-- how many refused reserves have not taken back after each event
+pub event-refused : (old new : Front) (event : FrontEvent) → FrontHappens old event new → RefusedAfter old event new.refused
+event-refused old new (Reserve n) step = ap (λ (f : Front). f.refused) step.after
+event-refused old new (RefuseReserve n) step = ap (λ (f : Front). f.refused) step.after
+event-refused old new (TakeBack n) step =
+    let same : new.refused ≡ old.refused - n = ap (λ (f : Front). f.refused) step.after in
+    let some : n ≤ old.refused = step.refused in
+    omega arith
+event-refused old new (GiveBack n) step = ap (λ (f : Front). f.refused) step.after
+event-refused old new (LoadCredits found) step = ap (λ (f : Front). f.refused) step.after
+event-refused old new (LoadMark found) step = ap (λ (f : Front). f.refused) step.after
+event-refused old new (Join n) step = ap (λ (f : Front). f.refused) step.after
+event-refused old new (ExtendHandle h n) step = ap (λ (f : Front). f.refused) step.after
+event-refused old new (WriteBlock h b v) step = ap (λ (f : Front). f.refused) step.after
+event-refused old new (RevokeBlock h b) step = ap (λ (f : Front). f.refused) step.after
+event-refused old new (StopHandle h) step = ap (λ (f : Front). f.refused) step.after
+event-refused old new Lock step = ap (λ (f : Front). f.refused) step.after
+event-refused old new (Raise t) step = ap (λ (f : Front). f.refused) step.after
+
 -- so no more are held than a transaction may have
 pub held-within : (old new : Front) (event : FrontEvent) → FrontHappens old event new → held old ≤ old.capacity → held new ≤ new.capacity
 held-within old new (Reserve n) step within =
-    let free : held old + n ≤ old.capacity = step.free in
+    let free : n ≤ old.capacity - (held old + old.refused) = step.free in
     let after = reserved-credits old new n step in
+    let same : new.capacity ≡ old.capacity = ap (λ (f : Front). f.capacity) step.after in
+    omega arith
+held-within old new (RefuseReserve n) step within = subst (λ (f : Front). held f ≤ f.capacity) (sym step.after) within
+held-within old new (TakeBack n) step within = subst (λ (f : Front). held f ≤ f.capacity) (sym step.after) within
+held-within old new (LoadCredits found) step within = subst (λ (f : Front). held f ≤ f.capacity) (sym step.after) within
+held-within old new (LoadMark found) step within = subst (λ (f : Front). held f ≤ f.capacity) (sym step.after) within
+held-within old new (ExtendHandle h n) step within =
+    let after = extended-credits old new h n step in
     let same : new.capacity ≡ old.capacity = ap (λ (f : Front). f.capacity) step.after in
     omega arith
 held-within old new (GiveBack n) step within =
@@ -123,3 +167,77 @@ held-within old new (StopHandle h) step within =
     omega arith
 held-within old new Lock step within = subst (λ (f : Front). held f ≤ f.capacity) (sym step.after) within
 held-within old new (Raise t) step within = subst (λ (f : Front). held f ≤ f.capacity) (sym step.after) within
+
+-- a handle that is open is so beside them
+abbrev beside-open : (f : Front) (reserved refused h : ℕ) → IsOpen f h → IsOpen (beside reserved refused f) h
+beside-open f reserved refused h handle = record { left = handle.left; before = handle.before; behind = handle.behind; stands = handle.stands }
+
+-- a handle joins beside them
+join-beside : (old new : Front) (reserved refused n : ℕ) → Joins old n new → Joins (beside reserved refused old) n (beside reserved refused new)
+join-beside old new reserved refused n step =
+    let granted : n ≤ old.reserved = step.credits in
+    let same : old.reserved - n + reserved ≡ old.reserved + reserved - n = omega arith in
+    record {
+      running = step.running;
+      may = record { unlocked = step.may.unlocked; number = step.may.number; handle = step.may.handle };
+      credits = omega arith;
+      after =
+          ap (λ (f : Front). beside reserved refused f) step.after
+          ∙ ap (λ (r : ℕ). record (joining old n) { reserved = r; refused = old.refused + refused }) same;
+    }
+
+-- or gets further credits
+extend-beside : (old new : Front) (reserved refused h n : ℕ) → ExtendsHandle old h n new →
+    ExtendsHandle (beside reserved refused old) h n (beside reserved refused new)
+extend-beside old new reserved refused h n step =
+    let granted : n ≤ old.reserved = step.credits in
+    let same : old.reserved - n + reserved ≡ old.reserved + reserved - n = omega arith in
+    record {
+      running = step.running;
+      unlocked = step.unlocked;
+      handle = beside-open old reserved refused h step.handle;
+      credits = omega arith;
+      after =
+          ap (λ (f : Front). beside reserved refused f) step.after
+          ∙ ap (λ (r : ℕ). record (extending old h n step.handle) { reserved = r; refused = old.refused + refused }) same;
+    }
+
+-- whatever callers hold beside, a step with the front at hand is the same
+pub event-beside : (old new : Front) (event : FrontEvent) (reserved refused : ℕ) → IsAtHand event → FrontHappens old event new →
+    FrontHappens (beside reserved refused old) event (beside reserved refused new)
+event-beside old new (Reserve n) reserved refused hand step = absurd hand
+event-beside old new (RefuseReserve n) reserved refused hand step = absurd hand
+event-beside old new (TakeBack n) reserved refused hand step = absurd hand
+event-beside old new (GiveBack n) reserved refused hand step = absurd hand
+event-beside old new (LoadCredits found) reserved refused hand step = absurd hand
+event-beside old new (LoadMark found) reserved refused hand step = absurd hand
+event-beside old new (Join n) reserved refused hand step = join-beside old new reserved refused n step
+event-beside old new (ExtendHandle h n) reserved refused hand step = extend-beside old new reserved refused h n step
+event-beside old new (WriteBlock h b v) reserved refused hand step = record {
+  running = step.running;
+  handle = beside-open old reserved refused h step.handle;
+  credit = step.credit;
+  allowed = step.allowed;
+  whole = step.whole;
+  after = ap (λ (f : Front). beside reserved refused f) step.after;
+}
+event-beside old new (RevokeBlock h b) reserved refused hand step = record {
+  running = step.running;
+  handle = beside-open old reserved refused h step.handle;
+  credit = step.credit;
+  allowed = step.allowed;
+  after = ap (λ (f : Front). beside reserved refused f) step.after;
+}
+event-beside old new (StopHandle h) reserved refused hand step = record {
+  handle = beside-open old reserved refused h step.handle;
+  after = ap (λ (f : Front). beside reserved refused f) step.after;
+}
+event-beside old new Lock reserved refused hand step = record {
+  running = step.running;
+  joined = step.joined;
+  after = ap (λ (f : Front). beside reserved refused f) step.after;
+}
+event-beside old new (Raise t) reserved refused hand step = record {
+  finished = step.finished;
+  after = ap (λ (f : Front). beside reserved refused f) step.after;
+}

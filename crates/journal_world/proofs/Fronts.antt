@@ -16,8 +16,8 @@ use Rattle.journal_model.specs.Chain.{Ring}
 use Rattle.journal_model.specs.Room.{IsCapacity}
 use Rattle.journal_model.specs.Superblock.{Shape}
 use Rattle.journal_world.specs.Engine.{Engine, Accepts, AreBatchesOf}
-use Rattle.journal_world.specs.Front.{Front, FrontEvent, FrontHappens, IsOpen, MaySeal, aborting, finishing, fresh_front, held, joining, left_after, next_handle, raising, sealing, stopping, touching}
-use Rattle.journal_world.specs.Front.FrontEvent.{Reserve, GiveBack, Join, WriteBlock, RevokeBlock, StopHandle, Lock, Raise}
+use Rattle.journal_world.specs.Front.{Front, FrontEvent, FrontHappens, IsOpen, MaySeal, aborting, extending, finishing, fresh_front, held, joining, left_after, next_handle, raising, sealing, stopping, touching}
+use Rattle.journal_world.specs.Front.FrontEvent.{Reserve, RefuseReserve, TakeBack, GiveBack, LoadCredits, LoadMark, Join, ExtendHandle, WriteBlock, RevokeBlock, StopHandle, Lock, Raise}
 use Rattle.journal_world.specs.Journal.{KeepsFront, batch_of, fresh_engine}
 use Rattle.journal_world.proofs.Batches.{batches-last}
 use Rattle.journal_world.proofs.Credits.{held-within}
@@ -63,11 +63,11 @@ fresh-agrees capacity shape superblock next e is fits =
       least = tt;
     }
 
--- other credits that no handle was made of, and the lock, do not matter
-credits-agree : (f : Front) (e : Engine) (answered : List ℕ) (reserved : ℕ) (locked : Bool) →
-    held (record f { reserved = reserved; locked = locked }) ≤ f.capacity → FrontAgrees f e answered →
-    FrontAgrees (record f { reserved = reserved; locked = locked }) e answered
-credits-agree f e answered reserved locked within agrees = record {
+-- other credits that no handle was made of, what refused reserves have not taken back, and the lock do not matter
+credits-agree : (f : Front) (e : Engine) (answered : List ℕ) (reserved refused : ℕ) (locked : Bool) →
+    held (record f { reserved = reserved; refused = refused; locked = locked }) ≤ f.capacity → FrontAgrees f e answered →
+    FrontAgrees (record f { reserved = reserved; refused = refused; locked = locked }) e answered
+credits-agree f e answered reserved refused locked within agrees = record {
   batches = agrees.batches;
   number = agrees.number;
   told = agrees.told;
@@ -126,6 +126,34 @@ join-agrees f e answered n within agrees =
         apart : (rest : List (ℕ × ℕ)) → AllByRecursion (λ h. h.0 ≤ given) rest → AllByRecursion (λ k. nat_eq (given + 1) k ≡ false) (map (λ h. h.0) rest)
         apart [] low = tt
         apart (h ∷ rest) low = (grind (arith, nat_tests, low.0), apart rest low.1)
+
+-- an open handle gets further credits
+extend-agrees : (f : Front) (e : Engine) (answered : List ℕ) (h n : ℕ) (handle : IsOpen f h) → held (extending f h n handle) ≤ f.capacity →
+    FrontAgrees f e answered → FrontAgrees (extending f h n handle) e answered
+extend-agrees f e answered h n handle within agrees = record {
+  batches = agrees.batches;
+  number = agrees.number;
+  told = agrees.told;
+  handles = agrees.handles;
+  keeps = record {
+    layout = agrees.keeps.layout;
+    home_blocks = agrees.keeps.home_blocks;
+    aborted = agrees.keeps.aborted;
+    committed = agrees.keeps.committed;
+    marked = agrees.keeps.marked;
+    capacity = agrees.keeps.capacity;
+    credits = within;
+    joined =
+        all-changed (λ o. Contains f.running.handles o.0) handle.before (h, handle.left) (h, handle.left + n) handle.behind (λ one. one)
+        (subst (AllByRecursion (λ o. Contains f.running.handles o.0)) handle.stands agrees.keeps.joined);
+    once =
+        subst (IsDistinct nat_eq) (ap (map (λ o. o.0)) handle.stands ∙ same-numbers handle.before h handle.left (handle.left + n) handle.behind)
+        agrees.keeps.once;
+  };
+  least =
+      all-changed (λ o. o.0 ≤ f.given) handle.before (h, handle.left) (h, handle.left + n) handle.behind (λ low. low)
+      (subst (AllByRecursion (λ o. o.0 ≤ f.given)) handle.stands agrees.least);
+}
 
 -- an open handle touches a block
 touch-agrees : (f : Front) (e : Engine) (answered : List ℕ) (h b : ℕ) (op : Op) (handle : IsOpen f h) → held (touching f h b op handle) ≤ f.capacity →
@@ -221,10 +249,21 @@ front-agrees old new e answered event step agrees = by event step (held-within o
     by : (event : FrontEvent) → FrontHappens old event new → held new ≤ new.capacity → FrontAgrees new e answered
     by (Reserve n) step within =
         subst (λ (f : Front). FrontAgrees f e answered) (sym step.after)
-        (credits-agree old e answered _ _ (with _ step.after refl within) agrees)
+        (credits-agree old e answered _ _ _ (with _ step.after refl within) agrees)
+    by (RefuseReserve n) step within =
+        subst (λ (f : Front). FrontAgrees f e answered) (sym step.after)
+        (credits-agree old e answered _ _ _ (with _ step.after refl within) agrees)
+    by (TakeBack n) step within =
+        subst (λ (f : Front). FrontAgrees f e answered) (sym step.after)
+        (credits-agree old e answered _ _ _ (with _ step.after refl within) agrees)
     by (GiveBack n) step within =
         subst (λ (f : Front). FrontAgrees f e answered) (sym step.after)
-        (credits-agree old e answered _ _ (with _ step.after refl within) agrees)
+        (credits-agree old e answered _ _ _ (with _ step.after refl within) agrees)
+    by (LoadCredits found) step within = subst (λ (f : Front). FrontAgrees f e answered) (sym step.after) agrees
+    by (LoadMark found) step within = subst (λ (f : Front). FrontAgrees f e answered) (sym step.after) agrees
+    by (ExtendHandle h n) step within =
+        subst (λ (f : Front). FrontAgrees f e answered) (sym step.after)
+        (extend-agrees old e answered h n step.handle (with _ step.after refl within) agrees)
     by (Join n) step within =
         subst (λ (f : Front). FrontAgrees f e answered) (sym step.after) (join-agrees old e answered n (with _ step.after refl within) agrees)
     by (WriteBlock h b v) step within =
@@ -238,7 +277,7 @@ front-agrees old new e answered event step agrees = by event step (held-within o
         (stop-agrees old e answered h step.handle (with _ step.after refl within) agrees)
     by Lock step within =
         subst (λ (f : Front). FrontAgrees f e answered) (sym step.after)
-        (credits-agree old e answered _ _ (with _ step.after refl within) agrees)
+        (credits-agree old e answered _ _ _ (with _ step.after refl within) agrees)
     by (Raise t) step within =
         subst (λ (f : Front). FrontAgrees f e answered) (sym step.after) (raise-agrees old e answered t step.finished agrees)
 

@@ -1,6 +1,7 @@
--- The front: the transaction that handles join and write to, the ones that are sealed, the handles that are open, and the
--- credits; and each step of it alone, none of which reads the engine. Source: journalling.rst (handles, transactions,
--- credits), fs/jbd2/transaction.c by behaviour.
+-- The front: the transaction that handles join and write to, the ones that are sealed, the handles that are open, the
+-- credits and the mark; and each step of it alone, none of which reads the engine. The steps on the credit word and the mark
+-- are made by callers of their own, without a lock, and so may come between any two others. Source: journalling.rst (handles,
+-- transactions, credits), fs/jbd2/transaction.c by behaviour.
 use Rattle.std.specs.Prelude.{◌≡◌, ℕ, zero, suc, ◌+◌, ◌-◌, ◌^◌, ◌<◌, ◌≤◌, Bool, true, false, if◌then◌else◌, max, List, [], ◌∷◌, ◌++◌, length, drop, is_some, None}
 use Rattle.std.specs.List.{flat_map, sum_by}
 use Rattle.journal_model.specs.declared.transaction.Op.{Op}
@@ -16,6 +17,7 @@ pub record Front : Type 0 where
   pub home_blocks : ℕ  -- of the device
   pub capacity : ℕ  -- the most credits that are held
   pub reserved : ℕ  -- the credits granted that no handle was made of, and that were not given back
+  pub refused : ℕ  -- what refused reserves have added to the credit word, and not taken back yet
   pub finished : ℕ  -- the front knows that transactions up to this number are committed
   pub mark : ℕ  -- callers are told so of those up to this one
   pub sealed : History  -- since the opening
@@ -36,6 +38,7 @@ fresh_front layout home_blocks capacity first = record {
   home_blocks = home_blocks;
   capacity = capacity;
   reserved = 0;
+  refused = 0;
   finished = first - 1;
   mark = first - 1;
   sealed = [];
@@ -54,6 +57,14 @@ left_in handles = sum_by (λ h. h.1) handles
 -- running transaction
 abbrev pub held : Front → ℕ
 held f = f.reserved + left_in f.open_handles + length (entries f.running.steps)
+
+-- the number in the credit word: the credits held, and what refused reserves have not taken back
+abbrev pub credit_word : Front → ℕ
+credit_word f = held f + f.refused
+
+-- how many the credit word leaves
+abbrev pub credits_left : Front → ℕ
+credits_left f = f.capacity - credit_word f
 
 -- the number of the next handle
 abbrev pub next_handle : Front → ℕ
@@ -95,11 +106,17 @@ IsFirstTouch f b = effect b f.running.steps ≡ None
 abbrev pub left_after : Front → ℕ → ℕ → ℕ
 left_after f b left = if is_some (effect b f.running.steps) then left else left - 1
 
--- what the front does by itself
+-- What the front does by itself. The first six are steps of callers on the credit word and the mark, which ask for nothing
+-- else of the front.
 pub data FrontEvent : Type 0 where
   Reserve : (credits : ℕ) → FrontEvent
+  RefuseReserve : (credits : ℕ) → FrontEvent
+  TakeBack : (credits : ℕ) → FrontEvent
   GiveBack : (credits : ℕ) → FrontEvent
+  LoadCredits : (found : ℕ) → FrontEvent
+  LoadMark : (found : ℕ) → FrontEvent
   Join : (credits : ℕ) → FrontEvent
+  ExtendHandle : (handle credits : ℕ) → FrontEvent
   WriteBlock : (handle block : ℕ) → (bytes : List ℕ) → FrontEvent
   RevokeBlock : (handle block : ℕ) → FrontEvent
   StopHandle : (handle : ℕ) → FrontEvent
@@ -109,10 +126,26 @@ pub data FrontEvent : Type 0 where
 abbrev pub reserving : Front → ℕ → Front
 reserving f n = record f { reserved = f.reserved + n }
 
--- Credits are granted where as many are free.
+-- Credits are granted where the credit word leaves as many.
 pub record Reserves (old : Front) (n : ℕ) (new : Front) : Type 0 where
-  pub free : held old + n ≤ old.capacity
+  pub free : n ≤ credits_left old
   pub after : new ≡ reserving old n
+
+abbrev pub refusing : Front → ℕ → Front
+refusing f n = record f { refused = f.refused + n }
+
+-- Where it leaves fewer, the reserve is refused. The word has them all the same, until they are taken back.
+pub record RefusesReserve (old : Front) (n : ℕ) (new : Front) : Type 0 where
+  pub few : credits_left old < n
+  pub after : new ≡ refusing old n
+
+abbrev pub taking_back : Front → ℕ → Front
+taking_back f n = record f { refused = f.refused - n }
+
+-- A refused reserve takes back what it added.
+pub record TakesBack (old : Front) (n : ℕ) (new : Front) : Type 0 where
+  pub refused : n ≤ old.refused
+  pub after : new ≡ taking_back old n
 
 abbrev pub giving_back : Front → ℕ → Front
 giving_back f n = record f { reserved = f.reserved - n }
@@ -121,6 +154,16 @@ giving_back f n = record f { reserved = f.reserved - n }
 pub record GivesBack (old : Front) (n : ℕ) (new : Front) : Type 0 where
   pub granted : n ≤ old.reserved
   pub after : new ≡ giving_back old n
+
+-- A load of the credit word finds it, and changes nothing.
+pub record LoadsCredits (old : Front) (found : ℕ) (new : Front) : Type 0 where
+  pub word : found ≡ credit_word old
+  pub after : new ≡ old
+
+-- So does a load of the mark.
+pub record LoadsMark (old : Front) (found : ℕ) (new : Front) : Type 0 where
+  pub mark : found ≡ old.mark
+  pub after : new ≡ old
 
 abbrev pub joining : Front → ℕ → Front
 joining f n = record f {
@@ -136,6 +179,20 @@ pub record Joins (old : Front) (n : ℕ) (new : Front) : Type 0 where
   pub may : MayJoin old
   pub credits : n ≤ old.reserved
   pub after : new ≡ joining old n
+
+abbrev pub extending : (f : Front) (h n : ℕ) → IsOpen f h → Front
+extending f h n handle = record f {
+  reserved = f.reserved - n;
+  open_handles = handle.before ++ (h, handle.left + n) ∷ handle.behind;
+}
+
+-- An open handle gets further credits, that no other was made of, while its transaction takes handles.
+pub record ExtendsHandle (old : Front) (h n : ℕ) (new : Front) : Type 0 where
+  pub running : old.aborted ≡ false
+  pub unlocked : old.locked ≡ false
+  pub handle : IsOpen old h
+  pub credits : n ≤ old.reserved
+  pub after : new ≡ extending old h n handle
 
 -- the front with one more step of a handle, which touches a block
 abbrev pub touching : (f : Front) (h b : ℕ) (op : Op) → IsOpen f h → Front
@@ -196,24 +253,18 @@ pub record Raises (old : Front) (t : ℕ) (new : Front) : Type 0 where
 -- what each event does
 abbrev pub FrontHappens : Front → FrontEvent → Front → Type 0
 FrontHappens old (Reserve n) new = Reserves old n new
+FrontHappens old (RefuseReserve n) new = RefusesReserve old n new
+FrontHappens old (TakeBack n) new = TakesBack old n new
 FrontHappens old (GiveBack n) new = GivesBack old n new
+FrontHappens old (LoadCredits found) new = LoadsCredits old found new
+FrontHappens old (LoadMark found) new = LoadsMark old found new
 FrontHappens old (Join n) new = Joins old n new
+FrontHappens old (ExtendHandle h n) new = ExtendsHandle old h n new
 FrontHappens old (WriteBlock h b v) new = WritesBlock old h b v new
 FrontHappens old (RevokeBlock h b) new = RevokesBlock old h b new
 FrontHappens old (StopHandle h) new = StopsHandle old h new
 FrontHappens old Lock new = Locks old new
 FrontHappens old (Raise t) new = Raises old t new
-
--- how many credits are held after an event: those that are granted are more, those that come back fewer
-abbrev pub HeldAfter : Front → FrontEvent → ℕ → Type 0
-HeldAfter old (Reserve n) after = after ≡ held old + n
-HeldAfter old (GiveBack n) after = after + n ≡ held old
-HeldAfter old (Join n) after = after ≡ held old
-HeldAfter old (WriteBlock h b v) after = after ≡ held old
-HeldAfter old (RevokeBlock h b) after = after ≡ held old
-HeldAfter old (StopHandle h) after = (handle : IsOpen old h) × (after + handle.left ≡ held old)
-HeldAfter old Lock after = after ≡ held old
-HeldAfter old (Raise t) after = after ≡ held old
 
 -- all transactions since the opening, the running one last
 abbrev pub transactions : Front → History

@@ -1,5 +1,6 @@
 pub mod Call
 pub mod Checkpoint
+pub mod Credits
 pub mod Direct
 pub mod Engine
 pub mod Front

@@ -8,7 +8,7 @@ use Rattle.journal_world.specs.Call.Call.{Write, Flush}
 use Rattle.journal_world.specs.Direct.{DirectFaults, DirectSteps}
 use Rattle.journal_world.specs.Engine.{Engine}
 use Rattle.journal_world.specs.Front.{Front, FrontEvent, FrontHappens, aborting}
-use Rattle.journal_world.specs.Front.FrontEvent.{Reserve, GiveBack, Join, WriteBlock, RevokeBlock, StopHandle, Lock, Raise}
+use Rattle.journal_world.specs.Front.FrontEvent.{Reserve, RefuseReserve, TakeBack, GiveBack, LoadCredits, LoadMark, Join, ExtendHandle, WriteBlock, RevokeBlock, StopHandle, Lock, Raise}
 use Rattle.journal_world.specs.Journal.{Event, Happens, Journal, batch_of}
 use Rattle.journal_world.specs.Journal.Event.{FrontStep, Seal, CommitStep, CommitFault, CheckpointStep, CheckpointFault, ReadFault, DirectWrite, DirectWriteFault, DirectSync, DirectSyncFault, Finish}
 use Rattle.journal_world.proofs.Fronts.{FrontAgrees, fails-on, finish-agrees, front-agrees, goes-on, seal-agrees}
@@ -126,8 +126,13 @@ event-below old new disk after DirectSyncFault directs happens = Same EngineSync
 -- what a step of the front alone does to the steps of handles
 front-steps : (old new : Front) (event : FrontEvent) → FrontHappens old event new → MakesSteps (Step (FrontStep event)) old new
 front-steps old new (Reserve n) step = NoStep (ap (λ (f : Front). f.sealed) step.after) (ap (λ (f : Front). f.running.steps) step.after)
+front-steps old new (RefuseReserve n) step = NoStep (ap (λ (f : Front). f.sealed) step.after) (ap (λ (f : Front). f.running.steps) step.after)
+front-steps old new (TakeBack n) step = NoStep (ap (λ (f : Front). f.sealed) step.after) (ap (λ (f : Front). f.running.steps) step.after)
 front-steps old new (GiveBack n) step = NoStep (ap (λ (f : Front). f.sealed) step.after) (ap (λ (f : Front). f.running.steps) step.after)
+front-steps old new (LoadCredits found) step = NoStep (ap (λ (f : Front). f.sealed) step.after) (ap (λ (f : Front). f.running.steps) step.after)
+front-steps old new (LoadMark found) step = NoStep (ap (λ (f : Front). f.sealed) step.after) (ap (λ (f : Front). f.running.steps) step.after)
 front-steps old new (Join n) step = NoStep (ap (λ (f : Front). f.sealed) step.after) (ap (λ (f : Front). f.running.steps) step.after)
+front-steps old new (ExtendHandle h n) step = NoStep (ap (λ (f : Front). f.sealed) step.after) (ap (λ (f : Front). f.running.steps) step.after)
 front-steps old new (WriteBlock h b v) step =
     OneWrite h b v refl step.handle (ap (λ (f : Front). f.sealed) step.after) (ap (λ (f : Front). f.running.steps) step.after)
 front-steps old new (RevokeBlock h b) step =

@@ -1,5 +1,8 @@
-use Rattle.journal_world.proofs.Credits.{event-held}
+use Rattle.journal_world.proofs.Credits.{event-held, event-refused}
 use Rattle.journal_world.proofs.laws.no_credit_is_lost_or_made.Goals as goal
 
-pub returns : goal.returns
-returns c = event-held
+pub returns-clause-held : goal.returns-clause-held
+returns-clause-held c = event-held
+
+pub returns-clause-refused : goal.returns-clause-refused
+returns-clause-refused c = event-refused

@@ -1,29 +1,5 @@
-use Rattle.group_commit.proofs.Directs.{agrees-direct, agrees-unsynced, each-sync, refused-sync}
 use Rattle.group_commit.proofs.journal.Journal.sync_direct.Goals as goal
 
--- front and engine agree behind the flush
-pub invariant_of-self : goal.invariant_of-self
-invariant_of-self g c = agrees-direct _ _ _ _ _ _ c.self.invariant c.in-Ok.ensures.ok
-
--- and where it was refused, once the front is told
-pub invariant_of-self-in-Err : goal.invariant_of-self-in-Err
-invariant_of-self-in-Err g c = agrees-unsynced g.D.Device.state _ _ _ _ _ c.self.invariant c.abort.ensures c.in-Err.ensures.err
-
--- each moment of the engine's flush is one of the journal's
-pub returns-in-Ok-clause-moments : goal.returns-in-Ok-clause-moments
-returns-in-Ok-clause-moments g c = rw (← c.self.view_is) (λ honest. each-sync _ _ _ c.self.invariant (c.sync_direct.ensures.moments honest))
-
-pub returns-in-Err-clause-moments : goal.returns-in-Err-clause-moments
-returns-in-Err-clause-moments g c = rw (← c.self.view_is) (λ honest. each-sync _ _ _ c.self.invariant (c.sync_direct.ensures.moments honest))
-
--- and there is one at most
-pub returns-in-Ok-clause-one : goal.returns-in-Ok-clause-one
-returns-in-Ok-clause-one g c = rw (← c.self.view_is) c.sync_direct.ensures.one
-
-pub returns-in-Err-clause-one : goal.returns-in-Err-clause-one
-returns-in-Err-clause-one g c = rw (← c.self.view_is) c.sync_direct.ensures.one
-
--- why the engine refuses it is why the journal does
-pub returns-in-Err-clause-err : goal.returns-in-Err-clause-err
-returns-in-Err-clause-err g c =
-    rw (← c.self.view_is) (refused-sync g.D.Device.state _ _ _ _ _ c.self.invariant c.abort.ensures c.in-Err.ensures.err)
+-- there is one moment at most, as of the step
+pub returns-clause-one : goal.returns-clause-one
+returns-clause-one g c = rw (← c.self.view_is) c.sync_direct.ensures.one

@@ -1,0 +1,73 @@
+use Rattle.std.proofs.Common.{subst}
+use Rattle.log_engine.specs.declared.engine.Progress.{Progress}
+use Rattle.log_engine.specs.Engine.{RoundDid}
+use Rattle.group_commit.proofs.Rounding.{agrees-round, agrees-round_refused, done-check, idle-check, refused-check, step-check}
+use Rattle.group_commit.proofs.Turning.{each-check}
+use Rattle.group_commit.proofs.steps.checkpoint_turn.Goals as goal
+
+-- where the device failed, front and engine agree once the front is told
+pub returns-in-Err-clause-agrees : goal.returns-in-Err-clause-agrees
+returns-in-Err-clause-agrees g c = agrees-round_refused _ _ _ _ _ _ _ c.requires.agrees c.abort.ensures c.in-Err.ensures.err
+
+-- the device failed
+pub returns-in-Err-clause-err : goal.returns-in-Err-clause-err
+returns-in-Err-clause-err g c =
+    (refused-check g.D.Device.state _ _ _ _ _ _ _ c.requires.agrees c.abort.ensures c.in-Err.ensures.err)
+
+-- front and engine agree after a step
+pub returns-in-Idle-clause-agrees : goal.returns-in-Idle-clause-agrees
+returns-in-Idle-clause-agrees g c = agrees-round _ _ _ _ _ _ c.requires.agrees c.in-Ok.ensures.ok
+
+pub returns-in-Step-clause-agrees : goal.returns-in-Step-clause-agrees
+returns-in-Step-clause-agrees g c = agrees-round _ _ _ _ _ _ c.requires.agrees c.in-Ok.ensures.ok
+
+pub returns-in-Done-clause-agrees : goal.returns-in-Done-clause-agrees
+returns-in-Done-clause-agrees g c = agrees-round _ _ _ _ _ _ c.requires.agrees c.in-Ok.ensures.ok
+
+-- each of its moments is one of the turn
+pub returns-in-Err-clause-moments : goal.returns-in-Err-clause-moments
+returns-in-Err-clause-moments g c = (λ honest. each-check _ _ _ c.requires.agrees (c.checkpoint_step.ensures.moments honest))
+
+pub returns-in-Idle-clause-moments : goal.returns-in-Idle-clause-moments
+returns-in-Idle-clause-moments g c = (λ honest. each-check _ _ _ c.requires.agrees (c.checkpoint_step.ensures.moments honest))
+
+pub returns-in-Step-clause-moments : goal.returns-in-Step-clause-moments
+returns-in-Step-clause-moments g c = (λ honest. each-check _ _ _ c.requires.agrees (c.checkpoint_step.ensures.moments honest))
+
+pub returns-in-Done-clause-moments : goal.returns-in-Done-clause-moments
+returns-in-Done-clause-moments g c = (λ honest. each-check _ _ _ c.requires.agrees (c.checkpoint_step.ensures.moments honest))
+
+-- and there is one at most
+pub returns-in-Err-clause-one : goal.returns-in-Err-clause-one
+returns-in-Err-clause-one g c = c.checkpoint_step.ensures.one
+
+pub returns-in-Idle-clause-one : goal.returns-in-Idle-clause-one
+returns-in-Idle-clause-one g c = c.checkpoint_step.ensures.one
+
+pub returns-in-Step-clause-one : goal.returns-in-Step-clause-one
+returns-in-Step-clause-one g c = c.checkpoint_step.ensures.one
+
+pub returns-in-Done-clause-one : goal.returns-in-Done-clause-one
+returns-in-Done-clause-one g c = c.checkpoint_step.ensures.one
+
+-- the turn did what the step did
+pub returns-in-Idle-clause-ok : goal.returns-in-Idle-clause-ok
+returns-in-Idle-clause-ok g c =
+    let old = c.args.engine.now in
+    let new = c.checkpoint_step.new.self in
+    let told = λ (p : Progress). RoundDid p old.engine (g.D.Device.state old.device).disk new.engine (g.D.Device.state new.device).disk in
+    (idle-check g.D.Device.state c.args.front.now _ _ _ _ (subst told c.in-Idle.is c.in-Ok.ensures.ok))
+
+pub returns-in-Step-clause-ok : goal.returns-in-Step-clause-ok
+returns-in-Step-clause-ok g c =
+    let old = c.args.engine.now in
+    let new = c.checkpoint_step.new.self in
+    let told = λ (p : Progress). RoundDid p old.engine (g.D.Device.state old.device).disk new.engine (g.D.Device.state new.device).disk in
+    (step-check g.D.Device.state c.args.front.now _ _ _ _ (subst told c.in-Step.is c.in-Ok.ensures.ok))
+
+pub returns-in-Done-clause-ok : goal.returns-in-Done-clause-ok
+returns-in-Done-clause-ok g c =
+    let old = c.args.engine.now in
+    let new = c.checkpoint_step.new.self in
+    let told = λ (p : Progress). RoundDid p old.engine (g.D.Device.state old.device).disk new.engine (g.D.Device.state new.device).disk in
+    (done-check g.D.Device.state c.args.front.now _ _ _ _ _ (subst told c.in-Done.is c.in-Ok.ensures.ok))

@@ -1,0 +1,70 @@
+use Rattle.std.proofs.Common.{sym, subst, ◌≡◌}
+use Rattle.std.specs.Prelude.{false}
+use Rattle.std.proofs.lemmas.Result.{err_from_is_err_and}
+use Rattle.log_engine.specs.declared.engine.Progress.{Progress}
+use Rattle.log_engine.specs.Engine.{StepDid}
+use Rattle.group_commit.proofs.Sealing.{agrees-last, agrees-refused, finishes-commit, may-raise, refused-turn}
+use Rattle.group_commit.proofs.Turning.{each-turn}
+use Rattle.group_commit.proofs.steps.commit_step.Goals as goal
+
+-- where the device failed, front and engine agree once the front is told
+pub returns-in-Err-clause-agrees : goal.returns-in-Err-clause-agrees
+returns-in-Err-clause-agrees g c = agrees-refused _ _ _ _ _ _ _ c.requires.agrees c.abort.ensures c.in-Err.ensures.err
+
+-- the device failed
+pub returns-in-Err-clause-err : goal.returns-in-Err-clause-err
+returns-in-Err-clause-err g c =
+    let running = c.requires.running in
+    (refused-turn g.D.Device.state _ _ _ _ _ _ _ running c.abort.ensures c.in-Err.ensures.err)
+
+-- each of its moments is one of the turn
+pub returns-in-Err-clause-moments : goal.returns-in-Err-clause-moments
+returns-in-Err-clause-moments g c =
+    (λ honest. each-turn _ _ _ c.requires.agrees (c.commit_step.ensures.moments honest))
+
+-- so it is of a step that is not the last
+pub returns-in-Step-clause-moments : goal.returns-in-Step-clause-moments
+returns-in-Step-clause-moments g c =
+    (λ honest. each-turn _ _ _ c.requires.agrees (c.commit_step.ensures.moments honest))
+
+-- what is finished may be told
+pub raise-requires : goal.raise-requires
+raise-requires g c =
+    let old = c.args.engine.now in
+    let new = c.commit_step.new.self in
+    let did = subst (λ (p : Progress). StepDid p old.engine (g.D.Device.state old.device).disk new.engine (g.D.Device.state new.device).disk)
+    c.in-Done.is c.in-Ok.ensures.ok in
+    may-raise _ _ _ _ c.requires.agrees did.2 c.finish.ensures
+
+-- after the last step front and engine agree, for the front knows it and tells of it
+pub returns-in-Done-clause-agrees : goal.returns-in-Done-clause-agrees
+returns-in-Done-clause-agrees g c =
+    let old = c.args.engine.now in
+    let new = c.commit_step.new.self in
+    let did = subst (λ (p : Progress). StepDid p old.engine (g.D.Device.state old.device).disk new.engine (g.D.Device.state new.device).disk)
+    c.in-Done.is c.in-Ok.ensures.ok in
+    agrees-last _ _ _ _ _ _ _ _ c.requires.agrees did.0 did.1 did.2 c.finish.ensures c.raise.ensures.after
+
+-- the last step commits the transaction, and the front knows it and tells of it
+pub returns-in-Done-clause-ok : goal.returns-in-Done-clause-ok
+returns-in-Done-clause-ok g c =
+    let old = c.args.engine.now in
+    let new = c.commit_step.new.self in
+    let did = subst (λ (p : Progress). StepDid p old.engine (g.D.Device.state old.device).disk new.engine (g.D.Device.state new.device).disk)
+    c.in-Done.is c.in-Ok.ensures.ok in
+    (finishes-commit g.D.Device.state _ _ _ _ _ _ _ _ c.requires.agrees did.0 did.1 did.2 c.finish.ensures c.raise.ensures)
+
+-- each of its moments is one of the turn
+pub returns-in-Done-clause-moments : goal.returns-in-Done-clause-moments
+returns-in-Done-clause-moments g c =
+    (λ honest. each-turn _ _ _ c.requires.agrees (c.commit_step.ensures.moments honest))
+
+-- there is one moment at most
+pub returns-in-Err-clause-one : goal.returns-in-Err-clause-one
+returns-in-Err-clause-one g c = c.commit_step.ensures.one
+
+pub returns-in-Step-clause-one : goal.returns-in-Step-clause-one
+returns-in-Step-clause-one g c = c.commit_step.ensures.one
+
+pub returns-in-Done-clause-one : goal.returns-in-Done-clause-one
+returns-in-Done-clause-one g c = c.commit_step.ensures.one

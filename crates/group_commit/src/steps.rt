@@ -1,0 +1,307 @@
+//! The steps that need both the front and the engine: each is lent both, and is one step of the machine, or several in a row
+//! that nobody else sees between. The steps of the front alone are its own, and so are those of the engine (`log_engine`).
+//! Front and engine agree before a step and behind it.
+ghost use Rattle.std.specs.Prelude.{◌≡◌, ◌<◌, ◌≢◌, ◌↔◌, false, length, IfOk, IfErr, OnOk, IsTrue};
+ghost use Rattle.journal_model.specs.declared.refusal.JournalError.TheVariants.{Device as DeviceFailed};
+ghost use Rattle.block_device.specs.State.{EachMoment, MakesAtMostOneCall, Stays};
+ghost use Rattle.journal_world.specs.declared.stage.Stage.TheVariants.{Idle};
+ghost use Rattle.journal_world.specs.Journal.Event.{DirectSync, DirectWrite};
+ghost use Rattle.log_engine.specs.Call.{IsOneMoment};
+ghost use Rattle.log_engine.specs.Left.{commit_calls};
+ghost use Rattle.group_commit.specs.Close.{LeavesFewerRounds};
+ghost use Rattle.group_commit.specs.Direct.{DirectSyncRefused, DirectWriteRefused, IsDuringDirectSync, IsDuringDirectWrite, MayWriteDirectly};
+ghost use Rattle.group_commit.specs.Front.{MayTouch};
+ghost use Rattle.group_commit.specs.Journal.{Agrees, CheckTurnDid, CheckTurnRefused, Does, HasCopyKept, HasRoomFor, IsDuringCheckTurn, IsDuringTurn, IsSeen, OpensNow, ReadRefused, SealIsDue, TurnDid, TurnRefused};
+ghost use Rattle.group_commit.specs.Values.{together};
+
+use crate::front::Front;
+use crate::journal::{CheckTurn, Turn};
+use block_device::Device;
+use journal_model::{BlockNo, Entry, JournalError};
+use log_engine::{Engine, Progress};
+
+/// Reads a block of the home area into a buffer of one block: the running transaction's copy, else that of the one that is
+/// being committed, else what the engine reads.
+///
+/// # Errors
+///
+/// `Aborted` after a device failure; `BadBlock` where home has no such block, or its number is not below 2^32; `Revoked` where
+/// its last entry in the transactions that are not committed is a revoke: nothing changes. `Device` where the device failed: the
+/// journal is aborted, and the buffer's bytes are unspecified.
+pub fn read<D: Device>(
+    front: &mut Front,
+    engine: &mut Engine<D>,
+    block: BlockNo,
+    into: &mut [u8],
+) -> Result<(), JournalError>
+    requires length { length into.old ≡ (D.state engine.old.device).shape.block_size }
+    requires agrees { Agrees (together front.old engine.old).journal }
+    ensures agrees { Agrees (together front.new engine.new).journal }
+    ensures may { OnOk result ((engine.old.engine.aborted ≡ false) × MayTouch front.old block) }
+    ensures seen { OnOk result (D.honest engine.new.device → IsSeen (together front.old engine.old).journal (D.state engine.old.device).disk block into.new) }
+    ensures same { OnOk result ((together front.new engine.new).journal ≡ (together front.old engine.old).journal) }
+    ensures kept { OnOk result (HasCopyKept (together front.old engine.old).journal block → together front.new engine.new ≡ together front.old engine.old) }
+    ensures err { IfErr result (λ e. ReadRefused D.state (together front.old engine.old) block (together front.new engine.new) e) }
+    ensures untouched { IfErr result (λ e. e ≢ DeviceFailed → into.new ≡ into.old) }
+    ensures stays { Stays (D.state engine.old.device) (D.state engine.new.device) }
+    ensures opens { D.honest engine.old.device → OpensNow (together front.new engine.new).journal (D.state engine.new.device).disk }
+    ensures calls { MakesAtMostOneCall (D.state engine.old.device) (D.state engine.new.device) }
+    ensures no_fault { OnOk result ((D.state engine.new.device).faults ≡ (D.state engine.old.device).faults) }
+    ensures honest { D.honest engine.new.device → D.honest engine.old.device }
+    ensures length { length into.new ≡ length into.old }
+{
+    engine.recall_invariant();
+    if engine.is_aborted() {
+        return Err(JournalError::Aborted);
+    }
+    if !front.may_touch(block) {
+        return Err(JournalError::BadBlock);
+    }
+    match front.newest(block) {
+        Some(Entry::Copy(copy)) => {
+            into.copy_from_slice(copy.bytes());
+            return Ok(());
+        }
+        Some(Entry::Revoke) => return Err(JournalError::Revoked),
+        None => {}
+    }
+    match engine.read(block, into) {
+        Ok(()) => Ok(()),
+        Err(e) => {
+            front.abort();
+            Err(e)
+        }
+    }
+}
+
+/// Takes the next step of committing: one device call of a commit, or the seal of a transaction that takes no further handles
+/// and has no open one.
+///
+/// # Errors
+///
+/// `Aborted` after a device failure. `NeedSpace` where what is left of the ring is too short for the transaction, and `Memory`:
+/// the transaction stays as it is. `Device` where the device failed: the journal is aborted.
+/// Source: fs/jbd2/commit.c by behaviour; that each step is one device call is this project's own.
+pub fn commit_turn<D: Device>(
+    front: &mut Front,
+    engine: &mut Engine<D>,
+) -> Result<Turn, JournalError>
+    requires agrees { Agrees (together front.old engine.old).journal }
+    ensures agrees { Agrees (together front.new engine.new).journal }
+    ensures ok { IfOk result (λ turn. TurnDid D.state turn (together front.old engine.old) (together front.new engine.new)) }
+    ensures err { IfErr result (λ e. TurnRefused D.state (together front.old engine.old) (together front.new engine.new) e) }
+    ensures no_fault { OnOk result ((D.state engine.new.device).faults ≡ (D.state engine.old.device).faults) }
+    ensures shape { (D.state engine.new.device).shape ≡ (D.state engine.old.device).shape }
+    ensures moments { D.honest engine.old.device →
+        EachMoment (IsDuringTurn (together front.old engine.old).journal (D.state engine.old.device).disk) (D.state engine.old.device) (D.state engine.new.device) }
+    ensures one { IsOneMoment (D.state engine.old.device) (D.state engine.new.device) }
+    ensures calls { MakesAtMostOneCall (D.state engine.old.device) (D.state engine.new.device) }
+    ensures honest { D.honest engine.new.device → D.honest engine.old.device }
+{
+    engine.recall_invariant();
+    if engine.is_aborted() {
+        return Err(JournalError::Aborted);
+    }
+    if !engine.is_idle() {
+        return commit_step(front, engine);
+    }
+    if !front.is_locked() {
+        return Ok(Turn::Idle);
+    }
+    if front.has_open_handles() {
+        return Ok(Turn::Waiting);
+    }
+    seal(front, engine)
+}
+
+/// One step of the commit that is under way. Behind its last one the front knows that the transaction is committed, and tells it.
+///
+/// # Errors
+///
+/// `Device` where the device failed: the journal is aborted.
+pub fn commit_step<D: Device>(
+    front: &mut Front,
+    engine: &mut Engine<D>,
+) -> Result<Turn, JournalError>
+    requires agrees { Agrees (together front.old engine.old).journal }
+    requires running { engine.old.engine.aborted ≡ false }
+    requires busy { engine.old.engine.stage ≢ Idle }
+    ensures agrees { Agrees (together front.new engine.new).journal }
+    ensures ok { IfOk result (λ turn. TurnDid D.state turn (together front.old engine.old) (together front.new engine.new)) }
+    ensures err { IfErr result (λ e. TurnRefused D.state (together front.old engine.old) (together front.new engine.new) e) }
+    ensures fewer { OnOk result (commit_calls engine.new.engine < commit_calls engine.old.engine) }
+    ensures no_fault { OnOk result ((D.state engine.new.device).faults ≡ (D.state engine.old.device).faults) }
+    ensures shape { (D.state engine.new.device).shape ≡ (D.state engine.old.device).shape }
+    ensures moments { D.honest engine.old.device →
+        EachMoment (IsDuringTurn (together front.old engine.old).journal (D.state engine.old.device).disk) (D.state engine.old.device) (D.state engine.new.device) }
+    ensures one { IsOneMoment (D.state engine.old.device) (D.state engine.new.device) }
+    ensures calls { MakesAtMostOneCall (D.state engine.old.device) (D.state engine.new.device) }
+    ensures honest { D.honest engine.new.device → D.honest engine.old.device }
+{
+    engine.recall_invariant();
+    let progress = match engine.commit_step() {
+        Ok(progress) => progress,
+        Err(e) => {
+            front.abort();
+            return Err(e);
+        }
+    };
+    match progress {
+        Progress::Idle => Ok(Turn::Idle),
+        Progress::Step => Ok(Turn::Step),
+        Progress::Done(tid) => {
+            front.finish();
+            front.raise(tid);
+            Ok(Turn::Committed(tid))
+        }
+    }
+}
+
+/// Seals the locked transaction, of which no handle is open, and hands its entries to the engine.
+///
+/// # Errors
+///
+/// `NeedSpace` where what is left of the ring is too short for the transaction, and `Memory`: nothing changes.
+/// Source: fs/jbd2/commit.c by behaviour.
+pub fn seal<D: Device>(front: &mut Front, engine: &mut Engine<D>) -> Result<Turn, JournalError>
+    requires agrees { Agrees (together front.old engine.old).journal }
+    requires due { SealIsDue (together front.old engine.old).journal }
+    ensures agrees { Agrees (together front.new engine.new).journal }
+    ensures ok { IfOk result (λ turn. TurnDid D.state turn (together front.old engine.old) (together front.new engine.new)) }
+    ensures err { IfErr result (λ e. TurnRefused D.state (together front.old engine.old) (together front.new engine.new) e) }
+    ensures device { engine.new.device ≡ engine.old.device }
+{
+    engine.recall_invariant();
+    if !has_room(front, engine) {
+        return Err(JournalError::NeedSpace);
+    }
+    let tid = front.tid();
+    let batch = front.batch()?;
+    if let Err(refused) = engine.accept(batch) {
+        return Err(refused.1);
+    }
+    front.seal();
+    Ok(Turn::Sealed(tid))
+}
+
+/// Whether the ring has as many free blocks as the running transaction needs.
+pub fn has_room<D: Device>(front: &Front, engine: &Engine<D>) -> bool
+    requires { engine.now.engine.stage ≡ Idle }
+    ensures { IsTrue result ↔ HasRoomFor (together front.now engine.now).journal }
+{
+    let (copies, revokes) = front.counts();
+    engine.has_room(copies, revokes)
+}
+
+/// Takes the next step of a checkpoint round: at most one device call.
+///
+/// # Errors
+///
+/// `Aborted` after a device failure. `Device` where the device failed: the journal is aborted.
+/// Source: fs/jbd2/checkpoint.c by behaviour; that each step is one device call is this project's own.
+pub fn checkpoint_turn<D: Device>(
+    front: &mut Front,
+    engine: &mut Engine<D>,
+) -> Result<CheckTurn, JournalError>
+    requires agrees { Agrees (together front.old engine.old).journal }
+    ensures agrees { Agrees (together front.new engine.new).journal }
+    ensures ok { IfOk result (λ turn. CheckTurnDid D.state turn (together front.old engine.old) (together front.new engine.new)) }
+    ensures err { IfErr result (λ e. CheckTurnRefused D.state (together front.old engine.old) (together front.new engine.new) e) }
+    ensures fewer { IfOk result (λ turn. LeavesFewerRounds turn engine.old.engine engine.new.engine) }
+    ensures no_fault { OnOk result ((D.state engine.new.device).faults ≡ (D.state engine.old.device).faults) }
+    ensures shape { (D.state engine.new.device).shape ≡ (D.state engine.old.device).shape }
+    ensures moments { D.honest engine.old.device →
+        EachMoment (IsDuringCheckTurn (together front.old engine.old).journal (D.state engine.old.device).disk) (D.state engine.old.device) (D.state engine.new.device) }
+    ensures one { IsOneMoment (D.state engine.old.device) (D.state engine.new.device) }
+    ensures calls { MakesAtMostOneCall (D.state engine.old.device) (D.state engine.new.device) }
+    ensures honest { D.honest engine.new.device → D.honest engine.old.device }
+{
+    let progress = match engine.checkpoint_step() {
+        Ok(progress) => progress,
+        Err(e) => {
+            front.abort();
+            return Err(e);
+        }
+    };
+    match progress {
+        Progress::Idle => Ok(CheckTurn::Idle),
+        Progress::Step => Ok(CheckTurn::Step),
+        Progress::Done(tid) => Ok(CheckTurn::Released(tid)),
+    }
+}
+
+/// Writes a block of the home area directly, of one block of bytes, past the log. It makes one device call.
+///
+/// # Errors
+///
+/// `Aborted` after a device failure; `BadBlock` where home has no such block, or its number is not below 2^32; `NotDirect` where
+/// the transactions have a copy of the block, or one that is not committed has an entry of it: nothing changes. `Device` where
+/// the device failed: the journal is aborted.
+/// Source: this project's own, by what journal.rst says of revokes.
+pub fn write_direct<D: Device>(
+    front: &mut Front,
+    engine: &mut Engine<D>,
+    block: BlockNo,
+    bytes: &[u8],
+) -> Result<(), JournalError>
+    requires length { length bytes.now ≡ (D.state engine.old.device).shape.block_size }
+    requires agrees { Agrees (together front.old engine.old).journal }
+    ensures agrees { Agrees (together front.new engine.new).journal }
+    ensures right { OnOk result (MayWriteDirectly (together front.old engine.old).journal block) }
+    ensures ok { OnOk result (Does D.state (together front.old engine.old) (DirectWrite block bytes.now) (together front.new engine.new)) }
+    ensures err { IfErr result (λ e. DirectWriteRefused D.state (together front.old engine.old) block bytes.now (together front.new engine.new) e) }
+    ensures no_fault { OnOk result ((D.state engine.new.device).faults ≡ (D.state engine.old.device).faults) }
+    ensures shape { (D.state engine.new.device).shape ≡ (D.state engine.old.device).shape }
+    ensures moments { D.honest engine.old.device →
+        EachMoment (IsDuringDirectWrite (together front.old engine.old).journal block bytes.now (D.state engine.old.device).disk) (D.state engine.old.device) (D.state engine.new.device) }
+    ensures one { IsOneMoment (D.state engine.old.device) (D.state engine.new.device) }
+    ensures calls { MakesAtMostOneCall (D.state engine.old.device) (D.state engine.new.device) }
+    ensures honest { D.honest engine.new.device → D.honest engine.old.device }
+{
+    engine.recall_invariant();
+    if engine.is_aborted() {
+        return Err(JournalError::Aborted);
+    }
+    if !front.may_touch(block) {
+        return Err(JournalError::BadBlock);
+    }
+    if !front.is_untouched(block) {
+        return Err(JournalError::NotDirect);
+    }
+    match engine.write_direct(block, bytes) {
+        Ok(()) => Ok(()),
+        Err(e) => {
+            front.learn(engine.is_aborted());
+            Err(e)
+        }
+    }
+}
+
+/// Flushes the home area, so that every direct write that answered Ok before is durable.
+///
+/// # Errors
+///
+/// `Aborted` after a device failure: nothing changes. `Device` where the device failed: the journal is aborted, and nothing more
+/// is durable.
+/// Source: this project's own; a flush request (the kernel's writeback_cache_control.rst).
+pub fn sync_direct<D: Device>(front: &mut Front, engine: &mut Engine<D>) -> Result<(), JournalError>
+    requires agrees { Agrees (together front.old engine.old).journal }
+    ensures agrees { Agrees (together front.new engine.new).journal }
+    ensures ok { OnOk result (Does D.state (together front.old engine.old) DirectSync (together front.new engine.new)) }
+    ensures err { IfErr result (λ e. DirectSyncRefused D.state (together front.old engine.old) (together front.new engine.new) e) }
+    ensures no_fault { OnOk result ((D.state engine.new.device).faults ≡ (D.state engine.old.device).faults) }
+    ensures shape { (D.state engine.new.device).shape ≡ (D.state engine.old.device).shape }
+    ensures moments { D.honest engine.old.device →
+        EachMoment (IsDuringDirectSync (together front.old engine.old).journal (D.state engine.old.device).disk) (D.state engine.old.device) (D.state engine.new.device) }
+    ensures one { IsOneMoment (D.state engine.old.device) (D.state engine.new.device) }
+    ensures calls { MakesAtMostOneCall (D.state engine.old.device) (D.state engine.new.device) }
+    ensures honest { D.honest engine.new.device → D.honest engine.old.device }
+{
+    match engine.sync_direct() {
+        Ok(()) => Ok(()),
+        Err(e) => {
+            front.abort();
+            Err(e)
+        }
+    }
+}
