@@ -98,7 +98,10 @@ fn a_write_copies_its_bytes_once(rt: HostRuntime) -> Result<(), Fail> {
         return Err("it has another number".into());
     }
     let (sealed, entries) = transaction.seal();
-    assert_eq!(rt; (sealed.steps.len(), holders(entries.get(block))), (1, Some(3)));
+    assert_eq!(rt;
+        (sealed.steps.len(), holders(entries.get(block))),
+        (1, Some(3))
+    );
     drop(batch);
     assert_eq!(rt; holders(entries.get(block)), Some(2));
     drop(sealed);
