@@ -8,10 +8,12 @@ use Rattle.journal_model.specs.declared.refusal.JournalError.{JournalError}
 use Rattle.journal_model.specs.Disk.{Disk, IsOneOf}
 use Rattle.journal_model.specs.Superblock.{Shape}
 use Rattle.block_device.specs.State.{DeviceState, Stays}
+use Rattle.journal_world.specs.Engine.{Engine}
 use Rattle.journal_world.specs.Front.{Front, FrontEvent}
 use Rattle.journal_world.specs.Front.FrontEvent.{GiveBack, Lock, Raise, StopHandle}
 use Rattle.journal_world.specs.Journal.{Event, Happens, Journal}
 use Rattle.journal_world.specs.Journal.Event.{CheckpointFault, CheckpointStep, CommitFault, CommitStep, DirectSync, DirectSyncFault, DirectWrite, DirectWriteFault, Finish, FrontStep, ReadFault, Seal}
+use Rattle.journal_world.proofs.Onward.{fault-on, round-fault-on, round-on, step-on}
 use Rattle.log_epochs.specs.JournalWorld.{JournalWorld, Leads, with_directs}
 use Rattle.log_epochs.specs.JournalWorld.Move.{Answer, Step}
 use Rattle.log_epochs.proofs.Leading.{leads-more}
@@ -40,10 +42,30 @@ HasComeTo Fact operations state v shown = HasLedTo Fact operations v.journal (st
 abbrev pub WritesOnly : List Operation → Event → Type 0
 WritesOnly operations event = (directs : List (ℕ × List ℕ)) → AreDirectsOf operations directs → AreDirectsOf operations (with_directs event directs)
 
+-- the front alone makes a step
+front-shape : (old new : Engine) → new ≡ old → new.shape ≡ old.shape
+front-shape old new same = ap (λ (e : Engine). e.shape) same
+
+-- the measures of an engine stay
+event-shape : (old new : Journal) (disk after : Disk) (event : Event) → Happens old disk event new after → new.engine.shape ≡ old.engine.shape
+event-shape old new disk after (FrontStep event) happens = front-shape old.engine new.engine happens.engine
+event-shape old new disk after Seal happens = ap (λ (e : Engine). e.shape) happens.engine.after
+event-shape old new disk after CommitStep happens = (step-on old.engine new.engine disk after happens.engine).shape
+event-shape old new disk after CommitFault happens = (fault-on old.engine new.engine disk after happens.engine).shape
+event-shape old new disk after CheckpointStep happens = (round-on old.engine new.engine disk after happens.engine).shape
+event-shape old new disk after CheckpointFault happens = (round-fault-on old.engine new.engine disk after happens.engine).shape
+event-shape old new disk after ReadFault happens = ap (λ (e : Engine). e.shape) happens.engine
+event-shape old new disk after (DirectWrite b v) happens = ap (λ (e : Engine). e.shape) happens.engine.engine
+event-shape old new disk after (DirectWriteFault b v) happens = ap (λ (e : Engine). e.shape) happens.engine.engine
+event-shape old new disk after DirectSync happens = ap (λ (e : Engine). e.shape) happens.engine.engine
+event-shape old new disk after DirectSyncFault happens = ap (λ (e : Engine). e.shape) happens.engine.engine
+event-shape old new disk after Finish happens = front-shape old.engine new.engine happens.engine
+
 -- a step of the journal is one more move
 pub goes : (Fact : Shape → Disk → Type 0) (operations : List Operation) (event : Event) (old new : Journal) (before after : DeviceState) (shown : Option ℕ) → WritesOnly operations event
     → HasLedTo Fact operations old before shown → Happens old before.disk event new after.disk → after.shape ≡ before.shape → HasLedTo Fact operations new after shown
 goes Fact operations event old new before after shown only led happens shape = record {
+  measures = event-shape old new before.disk after.disk event happens ∙ led.measures ∙ sym shape;
   opening = led.opening;
   fact = subst (λ (s : Shape). Fact s led.opening) (sym shape) led.fact;
   start = led.start;
@@ -75,6 +97,7 @@ stays Fact operations old new before after shown led journal shape disk =
     ap (λ (j : Journal). running_world led.opening j after led.directs led.answered) journal
     ∙ ap₂ (λ (s : Shape) (d : Disk). running_world led.opening old (record { shape = s; disk = d; past = after.past; faults = after.faults; calls = after.calls }) led.directs led.answered) shape disk in
     record {
+      measures = ap (λ (j : Journal). j.engine.shape) journal ∙ led.measures ∙ sym shape;
       opening = led.opening;
       fact = subst (λ (s : Shape). Fact s led.opening) (sym shape) led.fact;
       start = led.start;
@@ -91,6 +114,7 @@ stays Fact operations old new before after shown led journal shape disk =
 pub answers : (Fact : Shape → Disk → Type 0) (operations : List Operation) (j : Journal) (state : DeviceState) (shown new : Option ℕ) (tid : ℕ) → HasLedTo Fact operations j state shown → tid ≤ j.front.mark
     → new ≡ with_told tid shown → HasLedTo Fact operations j state new
 answers Fact operations j state shown new tid led marked noted = record {
+  measures = led.measures;
   opening = led.opening;
   fact = led.fact;
   start = led.start;

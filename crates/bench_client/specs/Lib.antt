@@ -1,3 +1,4 @@
+pub mod Ended
 pub mod Performed
 pub mod Shown
 pub mod Told

@@ -1,5 +1,5 @@
 -- What the client of a journal records, and the moves of the machine that led there.
-use Rattle.std.specs.Prelude.{◌≡◌, ℕ, max, replicate, List, [], ◌∷◌, Option, Some, None}
+use Rattle.std.specs.Prelude.{◌≡◌, ⊤, ℕ, max, replicate, List, [], ◌∷◌, Option, Some, None}
 use Rattle.journal_model.specs.declared.number.Area.TheVariants.{Home}
 use Rattle.journal_model.specs.Disk.{Disk, IsOneOf}
 use Rattle.journal_model.specs.Superblock.{Shape}
@@ -53,6 +53,7 @@ running_world opening j state directs answered = record {
 -- direct writes are those of these operations. The greatest transaction that a wait or a status answered committed is the one that
 -- is noted.
 pub record HasLedTo (Fact : Shape → Disk → Type 0) (operations : List Operation) (j : Journal) (state : DeviceState) (shown : Option ℕ) : Type 0 where
+  pub measures : j.engine.shape ≡ state.shape
   pub opening : Disk
   pub fact : Fact state.shape opening
   pub start : JournalWorld
@@ -69,6 +70,10 @@ pub record IsLedTo (Fact : Shape → Disk → Type 0) (operations : List Operati
   pub journal : Journal
   pub led : HasLedTo Fact operations journal state shown
   pub sealed_is : sealed ≡ journal.front.sealed
+
+-- nothing is known of the disk
+abbrev pub IsAnyHome : Shape → Disk → Type 0
+IsAnyHome shape disk = ⊤
 
 -- every block of home is zeros, durably
 abbrev pub IsZeroHome : Shape → Disk → Type 0

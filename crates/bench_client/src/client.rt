@@ -27,7 +27,9 @@ pub trait HomeFact {
 pub struct AnyHome;
 
 impl HomeFact for AnyHome {
-    ghost holds = { λ shape disk. Unit {0} };
+    ghost use Rattle.bench_client.specs.Told.{IsAnyHome};
+
+    ghost holds = { IsAnyHome };
 }
 
 /// Every block of home is zeros, durably.
@@ -57,7 +59,18 @@ impl<'a, D: Device, H: HomeFact> Model for Client<'a, D, H> {
 
     ghost view = { λ c. record { journal = c.journal; operations = c.operations.now; shown = c.acknowledged } };
 
-    ghost invariant = { λ c. HasLedTo H.holds c.operations.now c.journal.journal (D.state c.journal.device) c.acknowledged };
+    ghost invariant = { λ c. D.honest c.journal.device → HasLedTo H.holds c.operations.now c.journal.journal (D.state c.journal.device) c.acknowledged };
+}
+
+/// What is left of a journal that was to be closed.
+#[derive(Drop)]
+pub struct Ended<D> {
+    /// Its device and its record.
+    pub parts: Parts<D>,
+    /// The greatest transaction that was shown committed.
+    pub acknowledged: Option<Tid>,
+    /// Whether it was closed, or why not.
+    pub closed: Result<(), JournalError>,
 }
 
 /// What a wait came to.
@@ -71,6 +84,7 @@ pub enum Waited {
 }
 
 impl<'a, D: Device + Drop, H: HomeFact> Client<'a, D, H> {
+    ghost use Rattle.bench_client.specs.Ended.{IsEnded, IsLeftClosed};
     ghost use Rattle.bench_client.specs.Shown.{IsNoted, IsShown};
     ghost use Rattle.bench_client.specs.Told.{IsLedTo, with_told};
 
@@ -84,8 +98,7 @@ impl<'a, D: Device + Drop, H: HomeFact> Client<'a, D, H> {
         opened: Opened<D>,
         operations: &'a [Operation],
     ) -> Result<Self, JournalError>
-        requires honest { D.honest opened.device }
-        requires fact { H.holds (D.state opened.device).shape (D.state opened.device).disk }
+        requires { D.honest opened.device → H.holds (D.state opened.device).shape (D.state opened.device).disk }
         ensures { IfOk result (λ client. client.operations ≡ operations.now) }
     {
         match Journal::new(alloc, opened) {
@@ -320,7 +333,7 @@ impl<'a, D: Device + Drop, H: HomeFact> Client<'a, D, H> {
 
     /// Ends the journal: its device with what was sealed, and the greatest transaction that was shown committed.
     pub fn finish(self) -> (Parts<D>, Option<Tid>)
-        ensures { IsLedTo H.holds self.entry.operations (D.state result.0.device) result.0.sealed.items result.1 }
+        ensures { D.honest result.0.device → IsLedTo H.holds self.entry.operations (D.state result.0.device) result.0.sealed.items result.1 }
     {
         let Client {
             journal,
@@ -330,5 +343,39 @@ impl<'a, D: Device + Drop, H: HomeFact> Client<'a, D, H> {
             of: PhantomData,
         } = self;
         (journal.into_parts(), acknowledged)
+    }
+
+    /// Ends the journal by its close. Where that is refused, what was sealed and committed by then stays so: `NotRunning` where a
+    /// handle is open, and nothing was done; else as a close of the journal says.
+    pub fn close(self) -> Ended<D>
+        ensures ended { D.honest result.parts.device → IsEnded H.holds self.entry.operations (D.state result.parts.device) result.parts.sealed.items result.acknowledged }
+        ensures closed { OnOk result.closed (D.honest result.parts.device → IsLeftClosed (D.state result.parts.device) result.parts.sealed.items) }
+    {
+        let Client {
+            journal,
+            seat: _,
+            operations: _,
+            acknowledged,
+            of: PhantomData,
+        } = self;
+        if journal.has_open_handles() {
+            return Ended {
+                parts: journal.into_parts(),
+                acknowledged,
+                closed: Err(JournalError::NotRunning),
+            };
+        }
+        match journal.close() {
+            Ok(parts) => Ended {
+                parts,
+                acknowledged,
+                closed: Ok(()),
+            },
+            Err((parts, e)) => Ended {
+                parts,
+                acknowledged,
+                closed: Err(e),
+            },
+        }
     }
 }

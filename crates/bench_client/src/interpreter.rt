@@ -2,7 +2,7 @@
 ghost use Rattle.std.specs.Prelude.{◌≡◌, ◌++◌, Contains, IfOk, OnOk, drop, length, min, take};
 ghost use Rattle.bench_client.specs.Performed.{block_from};
 
-use crate::client::{Client, HomeFact, Waited};
+use crate::client::{Client, Ended, HomeFact, Waited};
 use crate::outcome::{Outcome, PRINTED_BYTES};
 use crate::slots::{Slot, Slots};
 use bench_script::{HandleName, Operation};
@@ -54,6 +54,7 @@ impl<'a, D: Device + Drop, H: HomeFact> Interpreter<'a, D, H> {
     ghost use Rattle.journal_world.specs.Journal.Event.{DirectSync};
     ghost use Rattle.bench_script.specs.Named.{IsDirectOf};
     ghost use Rattle.group_commit.specs.Journal.{Does};
+    ghost use Rattle.bench_client.specs.Ended.{IsEnded, IsLeftClosed};
     ghost use Rattle.bench_client.specs.Performed.{HasDone, IfCommitted, IfTransaction, RevokesBlock, WritesBlock, WritesDirectly};
     ghost use Rattle.bench_client.specs.Told.{IsLedTo, with_told};
     ghost use Rattle.bench_client.specs.declared.outcome.Outcome.TheVariants.{Done};
@@ -68,8 +69,7 @@ impl<'a, D: Device + Drop, H: HomeFact> Interpreter<'a, D, H> {
         opened: Opened<D>,
         operations: &'a [Operation],
     ) -> Result<Self, JournalError>
-        requires honest { D.honest opened.device }
-        requires fact { H.holds (D.state opened.device).shape (D.state opened.device).disk }
+        requires { D.honest opened.device → H.holds (D.state opened.device).shape (D.state opened.device).disk }
         ensures { IfOk result (λ interpreter. interpreter.client.operations ≡ operations.now) }
     {
         let slots = Slots::new(alloc)?;
@@ -121,10 +121,30 @@ impl<'a, D: Device + Drop, H: HomeFact> Interpreter<'a, D, H> {
         }
     }
 
+    /// Whether an operation was refused because the device failed.
+    pub fn is_aborted(&self) -> bool {
+        self.aborted
+    }
+
     /// Stops all open handles and ends the journal: its device with its record, and the greatest transaction that was shown
     /// committed.
     pub fn finish(self) -> (Parts<D>, Option<Tid>)
-        ensures { IsLedTo H.holds self.entry.client.operations (D.state result.0.device) result.0.sealed.items result.1 }
+        ensures { D.honest result.0.device → IsLedTo H.holds self.entry.client.operations (D.state result.0.device) result.0.sealed.items result.1 }
+    {
+        self.into_stopped().finish()
+    }
+
+    /// Stops all open handles and ends the journal by its close.
+    pub fn close(self) -> Ended<D>
+        ensures ended { D.honest result.parts.device → IsEnded H.holds self.entry.client.operations (D.state result.parts.device) result.parts.sealed.items result.acknowledged }
+        ensures closed { OnOk result.closed (D.honest result.parts.device → IsLeftClosed (D.state result.parts.device) result.parts.sealed.items) }
+    {
+        self.into_stopped().close()
+    }
+
+    /// The client, who has stopped all open handles.
+    fn into_stopped(self) -> Client<'a, D, H>
+        ensures { result.operations ≡ self.entry.client.operations }
     {
         let Interpreter {
             alloc: _,
@@ -137,7 +157,7 @@ impl<'a, D: Device + Drop, H: HomeFact> Interpreter<'a, D, H> {
                 let _ = client.stop(handle);
             }
         }
-        client.finish()
+        client
     }
 
     /// Starts a handle. Where it is refused the name stands for nothing.

@@ -1,11 +1,11 @@
 //! The command `run`: reads a script, and runs it.
 ghost use Rattle.std.specs.Prelude.{◌≡◌, IfErr};
-ghost use Rattle.bench_commands.specs.Images.{IsUnmade};
+ghost use Rattle.bench_words.specs.Images.{IsUnmade};
 
-use crate::fault::{self, Fault, Status};
-use crate::words::RunWords;
-use bench_run::Stops;
+use bench_run::{Stop, Stops};
 use bench_script::{Measures, Script};
+use bench_words::fault::{self, Fault, Status};
+use bench_words::words::{RunWords, StopWords};
 use block_device::Device;
 use std::alloc::Global;
 use std::io;
@@ -83,6 +83,23 @@ fn path_of<'a>(words: &RunWords<'a>, fault: &Fault) -> &'a str {
     }
 }
 
+/// Where a device stops, as words tell.
+fn stop_of(words: &StopWords) -> Stop<'_> {
+    Stop {
+        at_write: words.at_write,
+        keep: &words.keep,
+    }
+}
+
+/// Where the run and the opening stop, and which call of the run fails.
+fn stops_of<'a>(words: &'a RunWords<'_>) -> Stops<'a> {
+    Stops {
+        failing_call: words.failing_call,
+        run: stop_of(&words.run),
+        opening: stop_of(&words.opening),
+    }
+}
+
 /// Runs a script that leaves an image, by way of a buffer. The answer is the verdict.
 fn run_buffered<M: MakeImage + Drop, W: Write + Drop>(
     alloc: Global,
@@ -92,7 +109,7 @@ fn run_buffered<M: MakeImage + Drop, W: Write + Drop>(
     out: W,
 ) -> Result<bool, Fault> {
     let mut out = BufWriter::new(alloc, out)?;
-    let verdict = run_on(alloc, script, &words.stops(), image, &mut out)?;
+    let verdict = run_on(alloc, script, &stops_of(words), image, &mut out)?;
     out.flush()?;
     Ok(verdict)
 }
@@ -138,16 +155,22 @@ fn run_script<W: Write + Drop>(
     out: W,
 ) -> Result<bool, Fault> {
     let mut out = BufWriter::new(alloc, out)?;
-    let verdict = bench_run::run(alloc, script, &words.stops(), &mut out)?;
+    let verdict = bench_run::run(alloc, script, &stops_of(words), &mut out)?;
     out.flush()?;
     Ok(verdict)
 }
 
 /// Reads a script to its end, and tests it.
-pub(crate) fn read_script<R: Read + Drop>(alloc: Global, mut reader: R) -> Result<Script, Fault> {
+pub(crate) fn read_script<R: Read + Drop>(alloc: Global, reader: R) -> Result<Script, Fault> {
+    let text = read_text(alloc, reader)?;
+    Ok(bench_script::read(alloc, &text)?)
+}
+
+/// Reads the bytes of a script to their end.
+pub(crate) fn read_text<R: Read + Drop>(alloc: Global, mut reader: R) -> Result<Vec<u8>, Fault> {
     let mut text = Vec::new(alloc);
     match reader.read_to_end(&mut text) {
-        Ok(_) => Ok(bench_script::read(alloc, &text)?),
+        Ok(_) => Ok(text),
         Err(e) => Err(Fault::of_file(e)),
     }
 }

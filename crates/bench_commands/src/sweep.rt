@@ -1,9 +1,9 @@
 //! The command `sweep`: reads a script, and sweeps it.
-use crate::fault::{self, Fault, Status};
 use crate::run::read_script;
-use crate::words::SweepWords;
 pub use bench_sweep::{Unwatched, Watch};
 use bench_sweep::{Counts, FailureCounts, ThisJournal};
+use bench_words::fault::{self, Fault, Status};
+use bench_words::words::SweepWords;
 use std::alloc::Global;
 use std::io;
 use std::io::{Read, Write};

@@ -1,7 +1,7 @@
 //! Scripts of journal operations, and the measures of the device that a script runs on.
 //!
 //! `reading` makes a script of the bytes of its file, `order` tests whether its operations name handles in the right state,
-//! and `script` says what it then is. Nothing runs here. `docs/FORMATS.md` has the form of a script.
+//! `script` says what it then is, and `error` why a text is none. Nothing runs here. `docs/FORMATS.md` has the form of a script.
 #![tactic(auto)]
 
 mod error;
@@ -10,9 +10,10 @@ mod order;
 mod reading;
 mod script;
 
-pub use error::ScriptError;
+pub use error::{BadOperation, BadScript, Key, OperationFault, OperationName, ScriptError};
 pub use measures::{
     DEFAULTS, HOMES, LENGTHS, Measures, block_size_of, is_block_size, limited, uuid_of,
 };
-pub use reading::read;
+pub use order::{Misplaced, State};
+pub use reading::{read, read_over};
 pub use script::{HANDLE_NAMES, HandleName, MOST_OPERATIONS, NamedBlocks, Operation, Script};

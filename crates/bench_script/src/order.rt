@@ -1,17 +1,37 @@
 //! Whether the operations of a script name handles in the right state, with every start taken as accepted.
-use crate::error::ScriptError;
-use crate::script::{HANDLE_NAMES, Operation};
-use std::alloc::Global;
+use crate::script::{HANDLE_NAMES, HandleName, Operation};
+use std::alloc::{AllocError, Global};
+use std::fmt;
 
 /// The state of a name of a handle.
-#[derive(Clone, Copy)]
-enum State {
+#[derive(Clone, Copy, Debug, PartialEq, Eq)]
+pub enum State {
     /// It names nothing yet.
     Unused,
     /// It names an open handle.
     Open,
     /// It names the ticket of a stopped handle.
     Stopped,
+}
+
+/// A handle that an operation names, and that is in another state than the operation needs.
+#[derive(Clone, Copy, Debug)]
+pub struct Misplaced {
+    /// The handle's name.
+    pub handle: HandleName,
+    /// The state that it is in.
+    pub state: State,
+}
+
+impl fmt::Display for Misplaced {
+    fn fmt<W: fmt::Write>(&self, f: &mut fmt::Formatter<W>) -> fmt::Result {
+        let handle = self.handle;
+        match self.state {
+            State::Unused => write!(f, "handle {handle} was not started"),
+            State::Open => write!(f, "handle {handle} is open"),
+            State::Stopped => write!(f, "handle {handle} is stopped"),
+        }
+    }
 }
 
 /// The state behind an operation that names the handle, or `None` where the operation needs another state.
@@ -29,32 +49,42 @@ fn state_behind(state: State, operation: &Operation) -> Option<State> {
     }
 }
 
-/// Notes the operation in the states of all handles.
-fn follow(states: &mut [State], operation: &Operation) -> Result<(), ScriptError> {
+/// Notes the operation in the states of all handles. Where it needs another state nothing is noted.
+fn follow(states: &mut [State], operation: &Operation) -> Result<(), Misplaced> {
     let Some(handle) = operation.handle() else {
         return Ok(());
     };
-    let Some(state) = states.get_mut(handle.index()) else {
-        return Err(ScriptError::BadScript);
+    let Some(place) = states.get_mut(handle.index()) else {
+        return Err(Misplaced {
+            handle,
+            state: State::Unused,
+        });
     };
-    match state_behind(*state, operation) {
+    let state = *place;
+    match state_behind(state, operation) {
         Some(behind) => {
-            *state = behind;
+            *place = behind;
             Ok(())
         }
-        None => Err(ScriptError::BadScript),
+        None => Err(Misplaced { handle, state }),
     }
 }
 
-/// Tests the operations of a whole script.
+/// Tests the operations of a whole script: the first that names a handle in the wrong state, if there is one, and its place in the
+/// list.
 ///
 /// # Errors
 ///
-/// `BadScript` where an operation names a handle in the wrong state, and `Memory`.
-pub fn check(alloc: Global, operations: &[Operation]) -> Result<(), ScriptError> {
+/// Memory ran out.
+pub fn first_misplaced(
+    alloc: Global,
+    operations: &[Operation],
+) -> Result<Option<(usize, Misplaced)>, AllocError> {
     let mut states = vec![in alloc; State::Unused; usize::from(HANDLE_NAMES)]?;
-    for operation in operations {
-        follow(&mut states, operation)?;
+    for (place, operation) in operations.iter().enumerate() {
+        if let Err(misplaced) = follow(&mut states, operation) {
+            return Ok(Some((place, misplaced)));
+        }
     }
-    Ok(())
+    Ok(None)
 }

@@ -2,17 +2,26 @@
 ghost use Rattle.std.specs.Prelude.{◌≡◌, ◌≤◌, IfOk, length};
 ghost use Rattle.bench_script.specs.Measures.{AreLimited};
 
-use crate::error::ScriptError;
+use crate::error::{BadOperation, BadScript, Key, OperationFault, OperationName, ScriptError};
 use crate::measures::{DEFAULTS, HOMES, LENGTHS, Measures, is_block_size, uuid_of};
 use crate::order;
 use crate::script::{HandleName, MOST_OPERATIONS, Operation, Script};
 use hex::FromHexError;
 use journal_model::BlockNo;
 use serde_json::{Map, Value};
-use std::alloc::Global;
+use std::alloc::{AllocError, Global};
 
-/// The keys of a script.
-const KEYS: [&str; 5] = ["ops", "block", "length", "home", "uuid"];
+/// The most bytes of an operation's text that are told of it.
+const TOLD_BYTES: usize = 100;
+
+/// Why a value is no operation.
+#[derive(Clone, Copy)]
+enum Unread {
+    /// It is none.
+    Bad(OperationFault),
+    /// Memory ran out.
+    Memory,
+}
 
 /// Reads a script.
 ///
@@ -27,15 +36,83 @@ pub fn read(alloc: Global, text: &[u8]) -> Result<Script, ScriptError>
 {
     let value = read_value(alloc, text)?;
     match value.as_object() {
-        Some(members) if has_only_keys(members) => read_members(alloc, members),
-        _ => Err(ScriptError::BadScript),
+        Some(members) => read_members(alloc, members),
+        None => Err(ScriptError::BadScript(BadScript::NoObject)),
     }
 }
 
-/// Whether an object has no other keys than a script.
-fn has_only_keys(members: &Map<String, Value>) -> bool {
-    let known = KEYS.iter().filter(|key| members.contains_key(**key));
-    known.count() == members.len()
+/// Reads a script that is to be done on a device that is there: those of its keys that speak of a device have to agree with that one,
+/// where they stand. The answer is its operations.
+///
+/// # Errors
+///
+/// Those of `read`; `BadScript` where such a key says something else than the device.
+pub fn read_over(
+    alloc: Global,
+    text: &[u8],
+    device: &Measures,
+) -> Result<Vec<Operation>, ScriptError>
+    ensures { IfOk result (λ operations. length operations.items ≤ 100_000) }
+{
+    let value = read_value(alloc, text)?;
+    match value.as_object() {
+        Some(members) => read_members_over(alloc, members, device),
+        None => Err(ScriptError::BadScript(BadScript::NoObject)),
+    }
+}
+
+/// The operations of an object that agrees with a device.
+fn read_members_over(
+    alloc: Global,
+    members: &Map<String, Value>,
+    device: &Measures,
+) -> Result<Vec<Operation>, ScriptError>
+    ensures { IfOk result (λ operations. length operations.items ≤ 100_000) }
+{
+    require_known_keys(alloc, members)?;
+    require_number(members, Key::Block, device.block_size as u64)?;
+    require_number(members, Key::Length, u64::from(device.log_blocks))?;
+    require_number(members, Key::Home, device.home_blocks)?;
+    require_uuid(alloc, members, &device.uuid)?;
+    read_ordered(alloc, list_of(members)?, device.block_size)
+}
+
+/// Fails where a key stands in a script, and not with this number.
+fn require_number(members: &Map<String, Value>, key: Key, number: u64) -> Result<(), ScriptError> {
+    match members.get(key.name()) {
+        Some(value) if value.as_u64() != Some(number) => {
+            Err(ScriptError::BadScript(BadScript::Disagrees(key)))
+        }
+        _ => Ok(()),
+    }
+}
+
+/// Fails where a UUID stands in a script, and another than this.
+fn require_uuid(
+    alloc: Global,
+    members: &Map<String, Value>,
+    uuid: &[u8; 16],
+) -> Result<(), ScriptError> {
+    if members.get(Key::Uuid.name()).is_some() && read_uuid(alloc, members)? != *uuid {
+        return Err(ScriptError::BadScript(BadScript::Disagrees(Key::Uuid)));
+    }
+    Ok(())
+}
+
+/// Fails where an object has another key than a script.
+fn require_known_keys(alloc: Global, members: &Map<String, Value>) -> Result<(), ScriptError> {
+    for (name, _) in members.iter() {
+        if Key::named(name.as_str()).is_none() {
+            let name = String::from_str(alloc, name.as_str())?;
+            return Err(ScriptError::BadScript(BadScript::UnknownKey(name)));
+        }
+    }
+    Ok(())
+}
+
+/// The fault of a key that is not there, or whose value is none.
+fn bad_key(key: Key) -> ScriptError {
+    ScriptError::BadScript(BadScript::Key(key))
 }
 
 /// The script of an object.
@@ -43,6 +120,7 @@ fn read_members(alloc: Global, members: &Map<String, Value>) -> Result<Script, S
     ensures operations { IfOk result (λ script. length script.operations.items ≤ 100_000) }
     ensures measures { IfOk result (λ script. AreLimited script.measures) }
 {
+    require_known_keys(alloc, members)?;
     let measures = read_measures(alloc, members)?;
     let operations = read_ordered(alloc, list_of(members)?, measures.block_size)?;
     Ok(Script {
@@ -60,8 +138,44 @@ fn read_ordered(
     ensures { IfOk result (λ operations. length operations.items ≡ length list.now) }
 {
     let operations = read_operations(alloc, list, block_size)?;
-    order::check(alloc, &operations)?;
-    Ok(operations)
+    match order::first_misplaced(alloc, &operations)? {
+        Some((place, misplaced)) => Err(bad_operation(
+            alloc,
+            place,
+            list.get(place),
+            OperationFault::Misplaced(misplaced),
+        )),
+        None => Ok(operations),
+    }
+}
+
+/// The fault of an operation at this place of its list.
+fn bad_operation(
+    alloc: Global,
+    place: usize,
+    value: Option<&Value>,
+    fault: OperationFault,
+) -> ScriptError {
+    match text_of(alloc, value) {
+        Ok(text) => ScriptError::BadScript(BadScript::Operation(BadOperation {
+            number: place.saturating_add(1),
+            text,
+            fault,
+        })),
+        Err(e) => ScriptError::from(e),
+    }
+}
+
+/// How the text of an operation begins.
+fn text_of(alloc: Global, value: Option<&Value>) -> Result<String, AllocError> {
+    let Some(value) = value else {
+        return Ok(String::new(alloc));
+    };
+    let text = format!(in alloc; "{value}")?;
+    match text.char_indices().find(|(place, _)| *place >= TOLD_BYTES) {
+        Some((place, _)) => format!(in alloc; "{}..", text.get(..place).unwrap_or("")),
+        None => Ok(text),
+    }
 }
 
 /// The value of a JSON text.
@@ -69,7 +183,7 @@ fn read_value(alloc: Global, text: &[u8]) -> Result<Value, ScriptError> {
     match Value::from_slice(alloc, text) {
         Ok(value) => Ok(value),
         Err(e) if e.is_memory() => Err(ScriptError::Memory),
-        Err(_) => Err(ScriptError::BadScript),
+        Err(e) => Err(ScriptError::BadScript(BadScript::NoJson(e.line(), e.column()))),
     }
 }
 
@@ -77,14 +191,24 @@ fn read_value(alloc: Global, text: &[u8]) -> Result<Value, ScriptError> {
 fn read_measures(alloc: Global, members: &Map<String, Value>) -> Result<Measures, ScriptError>
     ensures { IfOk result (λ measures. AreLimited measures) }
 {
-    let block_size = read_number(members, "block", DEFAULTS.block_size as u64, (1024, 4096))?;
+    let block_size = read_number(
+        members,
+        Key::Block,
+        DEFAULTS.block_size as u64,
+        (1024, 4096),
+    )?;
     if !is_block_size(block_size) {
-        return Err(ScriptError::BadScript);
+        return Err(bad_key(Key::Block));
     }
     Ok(Measures {
         block_size: block_size as usize,
-        log_blocks: read_number(members, "length", u64::from(DEFAULTS.log_blocks), LENGTHS)? as u32,
-        home_blocks: read_number(members, "home", DEFAULTS.home_blocks, HOMES)?,
+        log_blocks: read_number(
+            members,
+            Key::Length,
+            u64::from(DEFAULTS.log_blocks),
+            LENGTHS,
+        )? as u32,
+        home_blocks: read_number(members, Key::Home, DEFAULTS.home_blocks, HOMES)?,
         uuid: read_uuid(alloc, members)?,
     })
 }
@@ -92,7 +216,7 @@ fn read_measures(alloc: Global, members: &Map<String, Value>) -> Result<Measures
 /// The number of a key, or where the script has no such key the default. It is not outside these limits.
 fn read_number(
     members: &Map<String, Value>,
-    key: &str,
+    key: Key,
     default: u64,
     limits: (u32, u32),
 ) -> Result<u64, ScriptError>
@@ -101,35 +225,41 @@ fn read_number(
     ensures least { IfOk result (λ number. limits.0 ≤ number) }
     ensures most { IfOk result (λ number. number ≤ limits.1) }
 {
-    let Some(value) = members.get(key) else {
+    let Some(value) = members.get(key.name()) else {
         return Ok(default);
     };
-    let number = number_of(value)?;
-    if number < u64::from(limits.0) || number > u64::from(limits.1) {
-        return Err(ScriptError::BadScript);
+    match value.as_u64() {
+        Some(number) if u64::from(limits.0) <= number && number <= u64::from(limits.1) => Ok(
+            number,
+        ),
+        _ => Err(bad_key(key)),
     }
-    Ok(number)
 }
 
 /// The UUID of a script's journal.
 fn read_uuid(alloc: Global, members: &Map<String, Value>) -> Result<[u8; 16], ScriptError> {
-    let Some(value) = members.get("uuid") else {
+    let Some(value) = members.get(Key::Uuid.name()) else {
         return Ok(DEFAULTS.uuid);
     };
     let Some(digits) = value.as_str() else {
-        return Err(ScriptError::BadScript);
+        return Err(bad_key(Key::Uuid));
     };
-    uuid_of(alloc, digits)?.ok_or(ScriptError::BadScript)
+    match uuid_of(alloc, digits)? {
+        Some(uuid) => Ok(uuid),
+        None => Err(bad_key(Key::Uuid)),
+    }
 }
 
 /// The list of operations of a script.
 fn list_of(members: &Map<String, Value>) -> Result<&[Value], ScriptError>
     ensures { IfOk result (λ list. length list.now ≤ 100_000) }
 {
-    let list = members.get("ops").and_then(Value::as_array);
+    let list = members
+        .get(Key::Operations.name())
+        .and_then(Value::as_array);
     match list {
         Some(operations) if operations.len() <= MOST_OPERATIONS => Ok(operations.as_slice()),
-        _ => Err(ScriptError::BadScript),
+        _ => Err(bad_key(Key::Operations)),
     }
 }
 
@@ -143,50 +273,63 @@ fn read_operations(
 {
     let mut operations = Vec::with_capacity(alloc, list.len())?;
     for value in list {
-        operations.push(read_operation(alloc, value, block_size)?)?;
+        match read_operation(alloc, value, block_size) {
+            Ok(operation) => operations.push(operation)?,
+            Err(Unread::Memory) => return Err(ScriptError::Memory),
+            Err(Unread::Bad(fault)) => {
+                return Err(bad_operation(alloc, operations.len(), Some(value), fault));
+            }
+        }
     }
     Ok(operations)
 }
 
 /// An operation: a list of its name and what it is about.
-fn read_operation(
-    alloc: Global,
-    value: &Value,
-    block_size: usize,
-) -> Result<Operation, ScriptError> {
+fn read_operation(alloc: Global, value: &Value, block_size: usize) -> Result<Operation, Unread> {
     let Some(words) = value.as_array() else {
-        return Err(ScriptError::BadScript);
+        return Err(Unread::Bad(OperationFault::NoName));
     };
     match words.as_slice() {
         [name] => plain_operation(name),
         [name, handle] => handle_operation(name, handle),
         [name, first, second] => pair_operation(alloc, name, first, second, block_size),
         [name, handle, block, hex] => write_operation(alloc, name, handle, block, hex, block_size),
-        _ => Err(ScriptError::BadScript),
+        [name, ..] => Err(wrong_form(name)),
+        [] => Err(Unread::Bad(OperationFault::NoName)),
     }
 }
 
+/// Why an operation of this name is none, in the form that it has.
+fn wrong_form(name: &Value) -> Unread {
+    let Some(name) = name.as_str() else {
+        return Unread::Bad(OperationFault::NoName);
+    };
+    Unread::Bad(match OperationName::called(name) {
+        Some(name) => OperationFault::Form(name),
+        None => OperationFault::UnknownName,
+    })
+}
+
 /// An operation that is a name alone.
-fn plain_operation(name: &Value) -> Result<Operation, ScriptError> {
+fn plain_operation(name: &Value) -> Result<Operation, Unread> {
     match name.as_str() {
         Some("turn") => Ok(Operation::Turn),
         Some("commit") => Ok(Operation::Commit),
         Some("ckturn") => Ok(Operation::CheckpointTurn),
         Some("check") => Ok(Operation::Check),
         Some("sync") => Ok(Operation::SyncDirect),
-        _ => Err(ScriptError::BadScript),
+        _ => Err(wrong_form(name)),
     }
 }
 
 /// An operation of a handle.
-fn handle_operation(name: &Value, handle: &Value) -> Result<Operation, ScriptError> {
-    let handle = handle_of(handle)?;
+fn handle_operation(name: &Value, handle: &Value) -> Result<Operation, Unread> {
     match name.as_str() {
-        Some("stop") => Ok(Operation::Stop(handle)),
-        Some("request") => Ok(Operation::Request(handle)),
-        Some("status") => Ok(Operation::Status(handle)),
-        Some("wait") => Ok(Operation::Wait(handle)),
-        _ => Err(ScriptError::BadScript),
+        Some("stop") => Ok(Operation::Stop(handle_of(handle)?)),
+        Some("request") => Ok(Operation::Request(handle_of(handle)?)),
+        Some("status") => Ok(Operation::Status(handle_of(handle)?)),
+        Some("wait") => Ok(Operation::Wait(handle_of(handle)?)),
+        _ => Err(wrong_form(name)),
     }
 }
 
@@ -197,7 +340,7 @@ fn pair_operation(
     first: &Value,
     second: &Value,
     block_size: usize,
-) -> Result<Operation, ScriptError> {
+) -> Result<Operation, Unread> {
     match name.as_str() {
         Some("direct") => direct_operation(alloc, first, second, block_size),
         _ => number_operation(name, first, second),
@@ -210,25 +353,30 @@ fn direct_operation(
     block: &Value,
     hex: &Value,
     block_size: usize,
-) -> Result<Operation, ScriptError> {
+) -> Result<Operation, Unread> {
     let block = BlockNo(number_of(block)?);
     let bytes = bytes_of(alloc, hex, block_size)?;
     Ok(Operation::WriteDirect(block, bytes))
 }
 
 /// An operation of a handle and a number: credits, or a block.
-fn number_operation(
-    name: &Value,
-    handle: &Value,
-    number: &Value,
-) -> Result<Operation, ScriptError> {
-    let handle = handle_of(handle)?;
-    let number = number_of(number)?;
+fn number_operation(name: &Value, handle: &Value, number: &Value) -> Result<Operation, Unread> {
     match name.as_str() {
-        Some("start") => Ok(Operation::Start(handle, number)),
-        Some("revoke") => Ok(Operation::Revoke(handle, BlockNo(number))),
-        Some("read") => Ok(Operation::Read(handle, BlockNo(number))),
-        _ => Err(ScriptError::BadScript),
+        Some("start") => {
+            let handle = handle_of(handle)?;
+            Ok(Operation::Start(handle, number_of(number)?))
+        }
+        Some("revoke") => {
+            let handle = handle_of(handle)?;
+            let number = number_of(number)?;
+            Ok(Operation::Revoke(handle, BlockNo(number)))
+        }
+        Some("read") => {
+            let handle = handle_of(handle)?;
+            let number = number_of(number)?;
+            Ok(Operation::Read(handle, BlockNo(number)))
+        }
+        _ => Err(wrong_form(name)),
     }
 }
 
@@ -240,9 +388,9 @@ fn write_operation(
     block: &Value,
     hex: &Value,
     block_size: usize,
-) -> Result<Operation, ScriptError> {
+) -> Result<Operation, Unread> {
     let Some("write") = name.as_str() else {
-        return Err(ScriptError::BadScript);
+        return Err(wrong_form(name));
     };
     let handle = handle_of(handle)?;
     let block = BlockNo(number_of(block)?);
@@ -251,26 +399,29 @@ fn write_operation(
 }
 
 /// A whole number from 0 to 2^64 - 1.
-fn number_of(value: &Value) -> Result<u64, ScriptError> {
-    value.as_u64().ok_or(ScriptError::BadScript)
+fn number_of(value: &Value) -> Result<u64, Unread> {
+    value.as_u64().ok_or(Unread::Bad(OperationFault::Number))
 }
 
 /// A name of a handle.
-fn handle_of(value: &Value) -> Result<HandleName, ScriptError> {
-    HandleName::new(number_of(value)?).ok_or(ScriptError::BadScript)
+fn handle_of(value: &Value) -> Result<HandleName, Unread> {
+    value
+        .as_u64()
+        .and_then(HandleName::new)
+        .ok_or(Unread::Bad(OperationFault::Handle))
 }
 
 /// The bytes of a hex text, at most so many.
-fn bytes_of(alloc: Global, value: &Value, most: usize) -> Result<Vec<u8>, ScriptError>
+fn bytes_of(alloc: Global, value: &Value, most: usize) -> Result<Vec<u8>, Unread>
     ensures { IfOk result (λ bytes. length bytes.items ≤ most) }
 {
-    let digits = value.as_str().ok_or(ScriptError::BadScript)?;
+    let digits = value.as_str().ok_or(Unread::Bad(OperationFault::Digits))?;
     if digits.len() / 2 > most {
-        return Err(ScriptError::BadScript);
+        return Err(Unread::Bad(OperationFault::TooManyBytes));
     }
     match hex::decode(alloc, digits) {
         Ok(bytes) => Ok(bytes),
-        Err(FromHexError::OutOfMemory) => Err(ScriptError::Memory),
-        Err(_) => Err(ScriptError::BadScript),
+        Err(FromHexError::OutOfMemory) => Err(Unread::Memory),
+        Err(_) => Err(Unread::Bad(OperationFault::Digits)),
     }
 }

@@ -1,6 +1,7 @@
 //! The line that shows how far a command is.
 use bench_commands::sweep;
-use bench_commands::watched::Watch;
+use file_bench::bench;
+use file_commands::watched::Watch;
 use journal_model::Area;
 use std::io::{IsTerminal, Write};
 use std::time::{Duration, Instant};
@@ -88,6 +89,17 @@ impl Watch for Progress<'_> {
 
     fn ends(&mut self) {
         self.hide();
+    }
+}
+
+impl bench::Watch for Progress<'_> {
+    fn second(&mut self, second: u64, transactions: u64) {
+        if self.begun.is_some() {
+            let _shown = writeln!(
+                self.rt.stderr(),
+                "jbench: {second} s, {transactions} transactions"
+            );
+        }
     }
 }
 

@@ -68,17 +68,10 @@ ahead-reads contents size calls n bytes zero some k none agrees = absurd (omega 
 ahead-reads contents size calls n bytes (suc m) some k below agrees =
     last-or-before contents size calls n bytes m some k agrees (λ less. ahead-reads contents size calls n bytes m some k less agrees.1) (either k m (omega arith))
 
--- a block of the first bytes is one of all
-pub block-front : (size : ℕ) (front rest : List ℕ) (k : ℕ) → k * size + size ≤ length front → block_of size (front ++ rest) k ≡ block_of size front k
-block-front size front rest k within =
-    ap (take size) (drop-append-le (k * size) front rest (omega arith))
-    ∙ take-append-le size (drop (k * size) front) rest (omega (arith, length-drop (k * size) front))
-
 -- what is kept stays kept behind calls that ask for bytes
 pub kept-reading : (contents : FileContents) (size : ℕ) (more calls : List FileCall) (a : Ahead) → AllByRecursion IsReading more → KeepsAhead contents size calls a →
     KeepsAhead contents size (more ++ calls) a
 kept-reading contents size more calls a all keeps = record {
-  room = keeps.room;
   fits = keeps.fits;
   reads = λ k below agrees.
       keeps.reads k below (agreed-before contents size more calls agrees)
@@ -86,8 +79,8 @@ kept-reading contents size more calls a all keeps = record {
 }
 
 -- where none is kept, all that is kept is right
-pub kept-none : (contents : FileContents) (size : ℕ) (calls : List FileCall) (a : Ahead) → length a.bytes ≡ 65536 → a.count ≡ 0 → KeepsAhead contents size calls a
-kept-none contents size calls a room none = record { room = room; fits = rw none (omega arith); reads = λ k below agrees. absurd (omega arith) }
+pub kept-none : (contents : FileContents) (size : ℕ) (calls : List FileCall) (a : Ahead) → a.count ≡ 0 → KeepsAhead contents size calls a
+kept-none contents size calls a none = record { fits = rw none (omega arith); reads = λ k below agrees. absurd (omega arith) }
 
 -- what was asked for hands over nothing
 pub reads-hand : (area : Area) (at size : ℕ) (bytes : List ℕ) (count whole : ℕ) (calls : List FileCall) → AllByRecursion (HandsBlock whole) calls →
@@ -95,44 +88,37 @@ pub reads-hand : (area : Area) (at size : ℕ) (bytes : List ℕ) (count whole :
 reads-hand area at size bytes zero whole calls all = all
 reads-hand area at size bytes (suc k) whole calls all = (tt, reads-hand area at size bytes k whole calls all)
 
--- block k of some whole ones lies within them
-block-within : (k count size : ℕ) → k < count → k * size + size ≤ count * size
-block-within k count size below =
-    let one_more : (k + 1) * size ≡ k * size + 1 * size = add-mul k 1 size in
-    omega (arith, one_more, mul-le (k + 1) size count size (omega arith) (omega arith))
-
 -- blocks that were just read ahead are kept rightly
-pub kept-ahead : (contents : FileContents) (size : ℕ) (calls : List FileCall) (n : ℕ) (bytes rest : List ℕ) (count next : ℕ) (steady : Bool) → 0 < size → length bytes ≡ count * size → length (bytes ++ rest) ≡ 65536 →
-    KeepsAhead contents size (reads_of Log (n * size) size bytes (length bytes / size) ++ calls) (record { bytes = bytes ++ rest; first = n; count = count; next = next; is_steady = steady })
-kept-ahead contents size calls n bytes rest count next steady some long room =
+pub kept-ahead : (contents : FileContents) (size : ℕ) (calls : List FileCall) (n : ℕ) (bytes : List ℕ) (count : ℕ) (a : Ahead) → 0 < size → length bytes ≡ count * size →
+    a.bytes.items ≡ bytes → a.first ≡ n → a.count ≡ count → KeepsAhead contents size (reads_of Log (n * size) size bytes (length bytes / size) ++ calls) a
+kept-ahead contents size calls n bytes count a some long is_bytes is_first is_count =
     let number : length bytes / size ≡ count = ap (λ (p : ℕ). p / size) long ∙ mul-div_cancel count some in
     let asked : List FileCall = reads_of Log (n * size) size bytes (length bytes / size) in
     record {
-      room = room;
-      fits = omega (arith, length-append bytes rest);
+      fits = rw (is_count, is_bytes) (omega (arith, long));
       reads = λ k below agrees.
-          block-front size bytes rest k (rw long (block-within k count size below))
-          ∙ ahead-reads contents size calls n bytes (length bytes / size) some k (rw number below) agrees
-          ∙ ap (λ (x : FileMoments). (x.disk Log (n + k)).reads) (sym (readings-leave contents size asked calls (reads-ask Log (n * size) size bytes (length bytes / size))));
+          let less : k < count = subst (λ (m : ℕ). k < m) is_count below in
+          rw (is_bytes, is_first) (
+          ahead-reads contents size calls n bytes (length bytes / size) some k (rw number less) agrees
+          ∙ ap (λ (x : FileMoments). (x.disk Log (n + k)).reads) (sym (readings-leave contents size asked calls (reads-ask Log (n * size) size bytes (length bytes / size))))
+          );
     }
 
 -- a device that has just read ahead keeps what it has to
-pub read-ahead-kept : (contents : FileContents) (size : ℕ) (calls cs : List FileCall) (n at count ahead next : ℕ) (steady : Bool) (old bytes : List ℕ) → KeepsBlocks size calls → at ≡ n * size →
-    length old ≡ 65536 → count * size ≤ 65536 → length bytes ≡ length (take (count * size) old) → cs ≡ reads_of Log at size bytes (length bytes / size) ++ calls → ahead ≡ count →
-    KeepsBlocks size cs × KeepsAhead contents size cs (record { bytes = bytes ++ drop (count * size) old; first = n; count = ahead; next = next; is_steady = steady })
-read-ahead-kept contents size calls cs n at count ahead next steady old bytes keeps place room within long noted counted =
-    let whole : length bytes ≡ count * size = long ∙ length-take-le (count * size) old (omega arith) in
-    let all : length (bytes ++ drop (count * size) old) ≡ 65536 = omega (arith, length-append bytes (drop (count * size) old), length-drop (count * size) old) in
-    rw (noted, place, counted) (
+pub read-ahead-kept : (contents : FileContents) (size : ℕ) (calls cs : List FileCall) (n at count : ℕ) (a : Ahead) (bytes : List ℕ) → KeepsBlocks size calls → at ≡ n * size →
+    length bytes ≡ count * size → cs ≡ reads_of Log at size bytes (length bytes / size) ++ calls → a.bytes.items ≡ bytes → a.first ≡ n → a.count ≡ count →
+    KeepsBlocks size cs × KeepsAhead contents size cs a
+read-ahead-kept contents size calls cs n at count a bytes keeps place whole noted is_bytes is_first is_count =
+    rw (noted, place) (
       record { some = keeps.some; whole = reads-hand Log (n * size) size bytes (length bytes / size) size calls keeps.whole },
-      kept-ahead contents size calls n bytes (drop (count * size) old) count next steady keeps.some whole all,
+      kept-ahead contents size calls n bytes count a keeps.some whole is_bytes is_first is_count,
     )
 
 -- and so does one whose reading ahead failed
 pub failed-ahead-kept : (contents : FileContents) (size : ℕ) (calls cs : List FileCall) (at : ℕ) (a : Ahead) → KeepsBlocks size calls →
-    length a.bytes ≡ 65536 → cs ≡ ReadFailed Log at ∷ calls → a.count ≡ 0 → KeepsBlocks size cs × KeepsAhead contents size cs a
-failed-ahead-kept contents size calls cs at a keeps room noted none =
-    rw noted (record { some = keeps.some; whole = (tt, keeps.whole) }, kept-none contents size (ReadFailed Log at ∷ calls) a room none)
+    cs ≡ ReadFailed Log at ∷ calls → a.count ≡ 0 → KeepsBlocks size cs × KeepsAhead contents size cs a
+failed-ahead-kept contents size calls cs at a keeps noted none =
+    rw noted (record { some = keeps.some; whole = (tt, keeps.whole) }, kept-none contents size (ReadFailed Log at ∷ calls) a none)
 
 -- a fact of each of some calls and of each of others is one of each of both
 all-append : (P : FileCall → Type 0) (more calls : List FileCall) → AllByRecursion P more → AllByRecursion P calls → AllByRecursion P (more ++ calls)
@@ -167,12 +153,6 @@ span-fits n size long room count at span there many place most =
     let joined : (n + count) * size ≡ n * size + count * size = add-mul n count size in
     let within : (n + count) * size ≤ (long / size) * size = mul-le (n + count) size (long / size) size (omega arith) (omega arith) in
     omega (arith, joined, within, div-mul-le_self long size)
-
--- some blocks, as many as there is room for
-pub room-for : (size most behind count : ℕ) → count ≡ min (most / size) behind → count * size ≤ most
-room-for size most behind count many =
-    let few : count ≤ most / size = omega (arith, many, min-le_left (most / size) behind) in
-    omega (arith, mul-le count size (most / size) size few (omega arith), div-mul-le_self most size)
 
 -- what follows of a value, and of an error
 pub on-ok : {T E P Q : Type 0} (r : Result T E) → (P → Q) → OnOk r P → OnOk r Q

@@ -41,7 +41,6 @@ pub record HasFailedRead (old new : FileState) (area : Area) (at : ℕ) : Type 0
 
 -- the blocks that are kept are there, and each is what the log reads where each read so far gave what the disk had
 pub record KeepsAhead (contents : FileContents) (size : ℕ) (calls : List FileCall) (a : Ahead) : Type 0 where
-  pub room : length a.bytes ≡ 65536
-  pub fits : a.count * size ≤ 65536
+  pub fits : a.count * size ≤ length a.bytes.items
   pub reads : (k : ℕ) → k < a.count → AgreesEach contents size calls →
-      block_of size a.bytes k ≡ ((after_calls contents size calls).disk Log (a.first + k)).reads
+      block_of size a.bytes.items k ≡ ((after_calls contents size calls).disk Log (a.first + k)).reads

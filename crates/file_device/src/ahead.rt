@@ -2,6 +2,8 @@
 ghost use Rattle.std.specs.Prelude.{◌≡◌, ◌+◌, ◌*◌, ◌<◌, ◌≤◌, length, IfSome};
 ghost use Rattle.file_device.specs.Ahead.{block_of};
 
+use std::alloc::Global;
+
 /// How many bytes are read at once.
 pub(crate) const MOST_BYTES: usize = 65_536;
 
@@ -12,7 +14,7 @@ const NEAR_BLOCKS: u64 = 8;
 /// once.
 #[derive(Drop)]
 pub(crate) struct Ahead {
-    pub(crate) bytes: [u8; MOST_BYTES],
+    pub(crate) bytes: Vec<u8>,
     /// The number of the first of them, and how many they are.
     pub(crate) first: u64,
     pub(crate) count: u64,
@@ -23,12 +25,12 @@ pub(crate) struct Ahead {
 }
 
 impl Ahead {
-    /// No block is kept.
-    pub(crate) fn new() -> Self
+    /// No block is kept. It takes no memory.
+    pub(crate) fn new(alloc: Global) -> Self
         ensures { result.count ≡ 0 }
     {
         Ahead {
-            bytes: [0; MOST_BYTES],
+            bytes: Vec::new(alloc),
             first: 0,
             count: 0,
             next: 0,

@@ -20,6 +20,7 @@ use crate::calls::NotedFiles;
 use crate::unmeasured::Unmeasured;
 use block_device::{Device, DeviceFault};
 use journal_model::Area;
+use std::alloc::Global;
 use std::fs::File;
 use std::marker::{Model, PhantomData};
 
@@ -46,11 +47,12 @@ impl Contents for UnknownContents {
 ///
 /// Block `n` of an area is the bytes from `n` times the block size on in its file, and an area has the whole blocks of
 /// its file: what is left behind the last of them is never touched. The lengths are read once, when the device is
-/// made. The device takes no memory. A flush makes its area's file durable (fdatasync); the home area of a log file alone
+/// made. A flush makes its area's file durable (fdatasync); the home area of a log file alone
 /// has nothing to flush.
 ///
 /// A reader that goes over the log from block to block, and leaves out a few at most, is handed them from a buffer of 64 KiB,
-/// which one call of the system fills. A write to the log, and each flush, empties it.
+/// which one call of the system fills. A write to the log, and each flush, empties it. That buffer is all the memory that a device
+/// takes; where there is none for it, nothing is read ahead.
 ///
 /// After a write or a flush that failed each further write and flush answers a fault and makes no call, since the
 /// system may have dropped what it was handed: open the files again to see what is there. A read that fails changes
@@ -117,6 +119,7 @@ impl<C: Contents> FileDevice<C> {
     /// The system can't tell the length of a file; both are closed then. It is asked for that of the log file, and for that
     /// of the home file where there is one. What it answers is as it gave it: std says nothing of when such a call fails.
     pub fn new(
+        alloc: Global,
         _contents: C,
         block_size: usize,
         log: File,
@@ -139,7 +142,7 @@ impl<C: Contents> FileDevice<C> {
             has_failed: false,
             faults: 0,
             calls_made: 0,
-            ahead: Ahead::new(),
+            ahead: Ahead::new(alloc),
         })
     }
 
@@ -168,7 +171,7 @@ impl<C: Contents> FileDevice<C> {
         true
     }
 
-    /// Reads as many blocks of the log at once as there is room for, from block `n` on.
+    /// Reads as many blocks of the log at once as there is room for, from block `n` on. Where there is no memory for them, none.
     fn read_ahead(&mut self, n: u64)
         requires there { n < (file_shape self.old).log_blocks }
         ensures { HasRead self.old self.new }
@@ -179,8 +182,11 @@ impl<C: Contents> FileDevice<C> {
         let count = room.min(length / size as u64 - n);
         let at = place_of(n, size, length);
         let FileDevice { files, ahead, .. } = self;
-        let span = &mut ahead.bytes[..count as usize * size];
-        ahead.count = match files.read_blocks(Area::Log, at, size, span) {
+        ahead.count = 0;
+        if ahead.bytes.resize(count as usize * size, 0).is_err() {
+            return;
+        }
+        ahead.count = match files.read_blocks(Area::Log, at, size, &mut ahead.bytes) {
             Ok(()) => count,
             Err(_) => 0,
         };

@@ -98,7 +98,7 @@ fn two_files(
     write_in(rt, folder, "home", home)?;
     let log = open_in(rt, folder, "log")?;
     let home = open_in(rt, folder, "home")?;
-    Ok(FileDevice::new(UnknownContents, SIZE, log, Some(home))?)
+    Ok(FileDevice::new(rt.alloc(), UnknownContents, SIZE, log, Some(home))?)
 }
 
 #[test]
@@ -123,6 +123,7 @@ fn expect_lone_log<D: Device>(rt: &impl Abort, device: &mut D) -> Result<(), Dev
 fn lone_log(rt: &HostRuntime, folder: &str) -> io::Result<FileDevice<UnknownContents>> {
     make_log(rt, folder, b"aaaabbbb")?;
     Ok(FileDevice::new(
+        rt.alloc(),
         UnknownContents,
         SIZE,
         open_to_read(rt, folder, "log")?,
@@ -166,7 +167,7 @@ fn read_only_home(rt: &HostRuntime, folder: &str) -> io::Result<FileDevice<Unkno
     write_in(rt, folder, "home", b"cccc")?;
     let log = open_in(rt, folder, "log")?;
     let home = open_to_read(rt, folder, "home")?;
-    Ok(FileDevice::new(UnknownContents, SIZE, log, Some(home))?)
+    Ok(FileDevice::new(rt.alloc(), UnknownContents, SIZE, log, Some(home))?)
 }
 
 #[test]
@@ -198,7 +199,13 @@ fn open_unsynced(rt: &HostRuntime) -> io::Result<File> {
 fn unsynced_home(rt: &HostRuntime, folder: &str) -> io::Result<FileDevice<UnknownContents>> {
     make_log(rt, folder, b"aaaabbbb")?;
     let log = open_in(rt, folder, "log")?;
-    Ok(FileDevice::new(UnknownContents, SIZE, log, Some(open_unsynced(rt)?))?)
+    Ok(FileDevice::new(
+        rt.alloc(),
+        UnknownContents,
+        SIZE,
+        log,
+        Some(open_unsynced(rt)?),
+    )?)
 }
 
 #[test]
@@ -214,7 +221,13 @@ fn after_a_failed_flush_nothing_is_written(rt: HostRuntime) -> Result<(), Fail> 
 fn unsynced_log(rt: &HostRuntime, folder: &str) -> io::Result<FileDevice<UnknownContents>> {
     make_log(rt, folder, b"aaaabbbb")?;
     let home = open_in(rt, folder, "log")?;
-    Ok(FileDevice::new(UnknownContents, SIZE, open_unsynced(rt)?, Some(home))?)
+    Ok(FileDevice::new(
+        rt.alloc(),
+        UnknownContents,
+        SIZE,
+        open_unsynced(rt)?,
+        Some(home),
+    )?)
 }
 
 #[test]
@@ -264,7 +277,7 @@ fn write_and_read<D: Device>(
 fn zero_log(rt: &HostRuntime, folder: &str) -> io::Result<FileDevice<UnknownContents>> {
     make_log(rt, folder, &[0; THREE])?;
     let log = open_in(rt, folder, "log")?;
-    Ok(FileDevice::new(UnknownContents, LARGEST, log, None)?)
+    Ok(FileDevice::new(rt.alloc(), UnknownContents, LARGEST, log, None)?)
 }
 
 #[test]
@@ -297,7 +310,13 @@ fn cut_to_six(rt: &HostRuntime, folder: &str) -> io::Result<()> {
 /// meets the end of the file.
 fn cut_log(rt: &HostRuntime, folder: &str) -> io::Result<FileDevice<UnknownContents>> {
     make_log(rt, folder, b"aaaabbbb")?;
-    let device = FileDevice::new(UnknownContents, SIZE, open_in(rt, folder, "log")?, None)?;
+    let device = FileDevice::new(
+        rt.alloc(),
+        UnknownContents,
+        SIZE,
+        open_in(rt, folder, "log")?,
+        None,
+    )?;
     cut_to_six(rt, folder)?;
     Ok(device)
 }

@@ -1,11 +1,13 @@
 //! Rows of the commands of `jbench`, over readers, writers and devices in memory.
-use bench_commands::fault::Status;
-use bench_commands::watched::Unwatched;
-use bench_commands::words::{
-    FormatWords, RecoverWords, RunWords, StopWords, SweepWords, Words, answer, parse,
+use bench_commands::{check, run, sweep};
+use bench_words::fault::Status;
+use bench_words::words::{
+    ApplyWords, BenchWords, FormatWords, LogPaths, RunWords, StopWords, SweepWords, Words, answer,
+    parse,
 };
-use bench_commands::{logs, run, sweep};
 use block_device::MemDevice;
+use file_commands::logs;
+use file_commands::watched::Unwatched;
 use format_rows::RowError;
 use format_rows::words::cut;
 use run_rows::scripts::measures_text;
@@ -55,6 +57,26 @@ fn sweep_script(alloc: Global, words: &SweepWords<'_>, script: &str) -> Result<S
     }
 }
 
+/// What is said of a script. Given: the words of the program on a line, and the script. Found: as of a run.
+pub fn check(alloc: Global, given: &str) -> Result<String, RowError> {
+    let (line, script) = given.split_once('\n').unwrap_or((given, ""));
+    let words = words_in(alloc, line)?;
+    match parse(alloc, &words) {
+        Ok(Words::Check(path)) => check_script(alloc, path, script),
+        _ => Err(RowError::Unread),
+    }
+}
+
+/// What `check` says of this script.
+fn check_script(alloc: Global, path: &str, script: &str) -> Result<String, RowError> {
+    let mut out = Vec::new(alloc);
+    let mut err = Vec::new(alloc);
+    match check::check(alloc, path, script.as_bytes(), &mut out, &mut err) {
+        Ok(status) => text_of(alloc, &out, &err, status),
+        Err(_) => Err(RowError::Memory),
+    }
+}
+
 /// An empty log on a device in memory. Given: the words of the program on a line, and as `1024 33 64` the bytes of the device's
 /// blocks and how many its log and its home area have. Found: as of a run.
 pub fn format(alloc: Global, given: &str) -> Result<String, RowError> {
@@ -74,7 +96,7 @@ fn format_device(
 ) -> Result<String, RowError> {
     let mut out = Vec::new(alloc);
     let mut err = Vec::new(alloc);
-    match logs::format(words.log, &words.measures, device, &mut out, &mut err) {
+    match logs::format(words.paths.log, &words.measures, device, &mut out, &mut err) {
         Ok(status) => text_of(alloc, &out, &err, status),
         Err(_) => Err(RowError::Memory),
     }
@@ -92,7 +114,7 @@ pub fn recover(alloc: Global, given: &str) -> Result<String, RowError> {
     let (line, log) = cut(given, "\n")?;
     let words = words_in(alloc, line)?;
     match parse(alloc, &words) {
-        Ok(Words::Recover(words)) => recover_device(alloc, &words, log_on_device(alloc, log)?),
+        Ok(Words::Recover(paths)) => recover_device(alloc, paths, log_on_device(alloc, log)?),
         _ => Err(RowError::Unread),
     }
 }
@@ -105,12 +127,12 @@ fn log_on_device(alloc: Global, log: &str) -> Result<MemDevice, RowError> {
 /// What `recover` says of the log on this device.
 fn recover_device(
     alloc: Global,
-    words: &RecoverWords<'_>,
+    paths: LogPaths<'_>,
     device: MemDevice,
 ) -> Result<String, RowError> {
     let mut out = Vec::new(alloc);
     let mut err = Vec::new(alloc);
-    match logs::recover(alloc, words.log, device, Unwatched, &mut out, &mut err) {
+    match logs::recover(alloc, paths.log, device, Unwatched, &mut out, &mut err) {
         Ok(status) => text_of(alloc, &out, &err, status),
         Err(_) => Err(RowError::Memory),
     }
@@ -131,9 +153,12 @@ fn told(alloc: Global, words: &Words<'_>) -> Result<String, RowError> {
     match words {
         Words::Run(words) => Ok(told_run(alloc, words)?),
         Words::Sweep(words) => told_sweep(alloc, words),
+        Words::Check(script) => Ok(format!(in alloc; "check {script}")?),
         Words::Format(words) => told_format(alloc, words),
         Words::Dump(log) => Ok(format!(in alloc; "dump {log}")?),
-        Words::Recover(words) => Ok(format!(in alloc; "recover {} {}", words.log, words.home)?),
+        Words::Recover(paths) => Ok(format!(in alloc; "recover {} {}", paths.log, paths.home)?),
+        Words::Apply(words) => Ok(told_apply(alloc, words)?),
+        Words::Bench(words) => Ok(told_bench(alloc, words)?),
     }
 }
 
@@ -176,7 +201,10 @@ fn write_stop(text: &mut String, words: &StopWords) -> Result<(), AllocError> {
 /// What words tell `format`.
 fn told_format(alloc: Global, words: &FormatWords<'_>) -> Result<String, RowError> {
     let measures = measures_text(alloc, &words.measures)?;
-    Ok(format!(in alloc; "format {} {}: {measures}", words.log, words.home)?)
+    Ok(format!(in alloc;
+        "format {} {}: {measures}",
+        words.paths.log, words.paths.home
+    )?)
 }
 
 /// What is said of words that tell nothing to do.
@@ -192,6 +220,68 @@ fn answered(alloc: Global, e: &clap::Error) -> Result<String, RowError> {
         )?),
         Err(_) => Err(RowError::Memory),
     }
+}
+
+/// What words tell `apply`.
+fn told_apply(alloc: Global, words: &ApplyWords<'_>) -> Result<String, AllocError> {
+    format!(in alloc;
+        "apply {} {} {}{}",
+        words.paths.log,
+        words.paths.home,
+        words.script,
+        if words.stay { ", stay" } else { "" }
+    )
+}
+
+/// What words tell `bench`.
+fn told_bench(alloc: Global, words: &BenchWords<'_>) -> Result<String, AllocError> {
+    let mut text = format!(in alloc;
+        "bench {} {}, copies {}",
+        words.paths.log, words.paths.home, words.copies
+    )?;
+    if let Some(time) = words.most_time() {
+        write!(text, ", {} seconds", time.as_secs())?;
+    }
+    if let Some(transactions) = words.transactions {
+        write!(text, ", {transactions} transactions")?;
+    }
+    Ok(text)
+}
+
+/// What is said of words that tell nothing to do. Given: the words. Found: the first line of it, and that of the usage, where `(`
+/// and `)` stand for angle brackets.
+pub fn usages(alloc: Global, given: &str) -> Result<String, RowError> {
+    let words = words_in(alloc, given)?;
+    match parse(alloc, &words) {
+        Ok(_) => Err(RowError::Unread),
+        Err(e) => {
+            let text = format!(in alloc; "{e}")?;
+            Ok(first_and_usage(alloc, text.as_str())?)
+        }
+    }
+}
+
+/// The first line of a text, and each that begins with the word of a usage.
+fn first_and_usage(alloc: Global, text: &str) -> Result<String, AllocError> {
+    let mut lines = String::new(alloc);
+    for (i, line) in text.lines().enumerate() {
+        if i == 0 || line.starts_with("Usage: ") {
+            push_line(&mut lines, line)?;
+        }
+    }
+    Ok(lines)
+}
+
+/// Adds a line, with `(` and `)` for its angle brackets.
+fn push_line(lines: &mut String, line: &str) -> Result<(), AllocError> {
+    for c in line.chars() {
+        lines.push(match c {
+            '<' => '(',
+            '>' => ')',
+            _ => c,
+        })?;
+    }
+    lines.push('\n')
 }
 
 /// The operations that a help text has. Given: the words that ask for it. Found: each operation in the form that stands at the
@@ -221,7 +311,7 @@ fn forms_in(alloc: Global, text: &str) -> Result<String, AllocError> {
 }
 
 /// The words of a line, which blanks separate. A word between quotes may have blanks, or nothing.
-fn words_in(alloc: Global, line: &str) -> Result<Vec<&str>, AllocError> {
+pub(crate) fn words_in(alloc: Global, line: &str) -> Result<Vec<&str>, AllocError> {
     let mut words = Vec::new(alloc);
     for (i, part) in line.split('\'').enumerate() {
         if i % 2 == 1 {
@@ -242,7 +332,12 @@ fn push_words<'a>(words: &mut Vec<&'a str>, text: &'a str) -> Result<(), AllocEr
 }
 
 /// What a command wrote on standard output and standard error, and its exit status.
-fn text_of(alloc: Global, out: &[u8], err: &[u8], status: Status) -> Result<String, RowError> {
+pub(crate) fn text_of(
+    alloc: Global,
+    out: &[u8],
+    err: &[u8],
+    status: Status,
+) -> Result<String, RowError> {
     let mut text = String::from_str(alloc, written(out)?)?;
     for line in written(err)?.lines() {
         writeln!(text, "stderr: {line}")?;

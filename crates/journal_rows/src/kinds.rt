@@ -1,5 +1,5 @@
 //! What may be done with a row, by the name of its kind.
-use crate::commands;
+use crate::{benches, commands};
 use format_rows::RowError;
 use std::alloc::Global;
 
@@ -50,11 +50,14 @@ fn found_of_run(alloc: Global, kind: &str, given: &str) -> Option<Found> {
 /// What is found of a row on the commands of `jbench` and its words.
 fn found_of_command(alloc: Global, kind: &str, given: &str) -> Option<Found> {
     match kind {
+        "bench" => Some(benches::bench(alloc, given)),
+        "check" => Some(commands::check(alloc, given)),
         "format" => Some(commands::format(alloc, given)),
         "help" => Some(commands::help(alloc, given)),
         "recover" => Some(commands::recover(alloc, given)),
         "run" => Some(commands::run(alloc, given)),
         "sweep" => Some(commands::sweep(alloc, given)),
+        "usages" => Some(commands::usages(alloc, given)),
         "words" => Some(commands::words(alloc, given)),
         _ => None,
     }

@@ -6,6 +6,7 @@
 //! crates `format_rows`, `log_rows`, `opening_rows` and `run_rows`; those of the commands of `jbench` and its words by `commands`.
 #![tactic(auto)]
 
+mod benches;
 mod commands;
 mod kinds;
 mod repetition;

@@ -9,7 +9,7 @@ use std::fmt::Write;
 fn script_of(alloc: Global, text: &[u8]) -> Result<Option<Script>, RowError> {
     match read(alloc, text) {
         Ok(script) => Ok(Some(script)),
-        Err(ScriptError::BadScript) => Ok(None),
+        Err(ScriptError::BadScript(_)) => Ok(None),
         Err(ScriptError::Memory) => Err(RowError::Memory),
     }
 }

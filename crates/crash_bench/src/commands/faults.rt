@@ -1,7 +1,7 @@
 //! Readers and writers that fail.
 use super::text_of;
 use bench_commands::run::run;
-use bench_commands::words::{RunWords, StopWords};
+use bench_words::words::{RunWords, StopWords};
 use std::alloc::Global;
 use std::io;
 use std::io::{ErrorKind, Read, Write};

@@ -1,15 +1,16 @@
 //! The commands `format` and `dump`, over files.
 use super::text_of;
-use bench_commands::files::{LogFiles, make_device, open_home, open_log, open_or_make};
-use bench_commands::logs::{dump, format};
 use bench_script::{DEFAULTS, Measures};
+use bench_words::words::LogPaths;
+use file_commands::files::{LogFiles, make_device, open_log, open_or_make_pair};
+use file_commands::logs::{dump, format};
 use std::alloc::Global;
 use std::fs;
 use std::test::Fail;
 
 /// What `dump` says of the log in this file.
 fn dump_of(rt: &HostRuntime, log: &str) -> Result<String, Fail> {
-    let device = open_log(rt, log)?;
+    let device = open_log(rt.alloc(), rt, log)?;
     let mut out = Vec::new(rt.alloc());
     let mut err = Vec::new(rt.alloc());
     let status = dump(rt.alloc(), "a.log", device, &mut out, &mut err)?;
@@ -26,10 +27,18 @@ fn format_of(alloc: Global, measures: &Measures, device: LogFiles) -> Result<Str
 
 /// Makes an empty log of the files `empty_log` and `empty_home`. The answer is what `format` says of it.
 fn make(rt: &HostRuntime, measures: &Measures) -> Result<String, Fail> {
-    let log = open_or_make(rt, "empty_log")?;
-    let home = open_home(rt, "empty_home", &log)?;
-    let device = make_device(measures, log, home)?;
-    format_of(rt.alloc(), measures, device)
+    let paths = LogPaths {
+        log: "empty_log",
+        home: "empty_home",
+    };
+    match open_or_make_pair(rt, paths, None) {
+        Ok(files) => format_of(
+            rt.alloc(),
+            measures,
+            make_device(rt.alloc(), measures, files)?,
+        ),
+        Err(unopened) => Err(Fail::from(unopened.error)),
+    }
 }
 
 /// How many bytes both files have, and how many of those of the home area are not zero.
@@ -98,26 +107,6 @@ fn logs_in_new_files_and_in_longer_ones(rt: HostRuntime) -> Result<(), Fail> {
     assert!(rt; is_made(&rt, &SHORTEST, SHORTEST_LOG)?, "the shortest log");
     fs::remove_file(&rt, "empty_log")?;
     fs::remove_file(&rt, "empty_home")?;
-    Ok(())
-}
-
-/// Which are refused: a folder as a log to be read and to be made, a file that is missing, and one file under both names.
-fn are_refused(rt: &HostRuntime) -> Result<[bool; 4], Fail> {
-    let log = open_or_make(rt, "refused/log")?;
-    Ok([
-        open_log(rt, "refused").is_err(),
-        open_or_make(rt, "refused").is_err(),
-        open_log(rt, "refused/missing").is_err(),
-        open_home(rt, "refused/log", &log).is_err(),
-    ])
-}
-
-#[test]
-fn paths_that_are_refused(rt: HostRuntime) -> Result<(), Fail> {
-    let _ = fs::remove_dir_all(&rt, "refused");
-    fs::create_dir(&rt, "refused")?;
-    assert_eq!(rt; are_refused(&rt)?, [true; 4]);
-    fs::remove_dir_all(&rt, "refused")?;
     Ok(())
 }
 

@@ -7,10 +7,10 @@ use Rattle.bench_client.proofs.client.Client.acknowledge.Goals.{in-Some, in-None
 
 -- the transaction is answered
 pub invariant_of-self : goal.invariant_of-self
-invariant_of-self g c =
+invariant_of-self g c = λ honest.
     let marked = subst (λ (v : ClientValue _). c.args.tid ≤ v.journal.journal.front.mark) (sym c.self.view_is) c.requires in
     let on = answers g.H.HomeFact.holds c.self.inside.operations.now c.self.inside.journal.journal (g.D.Device.state c.self.inside.journal.device) c.self.inside.acknowledged c.match-self.self c.args.tid
-    c.self.invariant marked in
+    (c.self.invariant honest) marked in
     elim c.match-self.branch [
       | in-Some w ↦ on (w.self-is ∙ ap Some (w.max.ensures ∙ ap₂ max w.other.view_is w.tid.view_is) ∙ sym (ap (with_told c.args.tid) w.in-Some.is))
       | in-None w ↦ on (w.self-is ∙ sym (ap (with_told c.args.tid) w.in-None.is))

@@ -1,6 +1,7 @@
 //! How a command ends, and what it says where it can't go on.
 use bench_script::ScriptError;
 use journal_model::JournalError;
+use std::alloc::AllocFailed;
 use std::io;
 use std::io::{ErrorKind, Write};
 use std::process::ExitCode;
@@ -35,6 +36,8 @@ pub enum Fault {
     BadScript,
     /// The files of an image can't be made.
     ImageFile,
+    /// The clock can't be read.
+    Clock,
     /// The journal refused, or memory ran out.
     Refused(JournalError),
     /// The output can't be written.
@@ -43,15 +46,23 @@ pub enum Fault {
 
 impl Fault {
     /// Why a file can't be opened or read.
-    pub(crate) fn of_file(e: io::Error) -> Fault {
+    pub fn of_file(e: io::Error) -> Fault {
         match e.kind() {
             ErrorKind::OutOfMemory => Fault::Refused(JournalError::Memory),
             _ => Fault::File,
         }
     }
 
+    /// Why the clock can't be read.
+    pub fn of_clock(e: io::Error) -> Fault {
+        match e.kind() {
+            ErrorKind::OutOfMemory => Fault::Refused(JournalError::Memory),
+            _ => Fault::Clock,
+        }
+    }
+
     /// Why the files of an image can't be made.
-    pub(crate) fn of_image(e: io::Error) -> Fault {
+    pub fn of_image(e: io::Error) -> Fault {
         match e.kind() {
             ErrorKind::OutOfMemory => Fault::Refused(JournalError::Memory),
             _ => Fault::ImageFile,
@@ -60,7 +71,7 @@ impl Fault {
 }
 
 impl From<io::Error> for Fault {
-    ghost use Rattle.bench_commands.specs.Images.{IsUnmade};
+    ghost use Rattle.bench_words.specs.Images.{IsUnmade};
 
     ghost from_gives = { λ _ fault. ¬ IsUnmade fault };
 
@@ -78,17 +89,23 @@ impl From<JournalError> for Fault {
     }
 }
 
+impl<T: Drop> From<AllocFailed<T>> for Fault {
+    fn from(_e: AllocFailed<T>) -> Fault {
+        Fault::Refused(JournalError::Memory)
+    }
+}
+
 impl From<ScriptError> for Fault {
     fn from(e: ScriptError) -> Fault {
         match e {
-            ScriptError::BadScript => Fault::BadScript,
+            ScriptError::BadScript(_) => Fault::BadScript,
             ScriptError::Memory => Fault::Refused(JournalError::Memory),
         }
     }
 }
 
 impl From<log_dump::Fault> for Fault {
-    ghost use Rattle.bench_commands.specs.Images.{IsUnmade};
+    ghost use Rattle.bench_words.specs.Images.{IsUnmade};
 
     ghost from_gives = { λ _ fault. ¬ IsUnmade fault };
 
@@ -110,24 +127,25 @@ fn report(err: &mut impl Write, path: &str, fault: &Fault) -> io::Result<()> {
     match fault {
         Fault::File | Fault::ImageFile => writeln!(err, "jbench: file {path}"),
         Fault::BadScript => writeln!(err, "jbench: bad script"),
+        Fault::Clock => writeln!(err, "jbench: clock"),
         Fault::Refused(e) => writeln!(err, "jbench: refusal {} {e}", e.number()),
         Fault::Output(_) => Ok(()),
     }
 }
 
-/// Writes the line that `report` writes. The command is then refused.
+/// Writes the line that says why a command can't go on: `path` names its file. The command is then refused.
 ///
 /// # Errors
 ///
 /// The line can't be written.
-pub(crate) fn refuse(err: &mut impl Write, path: &str, fault: &Fault) -> io::Result<Status> {
+pub fn refuse(err: &mut impl Write, path: &str, fault: &Fault) -> io::Result<Status> {
     match report(err, path, fault) {
         Ok(()) => Ok(Status::Refused),
         Err(e) => Err(e),
     }
 }
 
-/// Says that the file of this path can't be opened, or that memory ran out.
+/// Says that the file of this path can't be opened, or that memory ran out. The command is then refused.
 ///
 /// # Errors
 ///

@@ -1,7 +1,7 @@
 //! The commands `format`, `dump` and `recover`, over devices.
-use crate::fault::{self, Fault, Status};
 use crate::watched::{Watch, Watched};
 use bench_script::Measures;
+use bench_words::fault::{self, Fault, Status};
 use block_device::Device;
 use journal_model::{Area, Tid};
 use recovery::Report;
@@ -90,11 +90,12 @@ pub fn recover<D: Device + Drop, H: Watch + Drop, W: Write + Drop, E: Write + Dr
     out: W,
     err: E,
 ) -> io::Result<Status> {
+    let mut out = out;
     match recovery::open(alloc, Watched::new(device, watch)) {
         Ok(opened) => {
             let (report, next) = (opened.report(), opened.next());
             opened.into_device().into_watch().ends();
-            end(path, say_opened(report, next, out), err)
+            end(path, say_opened(report, next, &mut out), err)
         }
         Err((device, e)) => {
             device.into_watch().ends();
@@ -104,7 +105,7 @@ pub fn recover<D: Device + Drop, H: Watch + Drop, W: Write + Drop, E: Write + Dr
 }
 
 /// Says what an opening found.
-fn say_opened<W: Write + Drop>(report: Report, next: Tid, mut out: W) -> Result<(), Fault> {
+pub(crate) fn say_opened<W: Write>(report: Report, next: Tid, out: &mut W) -> Result<(), Fault> {
     if report.clean {
         writeln!(out, "clean next={}", next.0).map_err(Fault::from)
     } else {

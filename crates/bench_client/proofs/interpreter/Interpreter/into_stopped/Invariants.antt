@@ -1,5 +1,5 @@
 use Rattle.std.proofs.Common.{◌≡◌}
-use Rattle.bench_client.proofs.interpreter.Interpreter.finish.Given as goal
+use Rattle.bench_client.proofs.interpreter.Interpreter.into_stopped.Given as goal
 
 -- the operations are the same
 abbrev pub invariant-loop-slot : goal.invariant-loop-slot

@@ -4,7 +4,6 @@ ghost use Rattle.bench_script.specs.Measures.{AreLimited};
 ghost use Rattle.log_format.specs.Size.{IsBlockSize};
 
 use crate::fault::{self, Fault, Status};
-use bench_run::{Stop, Stops};
 use bench_script::{DEFAULTS, HOMES, LENGTHS, Measures, is_block_size, limited, uuid_of};
 use clap::error::ErrorKind;
 use clap::{Arg, ArgAction, ArgMatches, Command, Error};
@@ -13,6 +12,10 @@ use std::alloc::{AllocError, Global};
 use std::convert::AsStr;
 use std::io;
 use std::io::Write;
+use std::time::Duration;
+
+/// The version that the program tells.
+const VERSION: &str = "0.1.0";
 
 /// A command as its help tells of it.
 struct Usage {
@@ -45,10 +48,13 @@ that fails, LIST write numbers with commas (default: none), PATH a file that get
 script is.
 sweep SCRIPT [--fail]: runs a script with a stop at each of its writes and judges what each leaves; with --fail also once for each
 device call, which fails.
+check SCRIPT: says whether a script is good, and why it is not.
 format LOG HOME [--block B] [--length M] [--home N] [--uuid DIGITS]: two files become an empty log of M blocks (default: 33) and
 a home area of N zero blocks (default: 64), of B bytes each (default: 1024).
 dump LOG: prints the log in a file.
 recover LOG HOME: opens the log in a file, and brings home what its complete transactions copied.
+apply LOG HOME SCRIPT [--stay]: opens the log in a file, and does the operations of a script over it and its home area.
+bench LOG HOME [--seconds N] [--transactions N] [--copies K]: opens the log in a file, and tells how long transactions take.
 
 Exit status: 0 done, 1 refused (words, file, script, refusal), 2 a verdict is false.
 
@@ -86,7 +92,7 @@ A script is a JSON object with these keys, of which \"ops\" alone has to be ther
   [\"stop\", H]           the handle ends
   [\"request\", H]        asks for the commit of its transaction
   [\"turn\"]              takes one commit turn
-  [\"commit\"]            takes commit turns until one has nothing to do
+  [\"commit\"]            takes commit turns until one has nothing to do, or waits for a handle that has not stopped
   [\"ckturn\"]            takes one checkpoint turn
   [\"check\"]             takes checkpoint turns until one has nothing to do
   [\"status\", H]         whether its transaction is committed
@@ -183,13 +189,33 @@ Example: jbench sweep examples/two_blocks.json --fail",
     ],
 };
 
+/// The command `check`.
+const CHECK: Usage = Usage {
+    name: "check",
+    about: "Says whether a script is good, and where it is not, which key or operation is bad, and why",
+    after_help: "\
+The script is one of run: jbench run --help says what that is. Nothing is run. It prints 'good operations=N', or on standard
+error 'jbench: bad script: ' with the key, or the number of the operation from 1 on and its text, and what is wrong with it.
+
+Exit status: 0 the script is good; 1 it is not, or the words or the file were refused.
+
+Example: jbench check examples/two_blocks.json",
+    words: &[Word {
+        name: "script",
+        value: "SCRIPT",
+        is_option: false,
+        help: "The file that holds the script",
+    }],
+};
+
 /// The command `format`.
 const FORMAT: Usage = Usage {
     name: "format",
     about: "Makes two files an empty log and a home area of zeros",
     after_help: "\
 Both files are made where there are none, and lose what they held. LOG gets M blocks of B bytes: the superblock, and zeros.
-HOME gets N blocks of zeros.
+HOME gets N blocks of zeros. Nothing is made or changed before both files could be opened. Linux takes logs of 1024 blocks
+and more alone: give --length 1024 to a log that it is to read.
 
 Exit status: 0 done; 1 refused: the words, a file, or the device.
 
@@ -283,6 +309,105 @@ Example: jbench recover log home",
     ],
 };
 
+/// The command `apply`.
+const APPLY: Usage = Usage {
+    name: "apply",
+    about: "Opens the log in a file, and does the operations of a script over it and its home area",
+    after_help: "\
+The log is opened as by recover, and the line of that is printed; then the operations of the script are done, with the lines of
+run; then the journal is closed: the log is clean, home has all that was committed, and 'closed next=N' is printed, where N is
+the number of the next transaction. With --stay it is not closed: what was committed stays in the log for the next opening. Handles
+that are open at the end are stopped.
+
+The script is one of run: jbench run --help says what that is. Its keys that speak of the device have to agree with the files, where
+they stand. What one handle writes is there whole or not at all, whenever the power goes away; what a 'wait' or a 'status' line shows
+committed is there. An operation that is refused because a file failed ends the work, and so does a refusal to close.
+
+Exit status: 0 done; 1 refused: the words, a file, the script, the log, or the end of the work.
+
+Example: blocks 9 and 10 of the home area change together:
+  jbench format log home
+  jbench apply log home examples/two_blocks.json",
+    words: &[
+        Word {
+            name: "log",
+            value: "LOG",
+            is_option: false,
+            help: "The file of the log",
+        },
+        Word {
+            name: "home_file",
+            value: "HOME",
+            is_option: false,
+            help: "The file of the home area",
+        },
+        Word {
+            name: "script",
+            value: "SCRIPT",
+            is_option: false,
+            help: "The file that holds the script",
+        },
+        Word {
+            name: "stay",
+            value: "",
+            is_option: true,
+            help: "Do not close the journal: leave what was committed in the log",
+        },
+    ],
+};
+
+/// The command `bench`.
+const BENCH: Usage = Usage {
+    name: "bench",
+    about: "Opens the log in a file, commits transactions of one handle each to it, and tells how many a second there were",
+    after_help: "\
+The log is opened as by recover. Then transactions are committed one after the other, each by one handle that writes K blocks of
+HOME: of K parts of HOME of the same length a block each, at places that the generator xoshiro256++ draws from the seed 1. So what
+these blocks held is lost. Where the ring has no room for a transaction a checkpoint round comes first. The journal is closed behind
+each 65,536 blocks and its log opened again, and closed at the end.
+
+It prints how many transactions and blocks were durable, in which time from the opened log to the last commit, and how many a second;
+the nanoseconds that a commit took, from its request until it was durable with the rounds that it needed: the median, what 99 of 100
+did not exceed, and the most; and how many reads, writes and flushes of one block each area got, those of the opening and of the close too. On
+a terminal it says on standard error each second how many transactions are durable.
+
+Exit status: 0 done; 1 refused: the words, a file, the log, or the device.
+
+Example: jbench bench log home --seconds 10 --copies 4",
+    words: &[
+        Word {
+            name: "log",
+            value: "LOG",
+            is_option: false,
+            help: "The file of the log",
+        },
+        Word {
+            name: "home_file",
+            value: "HOME",
+            is_option: false,
+            help: "The file of the home area",
+        },
+        Word {
+            name: "seconds",
+            value: "N",
+            is_option: true,
+            help: "Begin no transaction once so many seconds are over, 1 to 86400 [default: 10, or with --transactions no end]",
+        },
+        Word {
+            name: "transactions",
+            value: "N",
+            is_option: true,
+            help: "Commit at most so many transactions, at least 1 [default: no end]",
+        },
+        Word {
+            name: "copies",
+            value: "K",
+            is_option: true,
+            help: "Blocks of a transaction, at least 1 [default: 4]",
+        },
+    ],
+};
+
 /// What the program is told to do.
 #[derive(Debug, Drop)]
 pub enum Words<'a> {
@@ -290,12 +415,18 @@ pub enum Words<'a> {
     Run(RunWords<'a>),
     /// To sweep a script.
     Sweep(SweepWords<'a>),
+    /// To say whether the script in this file is good.
+    Check(&'a str),
     /// To make an empty log.
     Format(FormatWords<'a>),
     /// To print the log in this file.
     Dump(&'a str),
-    /// To open a log.
-    Recover(RecoverWords<'a>),
+    /// To open the log in these files.
+    Recover(LogPaths<'a>),
+    /// To do the operations of a script over a log.
+    Apply(ApplyWords<'a>),
+    /// To tell how long transactions on a log take.
+    Bench(BenchWords<'a>),
 }
 
 /// The words of `sweep`.
@@ -307,9 +438,55 @@ pub struct SweepWords<'a> {
     pub fails: bool,
 }
 
-/// The words of `recover`.
-#[derive(Debug, Drop)]
-pub struct RecoverWords<'a> {
+/// How many seconds `bench` takes where it is told no end.
+const SECONDS: u64 = 10;
+
+/// How many blocks a transaction of `bench` has where it is told nothing else.
+const COPIES: u64 = 4;
+
+/// The words of `bench`.
+#[derive(Clone, Copy, Debug)]
+pub struct BenchWords<'a> {
+    /// The files of the log.
+    pub paths: LogPaths<'a>,
+    /// How many seconds it takes at most, if that is told.
+    pub seconds: Option<u64>,
+    /// How many transactions it commits at most, if that is told.
+    pub transactions: Option<u64>,
+    /// How many blocks each transaction writes.
+    pub copies: u64,
+}
+
+impl BenchWords<'_> {
+    /// The most transactions that it commits.
+    pub fn most_transactions(&self) -> u64 {
+        self.transactions.unwrap_or(u64::MAX)
+    }
+
+    /// The time behind which it begins no further transaction, where it has one.
+    pub fn most_time(&self) -> Option<Duration> {
+        match (self.seconds, self.transactions) {
+            (Some(seconds), _) => Some(Duration::from_secs(seconds)),
+            (None, Some(_)) => None,
+            (None, None) => Some(Duration::from_secs(SECONDS)),
+        }
+    }
+}
+
+/// The words of `apply`.
+#[derive(Clone, Copy, Debug)]
+pub struct ApplyWords<'a> {
+    /// The files of the log.
+    pub paths: LogPaths<'a>,
+    /// The script's file.
+    pub script: &'a str,
+    /// The journal is not to be closed.
+    pub stay: bool,
+}
+
+/// The files of a log.
+#[derive(Clone, Copy, Debug)]
+pub struct LogPaths<'a> {
     /// The file of the log.
     pub log: &'a str,
     /// The file of the home area.
@@ -319,10 +496,8 @@ pub struct RecoverWords<'a> {
 /// The words of `format`.
 #[derive(Debug, Drop)]
 pub struct FormatWords<'a> {
-    /// The file of the log.
-    pub log: &'a str,
-    /// The file of the home area.
-    pub home: &'a str,
+    /// The files that are made.
+    pub paths: LogPaths<'a>,
     /// What is made, within its limits.
     pub measures: Measures,
 }
@@ -339,16 +514,7 @@ pub struct RunWords<'a> {
     /// The stop of the opening of what the run left.
     pub opening: StopWords,
     /// The files that get what the run left, if any do.
-    pub image: Option<ImageWords<'a>>,
-}
-
-/// The files of an image.
-#[derive(Debug, Drop)]
-pub struct ImageWords<'a> {
-    /// The file that gets the log.
-    pub log: &'a str,
-    /// The file that gets the home area.
-    pub home: &'a str,
+    pub image: Option<LogPaths<'a>>,
 }
 
 /// Where a device is to stop.
@@ -358,27 +524,6 @@ pub struct StopWords {
     pub at_write: Option<u64>,
     /// The unflushed writes that are kept.
     pub keep: Vec<u64>,
-}
-
-impl StopWords {
-    /// What they tell.
-    fn stop(&self) -> Stop<'_> {
-        Stop {
-            at_write: self.at_write,
-            keep: &self.keep,
-        }
-    }
-}
-
-impl RunWords<'_> {
-    /// Where the run and the opening stop, and which call of the run fails.
-    pub fn stops(&self) -> Stops<'_> {
-        Stops {
-            failing_call: self.failing_call,
-            run: self.run.stop(),
-            opening: self.opening.stop(),
-        }
-    }
 }
 
 /// A value that may stand behind a command.
@@ -431,10 +576,15 @@ fn command_of<'a>(alloc: Global, usage: &Usage) -> Result<Command<'a>, AllocErro
     with_words(alloc, bare_command(alloc, usage), usage.words)
 }
 
+/// The commands, as the help names them.
+const COMMANDS: [&Usage; 8] = [
+    &RUN, &SWEEP, &CHECK, &FORMAT, &DUMP, &RECOVER, &APPLY, &BENCH,
+];
+
 /// The commands of the program.
 fn commands<'a>(alloc: Global) -> Result<Vec<Command<'a>>, AllocError> {
     let mut commands = Vec::new(alloc);
-    for usage in [&RUN, &SWEEP, &FORMAT, &DUMP, &RECOVER] {
+    for usage in COMMANDS {
         commands.push(command_of(alloc, usage)?)?;
     }
     Ok(commands)
@@ -443,6 +593,7 @@ fn commands<'a>(alloc: Global) -> Result<Vec<Command<'a>>, AllocError> {
 /// The program with these commands.
 fn program_with<'a>(alloc: Global, commands: Vec<Command<'a>>) -> Result<Command<'a>, AllocError> {
     bare_command(alloc, &PROGRAM)
+        .version(VERSION)
         .disable_help_subcommand(true)
         .subcommand_required(true)
         .bin_name("jbench")?
@@ -494,6 +645,12 @@ enum Wanted {
     HomeBlocks,
     /// Hex digits behind `--uuid`.
     HexDigits,
+    /// Seconds behind `--seconds`.
+    Seconds,
+    /// A number of transactions behind `--transactions`.
+    Transactions,
+    /// A number of blocks behind `--copies`.
+    Copies,
     /// A command.
     Command,
     /// Memory.
@@ -526,6 +683,11 @@ fn line_of(wanted: Wanted) -> &'static str {
         Wanted::LogBlocks => "invalid value for '--length <M>': 17 to 1048576 is wanted",
         Wanted::HomeBlocks => "invalid value for '--home <N>': 1 to 1048576 is wanted",
         Wanted::HexDigits => "invalid value for '--uuid <DIGITS>': 32 hex digits are wanted",
+        Wanted::Seconds => "invalid value for '--seconds <N>': 1 to 86400 is wanted",
+        Wanted::Transactions => {
+            "invalid value for '--transactions <N>': a number from 1 on is wanted"
+        }
+        Wanted::Copies => "invalid value for '--copies <K>': a number from 1 on is wanted",
         Wanted::Command => "a command is wanted",
         Wanted::Memory => "memory is wanted",
     }
@@ -539,11 +701,43 @@ fn kind_of(wanted: Wanted) -> ErrorKind {
     }
 }
 
-/// The fault that says what is wanted.
-fn fault_of(program: &mut Command<'_>, wanted: Wanted) -> Error {
+/// What the command of this name is, if there is one.
+fn usage_named(name: &str) -> Option<&'static Usage> {
+    for usage in COMMANDS {
+        if usage.name == name {
+            return Some(usage);
+        }
+    }
+    None
+}
+
+/// A command as a program of its own.
+fn alone<'a>(alloc: Global, usage: &Usage) -> Result<Command<'a>, AllocError> {
+    let called = format!(in alloc; "jbench {}", usage.name)?;
+    command_of(alloc, usage)?.bin_name(&called)
+}
+
+/// The command of this name as a program of its own, or the whole program where there is none.
+fn command_named<'a>(alloc: Global, name: &str) -> Result<Command<'a>, AllocError> {
+    match usage_named(name) {
+        Some(usage) => alone(alloc, usage),
+        None => program(alloc),
+    }
+}
+
+/// The fault that says what is wanted, with the usage of the command of this name.
+fn fault_of(alloc: Global, name: &str, wanted: Wanted) -> Error {
+    match command_named(alloc, name) {
+        Ok(mut command) => error_of(&mut command, wanted),
+        Err(e) => Error::from(e),
+    }
+}
+
+/// The fault that says what is wanted of a command.
+fn error_of(command: &mut Command<'_>, wanted: Wanted) -> Error {
     match wanted {
         Wanted::Memory => Error::from(AllocError),
-        _ => program
+        _ => command
             .error(kind_of(wanted), line_of(wanted))
             .unwrap_or_else(Error::from),
     }
@@ -595,9 +789,9 @@ fn opening_stop(alloc: Global, matches: &ArgMatches<'_>) -> Result<StopWords, Wa
 }
 
 /// The files of an image that `run` is told.
-fn image_words<'a>(matches: &ArgMatches<'a>) -> Result<Option<ImageWords<'a>>, Wanted> {
+fn image_paths<'a>(matches: &ArgMatches<'a>) -> Result<Option<LogPaths<'a>>, Wanted> {
     match (matches.get_str("image-log"), matches.get_str("image-home")) {
-        (Some(log), Some(home)) => Ok(Some(ImageWords { log, home })),
+        (Some(log), Some(home)) => Ok(Some(LogPaths { log, home })),
         (None, None) => Ok(None),
         _ => Err(Wanted::ImageFiles),
     }
@@ -620,7 +814,7 @@ fn run_words<'a>(alloc: Global, matches: &ArgMatches<'a>) -> Result<RunWords<'a>
         failing_call: failing_call(matches)?,
         run,
         opening: opening_stop(alloc, matches)?,
-        image: image_words(matches)?,
+        image: image_paths(matches)?,
     })
 }
 
@@ -670,8 +864,7 @@ fn measures_of(alloc: Global, matches: &ArgMatches<'_>) -> Result<Measures, Want
 /// What `format` is told.
 fn format_words<'a>(alloc: Global, matches: &ArgMatches<'a>) -> Result<FormatWords<'a>, Wanted> {
     Ok(FormatWords {
-        log: matches.get_str("log").unwrap_or(""),
-        home: matches.get_str("home_file").unwrap_or(""),
+        paths: log_paths(matches),
         measures: measures_of(alloc, matches)?,
     })
 }
@@ -684,12 +877,32 @@ fn sweep_words<'a>(matches: &ArgMatches<'a>) -> SweepWords<'a> {
     }
 }
 
-/// What `recover` is told.
-fn recover_words<'a>(matches: &ArgMatches<'a>) -> RecoverWords<'a> {
-    RecoverWords {
+/// The files of the log that a command is told.
+fn log_paths<'a>(matches: &ArgMatches<'a>) -> LogPaths<'a> {
+    LogPaths {
         log: matches.get_str("log").unwrap_or(""),
         home: matches.get_str("home_file").unwrap_or(""),
     }
+}
+
+/// What `apply` is told.
+fn apply_words<'a>(matches: &ArgMatches<'a>) -> ApplyWords<'a> {
+    ApplyWords {
+        paths: log_paths(matches),
+        script: matches.get_str("script").unwrap_or(""),
+        stay: matches.get_flag("stay"),
+    }
+}
+
+/// What `bench` is told.
+fn bench_words<'a>(matches: &ArgMatches<'a>) -> Result<BenchWords<'a>, Wanted> {
+    let copies = number_of(matches, "copies", (1, u64::MAX), Wanted::Copies)?;
+    Ok(BenchWords {
+        paths: log_paths(matches),
+        seconds: number_of(matches, "seconds", (1, 86_400), Wanted::Seconds)?,
+        transactions: number_of(matches, "transactions", (1, u64::MAX), Wanted::Transactions)?,
+        copies: copies.unwrap_or(COPIES),
+    })
 }
 
 /// What a command is told.
@@ -700,11 +913,20 @@ fn words_of<'a>(alloc: Global, matches: &ArgMatches<'a>) -> Result<Words<'a>, Wa
     if let Some(sweep) = matches.subcommand_matches("sweep") {
         return Ok(Words::Sweep(sweep_words(sweep)));
     }
+    if let Some(check) = matches.subcommand_matches("check") {
+        return Ok(Words::Check(check.get_str("script").unwrap_or("")));
+    }
     if let Some(format) = matches.subcommand_matches("format") {
         return format_words(alloc, format).map(Words::Format);
     }
     if let Some(recover) = matches.subcommand_matches("recover") {
-        return Ok(Words::Recover(recover_words(recover)));
+        return Ok(Words::Recover(log_paths(recover)));
+    }
+    if let Some(apply) = matches.subcommand_matches("apply") {
+        return Ok(Words::Apply(apply_words(apply)));
+    }
+    if let Some(bench) = matches.subcommand_matches("bench") {
+        return bench_words(bench).map(Words::Bench);
     }
     match matches.subcommand_matches("dump") {
         Some(dump) => Ok(Words::Dump(dump.get_str("log").unwrap_or(""))),
@@ -713,14 +935,10 @@ fn words_of<'a>(alloc: Global, matches: &ArgMatches<'a>) -> Result<Words<'a>, Wa
 }
 
 /// What the program is told, or the fault of it.
-fn told<'a>(
-    alloc: Global,
-    program: &mut Command<'_>,
-    matches: &ArgMatches<'a>,
-) -> Result<Words<'a>, Error> {
+fn told<'a>(alloc: Global, matches: &ArgMatches<'a>) -> Result<Words<'a>, Error> {
     match words_of(alloc, matches) {
         Ok(words) => Ok(words),
-        Err(wanted) => Err(fault_of(program, wanted)),
+        Err(wanted) => Err(fault_of(alloc, matches.subcommand_name().unwrap_or(""), wanted)),
     }
 }
 
@@ -731,7 +949,7 @@ fn parse_as<'a, S: AsStr>(
     words: &'a [S],
 ) -> Result<Words<'a>, Error> {
     match program.try_get_matches_from_mut(words) {
-        Ok(matches) => told(alloc, program, &matches),
+        Ok(matches) => told(alloc, &matches),
         Err(e) => Err(e),
     }
 }
@@ -740,7 +958,7 @@ fn parse_as<'a, S: AsStr>(
 ///
 /// # Errors
 ///
-/// The fault of the words as `clap` words it; a request for help; memory ran out.
+/// The fault of the words as `clap` words it; a request for help or for the version; memory ran out.
 pub fn parse<'a, S: AsStr>(alloc: Global, words: &'a [S]) -> Result<Words<'a>, Error> {
     match program(alloc) {
         Ok(mut program) => parse_as(alloc, &mut program, words),
@@ -748,8 +966,8 @@ pub fn parse<'a, S: AsStr>(alloc: Global, words: &'a [S]) -> Result<Words<'a>, E
     }
 }
 
-/// Writes what the words are answered where they tell nothing to do: help to `out`, which is no refusal, or else what is wrong
-/// with them to `err`.
+/// Writes what the words are answered where they tell nothing to do: help or the version to `out`, which is no refusal, or else what
+/// is wrong with them to `err`.
 ///
 /// # Errors
 ///

@@ -1,0 +1,114 @@
+//! A device that counts its calls by kind.
+ghost use Rattle.std.specs.Prelude.{◌≡◌};
+
+use block_device::{Device, DeviceFault};
+use journal_model::Area;
+
+/// How often an area was called, by the kind of call.
+#[derive(Clone, Copy, Debug)]
+pub(crate) struct Calls {
+    /// Reads of one block.
+    pub(crate) reads: u64,
+    /// Writes of one block.
+    pub(crate) writes: u64,
+    /// Flushes.
+    pub(crate) flushes: u64,
+}
+
+/// No calls.
+const NONE: Calls = Calls {
+    reads: 0,
+    writes: 0,
+    flushes: 0,
+};
+
+/// A read.
+const READ: Calls = Calls { reads: 1, ..NONE };
+
+/// A write.
+const WRITE: Calls = Calls { writes: 1, ..NONE };
+
+/// A flush.
+const FLUSH: Calls = Calls { flushes: 1, ..NONE };
+
+impl Calls {
+    /// These and others.
+    fn plus(self, others: Calls) -> Calls {
+        Calls {
+            reads: self.reads.saturating_add(others.reads),
+            writes: self.writes.saturating_add(others.writes),
+            flushes: self.flushes.saturating_add(others.flushes),
+        }
+    }
+}
+
+/// A device each of whose calls is one of the device behind it, and is counted.
+#[derive(Drop)]
+pub(crate) struct Counted<D> {
+    device: D,
+    log: Calls,
+    home: Calls,
+}
+
+impl<D> Counted<D> {
+    /// A device that counts from now on.
+    pub(crate) fn new(device: D) -> Self
+        ensures { result.device ≡ device }
+    {
+        Counted {
+            device,
+            log: NONE,
+            home: NONE,
+        }
+    }
+
+    /// The calls on an area.
+    pub(crate) fn calls(&self, area: Area) -> Calls {
+        match area {
+            Area::Log => self.log,
+            Area::Home => self.home,
+        }
+    }
+
+    /// Counts a call on an area.
+    fn count(&mut self, area: Area, call: Calls)
+        ensures { self.new.device ≡ self.old.device }
+    {
+        match area {
+            Area::Log => self.log = self.log.plus(call),
+            Area::Home => self.home = self.home.plus(call),
+        }
+    }
+}
+
+impl<D: Device> Device for Counted<D> {
+    ghost use Rattle.block_device.specs.State.{CountsFaults, Moves, Stays, Writes, blocks_in};
+    ghost use Rattle.journal_model.specs.Disk.{flushed, written};
+
+    ghost state = { λ s. D.state s.device };
+
+    ghost honest = { λ s. D.honest s.device };
+
+    fn read(&mut self, area: Area, n: u64, into: &mut [u8]) -> Result<(), DeviceFault> {
+        self.count(area, READ);
+        self.device.read(area, n, into)
+    }
+
+    fn write(&mut self, area: Area, n: u64, bytes: &[u8]) -> Result<(), DeviceFault> {
+        self.count(area, WRITE);
+        self.device.write(area, n, bytes)
+    }
+
+    fn flush(&mut self, area: Area) -> Result<(), DeviceFault> {
+        self.count(area, FLUSH);
+        self.device.flush(area)
+    }
+
+    fn blocks(&self, area: Area) -> u64 {
+        self.device.blocks(area)
+    }
+
+    fn block_size(&self) -> usize {
+        self.device.block_size()
+    }
+}

@@ -1,0 +1,66 @@
+//! How long commits took.
+ghost use Rattle.std.specs.Prelude.{◌≡◌};
+
+use std::alloc::{AllocFailed, Global};
+use std::time::Duration;
+
+/// How long each commit took, in nanoseconds.
+#[derive(Drop)]
+pub(crate) struct Tally {
+    nanoseconds: Vec<u64>,
+}
+
+impl Tally {
+    /// No commits.
+    pub(crate) fn new(alloc: Global) -> Self {
+        Tally {
+            nanoseconds: Vec::new(alloc),
+        }
+    }
+
+    /// One more commit, which took this long.
+    ///
+    /// # Errors
+    ///
+    /// Memory ran out.
+    pub(crate) fn add(&mut self, taken: Duration) -> Result<(), AllocFailed<u64>> {
+        let nanoseconds = u64::try_from(taken.as_nanos()).unwrap_or(u64::MAX);
+        self.nanoseconds.push(nanoseconds)
+    }
+
+    /// How many commits there were.
+    pub(crate) fn commits(&self) -> u64 {
+        self.nanoseconds.len() as u64
+    }
+
+    /// The tally in the order of its times.
+    pub(crate) fn into_ranked(self) -> Ranked {
+        let mut nanoseconds = self.nanoseconds;
+        nanoseconds.sort_unstable();
+        Ranked { nanoseconds }
+    }
+}
+
+/// How long each commit took, in nanoseconds, the shortest time first.
+#[derive(Drop)]
+pub(crate) struct Ranked {
+    nanoseconds: Vec<u64>,
+}
+
+impl Ranked {
+    /// The shortest time that so many of 100 commits did not exceed, or 0 where there were none.
+    pub(crate) fn of_hundred(&self, share: u8) -> u64 {
+        let commits = self.nanoseconds.len() as u128;
+        let rank = (commits * u128::from(share)).div_ceil(100);
+        let place = rank.saturating_sub(1);
+        match usize::try_from(place) {
+            Ok(place) => self.nanoseconds.get(place).copied().unwrap_or(0),
+            Err(_) => 0,
+        }
+    }
+
+    /// The greatest time, or 0 where there were no commits.
+    pub(crate) fn greatest(&self) -> u64 {
+        self.nanoseconds.last().copied().unwrap_or(0)
+    }
+}

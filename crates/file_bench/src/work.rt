@@ -1,0 +1,160 @@
+//! Durable transactions of one handle each.
+use block_device::Device;
+use group_commit::{CheckTurn, Handle, Journal, Parts, Seat, Ticket, Turn};
+use journal_model::{BlockNo, JournalError};
+use rand_core::{Rng, SeedableRng};
+use rand_xoshiro::Xoshiro256PlusPlus;
+use recovery::Opened;
+use std::alloc::Global;
+
+/// Where the block numbers begin.
+const SEED: u64 = 1;
+
+/// More turns than a commit can take: each is the seal, a round or one device call, and there are few more of these than ring blocks,
+/// of which a log has fewer than 1,048,576.
+const MOST_TURNS: u32 = 2_000_000;
+
+/// What each transaction writes: one block, at a place that is drawn, in each of as many parts of the home area as it has copies.
+#[derive(Drop)]
+pub(crate) struct Plan {
+    copies: u64,
+    /// Blocks of each part.
+    part: u64,
+    generator: Xoshiro256PlusPlus,
+}
+
+impl Plan {
+    /// Transactions of so many blocks of a home area that has this many.
+    ///
+    /// # Errors
+    ///
+    /// `TooMany` where it has fewer.
+    pub(crate) fn new(copies: u64, home_blocks: u64) -> Result<Plan, JournalError> {
+        match home_blocks.checked_div(copies) {
+            Some(part) if part > 0 => Ok(Plan {
+                copies,
+                part,
+                generator: Xoshiro256PlusPlus::seed_from_u64(SEED),
+            }),
+            _ => Err(JournalError::TooMany),
+        }
+    }
+
+    /// The block that is written in this part, and the byte that fills it.
+    fn draw(&mut self, number: u64) -> (BlockNo, u8) {
+        let drawn = self.generator.next_u64();
+        let place = drawn.checked_rem(self.part).unwrap_or(0);
+        let block = number.saturating_mul(self.part).saturating_add(place);
+        let [fill, ..] = drawn.to_be_bytes();
+        (BlockNo(block), fill)
+    }
+}
+
+/// A journal on an opened log, and its caller's seat.
+#[derive(Drop)]
+pub(crate) struct Work<D: Device> {
+    alloc: Global,
+    journal: Journal<D>,
+    seat: Seat,
+}
+
+impl<D: Device + Drop> Work<D> {
+    /// A journal on an opened log.
+    ///
+    /// # Errors
+    ///
+    /// `Memory`.
+    pub(crate) fn new(alloc: Global, opened: Opened<D>) -> Result<Self, JournalError> {
+        match Journal::new(alloc, opened) {
+            Ok((journal, seat)) => Ok(Work {
+                alloc,
+                journal,
+                seat,
+            }),
+            Err((_, e)) => Err(e),
+        }
+    }
+
+    /// Writes the blocks of the next transaction through one handle, which stops then.
+    ///
+    /// # Errors
+    ///
+    /// Those of a reserve, a join and a write: `TooMany` where a transaction can't have so many blocks.
+    pub(crate) fn change(&mut self, plan: &mut Plan) -> Result<Ticket, JournalError> {
+        let mut handle = self.start(plan.copies)?;
+        for number in 0..plan.copies {
+            let (block, fill) = plan.draw(number);
+            self.write(&mut handle, block, fill)?;
+        }
+        Ok(self.journal.stop(handle))
+    }
+
+    /// A handle with so many credits.
+    fn start(&mut self, credits: u64) -> Result<Handle, JournalError> {
+        let credits = self.journal.reserve(&mut self.seat, credits)?;
+        match self.journal.try_join(credits) {
+            Ok(handle) => Ok(handle),
+            Err((credits, e)) => {
+                self.journal.give_back(credits);
+                Err(e)
+            }
+        }
+    }
+
+    /// Writes a block that is filled with one byte.
+    fn write(&mut self, handle: &mut Handle, block: BlockNo, fill: u8) -> Result<(), JournalError> {
+        let bytes = vec![in self.alloc; fill; self.journal.block_size()]?;
+        self.journal.write(handle, block, &bytes)
+    }
+
+    /// Commits the transaction of a ticket, with a round where the ring has no room for it.
+    ///
+    /// # Errors
+    ///
+    /// Those of a request, a commit turn and a checkpoint turn; `NeedSpace` where the ring has no room for it though all is home.
+    pub(crate) fn commit(&mut self, ticket: &Ticket) -> Result<(), JournalError> {
+        self.journal.request(ticket)?;
+        for _ in 0..MOST_TURNS {
+            match self.journal.commit_turn() {
+                Ok(Turn::Committed(_)) => return Ok(()),
+                Ok(Turn::Step | Turn::Sealed(_)) => {}
+                Ok(Turn::Idle | Turn::Waiting) => break,
+                Err(JournalError::NeedSpace) => self.make_room()?,
+                Err(e) => return Err(e),
+            }
+        }
+        Err(JournalError::NotRunning)
+    }
+
+    /// Takes checkpoint turns until a round is over.
+    fn make_room(&mut self) -> Result<(), JournalError> {
+        for _ in 0..MOST_TURNS {
+            match self.journal.checkpoint_turn()? {
+                CheckTurn::Released(_) => return Ok(()),
+                CheckTurn::Step => {}
+                CheckTurn::Idle => break,
+            }
+        }
+        Err(JournalError::NeedSpace)
+    }
+
+    /// Closes the journal. The device comes back.
+    ///
+    /// # Errors
+    ///
+    /// Those of a close.
+    pub(crate) fn close(self) -> Result<D, JournalError> {
+        let Work {
+            alloc: _,
+            journal,
+            seat: _,
+        } = self;
+        if journal.has_open_handles() {
+            return Err(JournalError::NotRunning);
+        }
+        match journal.close() {
+            Ok(Parts { device, .. }) => Ok(device),
+            Err((_, e)) => Err(e),
+        }
+    }
+}

@@ -1,0 +1,98 @@
+//! Rows of the command `bench`, over a device in memory and a clock that goes on by itself.
+use crate::commands::{text_of, words_in};
+use bench_words::words::{BenchWords, Words, parse};
+use block_device::MemDevice;
+use file_bench::bench::{self, Watch};
+use format_rows::RowError;
+use format_rows::words::cut;
+use run_rows::texts::numbers_in;
+use std::alloc::Global;
+use std::cell::Cell;
+use std::fmt::Write;
+use std::io;
+use std::time::{Clock, Duration};
+
+/// A clock that goes on at each look at it: at the first one by so many nanoseconds, and at each further one by as many more than at
+/// the look before.
+#[derive(Drop)]
+struct Ticks {
+    nanoseconds: Cell<u64>,
+    /// How far it goes on at the next look.
+    next: Cell<u64>,
+    more: u64,
+}
+
+impl Clock for Ticks {
+    fn monotonic(&self) -> io::Result<Duration> {
+        let next = self.next.get();
+        let now = self.nanoseconds.get().saturating_add(next);
+        self.nanoseconds.set(now);
+        self.next.set(next.saturating_add(self.more));
+        Ok(Duration::from_nanos(now))
+    }
+
+    fn since_1970(&self) -> io::Result<Duration> {
+        self.monotonic()
+    }
+}
+
+/// Writes down the seconds of which it is told.
+#[derive(Drop)]
+struct Seconds<'a> {
+    text: &'a mut String,
+}
+
+impl Watch for Seconds<'_> {
+    fn second(&mut self, second: u64, transactions: u64) {
+        let _written = writeln!(self.text, "second {second}: {transactions} transactions");
+    }
+}
+
+/// Transactions on an empty log. Given: the words of the program on a line, and as `1024 33 64 1000` the bytes of the device's blocks,
+/// how many its log and its home area have, and by how many nanoseconds the clock goes on at the first look at it. Found: the seconds of which
+/// it tells, and the rest as of a run.
+pub fn bench(alloc: Global, given: &str) -> Result<String, RowError> {
+    let (line, shape) = cut(given, "\n")?;
+    let words = words_in(alloc, line)?;
+    let [size, log, home, step] = numbers_in::<4>(shape)?;
+    let device = formatted(MemDevice::new(alloc, size as usize, log, home), log)?;
+    match parse(alloc, &words) {
+        Ok(Words::Bench(words)) => bench_device(alloc, &words, device, step),
+        _ => Err(RowError::Unread),
+    }
+}
+
+/// This device with an empty log of so many blocks.
+fn formatted(device: MemDevice, log_blocks: u64) -> Result<MemDevice, RowError> {
+    let mut device = device;
+    let log_blocks = u32::try_from(log_blocks).unwrap_or(0);
+    match recovery::format(&mut device, log_blocks, &[0xaa; 16]) {
+        Ok(()) => Ok(device),
+        Err(_) => Err(RowError::Unread),
+    }
+}
+
+/// What `bench` says of the log on this device, with a clock of such steps.
+fn bench_device(
+    alloc: Global,
+    words: &BenchWords<'_>,
+    device: MemDevice,
+    step: u64,
+) -> Result<String, RowError> {
+    let clock = Ticks {
+        nanoseconds: Cell::new(0),
+        next: Cell::new(step),
+        more: step,
+    };
+    let mut text = String::new(alloc);
+    let mut out = Vec::new(alloc);
+    let mut err = Vec::new(alloc);
+    let seconds = Seconds { text: &mut text };
+    match bench::bench(alloc, words, device, &clock, seconds, &mut out, &mut err) {
+        Ok(status) => {
+            text.push_str(text_of(alloc, &out, &err, status)?.as_str())?;
+            Ok(text)
+        }
+        Err(_) => Err(RowError::Memory),
+    }
+}
