@@ -1,9 +1,9 @@
 -- Handles that need more: further credits for an open one, and a further one in place of it; what the calls do, and why they are
 -- refused. Source: journalling.rst (journal_extend, journal_restart).
-use Rattle.std.specs.Prelude.{◌≡◌, ℕ}
+use Rattle.std.specs.Prelude.{◌≡◌, ℕ, ◌≤◌}
 use Rattle.journal_model.specs.declared.refusal.JournalError.{JournalError}
 use Rattle.block_device.specs.State.{DeviceState}
-use Rattle.journal_world.specs.Front.{Front, reserving}
+use Rattle.journal_world.specs.Front.{Front, credits_left, reserving}
 use Rattle.journal_world.specs.Front.FrontEvent.{ExtendHandle, Join, Reserve, StopHandle}
 use Rattle.journal_world.specs.Journal.Event.{FrontStep}
 use Rattle.group_commit.specs.Front.{ExtendRefused, IsOpenHandle, JoinRefused, ReserveRefused}
@@ -17,10 +17,10 @@ pub record Extends {D : Type 0} (state : D → DeviceState) (h n : ℕ) (old new
   pub extends : Does state granted (FrontStep (ExtendHandle h n)) new
   pub device : granted.device ≡ old.device
 
--- why they are not: they can't be granted; or they were, the handle can't have them, and they were given back
+-- why they are not: they can't be granted; or they can be and were, the handle can't have them, and they were given back
 pub data ExtensionRefused (f : Front) (h : HandleValue) (n : ℕ) (e : JournalError) : Type 0 where
   NotGranted : ReserveRefused f n e → ExtensionRefused f h n e
-  NotExtended : ExtendRefused (reserving f n) h n e → ExtensionRefused f h n e
+  NotExtended : n ≤ credits_left f → ExtendRefused (reserving f n) h n e → ExtensionRefused f h n e
 
 -- credits are granted, and a handle joins with them
 pub record Starts {D : Type 0} (state : D → DeviceState) (n : ℕ) (old new : JournalValue D) : Type 0 where
@@ -29,10 +29,10 @@ pub record Starts {D : Type 0} (state : D → DeviceState) (n : ℕ) (old new : 
   pub joins : Does state granted (FrontStep (Join n)) new
   pub device : granted.device ≡ old.device
 
--- why none does: they can't be granted; or they were, no handle may join with them, and they were given back
+-- why none does: they can't be granted; or they can be and were, no handle may join with them, and they were given back
 pub data StartRefused (f : Front) (n : ℕ) (e : JournalError) : Type 0 where
   Ungranted : ReserveRefused f n e → StartRefused f n e
-  NotJoined : JoinRefused (reserving f n) n e → StartRefused f n e
+  NotJoined : n ≤ credits_left f → JoinRefused (reserving f n) n e → StartRefused f n e
 
 -- a handle is stopped where it is an open one, and else nothing changes
 pub record EndsHandle {D : Type 0} (state : D → DeviceState) (h : HandleValue) (old new : JournalValue D) : Type 0 where

@@ -8,7 +8,7 @@ ghost use Rattle.journal_model.specs.Layout.{IsTaken};
 ghost use Rattle.journal_model.specs.Opening.{greatest_number};
 ghost use Rattle.journal_model.specs.OwnText.{copied, revoked};
 ghost use Rattle.journal_model.specs.Transaction.{entries, last_effect};
-ghost use Rattle.journal_world.specs.Front.{FrontHappens, IsUntouched, aborting, finishing, fresh_front, next_handle, sealing, unfinished};
+ghost use Rattle.journal_world.specs.Front.{FrontHappens, IsUntouched, aborting, finishing, fresh_front, held, next_handle, sealing, unfinished};
 ghost use Rattle.journal_world.specs.Front.FrontEvent.{ExtendHandle, GiveBack, Join, Lock, Raise, Reserve, RevokeBlock, StopHandle, WriteBlock};
 ghost use Rattle.journal_world.specs.Journal.{batch_of};
 ghost use Rattle.group_commit.specs.Front.{ExtendRefused, IsKeptOut, IsOpenHandle, JoinRefused, MayExtend, MayStep, MayTouch, ReserveRefused, Spends, TouchRefused};
@@ -97,6 +97,20 @@ impl Front {
             given: 0,
             aborted: false,
         }
+    }
+
+    /// The most credits that are held.
+    pub fn capacity(&self) -> u64
+        ensures { result ≡ self.now.capacity }
+    {
+        self.capacity
+    }
+
+    /// How many credits are held.
+    pub fn held(&self) -> u64
+        ensures { result ≡ held self.now }
+    {
+        self.held
     }
 
     /// Grants credits.

@@ -4,7 +4,7 @@ ghost use Rattle.journal_model.specs.declared.refusal.JournalError.TheVariants.{
 ghost use Rattle.journal_model.specs.Disk.{Image, Leaves};
 ghost use Rattle.block_device.specs.State.{EachMoment, MakesAtMostOneCall, Stays, one_more_fault};
 ghost use Rattle.journal_world.specs.declared.stage.Stage.TheVariants.{Idle};
-ghost use Rattle.journal_world.specs.Front.{next_handle};
+ghost use Rattle.journal_world.specs.Front.{held, next_handle};
 ghost use Rattle.journal_world.specs.Front.FrontEvent.{GiveBack, Join, Reserve, RevokeBlock, StopHandle, WriteBlock};
 ghost use Rattle.journal_world.specs.Sound.{IsPlain};
 ghost use Rattle.journal_world.specs.Journal.{IsFresh};
@@ -121,6 +121,21 @@ impl<D: Device> Journal<D> {
         ensures { result ≡ (D.state self.now.device).shape.block_size }
     {
         self.engine.block_size()
+    }
+
+    /// The most credits that are held at once, and the most that one transaction can have.
+    pub fn capacity(&self) -> u64
+        ensures { result ≡ self.now.journal.front.capacity }
+    {
+        self.front.capacity()
+    }
+
+    /// How many credits are held: those that no handle was made of, those that open handles have left, and one for each block
+    /// that the running transaction has touched.
+    pub fn held(&self) -> u64
+        ensures { result ≡ held self.now.journal.front }
+    {
+        self.front.held()
     }
 
     /// Grants `n` credits, each for the first touch of one block.
@@ -276,10 +291,23 @@ impl<D: Device> Journal<D> {
         ensures err { IfErr result (λ e. (e ≡ Aborted) × (self.old.journal.front.aborted ≡ true) × (self.new ≡ self.old)) }
         ensures device { self.new.device ≡ self.old.device }
     {
+        self.request_commit(ticket.tid())
+    }
+
+    /// The same, of the transaction with this number.
+    ///
+    /// # Errors
+    ///
+    /// `Aborted` after a device failure.
+    pub fn request_commit(&mut self, tid: Tid) -> Result<(), JournalError>
+        ensures ok { OnOk result (Requests D.state tid self.old self.new) }
+        ensures err { IfErr result (λ e. (e ≡ Aborted) × (self.old.journal.front.aborted ≡ true) × (self.new ≡ self.old)) }
+        ensures device { self.new.device ≡ self.old.device }
+    {
         if self.front.is_aborted() {
             return Err(JournalError::Aborted);
         }
-        if ticket.tid() == self.front.tid() {
+        if tid == self.front.tid() {
             self.front.lock();
         }
         Ok(())
@@ -411,7 +439,7 @@ impl<D: Device> Journal<D> {
     }
 
     /// Whether the device has failed.
-    pub(crate) fn is_aborted(&self) -> bool
+    pub fn is_aborted(&self) -> bool
         ensures { result ≡ self.now.journal.engine.aborted }
     {
         self.engine.is_aborted()
@@ -441,9 +469,10 @@ impl<D: Device> Journal<D> {
 
     /// States what every journal keeps, for the proofs of callers: its engine knows what agrees, and front and engine agree.
     /// It does nothing.
-    pub(crate) fn recall_invariant(&self)
+    pub fn recall_invariant(&self)
         ensures plain { IsPlain self.now.journal.engine }
         ensures agrees { Agrees self.now.journal }
+        ensures shape { self.now.journal.engine.shape ≡ (D.state self.now.device).shape }
     {
         self.engine.recall_invariant();
     }

@@ -40,7 +40,7 @@ returns-in-Ok-clause-err g c =
     × (c.in-Ok.credits ≤ mid.journal.front.reserved → Does state mid (FrontStep (GiveBack c.in-Ok.credits)) c.give.new.self))
     (λ e. ExtensionRefused c.args.self.now.journal.front h c.args.n e × (c.give.new.self ≡ c.args.self.now) × (c.give.new.handle ≡ h))
     (λ e refused. (
-      NotExtended (subst (λ (f : Front). ExtendRefused f h c.args.n e) granted.1.front.after (subst (λ (n : ℕ). ExtendRefused mid.journal.front h n e) granted.0 refused.0)),
+      NotExtended granted.1.front.free (subst (λ (f : Front). ExtendRefused f h c.args.n e) granted.1.front.after (subst (λ (n : ℕ). ExtendRefused mid.journal.front h n e) granted.0 refused.0)),
       undone state c.args.self.now mid c.give.new.self c.args.n granted.1 c.reserve.ensures.device
           (subst (λ (n : ℕ). n ≤ mid.journal.front.reserved → Does state mid (FrontStep (GiveBack n)) c.give.new.self) granted.0 refused.2) c.give.ensures.device,
       refused.1,

@@ -43,7 +43,7 @@ returns-in-Ok-clause-err g c =
     × (c.in-Ok.credits ≤ mid.journal.front.reserved → Does state mid (FrontStep (GiveBack c.in-Ok.credits)) c.join_or_return.new.self))
     (λ e. StartRefused c.args.self.now.journal.front c.args.n e × (c.join_or_return.new.self ≡ c.args.self.now))
     (λ e refused. (
-      NotJoined (subst (λ (f : Front). JoinRefused f c.args.n e) granted.1.front.after (subst (λ (n : ℕ). JoinRefused mid.journal.front n e) granted.0 refused.0)),
+      NotJoined granted.1.front.free (subst (λ (f : Front). JoinRefused f c.args.n e) granted.1.front.after (subst (λ (n : ℕ). JoinRefused mid.journal.front n e) granted.0 refused.0)),
       undone state c.args.self.now mid c.join_or_return.new.self c.args.n granted.1 c.reserve.ensures.device
           (subst (λ (n : ℕ). n ≤ mid.journal.front.reserved → Does state mid (FrontStep (GiveBack n)) c.join_or_return.new.self) granted.0 refused.1)
           c.join_or_return.ensures.device,
