@@ -15,6 +15,12 @@ holding n = record { allotment = 0; held = n; owed = 0; reserves = 0; reserve_fo
 abbrev pub seated : ℕ → View
 seated allotment = record (holding 0) { allotment = allotment }
 
+-- a place that is no seat holds and owes nothing, and may not reserve
+pub record IsIdle (v : View) : Type 0 where
+  pub no_seat : v.allotment ≡ 0
+  pub holds_none : v.held ≡ 0
+  pub owes_none : v.owed ≡ 0
+
 -- a seat between two calls: it has an allotment, and holds and owes nothing
 pub record IsSeat (v : View) : Type 0 where
   pub some : 0 < v.allotment
@@ -79,9 +85,9 @@ unseated v = record v { allotment = 0 }
 abbrev pub less : ℕ → View → View
 less n v = record v { held = v.held - n }
 
--- it took in what another held and owed
+-- it took in the credits of another, which owes nothing; what allotment that one has is lost
 abbrev pub both : View → View → View
-both v w = record v { held = v.held + w.held; owed = v.owed + w.owed; allotment = v.allotment + w.allotment }
+both v w = record v { held = v.held + w.held }
 
 -- what it has seen of the mark, for another place
 abbrev pub note : View → View

@@ -98,8 +98,3 @@ pub record LooksAgain (old new : TicketValue) : Type 0 where
 abbrev pub StatusIs : Status → ℕ → ℕ → Type 0
 StatusIs Committed tid found = tid ≤ found
 StatusIs Open tid found = found < tid
-
--- an open handle: its ticket, and the credits that it has left
-pub record HandleValue : Type 0 where
-  pub ticket : TicketValue
-  pub left : ℕ

@@ -51,7 +51,8 @@ impl<J: JournalName> Credits<J> {
         Credits { count: n, holding }
     }
 
-    /// Joins others to them.
+    /// Joins others to them. It loads the credit word once, which no seat counts: so it is known that the sum is within the
+    /// capacity.
     pub fn join(&mut self, pool: &CreditPool<J>, other: Credits<J>)
         ensures sum { self.new ≡ self.old + other }
         ensures within { self.old + other ≤ J.capacity }

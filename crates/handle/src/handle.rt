@@ -1,4 +1,4 @@
-ghost use Rattle.std.specs.Prelude.{◌≡◌, ◌+◌, ◌-◌, ◌^◌, ◌<◌, ◌≤◌};
+ghost use Rattle.std.specs.Prelude.{◌≡◌};
 
 use crate::mark::Raiser;
 use crate::place::JournalName;
@@ -10,83 +10,50 @@ use std::marker::Model;
 /// An open handle: it writes blocks as a part of one transaction. It has to be stopped: a value of this type can't be
 /// dropped or copied. It borrows the pool of its journal, so the journal can't be taken apart while it is open.
 ///
-/// It knows how many credits it has left. They lie with the front of its journal, in one value with those of all open handles
-/// and of the entries, so a touch of a block is no step on the credit word. Only who has the raiser, which is the front, opens
-/// a handle, changes what it has left, or ends it.
+/// How many credits it has left it does not know: the front's table of open handles alone says so. They lie with the front of
+/// its journal, in one value with those of all open handles and of the entries, so a touch of a block is no step on the credit
+/// word. Only who has the raiser, which is the front, opens a handle or ends it.
 /// Source: journalling.rst (`journal_start` and `journal_stop`).
 pub struct Handle<'j, J: JournalName> {
     pool: &'j CreditPool<J>,
     ticket: Ticket<J>,
-    left: u64,
 }
 
 impl<'j, J: JournalName> Model for Handle<'j, J> {
-    ghost use Rattle.handle.specs.Values.{HandleValue};
+    ghost use Rattle.handle.specs.Values.{TicketValue};
 
-    ghost Value = { HandleValue };
+    ghost Value = { TicketValue };
 
-    ghost view = { λ h. record { ticket = h.ticket; left = h.left } };
+    ghost view = { λ h. h.ticket };
 }
 
 impl<'j, J: JournalName> Handle<'j, J> {
-    /// A handle with so many credits, which leaves this ticket.
-    pub fn new(
-        pool: &'j CreditPool<J>,
-        _raiser: &Raiser<J>,
-        ticket: Ticket<J>,
-        left: u64,
-    ) -> Handle<'j, J>
-        ensures { result ≡ record { ticket = ticket; left = left } }
+    /// A handle that leaves this ticket.
+    pub fn new(pool: &'j CreditPool<J>, _raiser: &Raiser<J>, ticket: Ticket<J>) -> Handle<'j, J>
+        ensures { result ≡ ticket }
     {
-        Handle { pool, ticket, left }
+        Handle { pool, ticket }
     }
 
-    /// Its number. No other handle of the journal has it.
+    /// Its number, as its ticket was made. That no other handle of the journal has it is the front's to keep.
     pub fn number(&self) -> HandleNo
-        ensures { result ≡ self.now.ticket.handle }
+        ensures { result ≡ self.now.handle }
     {
         self.ticket.handle()
     }
 
     /// The number of its transaction.
     pub fn tid(&self) -> Tid
-        ensures { result ≡ self.now.ticket.tid }
+        ensures { result ≡ self.now.tid }
     {
         self.ticket.tid()
     }
 
-    /// How many credits it has left.
-    pub fn left(&self) -> u64
-        ensures { result ≡ self.now.left }
-    {
-        self.left
-    }
-
-    /// Takes n of its credits, which a touch costs. The caller's condition: it has so many left.
-    pub fn pay(&mut self, _raiser: &Raiser<J>, n: u64)
-        requires { n ≤ self.old.left }
-        ensures { self.new ≡ record self.old { left = self.old.left - n } }
-    {
-        self.left -= n;
-    }
-
-    /// Gives it n further credits. The caller's condition: the sum is below 2^64.
-    pub fn extend(&mut self, _raiser: &Raiser<J>, n: u64)
-        requires { self.old.left + n < 2 ^ 64 }
-        ensures { self.new ≡ record self.old { left = self.old.left + n } }
-    {
-        self.left += n;
-    }
-
     /// Ends it.
     pub fn end(self, _raiser: &Raiser<J>) -> Ticket<J>
-        ensures { result ≡ self.entry.ticket }
+        ensures { result ≡ self.entry }
     {
-        let Handle {
-            pool: _,
-            ticket,
-            left: _,
-        } = self;
+        let Handle { pool: _, ticket } = self;
         ticket
     }
 }

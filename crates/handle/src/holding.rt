@@ -38,10 +38,10 @@ impl<J: JournalName> Holding<J> {
         requires { n ≤ self.old }
         ensures { (self.new + n ≡ self.old) × (result ≡ n) }
     {
-        Holding::of(words.cut::<Brand>(&mut self.place, n))
+        words.cut::<Brand>(&mut self.place, n)
     }
 
-    /// Takes in others. No place holds more than the capacity.
+    /// Takes in others. No place holds more than the capacity: a load of the credit word, which no seat counts, tells so.
     pub(crate) fn take_in(&mut self, words: &Words<J>, other: Holding<J>)
         ensures sum { self.new ≡ self.old + other }
         ensures within { self.new ≤ J.capacity }

@@ -1,4 +1,5 @@
 ghost use Rattle.std.specs.Prelude.{◌≡◌, ◌≤◌, [], max, true};
+ghost use Rattle.handle.specs.Place.{IsIdle};
 ghost use Rattle.handle.specs.Values.{Looks, StatusIs, fresh_ticket, loading_mark};
 
 use crate::place::{JournalName, Place};
@@ -24,17 +25,18 @@ pub struct Raiser<J: JournalName> {
 
 impl<J: JournalName> Model for Raiser<J> {
     ghost use Rattle.std.specs.Prelude.{◌≡◌, ℕ, [], true};
+    ghost use Rattle.handle.specs.Place.{IsIdle};
 
     ghost Value = { ℕ };
 
     ghost view = { λ r. r.place.me.0.seen };
 
-    ghost invariant = { λ r. (r.place.table_id ≡ J.board) × (r.place.me.1 ≡ []) × (r.place.me.0.raises ≡ true) };
+    ghost invariant = { λ r. (r.place.table_id ≡ J.board) × (r.place.me.1 ≡ []) × (r.place.me.0.raises ≡ true) × IsIdle r.place.me.0 };
 }
 
 impl<J: JournalName> Raiser<J> {
     pub(crate) fn of(place: Place) -> Raiser<J>
-        requires { (place.table_id ≡ J.board) × (place.me.1 ≡ []) × (place.me.0.raises ≡ true) }
+        requires { (place.table_id ≡ J.board) × (place.me.1 ≡ []) × (place.me.0.raises ≡ true) × IsIdle place.me.0 }
         ensures { result ≡ place.me.0.seen }
     {
         Raiser {
@@ -86,7 +88,7 @@ impl<J: JournalName> CommitMark<J> {
         Ticket::of(handle, tid, place)
     }
 
-    /// Shows that what a seat has seen of the mark is not above it, by a load of it.
+    /// Shows that what a seat has seen of the mark is not above it, by a load of it, which no seat counts.
     pub fn compare(&self, raiser: &mut Raiser<J>, seat: &mut Seat<J>)
         ensures seen { seat.old.seen ≤ raiser.old }
         ensures raiser { raiser.new ≡ raiser.old }
@@ -95,7 +97,7 @@ impl<J: JournalName> CommitMark<J> {
         self.compare_place(raiser, &mut seat.place);
     }
 
-    /// Shows that the number of the receipt's transaction is not above the mark, by a load of it.
+    /// Shows that the number of the receipt's transaction is not above the mark, by a load of it, which no seat counts.
     pub fn confirm(&self, raiser: &mut Raiser<J>, receipt: &mut Receipt<J>)
         ensures reached { receipt.old.tid ≤ raiser.old }
         ensures raiser { raiser.new ≡ raiser.old }
@@ -111,8 +113,7 @@ impl<J: JournalName> CommitMark<J> {
         ensures raiser { raiser.new ≡ raiser.old }
         ensures place { (place.new.table_id ≡ place.old.table_id) × (place.new.me ≡ place.old.me) }
     {
-        let told = self.words.tell(place);
-        self.words.hear(&mut raiser.place, told);
+        self.words.compare(&mut raiser.place, place);
         self.words.load_mark(&mut raiser.place);
     }
 }

@@ -50,7 +50,7 @@ pub(crate) type Board = Table<(), View, (u64, u64), CreditsAndMark, Global>;
 /// A place at them.
 pub(crate) type Place = TableSeat<(), View>;
 
-/// Names one journal: the words of its credits and mark, and its capacity. All values of one journal carry the same type as
+/// Names one journal: the words of its credits and mark, its capacity, and how many bytes a block of its device has. All values of one journal carry the same type as
 /// its name, so that they can't be handed to another.
 ///
 /// `std::marker::Brand` is such a type. The call that takes one for a laid board picks its members, in proofs alone.
@@ -61,6 +61,8 @@ pub trait JournalName {
     ghost board: { TableId };
 
     ghost capacity: { ℕ };
+
+    ghost block_size: { ℕ };
 }
 
 impl JournalName for Brand {
@@ -69,6 +71,8 @@ impl JournalName for Brand {
     ghost board = { no_board };
 
     ghost capacity = { 0 };
+
+    ghost block_size = { 0 };
 }
 
 /// A number of credits that a split is about. The call picks it.

@@ -3,7 +3,6 @@ ghost use Rattle.handle.specs.Rule.{greatest_capacity};
 ghost use Rattle.handle.specs.Values.{Grants, ReserveRefused, loading_credits};
 
 use crate::credits::Credits;
-use crate::holding::Holding;
 use crate::place::JournalName;
 use crate::seat::Seat;
 use crate::words::Words;
@@ -54,8 +53,8 @@ impl<J: JournalName> CreditPool<J> {
             self.words.take_back(&mut seat.place, n);
             return Err(JournalError::Full);
         }
-        let place = self.words.hand_out(&mut seat.place);
-        Ok(Credits::of(n, Holding::of(place)))
+        let holding = self.words.hand_out(&mut seat.place);
+        Ok(Credits::of(n, holding))
     }
 
     /// No credits: a value that others can be joined to. It changes no word, and counts no step of the seat.
@@ -63,8 +62,8 @@ impl<J: JournalName> CreditPool<J> {
         ensures none { result ≡ 0 }
         ensures seat { seat.new ≡ seat.old }
     {
-        let place = self.words.blank(&mut seat.place);
-        Credits::of(0, Holding::of(place))
+        let holding = self.words.none(&mut seat.place);
+        Credits::of(0, holding)
     }
 
     /// Loads the credit word.

@@ -63,10 +63,10 @@ fn answers<J: JournalName, R: Abort>(
     let mut held = pool.none(seat);
     held.join(pool, credits);
     let ticket = mark.ticket(raiser, HandleNo(1), Tid(2));
-    let mut handle = Handle::new(pool, raiser, ticket, 2);
-    handle.pay(raiser, 1);
-    assert_eq!(rt; (handle.left(), held.count(), pool.word(seat)), (1, 2, 2));
-    held.split(pool, handle.left()).give_back(pool);
+    let handle = Handle::new(pool, raiser, ticket);
+    assert_eq!(rt; (handle.number().0, handle.tid().0), (1, 2));
+    assert_eq!(rt; (held.count(), pool.word(seat)), (2, 2));
+    held.split(pool, 1).give_back(pool);
     let ticket = handle.end(raiser);
     assert_eq!(rt; (held.count(), pool.word(seat)), (1, 1));
     held.give_back(pool);

@@ -1,4 +1,5 @@
 ghost use Rattle.std.specs.Prelude.{◌≡◌, ◌<◌, ◌≤◌, [], IfErr, IfOk};
+ghost use Rattle.handle.specs.Place.{IsIdle};
 ghost use Rattle.handle.specs.Values.{LooksAgain, ticket_of};
 
 use crate::mark::CommitMark;
@@ -17,13 +18,14 @@ pub struct Ticket<J: JournalName> {
 
 impl<J: JournalName> Model for Ticket<J> {
     ghost use Rattle.std.specs.Prelude.{◌≡◌, []};
+    ghost use Rattle.handle.specs.Place.{IsIdle};
     ghost use Rattle.handle.specs.Values.{TicketValue, ticket_of};
 
     ghost Value = { TicketValue };
 
     ghost view = { λ t. ticket_of t.handle t.tid t.place.me.0 };
 
-    ghost invariant = { λ t. (t.place.table_id ≡ J.board) × (t.place.me.1 ≡ []) };
+    ghost invariant = { λ t. (t.place.table_id ≡ J.board) × (t.place.me.1 ≡ []) × IsIdle t.place.me.0 };
 }
 
 /// The proof that a handle's transaction is committed: its ticket has seen that the mark has come to its number.
@@ -54,7 +56,7 @@ pub enum Status {
 
 impl<J: JournalName> Ticket<J> {
     pub(crate) fn of(handle: HandleNo, tid: Tid, place: Place) -> Ticket<J>
-        requires { (place.table_id ≡ J.board) × (place.me.1 ≡ []) }
+        requires { (place.table_id ≡ J.board) × (place.me.1 ≡ []) × IsIdle place.me.0 }
         ensures { result ≡ ticket_of handle tid place.me.0 }
     {
         Ticket {

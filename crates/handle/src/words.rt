@@ -4,6 +4,7 @@ ghost use Rattle.std.specs.Prelude.{◌≡◌, ◌<◌, ◌≤◌, ◌-◌, ◌^
 ghost use Rattle.std.specs.Arc.{arc_value};
 ghost use Rattle.handle.specs.Place.{FindsMark, asked, both, credits_loaded, emptied, greater_half, hears, holding, less, lesser_half, mark_loaded, note, raised, seated, settled, unseated};
 
+use crate::holding::Holding;
 use crate::place::{
     Amount, Asks, Blanks, Board, Cuts, GivesBack, Halves, HandsOut, JournalName, LoadsCredits,
     LoadsMark, Place, Raises, TakesBack, TakesIn, Tells, Unseats,
@@ -100,9 +101,10 @@ impl<J: JournalName> Words<J> {
         found as u32
     }
 
-    /// Cuts off a place with half of the allotment, rounded down.
+    /// Cuts off a place with half of the allotment, rounded down. No place takes an allotment in again.
     pub(crate) fn halve(&self, place: &mut Place) -> Place
         requires named { place.old.table_id ≡ J.board }
+        requires some { 1 < place.old.me.0.allotment }
         requires clear { place.old.me.0.owed ≡ 0 }
         ensures place { (place.new.table_id ≡ place.old.table_id) × (place.new.me ≡ (greater_half place.old.me.0, place.old.me.1)) }
         ensures half { (result.table_id ≡ J.board) × (result.me ≡ (lesser_half place.old.me.0, [])) }
@@ -110,9 +112,10 @@ impl<J: JournalName> Words<J> {
         self.board.shared.split_seat::<Halves>(place)
     }
 
-    /// Cuts off a place with the whole allotment.
+    /// Cuts off a place with the whole allotment, of the one that raises the mark.
     pub(crate) fn unseat(&self, place: &mut Place) -> Place
         requires named { place.old.table_id ≡ J.board }
+        requires raises { place.old.me.0.raises ≡ true }
         requires clear { place.old.me.0.owed ≡ 0 }
         ensures place { (place.new.table_id ≡ place.old.table_id) × (place.new.me ≡ (unseated place.old.me.0, place.old.me.1)) }
         ensures seat { (result.table_id ≡ J.board) × (result.me ≡ (seated place.old.me.0.allotment, [])) }
@@ -121,45 +124,66 @@ impl<J: JournalName> Words<J> {
     }
 
     /// Cuts off a place with all credits.
-    pub(crate) fn hand_out(&self, place: &mut Place) -> Place
+    pub(crate) fn hand_out(&self, place: &mut Place) -> Holding<J>
         requires { place.old.table_id ≡ J.board }
         ensures place { (place.new.table_id ≡ place.old.table_id) × (place.new.me ≡ (emptied place.old.me.0, place.old.me.1)) }
-        ensures credits { (result.table_id ≡ J.board) × (result.me ≡ (holding place.old.me.0.held, [])) }
+        ensures credits { result ≡ place.old.me.0.held }
     {
-        self.board.shared.split_seat::<HandsOut>(place)
+        Holding::of(self.board.shared.split_seat::<HandsOut>(place))
     }
 
     /// Cuts off a place with n of the credits.
-    pub(crate) fn cut<N: Amount>(&self, place: &mut Place, n: u64) -> Place
+    pub(crate) fn cut<N: Amount>(&self, place: &mut Place, n: u64) -> Holding<J>
         requires named { place.old.table_id ≡ J.board }
         requires amount { n ≡ N.amount }
         requires held { n ≤ place.old.me.0.held }
         ensures place { (place.new.table_id ≡ place.old.table_id) × (place.new.me ≡ (less n place.old.me.0, place.old.me.1)) }
-        ensures credits { (result.table_id ≡ J.board) × (result.me ≡ (holding n, [])) }
+        ensures credits { result ≡ n }
     {
-        self.board.shared.split_seat::<Cuts<N>>(place)
+        Holding::of(self.board.shared.split_seat::<Cuts<N>>(place))
     }
 
-    /// Makes one place of two.
+    /// Makes one place of two: the first takes in the credits of the other, which owes nothing.
     pub(crate) fn take_in(&self, place: &mut Place, other: Place)
         requires named { (place.old.table_id ≡ J.board) × (other.table_id ≡ J.board) }
+        requires clear { other.me.0.owed ≡ 0 }
         requires no_slots { other.me.1 ≡ [] }
         ensures { (place.new.table_id ≡ place.old.table_id) × (place.new.me ≡ (both place.old.me.0 other.me.0, place.old.me.1)) }
     {
         self.board.shared.join_seat::<TakesIn>(place, other);
     }
 
-    /// Makes a place that knows nothing.
-    pub(crate) fn blank(&self, place: &mut Place) -> Place
+    /// Makes a place that holds no credits.
+    pub(crate) fn none(&self, place: &mut Place) -> Holding<J>
         requires { place.old.table_id ≡ J.board }
+        ensures place { (place.new.table_id ≡ place.old.table_id) × (place.new.me ≡ place.old.me) }
+        ensures none { result ≡ 0 }
+    {
+        Holding::of(self.board.shared.split_seat::<Blanks>(place))
+    }
+
+    /// Makes a place that knows nothing, at the one that raises the mark.
+    pub(crate) fn blank(&self, place: &mut Place) -> Place
+        requires named { place.old.table_id ≡ J.board }
+        requires raises { place.old.me.0.raises ≡ true }
         ensures place { (place.new.table_id ≡ place.old.table_id) × (place.new.me ≡ place.old.me) }
         ensures blank { (result.table_id ≡ J.board) × (result.me ≡ (holding 0, [])) }
     {
         self.board.shared.split_seat::<Blanks>(place)
     }
 
+    /// Tells a place what another has seen of the mark.
+    pub(crate) fn compare(&self, place: &mut Place, other: &mut Place)
+        requires { (place.old.table_id ≡ J.board) × (other.old.table_id ≡ J.board) }
+        ensures place { (place.new.table_id ≡ place.old.table_id) × (place.new.me ≡ (hears place.old.me.0 (note other.old.me.0), place.old.me.1)) }
+        ensures other { (other.new.table_id ≡ other.old.table_id) × (other.new.me ≡ other.old.me) }
+    {
+        let told = self.tell(other);
+        self.hear(place, told);
+    }
+
     /// Makes a note of what a place has seen of the mark.
-    pub(crate) fn tell(&self, place: &mut Place) -> Place
+    fn tell(&self, place: &mut Place) -> Place
         requires { place.old.table_id ≡ J.board }
         ensures place { (place.new.table_id ≡ place.old.table_id) × (place.new.me ≡ place.old.me) }
         ensures note { (result.table_id ≡ J.board) × (result.me ≡ (note place.old.me.0, [])) }
@@ -168,8 +192,9 @@ impl<J: JournalName> Words<J> {
     }
 
     /// Takes in such a note.
-    pub(crate) fn hear(&self, place: &mut Place, told: Place)
+    fn hear(&self, place: &mut Place, told: Place)
         requires named { (place.old.table_id ≡ J.board) × (told.table_id ≡ J.board) }
+        requires clear { told.me.0.owed ≡ 0 }
         requires no_slots { told.me.1 ≡ [] }
         ensures { (place.new.table_id ≡ place.old.table_id) × (place.new.me ≡ (hears place.old.me.0 told.me.0, place.old.me.1)) }
     {
