@@ -1,0 +1,4 @@
+-- The lemmas of this crate.
+pub mod Closes
+pub mod Counting
+pub mod Refused

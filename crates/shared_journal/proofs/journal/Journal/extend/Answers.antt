@@ -1,0 +1,18 @@
+use Rattle.std.proofs.Common.{◌≡◌}
+use Rattle.std.proofs.lemmas.Result.{IfErr-weaker}
+use Rattle.journal_world.specs.Front.{reserving}
+use Rattle.group_commit.specs.Front.{ExtendRefused}
+use Rattle.shared_journal.specs.Refusals.{IsExtendRefusal}
+use Rattle.shared_journal.proofs.Refused.{extends}
+use Rattle.shared_journal.proofs.journal.Journal.extend.Goals as goal
+
+-- the refusals of the step under the lock
+pub returns-clause-err : goal.returns-clause-err
+returns-clause-err g c =
+    let old = c.deref_mut.result.now in
+    let handle = c.args.handle.now in
+    IfErr-weaker c.extend.result
+    (λ e. (e.0 ≡ c.args.credits) × ExtendRefused (reserving old.journal.front c.args.credits) handle c.args.credits e.1
+    × (c.extend.new.self ≡ old) × (c.extend.new.handle ≡ handle))
+    (λ e. (e.0 ≡ c.args.credits) × IsExtendRefusal e.1 × (c.extend.new.handle ≡ handle))
+    (λ e why. (why.0, extends old.journal.front handle c.args.credits e.1 why.1, why.3)) c.extend.ensures.err

@@ -1,0 +1,15 @@
+use Rattle.std.proofs.Common.{◌≡◌}
+use Rattle.std.proofs.lemmas.Result.{IfErr-weaker}
+use Rattle.group_commit.specs.Front.{TouchRefused}
+use Rattle.shared_journal.specs.Refusals.{IsTouchRefusal}
+use Rattle.shared_journal.proofs.Refused.{touches}
+use Rattle.shared_journal.proofs.journal.Journal.write.Goals as goal
+
+-- the refusals of the step under the lock
+pub returns-clause-err : goal.returns-clause-err
+returns-clause-err g c =
+    let old = c.deref_mut.result.now in
+    IfErr-weaker c.write.result
+    (λ e. TouchRefused old.journal.front c.args.handle.now c.args.block e × (c.write.new.self ≡ old) × (c.write.new.handle ≡ c.args.handle.now))
+    (λ e. IsTouchRefusal e × (c.write.new.handle ≡ c.args.handle.now))
+    (λ e why. (touches old.journal.front c.args.handle.now c.args.block e why.0, why.2)) c.write.ensures.err

@@ -1,0 +1,3 @@
+pub mod Locked
+pub mod Laid
+pub mod Refusals

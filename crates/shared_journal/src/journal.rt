@@ -1,0 +1,373 @@
+ghost use Rattle.std.specs.Prelude.{◌≡◌, ◌+◌, ◌<◌, ◌≤◌, length, IfErr, IfOk, MatchResult, OnOk};
+ghost use Rattle.journal_model.specs.Disk.{Image, Leaves};
+ghost use Rattle.log_epochs.specs.JournalPromise.{IsClosed};
+ghost use Rattle.handle.specs.Values.{Grants, Looks, LooksAgain, ReserveRefused, StatusIs, fresh_ticket, loading_mark};
+ghost use Rattle.group_commit.specs.Journal.{OpensOver};
+ghost use Rattle.shared_journal.specs.Refusals.{IsExtendRefusal, IsJoinRefusal, IsTouchRefusal, MayHavePaid, StartRefused};
+
+use crate::closing::close;
+use crate::locked::{Counters, Locked};
+use crate::open_handle::Handle;
+use block_device::Device;
+use group_commit::{CheckTurn, Journal as OneJournal, Parts, Turn};
+use handle::{Credits, JournalName, Receipt, Seat, Status, Ticket};
+use journal_model::{BlockNo, JournalError, Tid};
+use std::sync::{Mutex, Wait};
+
+/// A journal that any number of threads share by reference. It has to be ended by `close` or `into_single`, since it holds credits:
+/// a value of this type can't be dropped.
+pub struct Journal<J: JournalName, D: Device> {
+    counters: Counters<J>,
+    locked: Mutex<Locked<J, D>>,
+    block_size: usize,
+    pub ghost block_is: { block_size ≡ J.block_size },
+}
+
+impl<J: JournalName, D: Device> Journal<J, D> {
+    pub(crate) fn of(
+        counters: Counters<J>,
+        locked: Locked<J, D>,
+        block_size: usize,
+    ) -> Journal<J, D>
+        requires { block_size ≡ J.block_size }
+    {
+        Journal {
+            counters,
+            locked: Mutex::new(locked),
+            block_size,
+        }
+    }
+
+    /// How many bytes a block has.
+    pub fn block_size(&self) -> usize
+        ensures { result ≡ J.block_size }
+    {
+        self.block_size
+    }
+
+    /// The most credits that are held at once, and the most that one transaction can have.
+    pub fn capacity(&self) -> u64
+        ensures { result ≡ J.capacity }
+    {
+        self.counters.pool.capacity()
+    }
+
+    // Without a lock
+
+    /// One more seat, of half of this one's allotment. None where that is 1.
+    pub fn split_seat(&self, seat: &mut Seat<J>) -> Option<Seat<J>> {
+        seat.split(&self.counters.pool)
+    }
+
+    /// Grants `n` credits, each for the first touch of one block. It takes no lock and no memory, and waits for nobody.
+    ///
+    /// # Errors
+    ///
+    /// `TooMany` where one transaction can never have so many, `Full` where the credits that are held leave fewer.
+    /// Source: journalling.rst (`journal_start`).
+    pub fn reserve(&self, seat: &mut Seat<J>, n: u64) -> Result<Credits<J>, JournalError>
+        ensures ok { IfOk result (λ credits. (credits ≡ n) × Grants J.capacity n seat.old seat.new) }
+        ensures err { IfErr result (λ e. ReserveRefused J.capacity n seat.old seat.new e) }
+    {
+        self.counters.pool.reserve(seat, n)
+    }
+
+    /// Takes credits back that no handle was made of. It takes no lock, waits for nobody, and is never refused.
+    pub fn give_back(&self, credits: Credits<J>) {
+        credits.give_back(&self.counters.pool)
+    }
+
+    /// The number of the last transaction that is told to be committed. It takes no lock.
+    pub fn seen(&self, seat: &mut Seat<J>) -> Tid
+        ensures found { seat.new ≡ loading_mark seat.old result }
+        ensures no_less { seat.old.seen ≤ result }
+    {
+        self.counters.mark.seen(seat)
+    }
+
+    /// Whether the ticket's transaction is committed, as far as the mark tells. It takes no lock.
+    pub fn status(&self, ticket: &Ticket<J>, seat: &mut Seat<J>) -> Status
+        ensures answer { StatusIs result ticket.now.tid seat.new.seen }
+        ensures seat { Looks seat.old seat.new }
+    {
+        self.counters.mark.status(ticket, seat)
+    }
+
+    /// The receipt for a ticket whose transaction is committed, as far as the mark tells. It takes no lock, and waits for nobody:
+    /// who waits takes commit turns, or lets others take them, and asks again.
+    ///
+    /// # Errors
+    ///
+    /// It is not committed yet: the ticket comes back. After a device failure it may never be; `is_aborted` tells.
+    pub fn reach(&self, ticket: Ticket<J>) -> Result<Receipt<J>, Ticket<J>>
+        ensures ok { IfOk result (λ receipt. LooksAgain ticket receipt × (receipt.tid ≤ receipt.seen)) }
+        ensures err { IfErr result (λ back. LooksAgain ticket back × (back.seen < back.tid)) }
+    {
+        ticket.reach(&self.counters.mark)
+    }
+
+    // Under the lock
+
+    /// Makes a handle of the running transaction, with these credits.
+    ///
+    /// # Errors
+    ///
+    /// The credits come back. `Aborted` after a device failure, `NotRunning` where the transaction takes no further handles,
+    /// `SequenceEnd` where no number is left for it or for the handle, and `Memory`.
+    /// Source: journalling.rst (`journal_start`).
+    pub fn try_join<R: Wait>(
+        &self,
+        rt: &R,
+        credits: Credits<J>,
+    ) -> Result<Handle<'_, J>, (Credits<J>, JournalError)>
+        ensures ok { IfOk result (λ handle. handle.left ≡ credits) }
+        ensures err { IfErr result (λ e. (e.0 ≡ credits) × IsJoinRefusal e.1) }
+    {
+        self.locked.lock(rt).join(&self.counters, credits)
+    }
+
+    /// Gives an open handle these further credits.
+    ///
+    /// # Errors
+    ///
+    /// The credits come back. `Aborted` after a device failure, `NotRunning` where the handle's transaction takes no further
+    /// handles. (`NoCredit` where the handle is not open can't come, and no contract says so yet.)
+    /// Source: journalling.rst (`journal_extend`).
+    pub fn extend<R: Wait>(
+        &self,
+        rt: &R,
+        handle: &mut Handle<'_, J>,
+        credits: Credits<J>,
+    ) -> Result<(), (Credits<J>, JournalError)>
+        ensures ok { OnOk result (handle.new ≡ record handle.old { left = handle.old.left + credits }) }
+        ensures err { IfErr result (λ e. (e.0 ≡ credits) × IsExtendRefusal e.1 × (handle.new ≡ handle.old)) }
+    {
+        self.locked.lock(rt).extend(&self.counters, handle, credits)
+    }
+
+    /// Writes a block of the home area, of one block of bytes, as a part of the handle's transaction. The first touch of a
+    /// block in the transaction takes one of the handle's credits.
+    ///
+    /// # Errors
+    ///
+    /// Nothing changes. `Aborted` after a device failure, `BadBlock` where home has no such block, or its number is not below
+    /// 2^32, `NoCredit` at a first touch without a credit left, and `Memory`.
+    /// Source: journalling.rst (`journal_get_write_access`, `journal_dirty_metadata`).
+    pub fn write<R: Wait>(
+        &self,
+        rt: &R,
+        handle: &mut Handle<'_, J>,
+        block: BlockNo,
+        bytes: &[u8],
+    ) -> Result<(), JournalError>
+        requires { length bytes.now ≡ J.block_size }
+        ensures ok { OnOk result (MayHavePaid handle.old handle.new) }
+        ensures err { IfErr result (λ e. IsTouchRefusal e × (handle.new ≡ handle.old)) }
+    {
+        self.locked.lock(rt).write(handle, block, bytes)
+    }
+
+    /// Revokes a block of the home area as a part of the handle's transaction.
+    ///
+    /// # Errors
+    ///
+    /// Those of `write`: nothing changes.
+    /// Source: journalling.rst (`journal_revoke`), fs/jbd2/revoke.c by behaviour.
+    pub fn revoke<R: Wait>(
+        &self,
+        rt: &R,
+        handle: &mut Handle<'_, J>,
+        block: BlockNo,
+    ) -> Result<(), JournalError>
+        ensures ok { OnOk result (MayHavePaid handle.old handle.new) }
+        ensures err { IfErr result (λ e. IsTouchRefusal e × (handle.new ≡ handle.old)) }
+    {
+        self.locked.lock(rt).revoke(handle, block)
+    }
+
+    /// Reads a block of the home area into a buffer of one block: the running transaction's copy, else that of the one that is
+    /// being committed, else the newest committed copy, else what home reads. Isolation between handles is left to the caller.
+    ///
+    /// # Errors
+    ///
+    /// `Aborted` after a device failure; `BadBlock` where home has no such block, or its number is not below 2^32; `Revoked`
+    /// where its last entry in the transactions that are not committed is a revoke. `Device` where the device failed: the journal
+    /// is aborted, and the buffer's bytes are unspecified.
+    /// Source: journalling.rst (handles see the running transaction).
+    pub fn read<R: Wait>(
+        &self,
+        rt: &R,
+        handle: &mut Handle<'_, J>,
+        block: BlockNo,
+        into: &mut [u8],
+    ) -> Result<(), JournalError>
+        requires { length into.old ≡ J.block_size }
+        ensures length { length into.new ≡ length into.old }
+        ensures handle { handle.new ≡ handle.old }
+    {
+        self.locked.lock(rt).read(handle, block, into)
+    }
+
+    /// Writes a block of the home area directly, of one block of bytes, past the log. What was written is durable behind a
+    /// `sync_direct` that answers Ok.
+    ///
+    /// # Errors
+    ///
+    /// `Aborted` after a device failure; `BadBlock` where home has no such block, or its number is not below 2^32; `NotDirect`
+    /// where the transactions have a copy of the block, or one that is not committed has an entry of it: nothing changes.
+    /// `Device` where the device failed: the journal is aborted.
+    /// Source: this project's own, by what journal.rst says of revokes.
+    pub fn write_direct<R: Wait>(
+        &self,
+        rt: &R,
+        block: BlockNo,
+        bytes: &[u8],
+    ) -> Result<(), JournalError>
+        requires { length bytes.now ≡ J.block_size }
+    {
+        self.locked.lock(rt).write_direct(block, bytes)
+    }
+
+    /// Flushes the home area, so that every direct write that answered Ok before is durable.
+    ///
+    /// # Errors
+    ///
+    /// `Aborted` after a device failure. `Device` where the device failed: the journal is aborted.
+    /// Source: this project's own; a flush request (the kernel's writeback_cache_control.rst).
+    pub fn sync_direct<R: Wait>(&self, rt: &R) -> Result<(), JournalError> {
+        self.locked.lock(rt).sync_direct()
+    }
+
+    /// Ends a handle. Its credits that are left are given back. It always succeeds, after a device failure too.
+    /// Source: journalling.rst (`journal_stop`).
+    pub fn stop<R: Wait>(&self, rt: &R, handle: Handle<'_, J>) -> Ticket<J>
+        ensures { result ≡ fresh_ticket handle.entry.number handle.entry.tid }
+    {
+        self.locked.lock(rt).stop(&self.counters, handle)
+    }
+
+    /// Takes the next step of committing: one device call of a commit, or the seal of a transaction that takes no further
+    /// handles and has no open one. The lock is held while the device works.
+    ///
+    /// # Errors
+    ///
+    /// `Aborted` after a device failure. `NeedSpace` where what is left of the ring is too short for the transaction, and
+    /// `Memory`: the transaction stays as it is. `Device` where the device failed: the journal is aborted.
+    /// Source: fs/jbd2/commit.c by behaviour.
+    pub fn commit_turn<R: Wait>(&self, rt: &R) -> Result<Turn, JournalError> {
+        self.locked.lock(rt).commit_turn(&self.counters)
+    }
+
+    /// Takes the next step of a checkpoint round: at most one device call. The lock is held while the device works.
+    ///
+    /// # Errors
+    ///
+    /// `Aborted` after a device failure. `Device` where the device failed: the journal is aborted.
+    /// Source: fs/jbd2/checkpoint.c by behaviour.
+    pub fn checkpoint_turn<R: Wait>(&self, rt: &R) -> Result<CheckTurn, JournalError> {
+        self.locked.lock(rt).checkpoint_turn()
+    }
+
+    /// Asks for the commit of the transaction with this number: where it is still running, it takes no further handles.
+    ///
+    /// # Errors
+    ///
+    /// `Aborted` after a device failure.
+    /// Source: fs/jbd2/journal.c by behaviour (`jbd2_log_start_commit`).
+    pub fn request<R: Wait>(&self, rt: &R, tid: Tid) -> Result<(), JournalError> {
+        self.locked.lock(rt).request(tid)
+    }
+
+    /// Whether the device has failed.
+    pub fn is_aborted<R: Wait>(&self, rt: &R) -> bool {
+        self.locked.lock(rt).is_aborted()
+    }
+
+    /// Grants `n` credits, and makes a handle of the running transaction with them.
+    ///
+    /// # Errors
+    ///
+    /// Nothing is held: where the credits were granted, they are given back. `TooMany` and `Full`, as for `reserve`; else those of
+    /// `try_join`.
+    /// Source: journalling.rst (`journal_start`).
+    pub fn try_start<R: Wait>(
+        &self,
+        rt: &R,
+        seat: &mut Seat<J>,
+        n: u64,
+    ) -> Result<Handle<'_, J>, JournalError>
+        ensures ok { IfOk result (λ handle. (handle.left ≡ n) × Grants J.capacity n seat.old seat.new) }
+        ensures err { IfErr result (λ e. StartRefused J.capacity n seat.old seat.new e) }
+    {
+        match self.reserve(seat, n) {
+            Ok(credits) => match self.try_join(rt, credits) {
+                Ok(handle) => Ok(handle),
+                Err((credits, e)) => {
+                    self.give_back(credits);
+                    Err(e)
+                }
+            },
+            Err(e) => Err(e),
+        }
+    }
+
+    /// Stops a handle, and makes a further one with `n` credits in its place, in the transaction that runs then.
+    ///
+    /// # Errors
+    ///
+    /// The handle is stopped all the same, and its ticket comes back; nothing else changes. Those of `try_start`.
+    /// Source: journalling.rst (`journal_restart`).
+    pub fn restart<R: Wait>(
+        &self,
+        rt: &R,
+        handle: Handle<'_, J>,
+        seat: &mut Seat<J>,
+        n: u64,
+    ) -> Result<Handle<'_, J>, (Ticket<J>, JournalError)>
+        ensures ok { IfOk result (λ other. (other.left ≡ n) × Grants J.capacity n seat.old seat.new) }
+        ensures err { IfErr result (λ e. (e.0 ≡ fresh_ticket handle.entry.number handle.entry.tid) × StartRefused J.capacity n seat.old seat.new e.1) }
+    {
+        let ticket = self.stop(rt, handle);
+        match self.try_start(rt, seat, n) {
+            Ok(other) => Ok(other),
+            Err(e) => Err((ticket, e)),
+        }
+    }
+
+    /// Closes the journal, once nobody shares it any longer: seals the running transaction where a handle has joined it, commits
+    /// everything and writes it home, and closes the log. The next opening finds a clean log, and writes nothing.
+    ///
+    /// # Errors
+    ///
+    /// What is left of the journal comes back, and what a stop leaves of its device opens as the parts say. Those of
+    /// `group_commit::Journal::close`. (`NotRunning` where a handle is open can't come, since each borrows this journal and has to
+    /// be stopped; no contract says so yet.)
+    /// Source: fs/jbd2/journal.c by behaviour (`jbd2_journal_destroy`).
+    pub fn close(self) -> Result<Parts<D>, (Parts<D>, JournalError)>
+        ensures all { IfOk result (λ parts. parts.committed ≡ length parts.sealed.items) }
+        ensures closed { IfOk result (λ parts. D.honest parts.device → (image : Image) → Leaves (D.state parts.device).disk image
+            → IsClosed (D.state parts.device).shape parts.sealed.items image) }
+        ensures opens { MatchResult result
+            (λ parts. D.honest parts.device →
+            OpensOver (D.state parts.device).shape parts.sealed.items parts.committed (length parts.sealed.items) (D.state parts.device).disk)
+            (λ e. D.honest e.0.device →
+            OpensOver (D.state e.0.device).shape e.0.sealed.items e.0.committed (length e.0.sealed.items) (D.state e.0.device).disk) }
+    {
+        close(self.into_single())
+    }
+
+    /// The journal of one thread, once nobody shares it any longer. No handle is open then, since each borrows this journal and has
+    /// to be stopped.
+    pub fn into_single(self) -> OneJournal<D>
+        ensures reserved { result.journal.front.reserved ≡ 0 }
+        ensures capacity { result.journal.front.capacity ≡ J.capacity }
+        ensures block_size { (D.state result.device).shape.block_size ≡ J.block_size }
+    {
+        let Journal {
+            counters,
+            locked,
+            block_size: _,
+        } = self;
+        locked.into_inner().into_single(&counters)
+    }
+}

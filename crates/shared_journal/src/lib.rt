@@ -1,0 +1,19 @@
+//! The journal that threads share. Its calls take `&self`; callers reserve credits, give them back and look at the commit mark
+//! without a lock, and all else is a step of the journal of one thread (`group_commit`), made under one lock.
+//!
+//! `locked` has those steps, and says what is true whenever the lock is free: all credits that the front holds lie in one value, and
+//! the number of the raiser is the mark. `journal` takes the lock, makes one of them, and hands on its answer; `closing` ends it.
+#![tactic(auto)]
+
+mod closing;
+mod journal;
+mod laid;
+mod locked;
+mod open_handle;
+#[cfg(test)]
+mod tests;
+
+pub use journal::Journal;
+pub use laid::{LaidJournal, lay};
+pub use locked::{Counters, Locked};
+pub use open_handle::Handle;
