@@ -5,14 +5,14 @@ ghost use Rattle.journal_model.specs.declared.refusal.JournalError.TheVariants.{
 
 use journal_model::{BlockNo, JournalError};
 use std::alloc::{AllocError, Global};
-use std::collections::BTreeMap;
+use std::collections::HashMap;
 use std::marker::Model;
 
 /// The place of the newest copy of each block: how many copies of the chain stand before it. Contracts see a map from each
 /// copied block to that place.
 #[derive(Drop)]
 pub struct CopyTable {
-    newest: BTreeMap<BlockNo, u64>,
+    newest: HashMap<BlockNo, u64>,
 }
 
 impl Model for CopyTable {
@@ -33,7 +33,7 @@ impl CopyTable {
         ensures { result ≡ map.empty }
     {
         CopyTable {
-            newest: BTreeMap::new(alloc),
+            newest: HashMap::new(alloc),
         }
     }
 

@@ -9,7 +9,7 @@ mod tests;
 
 use journal_model::{BlockNo, JournalError, Tid};
 use std::alloc::{AllocError, Global};
-use std::collections::BTreeMap;
+use std::collections::HashMap;
 use std::marker::Model;
 
 /// Which copies an opening leaves out: those that were revoked behind them, or in their own transaction. Contracts see a
@@ -17,7 +17,7 @@ use std::marker::Model;
 /// Source: fs/jbd2/revoke.c by behaviour.
 #[derive(Drop)]
 pub struct RevokeTable {
-    greatest: BTreeMap<BlockNo, Tid>,
+    greatest: HashMap<BlockNo, Tid>,
 }
 
 impl Model for RevokeTable {
@@ -38,7 +38,7 @@ impl RevokeTable {
         ensures { result ≡ map.empty }
     {
         RevokeTable {
-            greatest: BTreeMap::new(alloc),
+            greatest: HashMap::new(alloc),
         }
     }
 

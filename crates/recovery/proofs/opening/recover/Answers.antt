@@ -9,7 +9,7 @@ use Rattle.recovery.specs.Gather.{TablesValue}
 use Rattle.recovery.specs.HomeCopies.{home_copies}
 use Rattle.recovery.specs.Opening.{IsDoneWith}
 use Rattle.recovery.specs.Values.{IsNextNamed}
-use Rattle.recovery.proofs.Recovering.{clean-done, clean-start, cleaning-broken, copies-broken, device-refused, examined-tells, of-found, other-start, started-done, tail-named}
+use Rattle.recovery.proofs.Recovering.{clean-done, clean-named, clean-start, cleaning-broken, copies-broken, device-refused, examined-tells, of-found, other-start, started-done, tail-named}
 use Rattle.recovery.proofs.opening.recover.Goals as goal
 
 -- a clean log is opened
@@ -22,6 +22,19 @@ returns-then-report-clause-done g c = λ honest.
     (clean-start log c.is_clean.result c.is_clean.ensures c.if-report.true)
     (c.number_from-next.ensures ∙ ap (λ (n : ℕ). n + c.in_ok-superblock.field-0.transactions + 1) c.first_number.ensures.value) c.examine.ensures.stays
     c.in_ok-flush.ensures.ok
+
+-- its superblock names the next transaction
+pub returns-then-report-clause-named : goal.returns-then-report-clause-named
+returns-then-report-clause-named g c =
+    let s : DeviceState = g.D.Device.state c.args.device.now in
+    let u : DeviceState = g.D.Device.state c.flush.new.self in
+    let items : List ℕ = c.in_ok-superblock.field-0.superblock.items in
+    let next : ℕ = c.number_from-next.result in
+    let shape : u.shape ≡ s.shape = c.in_ok-flush.ensures.ok.shape ∙ c.examine.ensures.stays.shape in
+    subst (λ (m : Shape). IsNextNamed m items next) (sym shape)
+    (clean-named s.shape items c.in_ok-superblock.field-0.log c.in_ok-superblock.field-0.transactions next c.in_ok-superblock.ensures.examined
+    (clean-start c.in_ok-superblock.field-0.log c.is_clean.result c.is_clean.ensures c.if-report.true)
+    (c.number_from-next.ensures ∙ ap (λ (n : ℕ). n + c.in_ok-superblock.field-0.transactions + 1) c.first_number.ensures.value))
 
 -- what that tells
 pub returns-then-report-clause-report : goal.returns-then-report-clause-report
