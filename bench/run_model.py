@@ -180,7 +180,7 @@ class Journal:
     def held(self):
         return len(self.entries) + sum(handle.left for handle in self.handles if handle.is_open)
 
-    def start(self, credits):
+    def test_credits(self, credits):
         if credits > self.capacity:
             raise Refused("6 TooMany")
         if self.held() + credits > self.capacity:
@@ -189,8 +189,15 @@ class Journal:
             raise Refused("3 Aborted")
         if self.is_locked:
             raise Refused("7 NotRunning")
+
+    def start(self, credits):
+        self.test_credits(credits)
         self.handles.append(Handle(self.number, credits))
         return self.handles[-1]
+
+    def extend(self, handle, credits):
+        self.test_credits(credits)
+        handle.left += credits
 
     def test_block(self, number):
         if number >= self.device.counts["home"] or number >= 2**32:
@@ -301,13 +308,16 @@ class Journal:
 # ---- a run
 
 
+NEED_OPEN = ("write", "revoke", "read", "extend", "restart", "stop")
+
+
 class Run:
     """A run of a script up to its stop: its lines, and what has to be known to judge it.
 
     Where a call is to fail the script goes on behind it; else it ends with the first operation that the device refuses.
     """
 
-    ALWAYS = ("start", "stop", "status", "wait")  # what answers by itself behind a failed call
+    ALWAYS = ("start", "extend", "restart", "stop", "status", "wait")  # what answers by itself behind a failed call
 
     def __init__(self, text, stop=None, fail=None):
         self.script = {**DEFAULTS, **json.loads(text)}
@@ -327,8 +337,10 @@ class Run:
     def line(self, operation):
         name, *words = operation
         left = " ".join(map(str, operation[: 2 if name == "direct" else 3]))
-        if words and name not in ("start", "direct") and self.names[words[0]] is None:
-            return f"{left} = skipped"
+        if words and name not in ("start", "direct"):
+            handle = self.names[words[0]]
+            if handle is None or (name in NEED_OPEN and not handle.is_open):
+                return f"{left} = skipped"
         if self.journal.is_aborted and name not in self.ALWAYS:
             return f"{left} = refused 3 Aborted"
         try:
@@ -356,6 +368,15 @@ class Run:
 
     def do_read(self, _, number):
         return self.journal.read(number)[:8].hex()
+
+    def do_extend(self, name, credits):
+        self.journal.extend(self.names[name], credits)
+        return "ok"
+
+    def do_restart(self, name, credits):
+        self.names[name].is_open = False
+        self.names[name] = self.journal.start(credits)
+        return self.names[name].tid
 
     def do_stop(self, name):
         self.names[name].is_open = False

@@ -51,7 +51,7 @@ class RandomScript:
     """A script that is no bad one. Its operations are drawn as phrases, each of one operation or several."""
 
     MIXED = {"start": 5, "write": 12, "revoke": 4, "read": 4, "stop": 4, "request": 4, "turn": 8, "commit": 3, "ckturn": 6,
-             "check": 1, "status": 2, "wait": 2, "direct": 4, "sync": 2, "transaction": 6, "reuse": 1}
+             "check": 1, "status": 2, "wait": 2, "direct": 4, "sync": 2, "transaction": 6, "reuse": 1, "extend": 4, "restart": 3}
     STEADY = {"transaction": 20, "read": 2, "commit": 2, "ckturn": 1, "status": 1, "wait": 1, "direct": 4, "sync": 2, "reuse": 3}
 
     def __init__(self, draw, blocks=None, length=None):
@@ -130,6 +130,12 @@ class RandomScript:
 
     def draw_read(self):
         self.add_with(("open",), "read", self.draw.choice(self.blocks))
+
+    def draw_extend(self):
+        self.add_with(("open",), "extend", self.draw_credits())
+
+    def draw_restart(self):
+        self.add_with(("open",), "restart", self.draw_credits())
 
     def draw_stop(self):
         self.add_with(("open",), "stop")
@@ -276,7 +282,8 @@ WRONG_STATES = (
     [["start", 1], ["write", 2**64, "00"]], [["start", 1], ["read", 1, 1]], [["start", 1], ["read"]], [["start", 1], ["read", "1"]],
     [["start", 1], ["stop"], ["revoke", 1]], [["start", 1], ["revoke"]], [["start", 1], ["revoke", 1, "00"]],
     [["start", 1], ["revoke", -1]], [["start", 1], ["revoke", 1.0]], [["start", 1], ["revoke", 2**64]],
-    [["start", 1], ["stop", 1]], [["start", 1], ["extend", 1]], [["start", 1], ["restart", 1]],
+    [["start", 1], ["stop", 1]], [["start", 1], ["extend"]], [["start", 1], ["restart", "1"]], [["start", 1], ["stop"], ["extend", 1]],
+    [["start", 1], ["stop"], ["restart", 1]], [["extend", 1]], [["restart", 1]], [["start", 1], ["restart", 1], ["status"]],
 )
 
 

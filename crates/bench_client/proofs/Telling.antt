@@ -10,7 +10,7 @@ use Rattle.journal_model.specs.Superblock.{Shape}
 use Rattle.block_device.specs.State.{DeviceState, Stays}
 use Rattle.journal_world.specs.Engine.{Engine}
 use Rattle.journal_world.specs.Front.{Front, FrontEvent}
-use Rattle.journal_world.specs.Front.FrontEvent.{GiveBack, Lock, Raise, StopHandle}
+use Rattle.journal_world.specs.Front.FrontEvent.{ExtendHandle, GiveBack, Join, Lock, Raise, Reserve, StopHandle}
 use Rattle.journal_world.specs.Journal.{Event, Happens, Journal}
 use Rattle.journal_world.specs.Journal.Event.{CheckpointFault, CheckpointStep, CommitFault, CommitStep, DirectSync, DirectSyncFault, DirectWrite, DirectWriteFault, Finish, FrontStep, ReadFault, Seal}
 use Rattle.journal_world.proofs.Onward.{fault-on, round-fault-on, round-on, step-on}
@@ -24,6 +24,7 @@ use Rattle.group_commit.specs.declared.journal.Turn.TheVariants.{Idle as IdleTur
 use Rattle.group_commit.specs.Direct.{DirectSyncRefused, DirectWriteRefused}
 use Rattle.group_commit.specs.Direct.DirectSyncRefused.{SyncAborted, SyncFailed}
 use Rattle.group_commit.specs.Direct.DirectWriteRefused.{WriteAborted, WriteFailed, WriteNotDirect, WriteOutside}
+use Rattle.group_commit.specs.Extension.{Extends, RestartRefused, Restarts, Starts}
 use Rattle.group_commit.specs.Front.{IsOpenHandle}
 use Rattle.group_commit.specs.Journal.{CheckTurnDid, CheckTurnRefused, Does, ReadRefused, Requests, TurnDid, TurnRefused}
 use Rattle.group_commit.specs.Journal.CheckTurnRefused.{CheckAborted, CheckFailed}
@@ -279,6 +280,32 @@ stop-comes Fact operations state old new shown h stops other device led =
     (λ (is : IsOpenHandle old.journal.front h). does Fact operations state old new shown (FrontStep (StopHandle h.number)) (λ directs written. written) (stops is) (ap (λ (d : _). (state d).shape) device) led)
     (λ (none : IsOpenHandle old.journal.front h → ⊥). same Fact operations state old new shown (other none) led)
     (open-or_not old.journal.front h)
+
+-- an open handle gets further credits, or nothing changes
+pub extend-comes : (Fact : Shape → Disk → Type 0) (operations : List Operation) {D T E : Type 0} (state : D → DeviceState) (old new : JournalValue D) (shown : Option ℕ) (h n : ℕ) (result : Result T E)
+    → OnOk result (Extends state h n old new) → IfErr result (λ e. new ≡ old) → new.device ≡ old.device
+    → HasComeTo Fact operations state old shown → HasComeTo Fact operations state new shown
+extend-comes Fact operations state old new shown h n (Ok x) did refused device led =
+    does Fact operations state did.granted new shown (FrontStep (ExtendHandle h n)) (λ directs written. written) did.extends (ap (λ (d : _). (state d).shape) (device ∙ sym did.device))
+    (does Fact operations state old did.granted shown (FrontStep (Reserve n)) (λ directs written. written) did.reserves (ap (λ (d : _). (state d).shape) did.device) led)
+extend-comes Fact operations state old new shown h n (Err e) did refused device led = same Fact operations state old new shown refused led
+
+-- credits are granted, and a handle joins with them
+starts-come : (Fact : Shape → Disk → Type 0) (operations : List Operation) {D : Type 0} (state : D → DeviceState) (old new : JournalValue D) (shown : Option ℕ) (n : ℕ) → Starts state n old new
+    → new.device ≡ old.device → HasComeTo Fact operations state old shown → HasComeTo Fact operations state new shown
+starts-come Fact operations state old new shown n did device led =
+    does Fact operations state did.granted new shown (FrontStep (Join n)) (λ directs written. written) did.joins (ap (λ (d : _). (state d).shape) (device ∙ sym did.device))
+    (does Fact operations state old did.granted shown (FrontStep (Reserve n)) (λ directs written. written) did.reserves (ap (λ (d : _). (state d).shape) did.device) led)
+
+-- a handle stops, and perhaps another joins
+pub restart-comes : (Fact : Shape → Disk → Type 0) (operations : List Operation) {D T : Type 0} (state : D → DeviceState) (old new : JournalValue D) (shown : Option ℕ) (h : HandleValue) (n : ℕ)
+    (result : Result HandleValue (T × JournalError)) → IfOk result (λ other. Restarts state h n old new) → IfErr result (λ e. RestartRefused state h n old new e.1) → new.device ≡ old.device
+    → HasComeTo Fact operations state old shown → HasComeTo Fact operations state new shown
+restart-comes Fact operations state old new shown h n (Ok other) did refused device led =
+    starts-come Fact operations state did.stopped new shown n did.starts (device ∙ sym did.ends.device)
+    (stop-comes Fact operations state old did.stopped shown h did.ends.stops did.ends.other did.ends.device led)
+restart-comes Fact operations state old new shown h n (Err e) did refused device led =
+    stop-comes Fact operations state old new shown h refused.ends.stops refused.ends.other refused.ends.device led
 
 -- a request locks the running transaction, or changes nothing
 requests-come : (Fact : Shape → Disk → Type 0) (operations : List Operation) {D : Type 0} (state : D → DeviceState) (old new : JournalValue D) (shown : Option ℕ) (tid : ℕ) → Requests state tid old new

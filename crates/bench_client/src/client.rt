@@ -5,6 +5,7 @@ ghost use Rattle.journal_model.specs.Superblock.{Shape};
 ghost use Rattle.journal_world.specs.Front.FrontEvent.{RevokeBlock, WriteBlock};
 ghost use Rattle.journal_world.specs.Journal.Event.{DirectSync, DirectWrite, FrontStep};
 ghost use Rattle.bench_script.specs.Named.{IsDirectOf};
+ghost use Rattle.group_commit.specs.Extension.{Extends, Restarts};
 ghost use Rattle.group_commit.specs.Journal.{Does};
 
 use bench_script::Operation;
@@ -221,6 +222,34 @@ impl<'a, D: Device + Drop, H: HomeFact> Client<'a, D, H> {
         ensures operations { self.new.operations ≡ self.old.operations }
     {
         self.journal.read(handle, block, into)
+    }
+
+    /// Gives a handle further credits.
+    ///
+    /// # Errors
+    ///
+    /// Those of an extension: nothing changes.
+    pub fn extend(&mut self, handle: &mut Handle, credits: u64) -> Result<(), JournalError>
+        ensures does { OnOk result (Extends D.state handle.old.number credits self.old.journal self.new.journal) }
+        ensures operations { self.new.operations ≡ self.old.operations }
+    {
+        self.journal.extend(handle, &mut self.seat, credits)
+    }
+
+    /// Ends a handle, and makes another one in its place.
+    ///
+    /// # Errors
+    ///
+    /// Those of a restart: the handle's ticket comes back.
+    pub fn restart(
+        &mut self,
+        handle: Handle,
+        credits: u64,
+    ) -> Result<Handle, (Ticket, JournalError)>
+        ensures does { IfOk result (λ other. Restarts D.state handle credits self.old.journal self.new.journal × (other.tid ≡ self.old.journal.journal.front.running.tid)) }
+        ensures operations { self.new.operations ≡ self.old.operations }
+    {
+        self.journal.restart(handle, &mut self.seat, credits)
     }
 
     /// Ends a handle.

@@ -55,7 +55,7 @@ impl<'a, D: Device + Drop, H: HomeFact> Interpreter<'a, D, H> {
     ghost use Rattle.bench_script.specs.Named.{IsDirectOf};
     ghost use Rattle.group_commit.specs.Journal.{Does};
     ghost use Rattle.bench_client.specs.Ended.{IsEnded, IsLeftClosed};
-    ghost use Rattle.bench_client.specs.Performed.{HasDone, IfCommitted, IfTransaction, RevokesBlock, WritesBlock, WritesDirectly};
+    ghost use Rattle.bench_client.specs.Performed.{ExtendsHandle, HasDone, IfCommitted, IfTransaction, RestartsHandle, RevokesBlock, WritesBlock, WritesDirectly};
     ghost use Rattle.bench_client.specs.Told.{IsLedTo, with_told};
     ghost use Rattle.bench_client.specs.declared.outcome.Outcome.TheVariants.{Done};
 
@@ -108,6 +108,8 @@ impl<'a, D: Device + Drop, H: HomeFact> Interpreter<'a, D, H> {
             Operation::Write(name, block, bytes) => self.write(*name, *block, bytes),
             Operation::Revoke(name, block) => self.revoke(*name, *block),
             Operation::Read(name, block) => self.read(*name, *block),
+            Operation::Extend(name, credits) => self.extend(*name, *credits),
+            Operation::Restart(name, credits) => self.restart(*name, *credits),
             Operation::Stop(name) => self.stop(*name),
             Operation::Request(name) => self.request(*name),
             Operation::Turn => self.turn(),
@@ -287,6 +289,59 @@ impl<'a, D: Device + Drop, H: HomeFact> Interpreter<'a, D, H> {
         let mut bytes = vec![in self.alloc; 0; self.client.block_size()]?;
         self.client.read(handle, block, &mut bytes)?;
         Ok(front_of(&bytes))
+    }
+
+    /// Gives a handle further credits.
+    fn extend(&mut self, name: HandleName, credits: u64) -> Outcome
+        ensures done { result ≡ Done → ExtendsHandle D.state credits self.old.client.journal self.new.client.journal }
+        ensures operations { self.new.client.operations ≡ self.old.client.operations }
+    {
+        match self.slots.take(name) {
+            Slot::Open(mut handle) => {
+                let answer = self.client.extend(&mut handle, credits);
+                self.slots.put(name, Slot::Open(handle));
+                match answer {
+                    Ok(()) => Outcome::Done,
+                    Err(e) => Outcome::Refused(e),
+                }
+            }
+            other => {
+                self.slots.put(name, other);
+                Outcome::Skipped
+            }
+        }
+    }
+
+    /// Stops a handle and starts another one in its place. Where that is refused the name stands for the stopped one's ticket.
+    fn restart(&mut self, name: HandleName, credits: u64) -> Outcome
+        ensures done { IfTransaction result (λ tid. RestartsHandle D.state credits tid self.old.client.journal self.new.client.journal) }
+        ensures operations { self.new.client.operations ≡ self.old.client.operations }
+    {
+        match self.slots.take(name) {
+            Slot::Open(handle) => self.restart_as(name, handle, credits),
+            other => {
+                self.slots.put(name, other);
+                Outcome::Skipped
+            }
+        }
+    }
+
+    /// Lets another handle take the place of this one, for which the name stood.
+    fn restart_as(&mut self, name: HandleName, handle: Handle, credits: u64) -> Outcome
+        ensures done { IfTransaction result (λ tid. RestartsHandle D.state credits tid self.old.client.journal self.new.client.journal) }
+        ensures operations { self.new.client.operations ≡ self.old.client.operations }
+    {
+        match self.client.restart(handle, credits) {
+            Ok(handle) => {
+                let tid = handle.tid();
+                self.slots.put(name, Slot::Open(handle));
+                Outcome::Transaction(tid)
+            }
+            Err((ticket, e)) => {
+                self.slots.put(name, Slot::Stopped(ticket));
+                Outcome::Refused(e)
+            }
+        }
     }
 
     /// Stops a handle.

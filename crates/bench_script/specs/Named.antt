@@ -3,7 +3,7 @@ use Rattle.std.specs.Prelude.{◌≡◌, ℕ, ◌<◌, List, Option, Some, None,
 use Rattle.std.specs.BTreeSet.{keys}
 use Rattle.bench_script.specs.declared.script.NamedBlocks.{NamedBlocks}
 use Rattle.bench_script.specs.declared.script.Operation.{Operation}
-use Rattle.bench_script.specs.declared.script.Operation.TheVariants.{Start, Write, Revoke, Read, Stop, Request, Turn, Commit, CheckpointTurn, Check, Status, Wait, WriteDirect, SyncDirect}
+use Rattle.bench_script.specs.declared.script.Operation.TheVariants.{Start, Write, Revoke, Read, Extend, Restart, Stop, Request, Turn, Commit, CheckpointTurn, Check, Status, Wait, WriteDirect, SyncDirect}
 use Rattle.bench_script.specs.declared.script.Script.{Script}
 
 -- the block that an operation names, if it names one
@@ -13,6 +13,8 @@ block_in (Revoke name block) = Some block
 block_in (Read name block) = Some block
 block_in (WriteDirect block bytes) = Some block
 block_in (Start name credits) = None
+block_in (Extend name credits) = None
+block_in (Restart name credits) = None
 block_in (Stop name) = None
 block_in (Request name) = None
 block_in Turn = None
@@ -30,6 +32,8 @@ direct_in (Write name block bytes) = None
 direct_in (Revoke name block) = None
 direct_in (Read name block) = None
 direct_in (Start name credits) = None
+direct_in (Extend name credits) = None
+direct_in (Restart name credits) = None
 direct_in (Stop name) = None
 direct_in (Request name) = None
 direct_in Turn = None

@@ -88,6 +88,10 @@ pub enum OperationName {
     Revoke,
     /// `read`
     Read,
+    /// `extend`
+    Extend,
+    /// `restart`
+    Restart,
     /// `stop`
     Stop,
     /// `request`
@@ -118,6 +122,8 @@ impl OperationName {
             "write" => Some(OperationName::Write),
             "revoke" => Some(OperationName::Revoke),
             "read" => Some(OperationName::Read),
+            "extend" => Some(OperationName::Extend),
+            "restart" => Some(OperationName::Restart),
             "stop" => Some(OperationName::Stop),
             "request" => Some(OperationName::Request),
             "turn" => Some(OperationName::Turn),
@@ -139,6 +145,8 @@ impl OperationName {
             OperationName::Write => r#"["write", H, b, hex]"#,
             OperationName::Revoke => r#"["revoke", H, b]"#,
             OperationName::Read => r#"["read", H, b]"#,
+            OperationName::Extend => r#"["extend", H, n]"#,
+            OperationName::Restart => r#"["restart", H, n]"#,
             OperationName::Stop => r#"["stop", H]"#,
             OperationName::Request => r#"["request", H]"#,
             OperationName::Turn => r#"["turn"]"#,

@@ -1,4 +1,4 @@
-//! Whether the operations of a script name handles in the right state, with every start taken as accepted.
+//! Whether the operations of a script name handles in the right state, with every start and restart taken as accepted.
 use crate::script::{HANDLE_NAMES, HandleName, Operation};
 use std::alloc::{AllocError, Global};
 use std::fmt;
@@ -41,6 +41,7 @@ fn state_behind(state: State, operation: &Operation) -> Option<State> {
         (Operation::Write(..) | Operation::Revoke(..) | Operation::Read(..), State::Open) => {
             Some(State::Open)
         }
+        (Operation::Extend(..) | Operation::Restart(..), State::Open) => Some(State::Open),
         (Operation::Stop(_), State::Open) => Some(State::Stopped),
         (Operation::Request(_) | Operation::Status(_) | Operation::Wait(_), State::Stopped) => {
             Some(State::Stopped)

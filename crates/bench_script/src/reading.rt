@@ -366,6 +366,14 @@ fn number_operation(name: &Value, handle: &Value, number: &Value) -> Result<Oper
             let handle = handle_of(handle)?;
             Ok(Operation::Start(handle, number_of(number)?))
         }
+        Some("extend") => {
+            let handle = handle_of(handle)?;
+            Ok(Operation::Extend(handle, number_of(number)?))
+        }
+        Some("restart") => {
+            let handle = handle_of(handle)?;
+            Ok(Operation::Restart(handle, number_of(number)?))
+        }
         Some("revoke") => {
             let handle = handle_of(handle)?;
             let number = number_of(number)?;

@@ -37,6 +37,10 @@ pub enum Operation {
     Revoke(HandleName, BlockNo),
     /// Reads a home block, as its handle's transaction sees it.
     Read(HandleName, BlockNo),
+    /// Gives a handle this many further credits.
+    Extend(HandleName, u64),
+    /// Stops a handle, and starts another one with this many credits in its place.
+    Restart(HandleName, u64),
     /// Stops a handle.
     Stop(HandleName),
     /// Asks for the commit of a stopped handle's transaction.
@@ -108,6 +112,8 @@ impl Operation {
             | Operation::Write(handle, _, _)
             | Operation::Revoke(handle, _)
             | Operation::Read(handle, _)
+            | Operation::Extend(handle, _)
+            | Operation::Restart(handle, _)
             | Operation::Stop(handle)
             | Operation::Request(handle)
             | Operation::Status(handle)
@@ -180,6 +186,8 @@ impl Operation {
             Operation::Write(..) => "write",
             Operation::Revoke(..) => "revoke",
             Operation::Read(..) => "read",
+            Operation::Extend(..) => "extend",
+            Operation::Restart(..) => "restart",
             Operation::Stop(_) => "stop",
             Operation::Request(_) => "request",
             Operation::Turn => "turn",
@@ -196,7 +204,9 @@ impl Operation {
     /// The number in its line, of credits or of a block.
     fn number(&self) -> Option<u64> {
         match self {
-            Operation::Start(_, credits) => Some(*credits),
+            Operation::Start(_, credits)
+            | Operation::Extend(_, credits)
+            | Operation::Restart(_, credits) => Some(*credits),
             _ => match self.block() {
                 Some(block) => Some(block.0),
                 None => None,

@@ -89,6 +89,8 @@ A script is a JSON object with these keys, of which \"ops\" alone has to be ther
   [\"write\", H, b, hex]  home block b becomes these bytes, at most a block, and zeros behind them
   [\"revoke\", H, b]      home block b is revoked: no copy of it so far is to come back
   [\"read\", H, b]        how home block b begins, as the handle's transaction sees it
+  [\"extend\", H, n]      the handle gets n further credits
+  [\"restart\", H, n]     the handle ends, and another one with n credits takes its name
   [\"stop\", H]           the handle ends
   [\"request\", H]        asks for the commit of its transaction
   [\"turn\"]              takes one commit turn
