@@ -69,6 +69,7 @@ class RandomScript:
         self.checks = draw.choice((0, 0.1, 0.1, 0.3))  # how often a round follows a transaction
         self.revokes = draw.choice((0, 0.1, 0.3, 0.5, 0.9, 1))  # how often a transaction revokes a block and does not write it
         self.directs = draw.choice((0, 0, 0.2, 0.5))  # how often a block is written directly between turns
+        self.more = draw.choice((0, 0, 0.1, 0.3))  # how often a handle gets further credits or is restarted before an entry
         for _ in range(draw.choice((1, 2, 5)) if wide else 0):
             revokes = 1 if blocks else draw.choice((0, 0.5, 1))  # other blocks than these may be revoked, and not written
             self.draw_transaction(self.capacity, draw.sample(range(self.home), wide), revokes)
@@ -196,6 +197,8 @@ class RandomScript:
         for number in blocks:
             if self.draw.random() < 0.15:
                 self.ops.append(["read", name, self.draw.choice(self.blocks)])
+            if self.draw.random() < self.more:
+                self.ops.append([self.draw.choice(("extend", "extend", "restart")), name, self.draw_credits()])
             is_revoke = self.draw.random() < revokes
             self.ops.append(["revoke", name, number] if is_revoke else ["write", name, number, self.draw_data()])
         self.ops += [["stop", name], ["request", name]]
@@ -436,6 +439,8 @@ class Comparison:
             told = line.partition(" = ")[2]
             if told.startswith(("refused", "skipped", "waiting", "released")):
                 self.answers[told if told.startswith("refused") else told.split()[0]] += 1
+            if told and line.startswith(("extend ", "restart ")):
+                self.answers[f"{line.split()[0]} {'accepted' if told[0] in 'o0123456789' else 'not'}"] += 1
             self.answers["escaped copies in dumps"] += line.endswith(" escaped")
             self.answers["direct writes"] += line.startswith("direct ") and line.endswith(" = ok")
 
