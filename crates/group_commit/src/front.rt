@@ -197,14 +197,14 @@ impl Front {
     }
 
     /// Notes whether the device has failed.
-    pub fn learn(&mut self, aborted: bool)
+    pub(crate) fn learn(&mut self, aborted: bool)
         ensures { self.new ≡ record self.old { aborted = aborted } }
     {
         self.aborted = aborted;
     }
 
     /// Notes that the device has failed.
-    pub fn abort(&mut self)
+    pub(crate) fn abort(&mut self)
         ensures { self.new ≡ aborting self.old }
     {
         self.aborted = true;
@@ -394,7 +394,7 @@ impl Front {
     }
 
     /// The running transaction is sealed, and the next one begins.
-    pub fn seal(&mut self)
+    pub(crate) fn seal(&mut self)
         requires locked { self.old.locked ≡ true }
         requires number { self.old.running.tid ≤ greatest_number }
         requires finished { self.old.finished + 1 ≡ self.old.running.tid }
@@ -407,7 +407,7 @@ impl Front {
     }
 
     /// One more transaction is committed. No caller is told yet.
-    pub fn finish(&mut self)
+    pub(crate) fn finish(&mut self)
         requires { self.old.finished + 1 < self.old.running.tid }
         ensures { self.new ≡ finishing self.old }
     {
