@@ -1,8 +1,10 @@
--- How many credits are held after each event of a front, and how many the credit word has.
+-- How many credits are held after each event of a front and of a journal, and how many the credit word has.
 use Rattle.std.proofs.Common.{refl, sym, ap, subst, ◌∙◌, arith, inl, inr}
-use Rattle.std.specs.Prelude.{◌≡◌, ℕ, ◌+◌, ◌-◌, ◌<◌, ◌≤◌, if◌then◌else◌, List, [], ◌∷◌, ◌++◌, length, is_some, Option, Some, None}
+use Rattle.std.specs.Prelude.{◌≡◌, ℕ, ◌+◌, ◌-◌, ◌<◌, ◌≤◌, if◌then◌else◌, List, [], ◌∷◌, ◌++◌, length, map, sum, is_some, Option, Some, None}
 use Rattle.std.proofs.lemmas.List.{length-map, length_push}
-use Rattle.std.proofs.lemmas.List.Sums.{sum_by_push}
+use Rattle.std.proofs.lemmas.List.Sums.{sum-map, sum_by_push}
+use Rattle.journal_model.specs.Credits.{credit_word as word_of, credits_held}
+use Rattle.journal_model.specs.Disk.{Disk}
 use Rattle.journal_model.proofs.Effects.{entries-push_known, entries-push_new}
 use Rattle.journal_model.proofs.ListElements.{option-known}
 use Rattle.journal_model.specs.declared.entry.Entry.{Entry}
@@ -11,8 +13,10 @@ use Rattle.journal_model.specs.declared.transaction.Op.{Op}
 use Rattle.journal_model.specs.declared.transaction.Op.TheVariants.{Write, Revoke as RevokeOp}
 use Rattle.journal_model.specs.declared.transaction.Step.{Step}
 use Rattle.journal_model.specs.Transaction.{effect, entries, entry_of}
-use Rattle.journal_world.specs.Credits.{HeldAfter, IsAtHand, RefusedAfter, beside}
-use Rattle.journal_world.specs.Front.{ExtendsHandle, Front, FrontEvent, FrontHappens, GivesBack, IsFirstTouch, IsOpen, Joins, Reserves, RevokesBlock, StopsHandle, WritesBlock, extending, giving_back, held, joining, left_after, left_in, reserving, stopping, touching}
+use Rattle.journal_world.specs.Credits.{HeldAfter, HeldBehind, IsAtHand, NeedsFront, RefusedAfter, accounts_of, beside, beside_all}
+use Rattle.journal_world.specs.Front.{ExtendsHandle, Front, FrontEvent, FrontHappens, GivesBack, IsFirstTouch, IsOpen, Joins, Reserves, RevokesBlock, StopsHandle, WritesBlock, credit_word, extending, giving_back, held, joining, left_after, left_in, reserving, sealing, stopping, touching}
+use Rattle.journal_world.specs.Journal.{Event, Happens, Journal}
+use Rattle.journal_world.specs.Journal.Event.{FrontStep, Seal, CommitStep, CommitFault, CheckpointStep, CheckpointFault, ReadFault, DirectWrite, DirectWriteFault, DirectSync, DirectSyncFault, Finish}
 use Rattle.journal_world.specs.Front.FrontEvent.{Reserve, RefuseReserve, TakeBack, GiveBack, LoadCredits, LoadMark, Join, ExtendHandle, WriteBlock, RevokeBlock, StopHandle, Lock, Raise}
 use Rattle.journal_world.proofs.OpenHandles.{left-among, left-without}
 
@@ -241,3 +245,69 @@ event-beside old new (Raise t) reserved refused hand step = record {
   finished = step.finished;
   after = ap (λ (f : Front). beside reserved refused f) step.after;
 }
+
+-- after each event of a journal
+pub journal-held : (old new : Journal) (disk after : Disk) (event : Event) → Happens old disk event new after → HeldBehind old.front event (held new.front)
+journal-held old new disk after (FrontStep event) step = event-held old.front new.front event step.front
+journal-held old new disk after Seal step =
+    let same : held new.front ≡ held (sealing old.front) = ap (λ (f : Front). held f) step.front in omega arith
+journal-held old new disk after CommitStep step = ap (λ (f : Front). held f) step.front
+journal-held old new disk after CommitFault step = ap (λ (f : Front). held f) step.front
+journal-held old new disk after CheckpointStep step = ap (λ (f : Front). held f) step.front
+journal-held old new disk after CheckpointFault step = ap (λ (f : Front). held f) step.front
+journal-held old new disk after ReadFault step = ap (λ (f : Front). held f) step.front
+journal-held old new disk after (DirectWrite b v) step = ap (λ (f : Front). held f) step.front
+journal-held old new disk after (DirectWriteFault b v) step = ap (λ (f : Front). held f) step.front
+journal-held old new disk after DirectSync step = ap (λ (f : Front). held f) step.front
+journal-held old new disk after DirectSyncFault step = ap (λ (f : Front). held f) step.front
+journal-held old new disk after Finish step = ap (λ (f : Front). held f) step.front
+
+-- whatever callers hold beside, a step of front and engine together is the same
+pub journal-beside : (old new : Journal) (disk after : Disk) (event : Event) (reserved refused : ℕ) → NeedsFront event → Happens old disk event new after →
+    Happens (beside_all reserved refused old) disk event (beside_all reserved refused new) after
+journal-beside old new disk after (FrontStep event) reserved refused needs step = record {
+  front = event-beside old.front new.front event reserved refused needs step.front;
+  engine = step.engine;
+  disk_is = step.disk_is;
+}
+journal-beside old new disk after Seal reserved refused needs step = record {
+  may = record { locked = step.may.locked; stopped = step.may.stopped; finished = step.may.finished };
+  front = ap (λ (f : Front). beside reserved refused f) step.front;
+  engine = step.engine;
+  disk_is = step.disk_is;
+}
+journal-beside old new disk after CommitStep reserved refused needs step =
+    record { front = ap (λ (f : Front). beside reserved refused f) step.front; engine = step.engine }
+journal-beside old new disk after CommitFault reserved refused needs step =
+    record { front = ap (λ (f : Front). beside reserved refused f) step.front; engine = step.engine }
+journal-beside old new disk after CheckpointStep reserved refused needs step =
+    record { front = ap (λ (f : Front). beside reserved refused f) step.front; engine = step.engine }
+journal-beside old new disk after CheckpointFault reserved refused needs step =
+    record { front = ap (λ (f : Front). beside reserved refused f) step.front; engine = step.engine }
+journal-beside old new disk after ReadFault reserved refused needs step = record {
+  running = step.running;
+  front = ap (λ (f : Front). beside reserved refused f) step.front;
+  engine = step.engine;
+  disk_is = step.disk_is;
+}
+journal-beside old new disk after (DirectWrite b v) reserved refused needs step =
+    record { untouched = step.untouched; front = ap (λ (f : Front). beside reserved refused f) step.front; engine = step.engine }
+journal-beside old new disk after (DirectWriteFault b v) reserved refused needs step =
+    record { untouched = step.untouched; front = ap (λ (f : Front). beside reserved refused f) step.front; engine = step.engine }
+journal-beside old new disk after DirectSync reserved refused needs step =
+    record { front = ap (λ (f : Front). beside reserved refused f) step.front; engine = step.engine }
+journal-beside old new disk after DirectSyncFault reserved refused needs step =
+    record { front = ap (λ (f : Front). beside reserved refused f) step.front; engine = step.engine }
+journal-beside old new disk after Finish reserved refused needs step = record {
+  committed = step.committed;
+  front = ap (λ (f : Front). beside reserved refused f) step.front;
+  engine = step.engine;
+  disk_is = step.disk_is;
+}
+
+-- the credits of a front are those of the accounts
+pub front-accounts : (f : Front) (values refused : List ℕ) → sum values ≡ f.reserved → sum refused ≡ f.refused →
+    (held f ≡ credits_held (accounts_of f values refused)) × (credit_word f ≡ word_of (accounts_of f values refused))
+front-accounts f values refused reserved owed =
+    let handles : sum (map (λ h. h.1) f.open_handles) ≡ left_in f.open_handles = sum-map (λ (h : ℕ × ℕ). h.1) f.open_handles in
+    (omega arith, omega arith)

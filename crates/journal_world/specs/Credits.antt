@@ -1,8 +1,12 @@
 -- What the steps of a front do to credits: how many are held afterwards, and how many the credit word has. Source: journalling.rst
 -- (the credits of handles).
-use Rattle.std.specs.Prelude.{◌≡◌, ⊤, ℕ, ◌+◌}
+use Rattle.std.specs.Prelude.{◌≡◌, ⊤, ℕ, ◌+◌, List, length, map}
+use Rattle.journal_model.specs.Credits.{Accounts}
+use Rattle.journal_model.specs.Transaction.{entries}
 use Rattle.journal_world.specs.Front.{Front, FrontEvent, IsOpen, held}
 use Rattle.journal_world.specs.Front.FrontEvent.{Reserve, RefuseReserve, TakeBack, GiveBack, LoadCredits, LoadMark, Join, ExtendHandle, WriteBlock, RevokeBlock, StopHandle, Lock, Raise}
+use Rattle.journal_world.specs.Journal.{Event, Journal}
+use Rattle.journal_world.specs.Journal.Event.{FrontStep, Seal, CommitStep, CommitFault, CheckpointStep, CheckpointFault, ReadFault, DirectWrite, DirectWriteFault, DirectSync, DirectSyncFault, Finish}
 
 -- how many credits are held after an event: those that are granted are more, those that come back fewer
 abbrev pub HeldAfter : Front → FrontEvent → ℕ → Type 0
@@ -56,3 +60,47 @@ IsAtHand (RevokeBlock h b) = ⊤
 IsAtHand (StopHandle h) = ⊤
 IsAtHand Lock = ⊤
 IsAtHand (Raise t) = ⊤
+
+-- where the credits of a front lie: in values of these counts, with its open handles, and one with each entry of the running
+-- transaction; and what each of these refused reserves has not taken back
+abbrev pub accounts_of : Front → (values refused : List ℕ) → Accounts
+accounts_of f values refused = record {
+  values = values;
+  handles = map (λ h. h.1) f.open_handles;
+  entries = length (entries f.running.steps);
+  refused = refused;
+}
+
+-- how many credits are held after an event of a journal: those of the entries of a transaction come back at its seal
+abbrev pub HeldBehind : Front → Event → ℕ → Type 0
+HeldBehind old (FrontStep event) after = HeldAfter old event after
+HeldBehind old Seal after = after + length (entries old.running.steps) ≡ held old
+HeldBehind old CommitStep after = after ≡ held old
+HeldBehind old CommitFault after = after ≡ held old
+HeldBehind old CheckpointStep after = after ≡ held old
+HeldBehind old CheckpointFault after = after ≡ held old
+HeldBehind old ReadFault after = after ≡ held old
+HeldBehind old (DirectWrite b v) after = after ≡ held old
+HeldBehind old (DirectWriteFault b v) after = after ≡ held old
+HeldBehind old DirectSync after = after ≡ held old
+HeldBehind old DirectSyncFault after = after ≡ held old
+HeldBehind old Finish after = after ≡ held old
+
+-- the event is no step of a caller on the credit word, and no load of the mark
+abbrev pub NeedsFront : Event → Type 0
+NeedsFront (FrontStep event) = IsAtHand event
+NeedsFront Seal = ⊤
+NeedsFront CommitStep = ⊤
+NeedsFront CommitFault = ⊤
+NeedsFront CheckpointStep = ⊤
+NeedsFront CheckpointFault = ⊤
+NeedsFront ReadFault = ⊤
+NeedsFront (DirectWrite b v) = ⊤
+NeedsFront (DirectWriteFault b v) = ⊤
+NeedsFront DirectSync = ⊤
+NeedsFront DirectSyncFault = ⊤
+NeedsFront Finish = ⊤
+
+-- the journal where callers hold so many credits more, and refused reserves have so many more to take back
+abbrev pub beside_all : ℕ → ℕ → Journal → Journal
+beside_all reserved refused j = record j { front = beside reserved refused j.front }

@@ -134,8 +134,10 @@ pub record Reserves (old : Front) (n : ℕ) (new : Front) : Type 0 where
 abbrev pub refusing : Front → ℕ → Front
 refusing f n = record f { refused = f.refused + n }
 
--- Where it leaves fewer, the reserve is refused. The word has them all the same, until they are taken back.
+-- Where it leaves fewer, the reserve is refused. The word has them all the same, until they are taken back. (A reserve of more than
+-- can ever be held touches no word.)
 pub record RefusesReserve (old : Front) (n : ℕ) (new : Front) : Type 0 where
+  pub possible : n ≤ old.capacity
   pub few : credits_left old < n
   pub after : new ≡ refusing old n
 
