@@ -1,6 +1,6 @@
 //! The operations of a script, one after the other.
 ghost use Rattle.std.specs.Prelude.{◌≡◌, IfOk, OnOk};
-ghost use Rattle.bench_client.specs.declared.performing.Ending.TheVariants.{Close};
+ghost use Rattle.bench_client.specs.declared.performing.Ending.TheVariants.{Close, Stay};
 ghost use Rattle.bench_client.specs.Ended.{IsEnded, IsLeftClosed};
 ghost use Rattle.bench_client.specs.Told.{IsLedTo};
 
@@ -84,8 +84,8 @@ pub fn perform<D: Device + Drop, H: HomeFact>(
 /// Performs operations on a new journal on an opened log, of whose disk `H` is known, up to the first that is refused because the
 /// device failed, and prints a line for each. All open handles are stopped behind the last, and then the journal is closed, where
 /// `ending` tells so. What is left comes back however the work ended: `Fault::Output` where a line could not be written, `Device`
-/// where an operation was refused with it, and the refusal of the close. The journal is closed in none of these cases, and what
-/// was committed by then is in the log or at home.
+/// where an operation was refused with it, and the refusal of the close. The journal is closed in none of these cases, nor where
+/// `ending` tells that it stays; what was committed by then is in the log or at home.
 ///
 /// # Errors
 ///
@@ -102,6 +102,8 @@ pub fn apply<D: Device + Drop, H: HomeFact>(
         IsEnded H.holds operations.now (D.state applied.left.device) applied.left.sealed.items applied.left.acknowledged) }
     ensures closed { ending ≡ Close → IfOk result (λ applied. OnOk applied.end (D.honest applied.left.device →
         IsLeftClosed (D.state applied.left.device) applied.left.sealed.items)) }
+    ensures stays { ending ≡ Stay → IfOk result (λ applied. D.honest applied.left.device →
+        IsLedTo H.holds operations.now (D.state applied.left.device) applied.left.sealed.items applied.left.acknowledged) }
 {
     let mut interpreter = Interpreter::<D, H>::new(alloc, opened, operations)?;
     let performed = perform_all(&mut interpreter, operations, AfterFailure::End, out);
@@ -116,6 +118,7 @@ fn end_of<D: Device + Drop, H: HomeFact>(
 ) -> Applied<D>
     ensures ended { D.honest result.left.device → IsEnded H.holds interpreter.entry.client.operations (D.state result.left.device) result.left.sealed.items result.left.acknowledged }
     ensures closed { ending ≡ Close → OnOk result.end (D.honest result.left.device → IsLeftClosed (D.state result.left.device) result.left.sealed.items) }
+    ensures stays { ending ≡ Stay → D.honest result.left.device → IsLedTo H.holds interpreter.entry.client.operations (D.state result.left.device) result.left.sealed.items result.left.acknowledged }
 {
     if let Err(e) = performed {
         return stay(interpreter, Err(Fault::Output(e)));
@@ -133,6 +136,7 @@ fn end_as<D: Device + Drop, H: HomeFact>(
 ) -> Applied<D>
     ensures ended { D.honest result.left.device → IsEnded H.holds interpreter.entry.client.operations (D.state result.left.device) result.left.sealed.items result.left.acknowledged }
     ensures closed { ending ≡ Close → OnOk result.end (D.honest result.left.device → IsLeftClosed (D.state result.left.device) result.left.sealed.items) }
+    ensures stays { ending ≡ Stay → D.honest result.left.device → IsLedTo H.holds interpreter.entry.client.operations (D.state result.left.device) result.left.sealed.items result.left.acknowledged }
 {
     match ending {
         Ending::Close => close(interpreter),
@@ -146,6 +150,7 @@ fn stay<D: Device + Drop, H: HomeFact>(
     end: Result<(), Fault>,
 ) -> Applied<D>
     ensures ended { D.honest result.left.device → IsEnded H.holds interpreter.entry.client.operations (D.state result.left.device) result.left.sealed.items result.left.acknowledged }
+    ensures led { D.honest result.left.device → IsLedTo H.holds interpreter.entry.client.operations (D.state result.left.device) result.left.sealed.items result.left.acknowledged }
     ensures end { result.end ≡ end }
 {
     Applied {

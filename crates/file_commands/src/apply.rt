@@ -1,11 +1,11 @@
 //! The command `apply`, over devices: does the operations of a script over a log in files.
 ghost use Rattle.std.specs.Prelude.{◌≡◌, IfOk, OnOk};
-ghost use Rattle.bench_client.specs.declared.performing.Ending.TheVariants.{Close};
+ghost use Rattle.bench_client.specs.declared.performing.Ending.TheVariants.{Close, Stay};
 ghost use Rattle.bench_client.specs.Ended.{IsEnded, IsLeftClosed};
-ghost use Rattle.bench_client.specs.Told.{IsAnyHome};
+ghost use Rattle.bench_client.specs.Told.{IsLedTo};
 
 use crate::logs::say_opened;
-use bench_client::{AnyHome, Applied, Ending};
+use bench_client::{AnyHome, Applied, Ending, HomeFact};
 use bench_script::{Measures, Operation};
 use bench_words::fault::{self, Fault, Status};
 use bench_words::words::ApplyWords;
@@ -57,7 +57,7 @@ fn apply_script<D: Device + Drop, R: Read + Drop, W: Write + Drop>(
     } else {
         Ending::Close
     };
-    let applied = apply_operations(alloc, opened, &operations, ending, &mut out)?;
+    let applied = apply_operations::<D, AnyHome>(alloc, opened, &operations, ending, &mut out)?;
     Ok(applied.end?)
 }
 
@@ -113,28 +113,31 @@ fn open_log<D: Device + Drop, W: Write>(
     }
 }
 
-/// Does operations on a new journal on an opened log, up to the first that is refused because the device failed, and prints a line for
-/// each. All open handles are stopped behind the last, and then the journal is closed, where `ending` tells so: the last line is
+/// Does operations on a new journal on an opened log, of whose disk `H` is known, up to the first that is refused because the device
+/// failed, and prints a line for each. All open handles are stopped behind the last, and then the journal is closed, where `ending` tells so: the last line is
 /// then the number of the transaction that comes next. What is left comes back however the work ended. It is not closed where
 /// `end` is an error, but for output that could not be written behind the close; what was committed is in the log or at home.
 ///
 /// # Errors
 ///
 /// `Memory` where there is none for the journal: nothing was done.
-pub fn apply_operations<D: Device + Drop>(
+pub fn apply_operations<D: Device + Drop, H: HomeFact>(
     alloc: Global,
     opened: Opened<D>,
     operations: &[Operation],
     ending: Ending,
     out: &mut impl Write,
 ) -> Result<Applied<D>, JournalError>
+    requires { D.honest opened.device → H.holds (D.state opened.device).shape (D.state opened.device).disk }
     ensures ended { IfOk result (λ applied. D.honest applied.left.device →
-        IsEnded IsAnyHome operations.now (D.state applied.left.device) applied.left.sealed.items applied.left.acknowledged) }
+        IsEnded H.holds operations.now (D.state applied.left.device) applied.left.sealed.items applied.left.acknowledged) }
     ensures closed { ending ≡ Close → IfOk result (λ applied. OnOk applied.end (D.honest applied.left.device →
         IsLeftClosed (D.state applied.left.device) applied.left.sealed.items)) }
+    ensures stays { ending ≡ Stay → IfOk result (λ applied. D.honest applied.left.device →
+        IsLedTo H.holds operations.now (D.state applied.left.device) applied.left.sealed.items applied.left.acknowledged) }
 {
     let first = opened.next();
-    let Applied { left, end } = bench_client::apply::<D, AnyHome>(
+    let Applied { left, end } = bench_client::apply::<D, H>(
         alloc, opened, operations, ending, out,
     )?;
     if end.is_err() || ending == Ending::Stay {
