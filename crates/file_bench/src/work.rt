@@ -1,6 +1,8 @@
 //! Durable transactions of one handle each.
+ghost use Rattle.std.specs.Prelude.{◌≤◌, OnOk};
+
 use block_device::Device;
-use group_commit::{CheckTurn, Handle, Journal, Parts, Seat, Ticket, Turn};
+use group_commit::{CheckTurn, Handle, Journal, Parts, Seat, Status, Ticket, Turn};
 use journal_model::{BlockNo, JournalError};
 use rand_core::{Rng, SeedableRng};
 use rand_xoshiro::Xoshiro256PlusPlus;
@@ -112,11 +114,17 @@ impl<D: Device + Drop> Work<D> {
     /// # Errors
     ///
     /// Those of a request, a commit turn and a checkpoint turn; `NeedSpace` where the ring has no room for it though all is home.
-    pub(crate) fn commit(&mut self, ticket: &Ticket) -> Result<(), JournalError> {
+    pub(crate) fn commit(&mut self, ticket: &Ticket) -> Result<(), JournalError>
+        ensures { OnOk result (ticket.now.tid ≤ self.new.journal.journal.front.mark) }
+    {
         self.journal.request(ticket)?;
         for _ in 0..MOST_TURNS {
             match self.journal.commit_turn() {
-                Ok(Turn::Committed(_)) => return Ok(()),
+                Ok(Turn::Committed(_)) => {
+                    if let Status::Committed = self.journal.status(ticket, &mut self.seat) {
+                        return Ok(());
+                    }
+                }
                 Ok(Turn::Step | Turn::Sealed(_)) => {}
                 Ok(Turn::Idle | Turn::Waiting) => break,
                 Err(JournalError::NeedSpace) => self.make_room()?,
