@@ -216,8 +216,8 @@ const FORMAT: Usage = Usage {
     about: "Makes two files an empty log and a home area of zeros",
     after_help: "\
 Both files are made where there are none, and lose what they held. LOG gets M blocks of B bytes: the superblock, and zeros.
-HOME gets N blocks of zeros. Nothing is made or changed before both files could be opened. Linux takes logs of 1024 blocks
-and more alone: give --length 1024 to a log that it is to read.
+HOME gets N blocks of zeros. No file is changed before both could be opened; one that was made is taken away again where the
+other can't be opened. Linux takes logs of 1024 blocks and more alone: give --length 1024 to a log that it is to read.
 
 Exit status: 0 done; 1 refused: the words, a file, or the device.
 
@@ -323,7 +323,8 @@ that are open at the end are stopped.
 
 The script is one of run: jbench run --help says what that is. Its keys that speak of the device have to agree with the files, where
 they stand. What one handle writes is there whole or not at all, whenever the power goes away; what a 'wait' or a 'status' line shows
-committed is there. An operation that is refused because a file failed ends the work, and so does a refusal to close.
+committed is there. An operation that is refused because a file failed ends the work, and so does a refusal to close; one that is
+refused for another cause is printed with that, and the work goes on.
 
 Exit status: 0 done; 1 refused: the words, a file, the script, the log, or the end of the work.
 
@@ -361,7 +362,7 @@ Example: blocks 9 and 10 of the home area change together:
 /// The command `bench`.
 const BENCH: Usage = Usage {
     name: "bench",
-    about: "Opens the log in a file, commits transactions of one handle each to it, and tells how many a second there were",
+    about: "Opens the log in a file, overwrites blocks all over its home area in transactions of one handle each, and tells how many a second were durable",
     after_help: "\
 The log is opened as by recover. Then transactions are committed one after the other, each by one handle that writes K blocks of
 HOME: of K parts of HOME of the same length a block each, at places that the generator xoshiro256++ draws from the seed 1. So what
