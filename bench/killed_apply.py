@@ -1,7 +1,8 @@
 #!/usr/bin/env -S python3 -B
 """`jbench apply` over files, killed at random, and then `jbench recover`: what is left has to be what a separate model says.
 
-usage: killed_apply.py [--program PATH] [COUNT] [SEED]    so many random scripts (default: 200 from seed 1)
+usage: killed_apply.py [--program PATH] [COUNT] [SEED]                        so many random scripts (default: 200 from seed 1)
+       killed_apply.py [--program PATH] --e2fsck | --kernel [COUNT] [SEED]    what is left is also recovered by these
 
 The model is run_model.py, which shares nothing with the journal, with the close of docs/FORMATS.md beside it; the scripts are those of
 runs.py. Each script is applied to new files once to its end and then several times, each time killed (SIGKILL) once a drawn number of its
@@ -13,6 +14,9 @@ lines has come, or a moment later; half of all applies are made with --stay. Eac
 - `recover` ends as the model's opening of these files, and leaves the model's bytes;
 - the n transactions that it finds are the first n that the script seals, n is at least the number of those up to the greatest that a
   `wait` or a `status` line showed committed, and each block is as these n leave it.
+
+With --e2fsck and --kernel each log that is left and is not clean is also put into a file system, as runs.py does it with images, and
+what e2fsck or the kernel brings home is what the model says.
 
 At the first difference the script, the words and what differs are printed, and nothing more is run (exit status 1). The program is
 `./jbench`, which is built first, or the one at PATH. Run it by hand.
@@ -28,7 +32,7 @@ from pathlib import Path
 
 from openings import opening, word
 from run_model import Device, Journal, Outcome, Refused, Run, formatted, number_behind
-from runs import TOP, Difference, RandomScript, first_difference
+from runs import TOP, Difference, FileSystems, RandomScript, first_difference, recover_by_e2fsck, recover_by_kernel
 
 KILLS = 6  # of each script
 CLOSED_AT = 0x1C  # where a superblock says where the log begins: 0 where it is clean
@@ -141,9 +145,18 @@ class Left(Outcome):
 class Killer:
     """The program, its files, and how often it did what the model says."""
 
-    def __init__(self, program, folder, draw):
+    def __init__(self, program, folder, draw, recover=None):
         self.program, self.folder, self.draw = program, folder, draw
+        self.recover, self.systems = recover, FileSystems(folder)
         self.cases = Counter()
+
+    def script(self):
+        """A random script; its blocks are those that a file system has to spare, where others are to recover what is left."""
+        if not self.recover:
+            return RandomScript(self.draw).text()
+        blocks = self.draw.sample(FileSystems.FREE, self.draw.choice((1, 3, 8, 20)))
+        length = min(FileSystems.JOURNALS) if self.recover == recover_by_kernel else None
+        return RandomScript(self.draw, blocks, length).text()
 
     def path(self, name):
         return str(self.folder / name)
@@ -207,6 +220,8 @@ class Killer:
         if writes is None:
             raise Difference(f"{given}\nthe files hold what the model's device holds behind none of its writes")
         left = Left(apply, writes, shown)
+        if self.recover and left.line.startswith("recovered"):
+            self.compare_others(left, f"{given}\nwrites: {writes}")
         self.expect((0, f"{left.line}\n", ""), self.jbench("recover", self.path("log"), self.path("home")), f"{given}\nwrites: {writes}")
         behind = {area: b"".join(blocks) for area, blocks in left.behind.items()}
         if behind != self.held():
@@ -218,6 +233,18 @@ class Killer:
         self.cases["shown committed"] += shown > 0
 
 
+    def compare_others(self, left, given):
+        """Compares what e2fsck or the kernel brings home of a log that is left with what the model says."""
+        try:
+            found = self.systems.recovered(left.image.blocks("log"), left.image.blocks("home"), self.recover)
+        except Difference as difference:
+            raise Difference(f"{given}\n{difference}") from None
+        others = [number for number, block in found.items() if block != left.behind["home"][number]]
+        if others:
+            raise Difference(f"{given}\nby others these blocks are not as the model says: {others}")
+        self.cases["recovered by others too"] += 1
+
+
 def main(words):
     program = None
     if words[:1] == ["--program"]:
@@ -225,13 +252,15 @@ def main(words):
     if program is None:
         program = TOP / "jbench"
         subprocess.run([str(program), "--version"], check=True, stdout=subprocess.DEVNULL)
+    recover = {"--e2fsck": recover_by_e2fsck, "--kernel": recover_by_kernel}.get(words[0] if words else None)
+    words = words[1:] if recover else words
     count, seed = (list(map(int, words)) + [200, 1][len(words) :])[:2]
     with tempfile.TemporaryDirectory() as folder:
         draw = random.Random(seed)
-        killer = Killer(program, Path(folder), draw)
+        killer = Killer(program, Path(folder), draw, recover)
         try:
             for _ in range(count):
-                text = RandomScript(draw).text()
+                text = killer.script()
                 for is_killed in [False] + [True] * KILLS:
                     killer.compare(text, draw.random() < 0.5, is_killed)
         except Difference as difference:
