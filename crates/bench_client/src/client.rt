@@ -13,7 +13,7 @@ use block_device::Device;
 use group_commit::{
     CheckTurn, Credits, Handle, Journal, Parts, Receipt, Seat, Status, Ticket, Turn,
 };
-use journal_model::{BlockNo, JournalError, Tid};
+use journal_model::{BlockNo, JournalError, Sealed, Tid};
 use recovery::Opened;
 use std::alloc::Global;
 use std::marker::{Model, PhantomData};
@@ -45,7 +45,7 @@ impl HomeFact for ZeroHome {
 /// A journal on a device, the operations that its client performs, and what it was shown.
 #[derive(Drop)]
 pub struct Client<'a, D: Device, H: HomeFact> {
-    journal: Journal<D>,
+    journal: Journal<D, Vec<Sealed>>,
     seat: Seat,
     operations: &'a [Operation],
     /// The greatest transaction that a wait or a status answered committed.
@@ -67,7 +67,7 @@ impl<'a, D: Device, H: HomeFact> Model for Client<'a, D, H> {
 #[derive(Drop)]
 pub struct Ended<D> {
     /// Its device and its record.
-    pub parts: Parts<D>,
+    pub parts: Parts<D, Vec<Sealed>>,
     /// The greatest transaction that was shown committed.
     pub acknowledged: Option<Tid>,
     /// Whether it was closed, or why not.
@@ -361,7 +361,7 @@ impl<'a, D: Device + Drop, H: HomeFact> Client<'a, D, H> {
     }
 
     /// Ends the journal: its device with what was sealed, and the greatest transaction that was shown committed.
-    pub fn finish(self) -> (Parts<D>, Option<Tid>)
+    pub fn finish(self) -> (Parts<D, Vec<Sealed>>, Option<Tid>)
         ensures { D.honest result.0.device → IsLedTo H.holds self.entry.operations (D.state result.0.device) result.0.sealed.items result.1 }
     {
         let Client {

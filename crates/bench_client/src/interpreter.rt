@@ -8,7 +8,7 @@ use crate::slots::{Slot, Slots};
 use bench_script::{HandleName, Operation};
 use block_device::Device;
 use group_commit::{CheckTurn, Credits, Handle, Parts, Receipt, Status, Ticket, Turn};
-use journal_model::{BlockNo, JournalError, Tid};
+use journal_model::{BlockNo, JournalError, Sealed, Tid};
 use recovery::Opened;
 use std::alloc::{AllocError, Global};
 
@@ -130,7 +130,7 @@ impl<'a, D: Device + Drop, H: HomeFact> Interpreter<'a, D, H> {
 
     /// Stops all open handles and ends the journal: its device with its record, and the greatest transaction that was shown
     /// committed.
-    pub fn finish(self) -> (Parts<D>, Option<Tid>)
+    pub fn finish(self) -> (Parts<D, Vec<Sealed>>, Option<Tid>)
         ensures { D.honest result.0.device → IsLedTo H.holds self.entry.client.operations (D.state result.0.device) result.0.sealed.items result.1 }
     {
         self.into_stopped().finish()

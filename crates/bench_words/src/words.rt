@@ -366,8 +366,8 @@ const BENCH: Usage = Usage {
     after_help: "\
 The log is opened as by recover. Then transactions are committed one after the other, each by one handle that writes K blocks of
 HOME: of K parts of HOME of the same length a block each, at places that the generator xoshiro256++ draws from the seed 1. So what
-these blocks held is lost. Where the ring has no room for a transaction a checkpoint round comes first. The journal is closed behind
-each 65,536 blocks and its log opened again, and closed at the end.
+these blocks held is lost. Where the ring has no room for a transaction a checkpoint round comes first. The journal is closed at the
+end.
 
 It prints how many transactions and blocks were durable, in which time from the opened log to the last commit, and how many a second;
 the nanoseconds that a commit took, from its request until it was durable with the rounds that it needed: the median, what 99 of 100

@@ -12,9 +12,6 @@ use std::io;
 use std::io::Write;
 use std::time::{Clock, Duration, Instant};
 
-/// A journal keeps what it sealed until it is closed: it is closed, and its log opened again, behind so many blocks.
-const BLOCKS_OF_A_JOURNAL: u64 = 65_536;
-
 /// Is told how far the command is. What it does with that is its own: no answer of the command depends on it.
 pub trait Watch {
     /// So many transactions are durable, and a further second of the time is over: this one, counted from 1.
@@ -141,28 +138,25 @@ fn do_all<D: Device + Drop, C: Clock, H: Watch>(
         if is_over(run.taken, words.most_time()) {
             break;
         }
-        run = one_more(alloc, words, run, plan, clock, watch)?;
+        one_more(&mut run, plan, clock, watch)?;
     }
     end(run)
 }
 
 /// Does one more transaction.
 fn one_more<D: Device + Drop, C: Clock, H: Watch>(
-    alloc: Global,
-    words: &BenchWords<'_>,
-    run: Run<D>,
+    run: &mut Run<D>,
     plan: &mut Plan,
     clock: &C,
     watch: &mut H,
-) -> Result<Run<D>, Fault> {
-    let mut run = run;
+) -> Result<(), Fault> {
     let before = run.taken.as_secs();
     run.commit(plan, clock)?;
     let second = run.taken.as_secs();
     if second > before {
         watch.second(second, run.tally.commits());
     }
-    renewed(alloc, run, words.copies)
+    Ok(())
 }
 
 /// Closes the journal.
@@ -180,37 +174,6 @@ fn end<D: Device + Drop>(run: Run<D>) -> Result<(Done, D), Fault> {
 /// Whether a time that has an end is over.
 fn is_over(taken: Duration, most: Option<Duration>) -> bool {
     most.is_some_and(|most| taken >= most)
-}
-
-/// The work with its journal, or where that has sealed enough blocks with a new one on its closed log.
-fn renewed<D: Device + Drop>(alloc: Global, run: Run<D>, copies: u64) -> Result<Run<D>, Fault> {
-    if !is_due(copies, run.tally.commits()) {
-        return Ok(run);
-    }
-    let Run {
-        work,
-        tally,
-        begun,
-        taken,
-    } = run;
-    let work = reopened(alloc, work)?;
-    Ok(Run {
-        work,
-        tally,
-        begun,
-        taken,
-    })
-}
-
-/// A new journal on the log of this one, which is closed.
-fn reopened<D: Device + Drop>(alloc: Global, work: Work<D>) -> Result<Work<D>, JournalError> {
-    open(alloc, work.close()?)
-}
-
-/// Whether a journal is closed behind this transaction.
-fn is_due(copies: u64, transactions: u64) -> bool {
-    let of_a_journal = BLOCKS_OF_A_JOURNAL.checked_div(copies).unwrap_or(1).max(1);
-    transactions.checked_rem(of_a_journal) == Some(0)
 }
 
 /// How many a second, where there were so many in this time.

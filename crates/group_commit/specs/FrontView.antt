@@ -1,5 +1,5 @@
 -- The fields of a front as the pure machine sees them, and what a front keeps true of them.
-use Rattle.std.specs.Prelude.{◌≡◌, ℕ, ◌+◌, ◌<◌, List, [], ◌∷◌, ◌++◌, length, vec_capacity}
+use Rattle.std.specs.Prelude.{◌≡◌, ℕ, ◌+◌, ◌<◌, List, [], ◌∷◌, ◌++◌, length}
 use Rattle.journal_model.specs.declared.entry.Entry.{Entry}
 use Rattle.journal_model.specs.Transaction.{History, Transaction, entries}
 use Rattle.journal_world.specs.Front.{Front, held}
@@ -7,8 +7,8 @@ use Rattle.group_commit.specs.declared.front.Front.TheInside.{Inside}
 use Rattle.group_commit.specs.Front.{IsFront}
 
 -- nobody reserves beside the front, so that a refused reserve has nothing to take back
-abbrev pub front_of : Inside → Front
-front_of f = record {
+abbrev pub front_of : {R : Type 0} → (R → History) → Inside R → Front
+front_of transactions f = record {
   layout = f.layout;
   home_blocks = f.home_blocks;
   capacity = f.capacity;
@@ -16,7 +16,7 @@ front_of f = record {
   refused = 0;
   finished = f.finished;
   mark = f.mark;
-  sealed = f.sealed.items;
+  sealed = transactions f.sealed;
   running = f.running.transaction;
   open_handles = f.open_handles.entries;
   locked = f.running.locked;
@@ -32,8 +32,8 @@ pub data AreCommitting (sealed : History) (finished running : ℕ) : List (ℕ �
 
 -- the count of credits is that of those held; the entries that are kept are those of the sealed transaction that is not
 -- finished; and once a handle has joined the running one there is room to seal it
-pub record KeepsFront (f : Inside) : Type 0 where
-  pub front : IsFront (front_of f)
-  pub held_are : f.held ≡ held (front_of f)
-  pub committing_are : AreCommitting f.sealed.items f.finished f.running.transaction.tid f.committing
-  pub room : 0 < length f.running.transaction.handles → length f.sealed.items < vec_capacity f.sealed
+pub record KeepsFront {R : Type 0} (transactions : R → History) (has_room : R → Type 0) (f : Inside R) : Type 0 where
+  pub front : IsFront (front_of transactions f)
+  pub held_are : f.held ≡ held (front_of transactions f)
+  pub committing_are : AreCommitting (transactions f.sealed) f.finished f.running.transaction.tid f.committing
+  pub room : 0 < length f.running.transaction.handles → has_room f.sealed

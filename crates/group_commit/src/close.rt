@@ -8,12 +8,13 @@ ghost use Rattle.group_commit.specs.Close.{CloseRefused, ComesTo, FitsRing, HasS
 ghost use Rattle.group_commit.specs.Journal.{HasRoomFor, NothingToRelease};
 
 use crate::journal::{CheckTurn, Journal};
+use crate::record::Record;
 use block_device::Device;
 use journal_model::JournalError;
 
 /// Seals the running transaction where a handle has joined it, and commits and releases everything. Where it is refused,
 /// what was sealed and committed so far stays so.
-pub(crate) fn finish<D: Device>(journal: &mut Journal<D>) -> Result<(), JournalError>
+pub(crate) fn finish<D: Device, R: Record>(journal: &mut Journal<D, R>) -> Result<(), JournalError>
     requires { journal.old.journal.front.open_handles ≡ [] }
     ensures ok { OnOk result (IsFinished D.state journal.old journal.new) }
     ensures err { IfErr result (λ e. CloseRefused D.state journal.old journal.new.device journal.new.journal.front.sealed journal.new.journal.engine.committed e) }
@@ -33,7 +34,7 @@ pub(crate) fn finish<D: Device>(journal: &mut Journal<D>) -> Result<(), JournalE
 }
 
 /// Seals the running transaction, which a handle has joined, and commits it.
-fn seal_last<D: Device>(journal: &mut Journal<D>) -> Result<(), JournalError>
+fn seal_last<D: Device, R: Record>(journal: &mut Journal<D, R>) -> Result<(), JournalError>
     requires running { journal.old.journal.engine.aborted ≡ false }
     requires idle { journal.old.journal.engine.stage ≡ Idle }
     requires joined { 0 < length journal.old.journal.front.running.handles }
@@ -52,7 +53,7 @@ fn seal_last<D: Device>(journal: &mut Journal<D>) -> Result<(), JournalError>
 }
 
 /// Takes the steps that are left of the commit that is under way.
-fn finish_commit<D: Device>(journal: &mut Journal<D>) -> Result<(), JournalError>
+fn finish_commit<D: Device, R: Record>(journal: &mut Journal<D, R>) -> Result<(), JournalError>
     requires { journal.old.journal.engine.aborted ≡ false }
     ensures ok { OnOk result (Went D.state journal.old journal.new) }
     ensures idle { OnOk result (journal.new.journal.engine.stage ≡ Idle) }
@@ -67,7 +68,7 @@ fn finish_commit<D: Device>(journal: &mut Journal<D>) -> Result<(), JournalError
 }
 
 /// Releases what is committed where the ring has too few free blocks for the running transaction.
-fn make_room<D: Device>(journal: &mut Journal<D>) -> Result<(), JournalError>
+fn make_room<D: Device, R: Record>(journal: &mut Journal<D, R>) -> Result<(), JournalError>
     requires running { journal.old.journal.engine.aborted ≡ false }
     requires idle { journal.old.journal.engine.stage ≡ Idle }
     ensures ok { OnOk result (Went D.state journal.old journal.new) }
@@ -83,7 +84,7 @@ fn make_room<D: Device>(journal: &mut Journal<D>) -> Result<(), JournalError>
 }
 
 /// Takes the steps of checkpoint rounds until all that is committed is released.
-fn release_all<D: Device>(journal: &mut Journal<D>) -> Result<(), JournalError>
+fn release_all<D: Device, R: Record>(journal: &mut Journal<D, R>) -> Result<(), JournalError>
     requires { journal.old.journal.engine.aborted ≡ false }
     ensures ok { OnOk result (Went D.state journal.old journal.new) }
     ensures released { OnOk result (NothingToRelease journal.new.journal.engine) }

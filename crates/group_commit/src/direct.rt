@@ -10,11 +10,12 @@ ghost use Rattle.group_commit.specs.Direct.{DirectSyncRefused, DirectWriteRefuse
 ghost use Rattle.group_commit.specs.Journal.{Does};
 
 use crate::journal::Journal;
+use crate::record::Record;
 use crate::steps;
 use block_device::Device;
 use journal_model::{BlockNo, JournalError};
 
-impl<D: Device> Journal<D> {
+impl<D: Device, R: Record> Journal<D, R> {
     /// Writes a block of the home area directly, of one block of bytes, past the log: its last entry in the transactions that
     /// were committed since the opening, released ones too, is a revoke, or it has none, and no transaction that is not
     /// committed has an entry of it. What was written is durable behind a `sync_direct` that answers Ok. It takes no memory,

@@ -9,10 +9,11 @@ ghost use Rattle.group_commit.specs.Journal.{Does};
 
 use crate::handle::{Credits, Handle, Seat, Ticket};
 use crate::journal::Journal;
+use crate::record::Record;
 use block_device::Device;
 use journal_model::JournalError;
 
-impl<D: Device> Journal<D> {
+impl<D: Device, R: Record> Journal<D, R> {
     /// Grants `n` further credits, and gives them to an open handle.
     ///
     /// # Errors

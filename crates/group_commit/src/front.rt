@@ -14,16 +14,17 @@ ghost use Rattle.journal_world.specs.Journal.{batch_of};
 ghost use Rattle.group_commit.specs.Front.{ExtendRefused, IsKeptOut, IsOpenHandle, JoinRefused, MayExtend, MayStep, MayTouch, ReserveRefused, Spends, TouchRefused};
 
 use crate::handle::Handle;
+use crate::record::Record;
 use indexmap::IndexMap;
 use journal_model::layout::GREATEST_NUMBER;
-use journal_model::{Batch, BlockNo, Entry, HandleNo, JournalError, LogLayout, Sealed, Tid};
+use journal_model::{Batch, BlockNo, Entry, HandleNo, JournalError, LogLayout, Tid};
 use std::alloc::Global;
 use std::marker::Model;
 use transaction::{Entries, Transaction};
 
 /// The front of a journal.
 #[derive(Drop)]
-pub struct Front {
+pub struct Front<R: Record> {
     alloc: Global,
     /// The layout of the log.
     layout: LogLayout,
@@ -40,7 +41,7 @@ pub struct Front {
     /// The number of the last transaction that callers are told is committed.
     mark: u32,
     /// The transactions sealed since the opening.
-    sealed: Vec<Sealed>,
+    sealed: R,
     /// The one that handles join.
     running: Transaction,
     /// The entries of the last sealed transaction, while it is not finished.
@@ -54,19 +55,19 @@ pub struct Front {
     aborted: bool,
 }
 
-impl Model for Front {
+impl<R: Record> Model for Front<R> {
     ghost use Rattle.journal_world.specs.Front.{Front as FrontValue};
 
     ghost Value = { FrontValue };
 
     ghost use Rattle.group_commit.specs.FrontView.{front_of, KeepsFront};
 
-    ghost view = { front_of };
+    ghost view = { front_of R.transactions };
 
-    ghost invariant = { KeepsFront };
+    ghost invariant = { KeepsFront R.transactions R.has_room };
 }
 
-impl Front {
+impl<R: Record> Front<R> {
     /// The front of a journal whose first transaction has the number `first`, with so many credits, on a log of this layout
     /// beside so many home blocks. It takes no memory.
     pub fn new(
@@ -90,7 +91,7 @@ impl Front {
             reserved: 0,
             finished: first.0 - 1,
             mark: first.0 - 1,
-            sealed: Vec::new(alloc),
+            sealed: R::new(alloc),
             running: Transaction::new(alloc, first),
             committing: Entries::new(alloc),
             open_handles: IndexMap::new(alloc),
@@ -159,7 +160,7 @@ impl Front {
         if n > self.reserved {
             return Err(JournalError::NoCredit);
         }
-        self.sealed.try_reserve(1)?;
+        self.sealed.make_room()?;
         self.open_handles.reserve(1)?;
         let number = HandleNo(self.given + 1);
         self.running.join(number)?;
@@ -377,6 +378,13 @@ impl Front {
         Tid(self.mark)
     }
 
+    /// How many entries the running transaction has.
+    pub fn entries(&self) -> usize
+        ensures { result ≡ length (entries self.now.running.steps) }
+    {
+        self.running.len()
+    }
+
     /// How many entries of the running transaction are copies, and how many are revokes.
     pub fn counts(&self) -> (usize, usize)
         ensures copies { result.0 ≡ length (copied (entries self.now.running.steps)) }
@@ -403,7 +411,7 @@ impl Front {
         let (sealed, entries) = self.running.seal();
         self.held = self.held.saturating_sub(entries.len() as u64);
         self.committing = entries;
-        self.sealed.push_reserved(sealed);
+        self.sealed.note(sealed);
     }
 
     /// One more transaction is committed. No caller is told yet.
@@ -426,8 +434,8 @@ impl Front {
     }
 
     /// The sealed transactions.
-    pub fn into_sealed(self) -> Vec<Sealed>
-        ensures { result.items ≡ self.sealed }
+    pub fn into_sealed(self) -> R
+        ensures { R.transactions result ≡ self.sealed }
     {
         let Front {
             alloc: _,

@@ -2,6 +2,7 @@
 ghost use Rattle.std.specs.Prelude.{◌≡◌, ◌<◌, ◌≤◌, ◌≢◌, ◌↔◌, true, false, length, [], IfOk, IfErr, MatchResult, OnOk, IsTrue, Some, None};
 ghost use Rattle.journal_model.specs.declared.refusal.JournalError.TheVariants.{Aborted, Device as DeviceFailed, Memory};
 ghost use Rattle.journal_model.specs.Disk.{Image, Leaves};
+ghost use Rattle.journal_model.specs.Transaction.{entries};
 ghost use Rattle.block_device.specs.State.{EachMoment, MakesAtMostOneCall, Stays, one_more_fault};
 ghost use Rattle.journal_world.specs.declared.stage.Stage.TheVariants.{Idle};
 ghost use Rattle.journal_world.specs.Front.{held, next_handle};
@@ -22,8 +23,10 @@ ghost use Rattle.group_commit.specs.Journal.{Agrees, CheckTurnDid, CheckTurnRefu
 use crate::close::finish;
 use crate::front::Front;
 use crate::handle::{Credits, Handle, Receipt, Seat, Status, Ticket};
+use crate::record::Record;
 use crate::steps;
 use block_device::Device;
+use history::History;
 use journal_model::{BlockNo, JournalError, Sealed, Tid};
 use log_engine::Engine;
 use log_ring::Layout;
@@ -33,8 +36,8 @@ use std::marker::Model;
 
 /// A journal on an opened log.
 #[derive(Drop)]
-pub struct Journal<D: Device> {
-    pub(crate) front: Front,
+pub struct Journal<D: Device, R: Record = History<Sealed>> {
+    pub(crate) front: Front<R>,
     pub(crate) engine: Engine<D>,
 }
 
@@ -66,16 +69,16 @@ pub enum CheckTurn {
 
 /// What is left of a journal at its end.
 #[derive(Drop)]
-pub struct Parts<D> {
+pub struct Parts<D, R = History<Sealed>> {
     /// The device.
     pub device: D,
-    /// The transactions sealed since the opening, with their handles and steps.
-    pub sealed: Vec<Sealed>,
+    /// The transactions sealed since the opening, with their handles and steps, as the journal kept them.
+    pub sealed: R,
     /// How many of them are committed.
     pub committed: u64,
 }
 
-impl<D: Device> Model for Journal<D> {
+impl<D: Device, R: Record> Model for Journal<D, R> {
     ghost use Rattle.group_commit.specs.Values.{JournalValue};
     ghost use Rattle.group_commit.specs.Journal.{Agrees};
 
@@ -86,7 +89,7 @@ impl<D: Device> Model for Journal<D> {
     ghost invariant = { λ j. Agrees (record { front = j.front; engine = j.engine.engine }) };
 }
 
-impl<D: Device> Journal<D> {
+impl<D: Device, R: Record> Journal<D, R> {
     /// A journal on an opened log, and the first seat.
     ///
     /// # Errors
@@ -136,6 +139,13 @@ impl<D: Device> Journal<D> {
         ensures { result ≡ held self.now.journal.front }
     {
         self.front.held()
+    }
+
+    /// How many entries the running transaction has: of how many blocks it has a copy or a revoke.
+    pub fn entries(&self) -> usize
+        ensures { result ≡ length (entries self.now.journal.front.running.steps) }
+    {
+        self.front.entries()
     }
 
     /// Grants `n` credits, each for the first touch of one block.
@@ -505,20 +515,20 @@ impl<D: Device> Journal<D> {
     /// where it ran out for the seal of the running transaction, and `NeedSpace` where a whole ring is too short for that,
     /// as it may be with handles of another journal: it is not sealed, and all before it is committed.
     /// Source: fs/jbd2/journal.c by behaviour (`jbd2_journal_destroy`).
-    pub fn close(self) -> Result<Parts<D>, (Parts<D>, JournalError)>
+    pub fn close(self) -> Result<Parts<D, R>, (Parts<D, R>, JournalError)>
         requires { self.journal.front.open_handles ≡ [] }
         ensures running { OnOk result (self.journal.engine.aborted ≡ false) }
-        ensures ok { IfOk result (λ parts. (parts.sealed.items ≡ closing self.journal.front) × (parts.committed ≡ length parts.sealed.items)) }
-        ensures closed { IfOk result (λ parts. D.honest parts.device → (image : Image) → Leaves (D.state parts.device).disk image → IsClosed self.journal.engine.shape parts.sealed.items image) }
-        ensures err { IfErr result (λ e. CloseRefused D.state self e.0.device e.0.sealed.items e.0.committed e.1) }
+        ensures ok { IfOk result (λ parts. ((R.transactions parts.sealed) ≡ closing self.journal.front) × (parts.committed ≡ length (R.transactions parts.sealed))) }
+        ensures closed { IfOk result (λ parts. D.honest parts.device → (image : Image) → Leaves (D.state parts.device).disk image → IsClosed self.journal.engine.shape (R.transactions parts.sealed) image) }
+        ensures err { IfErr result (λ e. CloseRefused D.state self e.0.device (R.transactions e.0.sealed) e.0.committed e.1) }
         ensures opens { MatchResult result
             (λ parts. D.honest parts.device →
-            OpensOver self.journal.engine.shape parts.sealed.items parts.committed (length parts.sealed.items) (D.state parts.device).disk)
+            OpensOver self.journal.engine.shape (R.transactions parts.sealed) parts.committed (length (R.transactions parts.sealed)) (D.state parts.device).disk)
             (λ e. D.honest e.0.device →
-            OpensOver self.journal.engine.shape e.0.sealed.items e.0.committed (length e.0.sealed.items) (D.state e.0.device).disk) }
+            OpensOver self.journal.engine.shape (R.transactions e.0.sealed) e.0.committed (length (R.transactions e.0.sealed)) (D.state e.0.device).disk) }
         ensures moves { MatchResult result
-            (λ parts. CloseDid self.journal (D.state self.device).disk parts.sealed.items parts.committed (D.state parts.device).disk)
-            (λ e. EndsWith self.journal (D.state self.device).disk e.0.sealed.items e.0.committed (D.state e.0.device).disk Shut) }
+            (λ parts. CloseDid self.journal (D.state self.device).disk (R.transactions parts.sealed) parts.committed (D.state parts.device).disk)
+            (λ e. EndsWith self.journal (D.state self.device).disk (R.transactions e.0.sealed) e.0.committed (D.state e.0.device).disk Shut) }
         ensures no_fault { IfOk result (λ parts. (D.state parts.device).faults ≡ (D.state self.device).faults) }
         ensures shape { MatchResult result
             (λ parts. (D.state parts.device).shape ≡ (D.state self.device).shape)
@@ -535,21 +545,21 @@ impl<D: Device> Journal<D> {
     }
 
     /// Closes the log once everything is committed and released.
-    fn close_log(self) -> Result<Parts<D>, (Parts<D>, JournalError)>
+    fn close_log(self) -> Result<Parts<D, R>, (Parts<D, R>, JournalError)>
         requires running { self.journal.engine.aborted ≡ false }
         requires all { IsAllReleased self.journal.engine }
-        ensures ok { IfOk result (λ parts. (parts.sealed.items ≡ self.journal.front.sealed) × (parts.committed ≡ length parts.sealed.items)) }
-        ensures closed { IfOk result (λ parts. D.honest parts.device → (image : Image) → Leaves (D.state parts.device).disk image → IsClosed self.journal.engine.shape parts.sealed.items image) }
-        ensures err { IfErr result (λ e. (e.1 ≡ DeviceFailed) × (e.0.sealed.items ≡ self.journal.front.sealed) × (e.0.committed ≡ self.journal.engine.committed)
+        ensures ok { IfOk result (λ parts. ((R.transactions parts.sealed) ≡ self.journal.front.sealed) × (parts.committed ≡ length (R.transactions parts.sealed))) }
+        ensures closed { IfOk result (λ parts. D.honest parts.device → (image : Image) → Leaves (D.state parts.device).disk image → IsClosed self.journal.engine.shape (R.transactions parts.sealed) image) }
+        ensures err { IfErr result (λ e. (e.1 ≡ DeviceFailed) × ((R.transactions e.0.sealed) ≡ self.journal.front.sealed) × (e.0.committed ≡ self.journal.engine.committed)
             × ((D.state e.0.device).faults ≡ one_more_fault (D.state self.device).faults)) }
         ensures opens { MatchResult result
             (λ parts. D.honest parts.device →
-            OpensOver self.journal.engine.shape parts.sealed.items parts.committed (length parts.sealed.items) (D.state parts.device).disk)
+            OpensOver self.journal.engine.shape (R.transactions parts.sealed) parts.committed (length (R.transactions parts.sealed)) (D.state parts.device).disk)
             (λ e. D.honest e.0.device →
-            OpensOver self.journal.engine.shape e.0.sealed.items e.0.committed (length e.0.sealed.items) (D.state e.0.device).disk) }
+            OpensOver self.journal.engine.shape (R.transactions e.0.sealed) e.0.committed (length (R.transactions e.0.sealed)) (D.state e.0.device).disk) }
         ensures moves { MatchResult result
-            (λ parts. CloseDid self.journal (D.state self.device).disk parts.sealed.items parts.committed (D.state parts.device).disk)
-            (λ e. EndsWith self.journal (D.state self.device).disk e.0.sealed.items e.0.committed (D.state e.0.device).disk Shut) }
+            (λ parts. CloseDid self.journal (D.state self.device).disk (R.transactions parts.sealed) parts.committed (D.state parts.device).disk)
+            (λ e. EndsWith self.journal (D.state self.device).disk (R.transactions e.0.sealed) e.0.committed (D.state e.0.device).disk Shut) }
         ensures no_fault { IfOk result (λ parts. (D.state parts.device).faults ≡ (D.state self.device).faults) }
         ensures shape { MatchResult result
             (λ parts. (D.state parts.device).shape ≡ (D.state self.device).shape)
@@ -561,7 +571,7 @@ impl<D: Device> Journal<D> {
         self.engine.recall_invariant();
         let Journal { front, engine } = self;
         let sealed = front.into_sealed();
-        let committed = sealed.len() as u64;
+        let committed = engine.committed() as u64;
         match engine.close() {
             Ok(device) => Ok(Parts {
                 device,
@@ -580,9 +590,9 @@ impl<D: Device> Journal<D> {
     }
 
     /// Ends the journal: the device, what was sealed, and how many transactions of it are committed.
-    pub fn into_parts(self) -> Parts<D>
+    pub fn into_parts(self) -> Parts<D, R>
         ensures device { result.device ≡ self.device }
-        ensures sealed { result.sealed.items ≡ self.journal.front.sealed }
+        ensures sealed { R.transactions result.sealed ≡ self.journal.front.sealed }
         ensures committed { result.committed ≡ self.journal.engine.committed }
         ensures opens { D.honest self.device → OpensNow self.journal (D.state self.device).disk }
     {

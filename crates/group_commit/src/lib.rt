@@ -5,7 +5,8 @@
 //! It is one plain value: its calls take `&mut self`, and there is no lock or thread. Two parts know each other by one
 //! contract each: the engine (`log_engine`) commits batches to the log and writes them home, and `front`, with the `journal`
 //! around both, turns handles and their writes into batches. `extension` is for handles that
-//! need more, `direct` writes blocks past both, and `close` takes the turns that are left before a log is closed.
+//! need more, `direct` writes blocks past both, and `close` takes the turns that are left before a log is closed. How a journal keeps
+//! what it sealed is its caller's to choose (`record`).
 #![tactic(auto)]
 
 mod close;
@@ -14,8 +15,10 @@ mod extension;
 mod front;
 mod handle;
 mod journal;
+mod record;
 pub mod steps;
 
 pub use front::Front;
 pub use handle::{Credits, Handle, Receipt, Seat, Status, Ticket};
 pub use journal::{CheckTurn, Journal, Parts, Turn};
+pub use record::Record;

@@ -16,6 +16,7 @@ ghost use Rattle.group_commit.specs.Values.{together};
 
 use crate::front::Front;
 use crate::journal::{CheckTurn, Turn};
+use crate::record::Record;
 use block_device::Device;
 use journal_model::{BlockNo, Entry, JournalError};
 use log_engine::{Engine, Progress};
@@ -28,8 +29,8 @@ use log_engine::{Engine, Progress};
 /// `Aborted` after a device failure; `BadBlock` where home has no such block, or its number is not below 2^32; `Revoked` where
 /// its last entry in the transactions that are not committed is a revoke: nothing changes. `Device` where the device failed: the
 /// journal is aborted, and the buffer's bytes are unspecified.
-pub fn read<D: Device>(
-    front: &mut Front,
+pub fn read<D: Device, R: Record>(
+    front: &mut Front<R>,
     engine: &mut Engine<D>,
     block: BlockNo,
     into: &mut [u8],
@@ -82,8 +83,8 @@ pub fn read<D: Device>(
 /// `Aborted` after a device failure. `NeedSpace` where what is left of the ring is too short for the transaction, and `Memory`:
 /// the transaction stays as it is. `Device` where the device failed: the journal is aborted.
 /// Source: fs/jbd2/commit.c by behaviour; that each step is one device call is this project's own.
-pub fn commit_turn<D: Device>(
-    front: &mut Front,
+pub fn commit_turn<D: Device, R: Record>(
+    front: &mut Front<R>,
     engine: &mut Engine<D>,
 ) -> Result<Turn, JournalError>
     requires agrees { Agrees (together front.old engine.old).journal }
@@ -119,8 +120,8 @@ pub fn commit_turn<D: Device>(
 /// # Errors
 ///
 /// `Device` where the device failed: the journal is aborted.
-pub fn commit_step<D: Device>(
-    front: &mut Front,
+pub fn commit_step<D: Device, R: Record>(
+    front: &mut Front<R>,
     engine: &mut Engine<D>,
 ) -> Result<Turn, JournalError>
     requires agrees { Agrees (together front.old engine.old).journal }
@@ -163,7 +164,10 @@ pub fn commit_step<D: Device>(
 ///
 /// `NeedSpace` where what is left of the ring is too short for the transaction, and `Memory`: nothing changes.
 /// Source: fs/jbd2/commit.c by behaviour.
-pub fn seal<D: Device>(front: &mut Front, engine: &mut Engine<D>) -> Result<Turn, JournalError>
+pub fn seal<D: Device, R: Record>(
+    front: &mut Front<R>,
+    engine: &mut Engine<D>,
+) -> Result<Turn, JournalError>
     requires agrees { Agrees (together front.old engine.old).journal }
     requires due { SealIsDue (together front.old engine.old).journal }
     ensures agrees { Agrees (together front.new engine.new).journal }
@@ -185,7 +189,7 @@ pub fn seal<D: Device>(front: &mut Front, engine: &mut Engine<D>) -> Result<Turn
 }
 
 /// Whether the ring has as many free blocks as the running transaction needs.
-pub fn has_room<D: Device>(front: &Front, engine: &Engine<D>) -> bool
+pub fn has_room<D: Device, R: Record>(front: &Front<R>, engine: &Engine<D>) -> bool
     requires { engine.now.engine.stage ≡ Idle }
     ensures { IsTrue result ↔ HasRoomFor (together front.now engine.now).journal }
 {
@@ -199,8 +203,8 @@ pub fn has_room<D: Device>(front: &Front, engine: &Engine<D>) -> bool
 ///
 /// `Aborted` after a device failure. `Device` where the device failed: the journal is aborted.
 /// Source: fs/jbd2/checkpoint.c by behaviour; that each step is one device call is this project's own.
-pub fn checkpoint_turn<D: Device>(
-    front: &mut Front,
+pub fn checkpoint_turn<D: Device, R: Record>(
+    front: &mut Front<R>,
     engine: &mut Engine<D>,
 ) -> Result<CheckTurn, JournalError>
     requires agrees { Agrees (together front.old engine.old).journal }
@@ -238,8 +242,8 @@ pub fn checkpoint_turn<D: Device>(
 /// the transactions have a copy of the block, or one that is not committed has an entry of it: nothing changes. `Device` where
 /// the device failed: the journal is aborted.
 /// Source: this project's own, by what journal.rst says of revokes.
-pub fn write_direct<D: Device>(
-    front: &mut Front,
+pub fn write_direct<D: Device, R: Record>(
+    front: &mut Front<R>,
     engine: &mut Engine<D>,
     block: BlockNo,
     bytes: &[u8],
@@ -284,7 +288,10 @@ pub fn write_direct<D: Device>(
 /// `Aborted` after a device failure: nothing changes. `Device` where the device failed: the journal is aborted, and nothing more
 /// is durable.
 /// Source: this project's own; a flush request (the kernel's writeback_cache_control.rst).
-pub fn sync_direct<D: Device>(front: &mut Front, engine: &mut Engine<D>) -> Result<(), JournalError>
+pub fn sync_direct<D: Device, R: Record>(
+    front: &mut Front<R>,
+    engine: &mut Engine<D>,
+) -> Result<(), JournalError>
     requires agrees { Agrees (together front.old engine.old).journal }
     ensures agrees { Agrees (together front.new engine.new).journal }
     ensures ok { OnOk result (Does D.state (together front.old engine.old) DirectSync (together front.new engine.new)) }

@@ -121,6 +121,13 @@ impl<D: Device> Engine<D> {
         self.ledger.aborted
     }
 
+    /// How many of the batches that were handed over are committed.
+    pub fn committed(&self) -> usize
+        ensures { result ≡ self.now.engine.committed }
+    {
+        self.ledger.committed
+    }
+
     /// Whether nothing is being committed.
     pub fn is_idle(&self) -> bool
         ensures { IsTrue result ↔ (self.now.engine.stage ≡ Idle) }

@@ -41,7 +41,7 @@ pub struct Closed {
 /// A journal, the seat of its callers, and the home blocks that handles wrote.
 #[derive(Drop)]
 struct User {
-    journal: Journal<FaultyDevice>,
+    journal: Journal<FaultyDevice, Vec<Sealed>>,
     seat: Seat,
     named: NamedBlocks,
 }
@@ -93,7 +93,10 @@ fn close(alloc: Global, user: User) -> Result<Closed, RowError> {
 }
 
 /// A journal on an empty log, over a device with this fault.
-fn new_journal(alloc: Global, fault: Fault) -> Result<(Journal<FaultyDevice>, Seat), RowError> {
+fn new_journal(
+    alloc: Global,
+    fault: Fault,
+) -> Result<(Journal<FaultyDevice, Vec<Sealed>>, Seat), RowError> {
     let (stop, fail) = match fault {
         Fault::Stop(k) => (k, 0),
         Fault::Fail(0) => (0, 0),

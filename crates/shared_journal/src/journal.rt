@@ -1,12 +1,12 @@
 ghost use Rattle.std.specs.Prelude.{◌≡◌, ◌+◌, ◌<◌, ◌≤◌, length, IfErr, IfOk, MatchResult, OnOk};
 ghost use Rattle.journal_model.specs.Disk.{Image, Leaves};
 ghost use Rattle.log_epochs.specs.JournalPromise.{IsClosed};
-ghost use Rattle.handle.specs.Values.{Grants, Looks, LooksAgain, ReserveRefused, StatusIs, fresh_ticket, loading_mark};
+ghost use Rattle.handle.specs.Values.{Grants, Looks, LooksAgain, ReserveRefused, StatusIs, fresh_ticket, loading_credits, loading_mark};
 ghost use Rattle.group_commit.specs.Journal.{OpensOver};
 ghost use Rattle.shared_journal.specs.Refusals.{IsExtendRefusal, IsJoinRefusal, IsTouchRefusal, MayHavePaid, StartRefused};
 
 use crate::closing::close;
-use crate::locked::{Counters, Locked};
+use crate::locked::{Counters, Locked, Tally};
 use crate::open_handle::Handle;
 use block_device::Device;
 use group_commit::{CheckTurn, Journal as OneJournal, Parts, Turn};
@@ -276,6 +276,14 @@ impl<J: JournalName, D: Device> Journal<J, D> {
     /// Source: fs/jbd2/journal.c by behaviour (`jbd2_log_start_commit`).
     pub fn request<R: Wait>(&self, rt: &R, tid: Tid) -> Result<(), JournalError> {
         self.locked.lock(rt).request(tid)
+    }
+
+    /// What the credit word has, and how many entries the running transaction, at one moment. Where no handle is open and nobody has
+    /// credits, and none is about to be given back, the word is that number.
+    pub fn tally<R: Wait>(&self, rt: &R, seat: &mut Seat<J>) -> Tally
+        ensures { seat.new ≡ loading_credits seat.old result.word }
+    {
+        self.locked.lock(rt).tally(&self.counters, seat)
     }
 
     /// Whether the device has failed.

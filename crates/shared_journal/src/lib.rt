@@ -15,5 +15,5 @@ mod tests;
 
 pub use journal::Journal;
 pub use laid::{LaidJournal, lay};
-pub use locked::{Counters, Locked};
+pub use locked::{Counters, Locked, Tally};
 pub use open_handle::Handle;

@@ -1,12 +1,13 @@
 //! What lies under the lock, and the steps that are made there.
 ghost use Rattle.std.specs.Prelude.{◌≡◌, ◌+◌, ◌-◌, ◌≤◌, length, true, false, IfErr, IfOk, OnOk};
 ghost use Rattle.journal_model.specs.declared.refusal.JournalError.TheVariants.{Aborted};
+ghost use Rattle.journal_model.specs.Transaction.{entries};
 ghost use Rattle.block_device.specs.State.{EachMoment, MakesAtMostOneCall};
 ghost use Rattle.journal_world.specs.Front.{next_handle, reserving};
 ghost use Rattle.journal_world.specs.Front.FrontEvent.{RevokeBlock, StopHandle, WriteBlock};
 ghost use Rattle.journal_world.specs.Journal.Event.{DirectSync, DirectWrite, FrontStep};
 ghost use Rattle.log_engine.specs.Call.{IsOneMoment};
-ghost use Rattle.handle.specs.Values.{fresh_ticket};
+ghost use Rattle.handle.specs.Values.{fresh_ticket, loading_credits};
 ghost use Rattle.group_commit.specs.Direct.{DirectSyncRefused, DirectWriteRefused, IsDuringDirectSync, IsDuringDirectWrite, MayWriteDirectly};
 ghost use Rattle.group_commit.specs.Extension.{Extends, Starts};
 ghost use Rattle.group_commit.specs.Front.{ExtendRefused, IsOpenHandle, JoinRefused, MayTouch, Spends, TouchRefused};
@@ -15,7 +16,7 @@ ghost use Rattle.group_commit.specs.Journal.{CheckTurnDid, CheckTurnRefused, Doe
 use crate::open_handle::Handle;
 use block_device::Device;
 use group_commit::{CheckTurn, Journal as OneJournal, Seat as OneSeat, Turn};
-use handle::{CommitMark, CreditPool, Credits, Handle as Place, JournalName, Raiser, Ticket};
+use handle::{CommitMark, CreditPool, Credits, Handle as Place, JournalName, Raiser, Seat, Ticket};
 use journal_model::{BlockNo, JournalError, Tid};
 use std::marker::Model;
 
@@ -26,6 +27,15 @@ pub struct Counters<J: JournalName> {
     pub pool: CreditPool<J>,
     /// The mark.
     pub mark: CommitMark<J>,
+}
+
+/// The credit word and the entries of the running transaction, at one moment under the lock.
+#[derive(Clone, Copy, Debug, PartialEq, Eq)]
+pub struct Tally {
+    /// What the credit word had.
+    pub word: u64,
+    /// How many entries there were.
+    pub entries: u64,
 }
 
 /// What lies under the lock of a journal: the journal of one thread, and what it keeps at the two words. Contracts see the
@@ -285,6 +295,18 @@ impl<J: JournalName, D: Device> Locked<J, D> {
         ensures honest { D.honest self.new.device → D.honest self.old.device }
     {
         self.journal.checkpoint_turn()
+    }
+
+    /// What the credit word has, and how many entries the running transaction: with no credits beside these, and no open handle,
+    /// the word is that number.
+    pub fn tally(&self, counters: &Counters<J>, seat: &mut Seat<J>) -> Tally
+        ensures seat { seat.new ≡ loading_credits seat.old result.word }
+        ensures entries { result.entries ≡ length (entries self.now.journal.front.running.steps) }
+    {
+        Tally {
+            word: counters.pool.word(seat),
+            entries: self.journal.entries() as u64,
+        }
     }
 
     /// Whether the device has failed.

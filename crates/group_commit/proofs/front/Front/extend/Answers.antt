@@ -12,19 +12,19 @@ use Rattle.group_commit.proofs.front.Front.extend.Goals as goal
 
 -- what it has is held, and so is small
 pub extend-requires : goal.extend-requires
-extend-requires c =
-    let may : MayExtend (front_of c.self.inside) c.args.handle.now c.args.n = rw c.self.view_is c.in_ok-admit_more.ensures.ok in
+extend-requires g c =
+    let may : MayExtend (front_of g.R.Record.transactions c.self.inside) c.args.handle.now c.args.n = rw c.self.view_is c.in_ok-admit_more.ensures.ok in
     let is = may.open_handle in
-    let small = left-reserved (front_of c.self.inside) c.args.handle.now.number c.args.handle.now.left is.left in
+    let small = left-reserved (front_of g.R.Record.transactions c.self.inside) c.args.handle.now.number c.args.handle.now.left is.left in
     let held_are = c.self.invariant.held_are in
     let granted = may.granted in
     omega arith
 
 -- the handle has them
 pub returns-clause-ok : goal.returns-clause-ok
-returns-clause-ok c =
-    let f = front_of c.self.inside in
-    let may : MayExtend (front_of c.self.inside) c.args.handle.now c.args.n = rw c.self.view_is c.in_ok-admit_more.ensures.ok in
+returns-clause-ok g c =
+    let f = front_of g.R.Record.transactions c.self.inside in
+    let may : MayExtend (front_of g.R.Record.transactions c.self.inside) c.args.handle.now c.args.n = rw c.self.view_is c.in_ok-admit_more.ensures.ok in
     let is = may.open_handle in
     let number = c.number.ensures ∙ ap (λ (h : HandleValue). h.number) c.extend.ensures in
     let left = c.left.ensures ∙ ap (λ (h : HandleValue). h.left) c.extend.ensures in
@@ -35,9 +35,9 @@ returns-clause-ok c =
 
 -- and is open still
 pub returns-clause-open : goal.returns-clause-open
-returns-clause-open c =
-    let f = front_of c.self.inside in
-    let may : MayExtend (front_of c.self.inside) c.args.handle.now c.args.n = rw c.self.view_is c.in_ok-admit_more.ensures.ok in
+returns-clause-open g c =
+    let f = front_of g.R.Record.transactions c.self.inside in
+    let may : MayExtend (front_of g.R.Record.transactions c.self.inside) c.args.handle.now c.args.n = rw c.self.view_is c.in_ok-admit_more.ensures.ok in
     let is = may.open_handle in
     let number = c.number.ensures ∙ ap (λ (h : HandleValue). h.number) c.extend.ensures in
     let left = c.left.ensures ∙ ap (λ (h : HandleValue). h.left) c.extend.ensures in
@@ -50,9 +50,9 @@ returns-clause-open c =
 
 -- the credits held are as many as before
 pub invariant_of-self : goal.invariant_of-self
-invariant_of-self c =
-    let f = front_of c.self.inside in
-    let may : MayExtend (front_of c.self.inside) c.args.handle.now c.args.n = rw c.self.view_is c.in_ok-admit_more.ensures.ok in
+invariant_of-self g c =
+    let f = front_of g.R.Record.transactions c.self.inside in
+    let may : MayExtend (front_of g.R.Record.transactions c.self.inside) c.args.handle.now c.args.n = rw c.self.view_is c.in_ok-admit_more.ensures.ok in
     let is = may.open_handle in
     let number = c.number.ensures ∙ ap (λ (h : HandleValue). h.number) c.extend.ensures in
     let left = c.left.ensures ∙ ap (λ (h : HandleValue). h.left) c.extend.ensures in

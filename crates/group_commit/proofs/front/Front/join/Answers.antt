@@ -3,7 +3,7 @@ use Rattle.std.specs.Map.{lookup}
 use Rattle.indexmap.specs.IndexMap.{insert_entry}
 use Rattle.journal_model.specs.declared.refusal.JournalError.TheVariants.{Memory}
 use Rattle.journal_world.proofs.Credits.{event-held}
-use Rattle.group_commit.specs.Front.{JoinRefused}
+use Rattle.group_commit.specs.Front.{IsFront, JoinRefused}
 use Rattle.std.proofs.lemmas.Result.{err_from_is_err_and}
 use Rattle.journal_model.specs.declared.transaction.Sealed.{Sealed}
 use Rattle.journal_model.specs.Opening.{greatest_number}
@@ -26,16 +26,16 @@ joined f sealed hs t = record f { sealed = sealed; running = t.transaction; lock
 
 -- the device has failed
 pub returns-then-self-clause-err : goal.returns-then-self-clause-err
-returns-then-self-clause-err c = rw (← c.self.view_is) (IsAborted c.if-self.true, refl)
+returns-then-self-clause-err g c = rw (← c.self.view_is) (IsAborted c.if-self.true, refl)
 
 -- the transaction takes no further handles
 pub returns-then-is_locked-clause-err : goal.returns-then-is_locked-clause-err
-returns-then-is_locked-clause-err c = rw (← c.self.view_is) (IsLocked c.if-self.false (sym c.is_locked.ensures ∙ c.if-is_locked.true), refl)
+returns-then-is_locked-clause-err g c = rw (← c.self.view_is) (IsLocked c.if-self.false (sym c.is_locked.ensures ∙ c.if-is_locked.true), refl)
 
 -- no further number of a transaction, or of a handle
 pub returns-then-tid-gt-GREATEST_NUMBER-clause-err :
     goal.returns-then-tid-gt-GREATEST_NUMBER-clause-err
-returns-then-tid-gt-GREATEST_NUMBER-clause-err c =
+returns-then-tid-gt-GREATEST_NUMBER-clause-err g c =
     rw (← c.self.view_is)
     (elim c.then-tid-gt-GREATEST_NUMBER.branch [
       | then-tid-gt-GREATEST_NUMBER-via-then-tid-gt-GREATEST_NUMBER w ↦ (NoNumber c.if-self.false (sym c.is_locked.ensures ∙ c.if-is_locked.false) (omega arith), refl)
@@ -44,81 +44,95 @@ returns-then-tid-gt-GREATEST_NUMBER-clause-err c =
 
 -- these credits were not granted, or another handle was made of them
 pub returns-then-n-self-clause-err : goal.returns-then-n-self-clause-err
-returns-then-n-self-clause-err c =
-    let may = may-join (front_of c.self.inside) (sym c.is_locked.ensures ∙ c.if-is_locked.false) (omega arith) (omega arith) in
+returns-then-n-self-clause-err g c =
+    let may = may-join (front_of g.R.Record.transactions c.self.inside) (sym c.is_locked.ensures ∙ c.if-is_locked.false) (omega arith) (omega arith) in
     rw (← c.self.view_is) (NotGranted c.if-self.false may c.if-n-self.true, refl)
 
 -- memory ran out before there was room to seal the transaction
-pub returns-in_err-try_reserve-clause-err : goal.returns-in_err-try_reserve-clause-err
-returns-in_err-try_reserve-clause-err c =
-    let f = front_of c.self.inside in
+pub returns-in_err-make_room-clause-err : goal.returns-in_err-make_room-clause-err
+returns-in_err-make_room-clause-err g c =
+    let f = front_of g.R.Record.transactions c.self.inside in
     let may = may-join f (sym c.is_locked.ensures ∙ c.if-is_locked.false) (omega arith) (omega arith) in
     let p = err_from_is_err_and c.from_residual.result c.from_residual.ensures.1 in
-    let same = ap (λ (ts : List Sealed). remade f ts f.running.handles f.running.steps f.open_handles) c.try_reserve.ensures.items in
-    rw (p.1, p.2) (subst (λ (x : Front). JoinRefused x c.args.n Memory) c.self.view_is (NoMemory c.if-self.false may c.if-n-self.false), same ∙ c.self.view_is)
+    let same = ap (λ (ts : List Sealed). remade f ts f.running.handles f.running.steps f.open_handles) c.make_room.ensures.same in
+    rw (p.1, p.2, c.in_err-make_room.ensures.err) (subst (λ (x : Front). JoinRefused x c.args.n Memory) c.self.view_is (NoMemory c.if-self.false may c.if-n-self.false), same ∙ c.self.view_is)
 
 -- or for one more open handle
 pub returns-in_err-reserve-clause-err : goal.returns-in_err-reserve-clause-err
-returns-in_err-reserve-clause-err c =
-    let f = front_of c.self.inside in
+returns-in_err-reserve-clause-err g c =
+    let f = front_of g.R.Record.transactions c.self.inside in
     let may = may-join f (sym c.is_locked.ensures ∙ c.if-is_locked.false) (omega arith) (omega arith) in
     let p = err_from_is_err_and c.from_residual-in_err-reserve.result c.from_residual-in_err-reserve.ensures.1 in
     let same =
-    ap₂ (λ (ts : List Sealed) (hs : List (ℕ × ℕ)). remade f ts f.running.handles f.running.steps hs) c.try_reserve.ensures.items c.reserve.ensures.entries in
+    ap₂ (λ (ts : List Sealed) (hs : List (ℕ × ℕ)). remade f ts f.running.handles f.running.steps hs) c.make_room.ensures.same c.reserve.ensures.entries in
     rw (p.1, p.2) (subst (λ (x : Front). JoinRefused x c.args.n Memory) c.self.view_is (NoMemory c.if-self.false may c.if-n-self.false), same ∙ c.self.view_is)
 
 -- or for its number
 pub returns-in_err-join-clause-err : goal.returns-in_err-join-clause-err
-returns-in_err-join-clause-err c =
-    let f = front_of c.self.inside in
+returns-in_err-join-clause-err g c =
+    let f = front_of g.R.Record.transactions c.self.inside in
     let may = may-join f (sym c.is_locked.ensures ∙ c.if-is_locked.false) (omega arith) (omega arith) in
     let p = err_from_is_err_and c.from_residual-in_err-join.result c.from_residual-in_err-join.ensures.1 in
     let same =
-    ap (joined f c.try_reserve.new.self.items c.reserve.new.self.entries) c.in_err-join.ensures.err.1
-    ∙ ap₂ (λ (ts : List Sealed) (hs : List (ℕ × ℕ)). remade f ts f.running.handles f.running.steps hs) c.try_reserve.ensures.items c.reserve.ensures.entries in
+    ap (joined f (g.R.Record.transactions c.make_room.new.self) c.reserve.new.self.entries) c.in_err-join.ensures.err.1
+    ∙ ap₂ (λ (ts : List Sealed) (hs : List (ℕ × ℕ)). remade f ts f.running.handles f.running.steps hs) c.make_room.ensures.same c.reserve.ensures.entries in
     rw (p.1, p.2, c.in_err-join.ensures.err.0)
     (subst (λ (x : Front). JoinRefused x c.args.n Memory) c.self.view_is (NoMemory c.if-self.false may c.if-n-self.false), same ∙ c.self.view_is)
 
 -- the handle joins
 pub returns-clause-ok : goal.returns-clause-ok
-returns-clause-ok c =
-    let f = front_of c.self.inside in
+returns-clause-ok g c =
+    let f = front_of g.R.Record.transactions c.self.inside in
     let may = may-join f (sym c.is_locked.ensures ∙ c.if-is_locked.false) (omega arith) (omega arith) in
     let told = c.in-Ok.ensures.entries ∙ ap (λ (hs : List (ℕ × ℕ)). insert_entry nat_eq hs (next_handle f) c.args.n) c.reserve.ensures.entries in
     rw (← c.self.view_is) (
-      subst (λ (t : OpenTransaction). Joins f c.args.n (record (joined f c.try_reserve.new.self.items c.insert.new.self.entries t) { reserved = f.reserved - c.args.n; given = next_handle f }))
+      subst (λ (t : OpenTransaction). Joins f c.args.n (record (joined f (g.R.Record.transactions c.make_room.new.self) c.insert.new.self.entries t) { reserved = f.reserved - c.args.n; given = next_handle f }))
           (sym c.in_ok-join.ensures.ok)
-          (joins f c.args.n c.try_reserve.new.self.items _ c.insert.new.self.entries c.if-self.false may c.if-n-self.false
-          c.self.invariant.front.numbers c.try_reserve.ensures.items refl told),
+          (joins f c.args.n (g.R.Record.transactions c.make_room.new.self) _ c.insert.new.self.entries c.if-self.false may c.if-n-self.false
+          c.self.invariant.front.numbers c.make_room.ensures.same refl told),
       refl,
       c.tid-tid.ensures,
     )
 
 -- and is open
 pub returns-clause-open : goal.returns-clause-open
-returns-clause-open c =
+returns-clause-open g c =
     subst (λ (hs : List (ℕ × ℕ)). lookup (nat_eq (c.self.inside.given + 1)) hs ≡ Some c.args.n) (sym c.in-Ok.ensures.entries)
     (found-inserted c.reserve.new.self.entries (c.self.inside.given + 1) c.args.n)
 
 -- no more credits are held
 pub invariant_of-self-2 : goal.invariant_of-self-2
-invariant_of-self-2 c =
-    let f = front_of c.self.inside in
+invariant_of-self-2 g c =
+    let f = front_of g.R.Record.transactions c.self.inside in
     let may = may-join f (sym c.is_locked.ensures ∙ c.if-is_locked.false) (omega arith) (omega arith) in
     let told = c.in-Ok.ensures.entries ∙ ap (λ (hs : List (ℕ × ℕ)). insert_entry nat_eq hs (next_handle f) c.args.n) c.reserve.ensures.entries in
     let step =
-    subst (λ (t : OpenTransaction). Joins f c.args.n (record (joined f c.try_reserve.new.self.items c.insert.new.self.entries t) { reserved = f.reserved - c.args.n; given = next_handle f }))
+    subst (λ (t : OpenTransaction). Joins f c.args.n (record (joined f (g.R.Record.transactions c.make_room.new.self) c.insert.new.self.entries t) { reserved = f.reserved - c.args.n; given = next_handle f }))
     (sym c.in_ok-join.ensures.ok)
-    (joins f c.args.n c.try_reserve.new.self.items _ c.insert.new.self.entries c.if-self.false may c.if-n-self.false
-    c.self.invariant.front.numbers c.try_reserve.ensures.items refl told) in
+    (joins f c.args.n (g.R.Record.transactions c.make_room.new.self) _ c.insert.new.self.entries c.if-self.false may c.if-n-self.false
+    c.self.invariant.front.numbers c.make_room.ensures.same refl told) in
     let same = event-held f _ (Join c.args.n) step in
     record {
       front = is-front f _ (Join c.args.n) step c.self.invariant.front;
       held_are = c.self.invariant.held_are ∙ sym same;
       committing_are =
-          subst (λ (n : ℕ). AreCommitting c.try_reserve.new.self.items c.self.inside.finished n c.self.inside.committing)
+          subst (λ (n : ℕ). AreCommitting (g.R.Record.transactions c.make_room.new.self) c.self.inside.finished n c.self.inside.committing)
           (sym (ap (λ (t : OpenTransaction). t.transaction.tid) c.in_ok-join.ensures.ok))
           (subst (λ (ts : List Sealed). AreCommitting ts c.self.inside.finished c.self.inside.running.transaction.tid c.self.inside.committing)
-          (sym c.try_reserve.ensures.items) c.self.invariant.committing_are);
-      room = λ joined. omega (arith, c.try_reserve.ensures.len, c.in_ok-try_reserve.ensures.ok);
+          (sym c.make_room.ensures.same) c.self.invariant.committing_are);
+      room = λ joined. c.in_ok-make_room.ensures.room;
+    }
+
+-- where memory ran out, what was kept is
+pub invariant_of-self : goal.invariant_of-self
+invariant_of-self g c =
+    let f = front_of g.R.Record.transactions c.self.inside in
+    let same = ap (λ (ts : List Sealed). remade f ts f.running.handles f.running.steps f.open_handles) c.make_room.ensures.same in
+    record {
+      front = subst IsFront (sym same) c.self.invariant.front;
+      held_are = c.self.invariant.held_are;
+      committing_are =
+          subst (λ (ts : List Sealed). AreCommitting ts c.self.inside.finished c.self.inside.running.transaction.tid c.self.inside.committing)
+          (sym c.make_room.ensures.same) c.self.invariant.committing_are;
+      room = λ joined. c.make_room.ensures.kept (c.self.invariant.room joined);
     }

@@ -10,7 +10,7 @@ use Rattle.group_commit.proofs.front.Front.new.Goals as goal
 
 -- nothing is sealed yet, nothing is written, and no handle is open
 pub invariant_of-result : goal.invariant_of-result
-invariant_of-result c =
+invariant_of-result g c =
     let running = c.new-2.ensures in
     let tid : c.new-2.result.transaction.tid ≡ c.args.first = ap (λ (t : OpenTransaction). t.transaction.tid) running in
     let first : c.first.inside.0 ≡ c.args.first = c.first.view_is in

@@ -1,7 +1,6 @@
 use Rattle.std.proofs.Common.{◌≤◌, ◌+◌, ◌<◌, refl, arith}
 use Rattle.journal_world.specs.Front.{Reserves, held, reserving}
 use Rattle.journal_world.specs.Front.FrontEvent.{Reserve}
-use Rattle.group_commit.specs.declared.front.Front.TheInside.{Inside}
 use Rattle.group_commit.specs.Front.ReserveRefused.{BeyondCapacity, BeyondFree}
 use Rattle.group_commit.specs.FrontView.{front_of}
 use Rattle.group_commit.proofs.Holding.{is-front}
@@ -9,16 +8,16 @@ use Rattle.group_commit.proofs.front.Front.reserve.Goals as goal
 
 -- no transaction can have so many
 pub returns-then-n-self-clause-err : goal.returns-then-n-self-clause-err
-returns-then-n-self-clause-err c = rw (← c.self.view_is) (BeyondCapacity c.if-n-self.true, refl)
+returns-then-n-self-clause-err g c = rw (← c.self.view_is) (BeyondCapacity c.if-n-self.true, refl)
 
 -- the credits held leave fewer
 pub returns-then-n-saturating_sub-clause-err : goal.returns-then-n-saturating_sub-clause-err
-returns-then-n-saturating_sub-clause-err c =
+returns-then-n-saturating_sub-clause-err g c =
     let held_are = c.self.invariant.held_are in rw (← c.self.view_is) (BeyondFree c.if-n-self.false (omega arith), refl)
 
 -- as many were free
 pub returns-clause-ok : goal.returns-clause-ok
-returns-clause-ok c =
+returns-clause-ok g c =
     let held_are = c.self.invariant.held_are in
     let within = c.self.invariant.front.credits in
     let free = c.saturating_sub.ensures in
@@ -27,15 +26,15 @@ returns-clause-ok c =
 
 -- no more credits are held than a transaction may have
 pub invariant_of-self : goal.invariant_of-self
-invariant_of-self c =
-    let f : Inside = c.self.inside in
+invariant_of-self g c =
+    let f = c.self.inside in
     let held_are = c.self.invariant.held_are in
     let within = c.self.invariant.front.credits in
     let free = c.saturating_sub.ensures in
     let few = c.if-n-saturating_sub.false in
-    let step : Reserves (front_of f) c.args.n (reserving (front_of f) c.args.n) = record { free = omega arith; after = refl } in
+    let step : Reserves (front_of g.R.Record.transactions f) c.args.n (reserving (front_of g.R.Record.transactions f) c.args.n) = record { free = omega arith; after = refl } in
     record {
-      front = is-front (front_of f) (reserving (front_of f) c.args.n) (Reserve c.args.n) step c.self.invariant.front;
+      front = is-front (front_of g.R.Record.transactions f) (reserving (front_of g.R.Record.transactions f) c.args.n) (Reserve c.args.n) step c.self.invariant.front;
       held_are = omega arith;
       committing_are = c.self.invariant.committing_are;
       room = c.self.invariant.room;

@@ -12,8 +12,8 @@ use Rattle.group_commit.proofs.front.Front.revoke.Goals as goal
 
 -- the handle revoked
 pub returns-clause-ok : goal.returns-clause-ok
-returns-clause-ok c =
-    let f = front_of c.self.inside in
+returns-clause-ok g c =
+    let f = front_of g.R.Record.transactions c.self.inside in
     let may : MayStep f c.args.handle.now c.args.block = rw c.self.view_is c.in_ok-admit.ensures.ok in
     let told = c.in-Ok.ensures.entries ∙ ap₂ (insert_entry nat_eq f.open_handles) c.number-2.ensures c.left-2.ensures in
     rw (← c.self.view_is)
@@ -22,8 +22,8 @@ returns-clause-ok c =
 
 -- it was open and is so still
 pub returns-clause-open : goal.returns-clause-open
-returns-clause-open c =
-    let f = front_of c.self.inside in
+returns-clause-open g c =
+    let f = front_of g.R.Record.transactions c.self.inside in
     let may : MayStep f c.args.handle.now c.args.block = rw c.self.view_is c.in_ok-admit.ensures.ok in
     let told = c.in-Ok.ensures.entries ∙ ap₂ (insert_entry nat_eq f.open_handles) c.number-2.ensures c.left-2.ensures in
     rw (← c.self.view_is)
@@ -32,8 +32,8 @@ returns-clause-open c =
 
 -- a first touch takes a credit, which the handle has
 pub returns-clause-spends : goal.returns-clause-spends
-returns-clause-spends c =
-    let f = front_of c.self.inside in
+returns-clause-spends g c =
+    let f = front_of g.R.Record.transactions c.self.inside in
     let may : MayStep f c.args.handle.now c.args.block = rw c.self.view_is c.in_ok-admit.ensures.ok in
     let told = c.in-Ok.ensures.entries ∙ ap₂ (insert_entry nat_eq f.open_handles) c.number-2.ensures c.left-2.ensures in
     rw (← c.self.view_is)
@@ -42,8 +42,8 @@ returns-clause-spends c =
 
 -- the credits held are as many as before
 pub invariant_of-self-2 : goal.invariant_of-self-2
-invariant_of-self-2 c =
-    let f = front_of c.self.inside in
+invariant_of-self-2 g c =
+    let f = front_of g.R.Record.transactions c.self.inside in
     let may : MayStep f c.args.handle.now c.args.block = rw c.self.view_is c.in_ok-admit.ensures.ok in
     let told = c.in-Ok.ensures.entries ∙ ap₂ (insert_entry nat_eq f.open_handles) c.number-2.ensures c.left-2.ensures in
     let step =
@@ -54,7 +54,7 @@ invariant_of-self-2 c =
       front = is-front f _ event step c.self.invariant.front;
       held_are = c.self.invariant.held_are ∙ sym (event-held f _ event step);
       committing_are =
-          subst (λ (n : ℕ). AreCommitting c.self.inside.sealed.items c.self.inside.finished n c.self.inside.committing)
+          subst (λ (n : ℕ). AreCommitting (g.R.Record.transactions c.self.inside.sealed) c.self.inside.finished n c.self.inside.committing)
           (sym (same-number f c.self.inside.running c.touch_revoke.new.self c.args.handle.now c.pay.new.self c.number.result c.left.result c.args.block Revoke
           c.in_ok-touch.touch c.insert.new.self.entries refl refl may c.number.ensures c.left.ensures c.in_ok-touch.ensures.ok c.pay.ensures told))
           c.self.invariant.committing_are;

@@ -8,7 +8,7 @@ use Rattle.group_commit.proofs.front.Front.seal.Goals as goal
 
 -- the entries of the running transaction are those of the one that is being committed
 pub invariant_of-self : goal.invariant_of-self
-invariant_of-self c =
+invariant_of-self g c =
     let f = c.self.inside in
     let front = c.self.invariant.front in
     let next = c.seal-sealed.ensures.next in
@@ -28,7 +28,7 @@ invariant_of-self c =
       };
       held_are = omega arith;
       committing_are =
-          committing-sealed f.sealed.items _ f.running.transaction f.finished _ _
-          (c.push_reserved.ensures.items ∙ ap (λ (t : Transaction). f.sealed.items ++ t ∷ []) c.seal-sealed.ensures.sealed) c.seal-sealed.ensures.entries (omega arith);
+          committing-sealed (g.R.Record.transactions f.sealed) _ f.running.transaction f.finished _ _
+          (c.note.ensures ∙ ap (λ (t : Transaction). (g.R.Record.transactions f.sealed) ++ t ∷ []) c.seal-sealed.ensures.sealed) c.seal-sealed.ensures.entries (omega arith);
       room = λ joined. absurd (let none : length c.seal-sealed.new.self.transaction.handles ≡ 0 = ap (λ (t : OpenTransaction). length t.transaction.handles) next in omega arith);
     }

@@ -7,22 +7,22 @@ use Rattle.group_commit.proofs.front.Front.stop.Goals as goal
 
 -- the handle is open no longer
 pub returns : goal.returns
-returns c =
+returns g c =
     rw (← c.self.view_is)
-    (stops (front_of c.self.inside) c.args.handle c.args.left _ (rw (← c.self.view_is) at c.requires) c.shift_remove.ensures.entries)
+    (stops (front_of g.R.Record.transactions c.self.inside) c.args.handle c.args.left _ (rw (← c.self.view_is) at c.requires) c.shift_remove.ensures.entries)
 
 -- what it has left is held
 pub overflow_sub-self : goal.overflow_sub-self
-overflow_sub-self c =
+overflow_sub-self g c =
     let found = rw (← c.self.view_is) at c.requires in
-    let some = left-held (front_of c.self.inside) c.args.handle c.args.left found in
+    let some = left-held (front_of g.R.Record.transactions c.self.inside) c.args.handle c.args.left found in
     let held_are = c.self.invariant.held_are in
     omega arith
 
 -- and then no more
 pub invariant_of-self : goal.invariant_of-self
-invariant_of-self c =
-    let f = front_of c.self.inside in
+invariant_of-self g c =
+    let f = front_of g.R.Record.transactions c.self.inside in
     let found = rw (← c.self.view_is) at c.requires in
     let taken = c.shift_remove.ensures.entries in
     let held_are = c.self.invariant.held_are in

@@ -15,17 +15,17 @@ pub returns-in-Ok-clause-closed : goal.returns-in-Ok-clause-closed
 returns-in-Ok-clause-closed g c =
     subst
     (λ (s : Shape). IfOk c.close_log.result (λ parts. g.D.Device.honest parts.device → (image : Image) → Leaves (g.D.Device.state parts.device).disk image →
-    IsClosed s parts.sealed.items image)) c.finish.ensures.measures c.close_log.ensures.closed
+    IsClosed s (g.R.Record.transactions parts.sealed) image)) c.finish.ensures.measures c.close_log.ensures.closed
 
 -- or the device failed in its close
 pub returns-in-Ok-clause-err : goal.returns-in-Ok-clause-err
 returns-in-Ok-clause-err g c =
     let mid = c.finish.new.journal in
     err-weaker c.close_log.result
-    (λ e. (e.1 ≡ Device) × (e.0.sealed.items ≡ mid.journal.front.sealed) × (e.0.committed ≡ mid.journal.engine.committed)
+    (λ e. (e.1 ≡ Device) × ((g.R.Record.transactions e.0.sealed) ≡ mid.journal.front.sealed) × (e.0.committed ≡ mid.journal.engine.committed)
     × ((g.D.Device.state e.0.device).faults ≡ one_more_fault (g.D.Device.state mid.device).faults))
-    (λ e. CloseRefused g.D.Device.state c.args.self e.0.device e.0.sealed.items e.0.committed e.1)
-    (λ e p. log-refused g.D.Device.state c.args.self mid e.0.device e.0.sealed.items e.0.committed e.1 c.in-Ok.ensures.ok p.0 p.1 p.2 p.3)
+    (λ e. CloseRefused g.D.Device.state c.args.self e.0.device (g.R.Record.transactions e.0.sealed) e.0.committed e.1)
+    (λ e p. log-refused g.D.Device.state c.args.self mid e.0.device (g.R.Record.transactions e.0.sealed) e.0.committed e.1 c.in-Ok.ensures.ok p.0 p.1 p.2 p.3)
     c.close_log.ensures.err
 
 -- each image opens with the count of what its log has
@@ -33,9 +33,9 @@ pub returns-in-Ok-clause-opens : goal.returns-in-Ok-clause-opens
 returns-in-Ok-clause-opens g c =
     subst
     (λ (s : Shape). MatchResult c.close_log.result
-    (λ parts. g.D.Device.honest parts.device → OpensOver s parts.sealed.items parts.committed (length parts.sealed.items) (g.D.Device.state parts.device).disk)
+    (λ parts. g.D.Device.honest parts.device → OpensOver s (g.R.Record.transactions parts.sealed) parts.committed (length (g.R.Record.transactions parts.sealed)) (g.D.Device.state parts.device).disk)
     (λ e. g.D.Device.honest e.0.device →
-    OpensOver s e.0.sealed.items e.0.committed (length e.0.sealed.items) (g.D.Device.state e.0.device).disk)) c.finish.ensures.measures c.close_log.ensures.opens
+    OpensOver s (g.R.Record.transactions e.0.sealed) e.0.committed (length (g.R.Record.transactions e.0.sealed)) (g.D.Device.state e.0.device).disk)) c.finish.ensures.measures c.close_log.ensures.opens
 
 -- the moves that close the log come behind those that come before
 pub returns-in-Ok-clause-moves : goal.returns-in-Ok-clause-moves
@@ -44,12 +44,12 @@ returns-in-Ok-clause-moves g c =
     let old = c.args.self in
     let mid = c.finish.new.journal in
     both-weaker c.close_log.result
-    (λ parts. CloseDid mid.journal (state mid.device).disk parts.sealed.items parts.committed (state parts.device).disk)
-    (λ parts. CloseDid old.journal (state old.device).disk parts.sealed.items parts.committed (state parts.device).disk)
-    (λ e. EndsWith mid.journal (state mid.device).disk e.0.sealed.items e.0.committed (state e.0.device).disk Shut)
-    (λ e. EndsWith old.journal (state old.device).disk e.0.sealed.items e.0.committed (state e.0.device).disk Shut)
-    (λ parts did. did-behind state old mid parts.sealed.items parts.committed (state parts.device).disk c.finish.ensures.path did)
-    (λ e ends. ends-behind state old mid e.0.sealed.items e.0.committed (state e.0.device).disk Shut c.finish.ensures.path ends) c.close_log.ensures.moves
+    (λ parts. CloseDid mid.journal (state mid.device).disk (g.R.Record.transactions parts.sealed) parts.committed (state parts.device).disk)
+    (λ parts. CloseDid old.journal (state old.device).disk (g.R.Record.transactions parts.sealed) parts.committed (state parts.device).disk)
+    (λ e. EndsWith mid.journal (state mid.device).disk (g.R.Record.transactions e.0.sealed) e.0.committed (state e.0.device).disk Shut)
+    (λ e. EndsWith old.journal (state old.device).disk (g.R.Record.transactions e.0.sealed) e.0.committed (state e.0.device).disk Shut)
+    (λ parts did. did-behind state old mid (g.R.Record.transactions parts.sealed) parts.committed (state parts.device).disk c.finish.ensures.path did)
+    (λ e ends. ends-behind state old mid (g.R.Record.transactions e.0.sealed) e.0.committed (state e.0.device).disk Shut c.finish.ensures.path ends) c.close_log.ensures.moves
 
 -- or the journal is handed out as it is then
 pub returns-in-Err-clause-moves : goal.returns-in-Err-clause-moves
