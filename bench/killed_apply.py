@@ -9,8 +9,9 @@ runs.py. Each script is applied to new files once to its end and then several ti
 lines has come, or a moment later; half of all applies are made with --stay. Each time:
 
 - what was printed is the front of what the model prints of the whole apply;
-- both files hold, byte for byte, what the model's device holds behind one of its writes (a kill takes no write back, so all of them
-  are there up to some one);
+- both files hold, byte for byte, what the model's device holds behind one of its writes (a kill takes no write back of those
+  that were handed to a file, and they are handed over in their order, so all of them are there up to some one); where it was not
+  killed, behind the last one;
 - `recover` ends as the model's opening of these files, and leaves the model's bytes;
 - the n transactions that it finds are the first n that the script seals, n is at least the number of those up to the greatest that a
   `wait` or a `status` line showed committed, and each block is as these n leave it.
@@ -210,15 +211,17 @@ class Killer:
             wanted = apply.lines
         if lines != wanted:
             raise Difference(f"{given}\n{first_difference(chr(10).join(wanted), chr(10).join(lines))}")
-        self.compare_files(apply, apply.showns[len(lines) - 1] if lines else 0, given)
+        self.compare_files(apply, apply.showns[len(lines) - 1] if lines else 0, status == 0, given)
         self.cases["applies"] += 1
         self.cases["with --stay"] += stay
 
-    def compare_files(self, apply, shown, given):
+    def compare_files(self, apply, shown, has_ended, given):
         """Compares what an apply left with the model, and then what `recover` makes of it."""
         writes = apply.writes_of(self.held())
         if writes is None:
             raise Difference(f"{given}\nthe files hold what the model's device holds behind none of its writes")
+        if has_ended and writes != len(apply.device.made):
+            raise Difference(f"{given}\nthe files hold what the model's device holds behind {writes} of its {len(apply.device.made)} writes")
         left = Left(apply, writes, shown)
         if self.recover and left.line.startswith("recovered"):
             self.compare_others(left, f"{given}\nwrites: {writes}")

@@ -1,17 +1,22 @@
 -- What is read ahead is what the log reads.
-use Rattle.std.proofs.Common.{◌≡◌, ℕ, zero, suc, ◌<◌, ◌≤◌, ◌*◌, ◌/◌, ◌+◌, ◌-◌, List, [], ◌∷◌, ◌++◌, length, take, drop, ap, refl, sym, subst, ◌∙◌, inl, inr, arith, length-drop}
-use Rattle.std.specs.Prelude.{◌⊎◌, Bool, min, Result, Ok, Err, OnOk, OnErr}
-use Rattle.block_device.specs.State.{DeviceState, Stays}
+use Rattle.std.proofs.Common.{◌≡◌, ℕ, zero, suc, ◌<◌, ◌≤◌, ◌*◌, ◌/◌, ◌+◌, ◌-◌, List, [], ◌∷◌, ◌++◌, length, ap, refl, sym, subst, ◌∙◌, inl, inr, arith}
+use Rattle.std.specs.Prelude.{◌⊎◌, Bool, true, false, IsTrue, min, Result, Ok, Err, OnOk, OnErr}
+use Rattle.block_device.specs.State.{DeviceState, Stays, blocks_in}
 use Rattle.std.specs.List.{AllByRecursion}
-use Rattle.std.proofs.lemmas.List.{append_assoc, drop-append-le, length-append, length-take-le, take-append-le}
-use Rattle.std.proofs.Math.Nat.{add-mul, div-mul-le_self, min-le_left, min-le_right, mul-div_cancel}
+use Rattle.std.proofs.lemmas.List.{append_assoc, length-append}
+use Rattle.std.proofs.Math.Nat.{add-mul, div-mul-le_self, min-le_right, mul-div_cancel}
 use Rattle.std.proofs.lemmas.Nat.{mul-le}
 use Rattle.journal_model.specs.declared.number.Area.{Area}
-use Rattle.journal_model.specs.declared.number.Area.TheVariants.{Log}
+use Rattle.journal_model.specs.declared.number.Area.TheVariants.{Log, Home}
 use Rattle.file_device.specs.declared.ahead.Ahead.{Ahead}
-use Rattle.file_device.specs.Ahead.{HasFailedRead, HasRead, IsReading, KeepsAhead, block_of, reads_of}
-use Rattle.file_device.specs.Calls.{FileCall, Measured, Read, ReadFailed, Wrote, WriteFailed, Synced, SyncFailed}
-use Rattle.file_device.specs.Files.{AgreesEach, FileContents, FileMoments, FileState, HandsBlock, HasAgreed, KeepsBlocks, after_call, after_calls, counted, file_state}
+use Rattle.journal_model.specs.Disk.{Cell}
+use Rattle.file_device.specs.Ahead.{HasFailedRead, HasRead, IsForgotten, IsReading, KeepsAhead}
+use Rattle.file_device.specs.Blocks.{block_of, reads_of, writes_of}
+use Rattle.file_device.specs.Gathered.{HoldsSame, IsFreeOf, IsPushed, KeepsGathered, due_of}
+use Rattle.file_device.specs.declared.gathered.Gathered.{Gathered}
+use Rattle.file_device.proofs.GatheredBlocks.{agreed-before, apart-cell, block-within, either, free-apart, over-same, place-of, pushed-due, same-due, writes-agree}
+use Rattle.file_device.specs.Calls.{FileCall, Measured, Read, ReadFailed, Wrote, WriteFailed, GatheredFailed, Synced, SyncFailed}
+use Rattle.file_device.specs.Files.{AgreesEach, FileContents, FileMoments, FileState, HandsBlock, HasAgreed, KeepsBlocks, after_call, after_calls, asked_calls, counted, file_state, files_disk}
 
 -- a call that asks for bytes alone leaves the disk
 reading-leaves : (contents : FileContents) (size : ℕ) (m : FileMoments) (c : FileCall) → IsReading c → after_call contents size m c ≡ m
@@ -20,6 +25,7 @@ reading-leaves contents size m (Read area at bytes) is = refl
 reading-leaves contents size m (ReadFailed area at) is = refl
 reading-leaves contents size m (Wrote area at bytes) is = absurd is
 reading-leaves contents size m (WriteFailed area at bytes) is = absurd is
+reading-leaves contents size m (GatheredFailed area at bytes) is = absurd is
 reading-leaves contents size m (Synced area) is = absurd is
 reading-leaves contents size m (SyncFailed area) is = absurd is
 
@@ -30,23 +36,10 @@ readings-leave contents size [] calls all = refl
 readings-leave contents size (c ∷ more) calls all =
     reading-leaves contents size (after_calls contents size (more ++ calls)) c all.0 ∙ readings-leave contents size more calls all.1
 
--- where each read gave what the disk had, so did those before
-pub agreed-before : (contents : FileContents) (size : ℕ) (more calls : List FileCall) → AgreesEach contents size (more ++ calls) → AgreesEach contents size calls
-agreed-before contents size [] calls agrees = agrees
-agreed-before contents size (c ∷ more) calls agrees = agreed-before contents size more calls agrees.1
-
 -- what was read ahead asked for bytes alone
 pub reads-ask : (area : Area) (at size : ℕ) (bytes : List ℕ) (count : ℕ) → AllByRecursion IsReading (reads_of area at size bytes count)
 reads-ask area at size bytes zero = tt
 reads-ask area at size bytes (suc k) = (tt, reads-ask area at size bytes k)
-
--- the block at the place of block n + k
-place-of : (n k size : ℕ) → 0 < size → (n * size + k * size) / size ≡ n + k
-place-of n k size some = ap (λ (p : ℕ). p / size) (sym (add-mul n k size)) ∙ mul-div_cancel (n + k) some
-
--- one number is another, or below it
-either : (a b : ℕ) → a ≤ b → (a ≡ b) ⊎ (a < b)
-either a b le = grind arith
 
 -- the last block that was read ahead, or one before it
 last-or-before : (contents : FileContents) (size : ℕ) (calls : List FileCall) (n : ℕ) (bytes : List ℕ) (m : ℕ) → 0 < size → (k : ℕ) →
@@ -68,25 +61,148 @@ ahead-reads contents size calls n bytes zero some k none agrees = absurd (omega 
 ahead-reads contents size calls n bytes (suc m) some k below agrees =
     last-or-before contents size calls n bytes m some k agrees (λ less. ahead-reads contents size calls n bytes m some k less agrees.1) (either k m (omega arith))
 
--- what is kept stays kept behind calls that ask for bytes
-pub kept-reading : (contents : FileContents) (size : ℕ) (more calls : List FileCall) (a : Ahead) → AllByRecursion IsReading more → KeepsAhead contents size calls a →
-    KeepsAhead contents size (more ++ calls) a
-kept-reading contents size more calls a all keeps = record {
+-- what is kept stays kept behind calls that ask for bytes, whatever is gathered
+pub kept-under : (contents : FileContents) (size : ℕ) (g : Gathered) (more calls : List FileCall) (a : Ahead) → AllByRecursion IsReading more → KeepsAhead contents size (due_of size g ++ calls) a →
+    KeepsAhead contents size (due_of size g ++ (more ++ calls)) a
+kept-under contents size g more calls a all keeps =
+    let due : List FileCall = due_of size g in
+    record {
+      fits = keeps.fits;
+      reads = λ k below agrees.
+          keeps.reads k below (writes-agree contents g.area (g.first * size) size g.bytes.items g.count calls (agreed-before contents size more calls (agreed-before contents size due (more ++ calls) agrees)))
+          ∙ ap (λ (x : FileMoments). (x.disk Log (a.first + k)).reads) (sym (over-same contents size due (more ++ calls) calls (readings-leave contents size more calls all)));
+    }
+
+-- and so does what is kept of the log where none of its blocks is gathered
+pub kept-over : (contents : FileContents) (size : ℕ) (g : Gathered) (calls : List FileCall) (a : Ahead) → 0 < size → IsFreeOf g Log → KeepsAhead contents size calls a →
+    KeepsAhead contents size (due_of size g ++ calls) a
+kept-over contents size g calls a some free keeps = record {
   fits = keeps.fits;
   reads = λ k below agrees.
-      keeps.reads k below (agreed-before contents size more calls agrees)
-      ∙ ap (λ (x : FileMoments). (x.disk Log (a.first + k)).reads) (sym (readings-leave contents size more calls all));
+      keeps.reads k below (agreed-before contents size (due_of size g) calls agrees)
+      ∙ ap (λ (c : Cell). c.reads) (sym (apart-cell contents size calls g.area g.first g.bytes.items g.count some Log (a.first + k) (free-apart g Log (a.first + k) free)));
 }
+
+-- a write to home, and a call that failed with what was gathered, leave it
+pub kept-home : (contents : FileContents) (size : ℕ) (calls : List FileCall) (a : Ahead) (at : ℕ) (bytes : List ℕ) → KeepsAhead contents size calls a → KeepsAhead contents size (Wrote Home at bytes ∷ calls) a
+kept-home contents size calls a at bytes keeps = record { fits = keeps.fits; reads = λ k below agrees. keeps.reads k below agrees.1 }
+
+pub kept-failed : (contents : FileContents) (size : ℕ) (g : Gathered) (calls : List FileCall) (a : Ahead) (area : Area) (at : ℕ) (bytes : List ℕ) → KeepsAhead contents size (due_of size g ++ calls) a →
+    KeepsAhead contents size (due_of size g ++ (GatheredFailed area at bytes ∷ calls)) a
+kept-failed contents size g calls a area at bytes keeps =
+    let due : List FileCall = due_of size g in
+    let failed : List FileCall = GatheredFailed area at bytes ∷ calls in
+    record {
+      fits = keeps.fits;
+      reads = λ k below agrees.
+          keeps.reads k below (writes-agree contents g.area (g.first * size) size g.bytes.items g.count calls (agreed-before contents size due failed agrees).1)
+          ∙ ap (λ (x : FileMoments). (x.disk Log (a.first + k)).reads) (sym (over-same contents size due failed calls refl));
+    }
 
 -- where none is kept, all that is kept is right
 pub kept-none : (contents : FileContents) (size : ℕ) (calls : List FileCall) (a : Ahead) → a.count ≡ 0 → KeepsAhead contents size calls a
 kept-none contents size calls a none = record { fits = rw none (omega arith); reads = λ k below agrees. absurd (omega arith) }
 
+-- what is kept where a block of an area is written, and where none is
+pub forgotten-wrote : (contents : FileContents) (size : ℕ) (calls : List FileCall) (area : Area) (at : ℕ) (bytes : List ℕ) (old new : Ahead) → IsForgotten area old new → KeepsAhead contents size calls old →
+    KeepsAhead contents size (Wrote area at bytes ∷ calls) new
+forgotten-wrote contents size calls Log at bytes old new is keeps =
+    subst (KeepsAhead contents size (Wrote Log at bytes ∷ calls)) (sym is) (kept-none contents size (Wrote Log at bytes ∷ calls) (record old { count = 0 }) refl)
+forgotten-wrote contents size calls Home at bytes old new is keeps =
+    subst (KeepsAhead contents size (Wrote Home at bytes ∷ calls)) (sym is) (kept-home contents size calls old at bytes keeps)
+
+pub forgotten-kept : (contents : FileContents) (size : ℕ) (calls : List FileCall) (area : Area) (old new : Ahead) → IsForgotten area old new → KeepsAhead contents size calls old →
+    KeepsAhead contents size calls new
+forgotten-kept contents size calls Log old new is keeps = subst (KeepsAhead contents size calls) (sym is) (kept-none contents size calls (record old { count = 0 }) refl)
+forgotten-kept contents size calls Home old new is keeps = subst (KeepsAhead contents size calls) (sym is) keeps
+
+-- a block of an area ends at a number of the system
+pub small-place : (area : Area) (size log home n : ℕ) → log < 18446744073709551616 → home < 18446744073709551616 →
+    n < blocks_in (record { block_size = size; log_blocks = log / size; home_blocks = home / size }) area → n * size + size < 18446744073709551616
+small-place Log size log home n few_log few_home there = omega (arith, block-within n (log / size) size there, div-mul-le_self log size)
+small-place Home size log home n few_log few_home there = omega (arith, block-within n (home / size) size there, div-mul-le_self home size)
+
+-- one more block is gathered, or none
+pub gather-kept : (contents : FileContents) (size : ℕ) (calls : List FileCall) (g more : Gathered) (a b : Ahead) (area : Area) (n : ℕ) (bytes : List ℕ) (taken : Bool) → length bytes ≡ size → n * size + size < 18446744073709551616 →
+    KeepsBlocks size (due_of size g ++ calls) → KeepsAhead contents size (due_of size g ++ calls) a → KeepsGathered size g → IsForgotten area a b →
+    (IsTrue taken → IsPushed g more area n bytes) → (taken ≡ false → HoldsSame g more) →
+    KeepsBlocks size (due_of size more ++ calls) × KeepsAhead contents size (due_of size more ++ calls) b × KeepsGathered size more
+gather-kept contents size calls g more a b area n bytes true whole small keeps ahead room forgets pushes left =
+    let pushed : IsPushed g more area n bytes = pushes refl in
+    let due : due_of size more ≡ Wrote area (n * size) bytes ∷ due_of size g = pushed-due size g more area n bytes whole room.whole pushed in
+    let blocks : KeepsBlocks size (Wrote area (n * size) bytes ∷ (due_of size g ++ calls)) = record { some = keeps.some; whole = (whole, keeps.whole) } in
+    let kept : KeepsAhead contents size (Wrote area (n * size) bytes ∷ (due_of size g ++ calls)) b = forgotten-wrote contents size (due_of size g ++ calls) area (n * size) bytes a b forgets ahead in
+    let first : more.first ≡ g.first = ap (λ (x : Gathered). x.first) pushed.rest in
+    let count : more.count ≡ g.count + 1 = ap (λ (x : Gathered). x.count) pushed.rest in
+    let one_more : (g.count + 1) * size ≡ g.count * size + 1 * size = add-mul g.count 1 size in
+    let joined : (g.first + g.count) * size ≡ g.first * size + g.count * size = add-mul g.first g.count size in
+    let place : n * size ≡ (g.first + g.count) * size = ap (λ (p : ℕ). p * size) pushed.behind in (
+      subst (λ (cs : List FileCall). KeepsBlocks size (cs ++ calls)) (sym due) blocks,
+      subst (λ (cs : List FileCall). KeepsAhead contents size (cs ++ calls) b) (sym due) kept,
+      record {
+        whole = rw count (ap (λ (b : List ℕ). length b) pushed.items ∙ omega (arith, length-append g.bytes.items bytes, room.whole, whole, one_more));
+        few = rw count (subst (λ (long : ℕ). (g.count + 1) * long ≤ 65536) whole pushed.room);
+        small = λ some. rw (first, count) (omega (arith, one_more, joined, place, small));
+      },
+    )
+gather-kept contents size calls g more a b area n bytes false whole small keeps ahead room forgets pushes left =
+    let same : HoldsSame g more = left refl in
+    let due : due_of size more ≡ due_of size g = same-due size g more same in
+    let first : more.first ≡ g.first = ap (λ (x : Gathered). x.first) same.rest in
+    let count : more.count ≡ g.count = ap (λ (x : Gathered). x.count) same.rest in (
+      subst (λ (cs : List FileCall). KeepsBlocks size (cs ++ calls)) (sym due) keeps,
+      subst (λ (cs : List FileCall). KeepsAhead contents size (cs ++ calls) b) (sym due) (forgotten-kept contents size (due_of size g ++ calls) area a b forgets ahead),
+      record { whole = rw count (ap (λ (b : List ℕ). length b) same.items ∙ room.whole); few = rw count room.few; small = rw (first, count) room.small },
+    )
+
 -- what was asked for hands over nothing
-pub reads-hand : (area : Area) (at size : ℕ) (bytes : List ℕ) (count whole : ℕ) (calls : List FileCall) → AllByRecursion (HandsBlock whole) calls →
-    AllByRecursion (HandsBlock whole) (reads_of area at size bytes count ++ calls)
-reads-hand area at size bytes zero whole calls all = all
-reads-hand area at size bytes (suc k) whole calls all = (tt, reads-hand area at size bytes k whole calls all)
+reading-hands : (size : ℕ) (c : FileCall) → IsReading c → HandsBlock size c
+reading-hands size (Measured area length) is = absurd is
+reading-hands size (Read area at bytes) is = tt
+reading-hands size (ReadFailed area at) is = tt
+reading-hands size (Wrote area at bytes) is = absurd is
+reading-hands size (WriteFailed area at bytes) is = absurd is
+reading-hands size (GatheredFailed area at bytes) is = absurd is
+reading-hands size (Synced area) is = absurd is
+reading-hands size (SyncFailed area) is = absurd is
+
+readings-hand : (size : ℕ) (more calls : List FileCall) → AllByRecursion IsReading more → AllByRecursion (HandsBlock size) calls → AllByRecursion (HandsBlock size) (more ++ calls)
+readings-hand size [] calls all whole = whole
+readings-hand size (c ∷ more) calls all whole = (reading-hands size c all.0, readings-hand size more calls all.1 whole)
+
+pub hand-under : (size : ℕ) (due more calls : List FileCall) → AllByRecursion IsReading more → AllByRecursion (HandsBlock size) (due ++ calls) → AllByRecursion (HandsBlock size) (due ++ (more ++ calls))
+hand-under size [] more calls all whole = readings-hand size more calls all whole
+hand-under size (c ∷ due) more calls all whole = (whole.0, hand-under size due more calls all whole.1)
+
+-- a device that has just read a block keeps what it has to
+pub read-kept : (contents : FileContents) (size : ℕ) (g : Gathered) (calls cs : List FileCall) (a : Ahead) (call : FileCall) → IsReading call → cs ≡ call ∷ calls → KeepsBlocks size (due_of size g ++ calls) → KeepsAhead contents size (due_of size g ++ calls) a →
+    KeepsBlocks size (due_of size g ++ cs) × KeepsAhead contents size (due_of size g ++ cs) a
+read-kept contents size g calls cs a call is noted keeps ahead =
+    rw noted (record { some = keeps.some; whole = hand-under size (due_of size g) (call ∷ []) calls (is, tt) keeps.whole }, kept-under contents size g (call ∷ []) calls a (is, tt) ahead)
+
+-- and so does one that has handed on what it gathered
+pub none-due : (size : ℕ) (g : Gathered) → g.count ≡ 0 → due_of size g ≡ []
+none-due size g none = ap (writes_of g.area (g.first * size) size g.bytes.items) none
+
+pub handed-kept : (contents : FileContents) (size : ℕ) (g none : Gathered) (calls cs : List FileCall) (a : Ahead) → none.bytes.items ≡ [] → none.count ≡ 0 → cs ≡ due_of size g ++ calls →
+    KeepsBlocks size (due_of size g ++ calls) → KeepsAhead contents size (due_of size g ++ calls) a →
+    KeepsBlocks size (due_of size none ++ cs) × KeepsAhead contents size (due_of size none ++ cs) a × KeepsGathered size none
+handed-kept contents size g none calls cs a empty count noted keeps ahead =
+    let all : due_of size none ++ cs ≡ due_of size g ++ calls = ap (λ (due : List FileCall). due ++ cs) (none-due size none count) ∙ noted in (
+      subst (KeepsBlocks size) (sym all) keeps,
+      subst (λ (x : List FileCall). KeepsAhead contents size x a) (sym all) ahead,
+      record { whole = rw (empty, count) (omega arith); few = rw count (omega arith); small = λ some. absurd (omega arith) },
+    )
+
+-- or failed to
+failed-hand : (size : ℕ) (due calls : List FileCall) (area : Area) (at : ℕ) (bytes : List ℕ) → AllByRecursion (HandsBlock size) (due ++ calls) → AllByRecursion (HandsBlock size) (due ++ (GatheredFailed area at bytes ∷ calls))
+failed-hand size [] calls area at bytes whole = (tt, whole)
+failed-hand size (c ∷ due) calls area at bytes whole = (whole.0, failed-hand size due calls area at bytes whole.1)
+
+pub failed-kept : (contents : FileContents) (size : ℕ) (g : Gathered) (calls cs : List FileCall) (a : Ahead) (area : Area) (at : ℕ) (bytes : List ℕ) → cs ≡ GatheredFailed area at bytes ∷ calls →
+    KeepsBlocks size (due_of size g ++ calls) → KeepsAhead contents size (due_of size g ++ calls) a → KeepsBlocks size (due_of size g ++ cs) × KeepsAhead contents size (due_of size g ++ cs) a
+failed-kept contents size g calls cs a area at bytes noted keeps ahead =
+    rw noted (record { some = keeps.some; whole = failed-hand size (due_of size g) calls area at bytes keeps.whole }, kept-failed contents size g calls a area at bytes ahead)
 
 -- blocks that were just read ahead are kept rightly
 pub kept-ahead : (contents : FileContents) (size : ℕ) (calls : List FileCall) (n : ℕ) (bytes : List ℕ) (count : ℕ) (a : Ahead) → 0 < size → length bytes ≡ count * size →
@@ -105,20 +221,24 @@ kept-ahead contents size calls n bytes count a some long is_bytes is_first is_co
     }
 
 -- a device that has just read ahead keeps what it has to
-pub read-ahead-kept : (contents : FileContents) (size : ℕ) (calls cs : List FileCall) (n at count : ℕ) (a : Ahead) (bytes : List ℕ) → KeepsBlocks size calls → at ≡ n * size →
+pub read-ahead-kept : (contents : FileContents) (size : ℕ) (g : Gathered) (calls cs : List FileCall) (n at count : ℕ) (a : Ahead) (bytes : List ℕ) → IsFreeOf g Log → KeepsBlocks size (due_of size g ++ calls) → at ≡ n * size →
     length bytes ≡ count * size → cs ≡ reads_of Log at size bytes (length bytes / size) ++ calls → a.bytes.items ≡ bytes → a.first ≡ n → a.count ≡ count →
-    KeepsBlocks size cs × KeepsAhead contents size cs a
-read-ahead-kept contents size calls cs n at count a bytes keeps place whole noted is_bytes is_first is_count =
+    KeepsBlocks size (due_of size g ++ cs) × KeepsAhead contents size (due_of size g ++ cs) a
+read-ahead-kept contents size g calls cs n at count a bytes free keeps place whole noted is_bytes is_first is_count =
+    let asked : List FileCall = reads_of Log (n * size) size bytes (length bytes / size) in
     rw (noted, place) (
-      record { some = keeps.some; whole = reads-hand Log (n * size) size bytes (length bytes / size) size calls keeps.whole },
-      kept-ahead contents size calls n bytes count a keeps.some whole is_bytes is_first is_count,
+      record { some = keeps.some; whole = hand-under size (due_of size g) asked calls (reads-ask Log (n * size) size bytes (length bytes / size)) keeps.whole },
+      kept-over contents size g (asked ++ calls) a keeps.some free (kept-ahead contents size calls n bytes count a keeps.some whole is_bytes is_first is_count),
     )
 
 -- and so does one whose reading ahead failed
-pub failed-ahead-kept : (contents : FileContents) (size : ℕ) (calls cs : List FileCall) (at : ℕ) (a : Ahead) → KeepsBlocks size calls →
-    cs ≡ ReadFailed Log at ∷ calls → a.count ≡ 0 → KeepsBlocks size cs × KeepsAhead contents size cs a
-failed-ahead-kept contents size calls cs at a keeps noted none =
-    rw noted (record { some = keeps.some; whole = (tt, keeps.whole) }, kept-none contents size (ReadFailed Log at ∷ calls) a none)
+pub failed-ahead-kept : (contents : FileContents) (size : ℕ) (g : Gathered) (calls cs : List FileCall) (at : ℕ) (a : Ahead) → KeepsBlocks size (due_of size g ++ calls) →
+    cs ≡ ReadFailed Log at ∷ calls → a.count ≡ 0 → KeepsBlocks size (due_of size g ++ cs) × KeepsAhead contents size (due_of size g ++ cs) a
+failed-ahead-kept contents size g calls cs at a keeps noted none =
+    rw noted (
+      record { some = keeps.some; whole = hand-under size (due_of size g) (ReadFailed Log at ∷ []) calls (tt, tt) keeps.whole },
+      kept-none contents size (due_of size g ++ (ReadFailed Log at ∷ calls)) a none,
+    )
 
 -- a fact of each of some calls and of each of others is one of each of both
 all-append : (P : FileCall → Type 0) (more calls : List FileCall) → AllByRecursion P more → AllByRecursion P calls → AllByRecursion P (more ++ calls)
@@ -144,7 +264,13 @@ failed-behind {old} {mid} {new} {area} n first then =
 pub read-leaves : (contents : FileContents) {old new : FileState} → HasRead old new → file_state contents new ≡ file_state contents old
 read-leaves contents {old} {new} read =
     ap (file_state contents) read.after
-    ∙ ap (λ (m : FileMoments). record (file_state contents old) { disk = m.disk; past = m.past }) (readings-leave contents old.block_size read.calls old.calls read.readings)
+    ∙ ap (λ (m : FileMoments). record (file_state contents old) { disk = m.disk; past = m.past })
+    (over-same contents old.block_size old.gathered (read.calls ++ old.calls) old.calls (readings-leave contents old.block_size read.calls old.calls read.readings))
+
+-- and so are its files
+pub files-leave : (contents : FileContents) {old new : FileState} → HasRead old new → files_disk contents new ≡ files_disk contents old
+files-leave contents {old} {new} read =
+    ap (files_disk contents) read.after ∙ ap (λ (m : FileMoments). m.disk) (readings-leave contents old.block_size read.calls old.calls read.readings)
 
 -- whole blocks from a place of a file on end within it
 pub span-fits : (n size long room count at span : ℕ) → n < long / size → count ≡ min room (long / size - n) → at ≡ n * size → span ≤ count * size → at + span ≤ long
@@ -183,12 +309,14 @@ read-stays contents read = record {
 }
 
 pub failed-stays : (contents : FileContents) {old new : FileState} {area : Area} {at : ℕ} → HasFailedRead old new area at → Stays (file_state contents old) (file_state contents new)
-failed-stays contents {old} {new} read =
+failed-stays contents {old} {new} {area} {at} read =
     let before : Stays (file_state contents old) (file_state contents read.before) = read-stays contents read.asked_before in
+    let same : after_calls contents read.before.block_size (read.before.gathered ++ (ReadFailed area at ∷ read.before.calls)) ≡ after_calls contents read.before.block_size (asked_calls read.before) =
+    over-same contents read.before.block_size read.before.gathered (ReadFailed area at ∷ read.before.calls) read.before.calls refl in
     record {
       shape = ap (λ (s : FileState). (file_state contents s).shape) read.after ∙ before.shape;
-      disk = ap (λ (s : FileState). (file_state contents s).disk) read.after ∙ before.disk;
-      past = ap (λ (s : FileState). (file_state contents s).past) read.after ∙ before.past;
+      disk = ap (λ (s : FileState). (file_state contents s).disk) read.after ∙ ap (λ (m : FileMoments). m.disk) same ∙ before.disk;
+      past = ap (λ (s : FileState). (file_state contents s).past) read.after ∙ ap (λ (m : FileMoments). m.past) same ∙ before.past;
     }
 
 -- where each read so far gave what the disk had, so did those before it

@@ -1,21 +1,13 @@
 -- Blocks of a log file that were read before they were asked for. This project's own.
-use Rattle.std.specs.Prelude.{◌≡◌, ℕ, zero, suc, ◌+◌, ◌*◌, ◌<◌, ◌≤◌, List, [], ◌∷◌, ◌++◌, length, take, drop, ⊤}
+use Rattle.std.specs.Prelude.{◌≡◌, ℕ, ◌+◌, ◌*◌, ◌<◌, ◌≤◌, List, ◌∷◌, ◌++◌, length, ⊤}
 use Rattle.std.specs.List.{AllByRecursion}
 use Rattle.journal_model.specs.declared.number.Area.{Area}
-use Rattle.journal_model.specs.declared.number.Area.TheVariants.{Log}
+use Rattle.journal_model.specs.declared.number.Area.TheVariants.{Log, Home}
 use Rattle.block_device.specs.State.{one_more_fault}
 use Rattle.file_device.specs.declared.ahead.Ahead.{Ahead}
-use Rattle.file_device.specs.Calls.{FileCall, Measured, Read, ReadFailed, Wrote, WriteFailed, Synced, SyncFailed}
+use Rattle.file_device.specs.Calls.{FileCall, Measured, Read, ReadFailed, Wrote, WriteFailed, GatheredFailed, Synced, SyncFailed}
+use Rattle.file_device.specs.Blocks.{block_of}
 use Rattle.file_device.specs.Files.{AgreesEach, FileContents, FileState, after_calls}
-
--- block k of some bytes, for blocks of this size
-abbrev pub block_of : ℕ → List ℕ → ℕ → List ℕ
-block_of size bytes k = take size (drop (k * size) bytes)
-
--- the first so many blocks of these bytes, which came from this place on, noted one by one
-abbrev pub reads_of : Area → ℕ → ℕ → List ℕ → ℕ → List FileCall
-reads_of area at size bytes zero = []
-reads_of area at size bytes (suc k) = Read area (at + k * size) (block_of size bytes k) ∷ reads_of area at size bytes k
 
 -- the call asked for bytes alone
 abbrev pub IsReading : FileCall → Type 0
@@ -24,6 +16,7 @@ IsReading (Read area at bytes) = ⊤
 IsReading (ReadFailed area at) = ⊤
 IsReading (Wrote area at bytes) = ⊥
 IsReading (WriteFailed area at bytes) = ⊥
+IsReading (GatheredFailed area at bytes) = ⊥
 IsReading (Synced area) = ⊥
 IsReading (SyncFailed area) = ⊥
 
@@ -44,3 +37,8 @@ pub record KeepsAhead (contents : FileContents) (size : ℕ) (calls : List FileC
   pub fits : a.count * size ≤ length a.bytes.items
   pub reads : (k : ℕ) → k < a.count → AgreesEach contents size calls →
       block_of size a.bytes.items k ≡ ((after_calls contents size calls).disk Log (a.first + k)).reads
+
+-- nothing is kept of a log that is written; where home is, all stays
+abbrev pub IsForgotten : Area → Ahead → Ahead → Type 0
+IsForgotten Log old new = new ≡ record old { count = 0 }
+IsForgotten Home old new = new ≡ old

@@ -9,5 +9,6 @@ pub data FileCall : Type 0 where
   ReadFailed : Area → ℕ → FileCall  -- bytes were asked for from this place on, and the call failed
   Wrote : Area → ℕ → List ℕ → FileCall  -- these bytes were taken, from this place on
   WriteFailed : Area → ℕ → List ℕ → FileCall  -- these bytes were handed over for this place, and the call failed
+  GatheredFailed : Area → ℕ → List ℕ → FileCall  -- these bytes of blocks that the device had taken were handed over at once, and the call failed
   Synced : Area → FileCall  -- the file was synced
   SyncFailed : Area → FileCall  -- it was to be synced, and the call failed

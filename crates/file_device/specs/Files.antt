@@ -1,5 +1,5 @@
 -- A device over files: what its calls make of the disk, and when their answers agree with it. This project's own.
-use Rattle.std.specs.Prelude.{◌≡◌, ℕ, ◌-◌, ◌/◌, ◌<◌, Bool, true, false, if◌then◌else◌, List, [], ◌∷◌, ◌++◌, length, map, take, replicate, Option, Result, IsErr, ⊤}
+use Rattle.std.specs.Prelude.{◌≡◌, ◌⊎◌, ℕ, ◌-◌, ◌/◌, ◌*◌, ◌<◌, ◌≤◌, Bool, true, false, if◌then◌else◌, List, [], ◌∷◌, ◌++◌, length, map, take, replicate, Option, Result, IsErr, ⊤}
 use Rattle.std.specs.List.{AllByRecursion}
 use Rattle.std.specs.declared.fs.File.{File}
 use Rattle.journal_model.specs.declared.number.Area.{Area}
@@ -7,7 +7,8 @@ use Rattle.journal_model.specs.declared.number.Area.TheVariants.{Log, Home}
 use Rattle.journal_model.specs.Disk.{Disk, Cell, written, handed_over, flushed}
 use Rattle.journal_model.specs.Superblock.{Shape}
 use Rattle.block_device.specs.State.{DeviceState, one_more_call, one_more_fault}
-use Rattle.file_device.specs.Calls.{FileCall, Measured, Read, ReadFailed, Wrote, WriteFailed, Synced, SyncFailed}
+use Rattle.file_device.specs.Calls.{FileCall, Measured, Read, ReadFailed, Wrote, WriteFailed, GatheredFailed, Synced, SyncFailed}
+use Rattle.file_device.specs.Blocks.{writes_of}
 
 -- what is supposed of the files of one device
 pub record FileContents : Type 0 where
@@ -21,7 +22,8 @@ pub record FileState : Type 0 where
   pub home_file : Option File
   pub log_bytes : ℕ  -- the lengths of the files when the device was made; 0 where there is no home file
   pub home_bytes : ℕ
-  pub calls : List FileCall  -- those on its files, newest first
+  pub gathered : List FileCall  -- the writes of blocks that it took and has not handed to their file yet, newest first
+  pub calls : List FileCall  -- those that it made on its files, newest first
   pub has_failed : Bool  -- a write or a flush has failed
   pub faults : ℕ
   pub calls_made : ℕ  -- of the device, those that it refused too
@@ -50,6 +52,9 @@ after_call contents size m (ReadFailed area at) = m
 after_call contents size m (Wrote area at bytes) = moved m (written m.disk area (at / size) bytes)
 after_call contents size m (WriteFailed area at bytes) =
     moved m (if contents.failed_write_reads then written m.disk area (at / size) bytes else handed_over m.disk area (at / size) bytes)
+-- the device goes on to hold these blocks itself: they read as they were taken, and that a crash may leave them, or what they
+-- replaced, is what each of them has been a write for already
+after_call contents size m (GatheredFailed area at bytes) = m
 after_call contents size m (Synced area) = moved m (flushed m.disk area)
 after_call contents size m (SyncFailed area) = m
 
@@ -65,6 +70,7 @@ Agrees size m (Read area at bytes) = bytes ≡ (m.disk area (at / size)).reads
 Agrees size m (ReadFailed area at) = ⊤
 Agrees size m (Wrote area at bytes) = ⊤
 Agrees size m (WriteFailed area at bytes) = ⊤
+Agrees size m (GatheredFailed area at bytes) = ⊤
 Agrees size m (Synced area) = ⊤
 Agrees size m (SyncFailed area) = ⊤
 
@@ -82,11 +88,28 @@ bytes_in s Home = s.home_bytes
 abbrev pub file_shape : FileState → Shape
 file_shape s = record { block_size = s.block_size; log_blocks = s.log_bytes / s.block_size; home_blocks = s.home_bytes / s.block_size }
 
--- the device as contracts see it
+-- all that was asked of the device: the calls that it made, and those that are still due
+abbrev pub asked_calls : FileState → List FileCall
+asked_calls s = s.gathered ++ s.calls
+
+-- the disk that the files alone are
+abbrev pub files_disk : FileContents → FileState → Disk
+files_disk contents s = (after_calls contents s.block_size s.calls).disk
+
+-- the device as contracts see it: what it gathered counts as written
 abbrev pub file_state : FileContents → FileState → DeviceState
 file_state contents s =
-    let m = after_calls contents s.block_size s.calls in
+    let m = after_calls contents s.block_size (asked_calls s) in
     record { shape = file_shape s; disk = m.disk; past = m.past; faults = s.faults; calls = s.calls_made }
+
+-- what is gathered: writes of blocks of one area that follow one another, 64 KiB at most
+pub record GathersRun (s : FileState) : Type 0 where
+  pub area : Area
+  pub at : ℕ
+  pub bytes : List ℕ
+  pub count : ℕ
+  pub are : s.gathered ≡ writes_of area at s.block_size bytes count
+  pub few : count * s.block_size ≤ 65536
 
 -- the premise: nobody else wrote the files, and they gave what they had
 abbrev pub HasAgreed : FileContents → FileState → Type 0
@@ -99,6 +122,7 @@ HandsBlock size (Read area at bytes) = ⊤
 HandsBlock size (ReadFailed area at) = ⊤
 HandsBlock size (Wrote area at bytes) = length bytes ≡ size
 HandsBlock size (WriteFailed area at bytes) = length bytes ≡ size
+HandsBlock size (GatheredFailed area at bytes) = ⊤
 HandsBlock size (Synced area) = ⊤
 HandsBlock size (SyncFailed area) = ⊤
 
@@ -116,6 +140,7 @@ new_device size log home log_bytes home_bytes =
       home_file = home;
       log_bytes = log_bytes;
       home_bytes = home_bytes;
+      gathered = [];
       calls = Measured Home home_bytes ∷ Measured Log log_bytes ∷ [];
       has_failed = false;
       faults = 0;
@@ -134,6 +159,31 @@ asked s call = record (counted s) { calls = call ∷ s.calls }
 abbrev pub failed_for_good : FileState → FileCall → FileState
 failed_for_good s call =
     record (counted s) { calls = call ∷ s.calls; has_failed = true; faults = one_more_fault s.faults }
+
+-- the device has handed on what it gathered
+abbrev pub handed_on : FileState → FileState
+handed_on s = record s { gathered = []; calls = s.gathered ++ s.calls }
+
+-- it was to hand on what it gathered, in one call, and that failed: it keeps these blocks, and nothing is written or flushed
+-- from then on
+pub record FailsToHandOn (old new : FileState) : Type 0 where
+  pub area : Area
+  pub at : ℕ
+  pub bytes : List ℕ
+  pub were : old.gathered ≡ writes_of area at old.block_size bytes (length bytes / old.block_size)
+  pub after : new ≡ record old { calls = GatheredFailed area at bytes ∷ old.calls; has_failed = true; faults = one_more_fault old.faults }
+
+-- One more write was asked for. Of the writes that are due some were made, the oldest ones, in their order, and all others are
+-- gathered: none is lost, and none is made twice.
+pub record Takes (old new : FileState) (call : FileCall) : Type 0 where
+  pub made : List FileCall
+  pub calls : new.calls ≡ made ++ old.calls
+  pub due : new.gathered ++ made ≡ call ∷ old.gathered
+  pub rest : new ≡ record (counted old) { gathered = new.gathered; calls = new.calls }
+
+-- the device was to hand on what it gathered and failed; or it did that, and then failed at this call
+abbrev pub FailsAt : FileState → FileState → FileCall → Type 0
+FailsAt old new call = FailsToHandOn (counted old) new ⊎ (new ≡ failed_for_good (handed_on old) call)
 
 -- once a write or a flush has failed, a call answers a fault, and only the counts of failures and of calls have changed
 abbrev pub IsRefused : {T E : Type 0} → Result T E → FileState → FileState → Type 0

@@ -1,5 +1,5 @@
 -- The call that a note tells of.
-use Rattle.file_device.specs.Calls.{FileCall, Measured, Read, ReadFailed, Wrote, WriteFailed, Synced, SyncFailed}
+use Rattle.file_device.specs.Calls.{FileCall, Measured, Read, ReadFailed, Wrote, WriteFailed, GatheredFailed, Synced, SyncFailed}
 use Rattle.file_device.specs.declared.history.Note.{Note}
 use Rattle.file_device.specs.declared.history.Note.TheVariants as note
 
@@ -9,5 +9,6 @@ call_of (note.Read area at bytes) = Read area at bytes.now
 call_of (note.ReadFailed area at) = ReadFailed area at
 call_of (note.Wrote area at bytes) = Wrote area at bytes.now
 call_of (note.WriteFailed area at bytes) = WriteFailed area at bytes.now
+call_of (note.GatheredFailed area at bytes) = GatheredFailed area at bytes.now
 call_of (note.Synced area) = Synced area
 call_of (note.SyncFailed area) = SyncFailed area

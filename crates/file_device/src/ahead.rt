@@ -1,7 +1,9 @@
 //! Blocks of a log file that were read before they were asked for.
 ghost use Rattle.std.specs.Prelude.{◌≡◌, ◌+◌, ◌*◌, ◌<◌, ◌≤◌, length, IfSome};
-ghost use Rattle.file_device.specs.Ahead.{block_of};
+ghost use Rattle.file_device.specs.Ahead.{IsForgotten};
+ghost use Rattle.file_device.specs.Blocks.{block_of};
 
+use journal_model::Area;
 use std::alloc::Global;
 
 /// How many bytes are read at once.
@@ -47,6 +49,15 @@ impl Ahead {
             Some(place)
         } else {
             None
+        }
+    }
+
+    /// Lets go what is kept where the log is to be written.
+    pub(crate) fn forget(&mut self, area: Area)
+        ensures { IsForgotten area self.old self.new }
+    {
+        if let Area::Log = area {
+            self.count = 0;
         }
     }
 

@@ -3,7 +3,7 @@
 //! have to be read.
 ghost use Rattle.std.specs.Prelude.{◌≡◌, ◌+◌, ◌/◌, ◌<◌, ◌^◌, length, [], option_map, IsNone, IfOk, IfErr, OnOk, OnErr};
 ghost use Rattle.journal_model.specs.declared.number.Area.TheVariants.{Home};
-ghost use Rattle.file_device.specs.Calls.{Measured, Read, ReadFailed, Wrote, WriteFailed, Synced, SyncFailed};
+ghost use Rattle.file_device.specs.Calls.{Measured, Read, ReadFailed, Wrote, WriteFailed, GatheredFailed, Synced, SyncFailed};
 
 use crate::history::{History, Note};
 use crate::unmeasured::Unmeasured;
@@ -21,7 +21,7 @@ pub(crate) struct NotedFiles {
 }
 
 impl NotedFiles {
-    ghost use Rattle.file_device.specs.Ahead.{reads_of};
+    ghost use Rattle.file_device.specs.Blocks.{reads_of, writes_of};
     ghost use Rattle.file_device.specs.NotedFiles.{file_of, with_call, with_calls};
 
     pub(crate) fn new(log: File, home: Option<File>) -> NotedFiles
@@ -130,6 +130,37 @@ impl NotedFiles {
             Ok(()) => self.history.then(&Note::Wrote(area, at, bytes)),
             Err(_) => self.history.then(&Note::WriteFailed(area, at, bytes)),
         };
+        answer
+    }
+
+    /// Writes whole blocks into the file of an area, from byte `at` on, by one call. It is noted as a write of each of them, or as
+    /// one call that failed.
+    pub(crate) fn write_blocks(
+        &mut self,
+        area: Area,
+        at: u64,
+        size: usize,
+        bytes: &[u8],
+    ) -> io::Result<()>
+        requires some { 0 < size }
+        requires small { at + length bytes.now < 2 ^ 64 }
+        ensures ok { OnOk result (self.new ≡ with_calls self.old (writes_of area at size bytes.now (length bytes.now / size))) }
+        ensures err { OnErr result (self.new ≡ with_call self.old (GatheredFailed area at bytes.now)) }
+    {
+        let answer = match self.file(area) {
+            Some(file) => file.write_all_at(bytes, at),
+            None => Err(io::ErrorKind::NotFound.into()),
+        };
+        if answer.is_err() {
+            self.history = self.history.then(&Note::GatheredFailed(area, at, bytes));
+            return answer;
+        }
+        for k in 0..bytes.len() / size {
+            let block = &bytes[k * size..k * size + size];
+            self.history = self
+                .history
+                .then(&Note::Wrote(area, at + (k * size) as u64, block));
+        }
         answer
     }
 

@@ -9,7 +9,8 @@
 //! - A file gives back what it took, and nobody else writes it while the device is there. Where a read shows that it was
 //!   otherwise, `honest` is lost, and with it the clause on the bytes that reads hand out; all other clauses stand.
 //! - A sync that answers Ok has made durable all that the file took, and what it gave.
-//! - A stop leaves each block whole, as it was before a write or after it.
+//! - A stop leaves each block whole, as it was before a write or after it; so does a call that writes several blocks at once and
+//!   fails, or that a stop cuts: each of them by itself, and no other block changes.
 //! - A value of a `Contents` type stands for one pair of files.
 ghost use Rattle.std.specs.Prelude.{◌≡◌, ◌<◌, ◌*◌, ◌/◌, ◌↔◌, false, true, IsOk, OnOk, OnErr};
 ghost use Rattle.block_device.specs.State.{one_more_fault};
@@ -17,6 +18,7 @@ ghost use Rattle.file_device.specs.Files.{FileContents, counted};
 
 use crate::ahead::{Ahead, MOST_BYTES, copy_block};
 use crate::calls::NotedFiles;
+use crate::gathered::Gathered;
 use crate::unmeasured::Unmeasured;
 use block_device::{Device, DeviceFault};
 use journal_model::Area;
@@ -51,13 +53,23 @@ impl Contents for UnknownContents {
 /// has nothing to flush.
 ///
 /// A reader that goes over the log from block to block, and leaves out a few at most, is handed them from a buffer of 64 KiB,
-/// which one call of the system fills. A write to the log, and each flush, empties it. That buffer is all the memory that a device
-/// takes; where there is none for it, nothing is read ahead.
+/// which one call of the system fills. A write to the log, and each flush, empties it.
+///
+/// Writes that go over an area from block to block are gathered in a buffer of 64 KiB, and one call of the system writes them:
+/// when a write of another block comes, or a flush of either area, or when the device is let go. To the log each write is
+/// gathered, and to home each but the first of blocks that follow one another. A gathered block is read from the buffer. A
+/// failure shows in the write or the flush that writes what was gathered, and those blocks are then read from the buffer for good;
+/// a failure when the device is let go shows nowhere: flush before that. A program that is killed loses what is gathered, which
+/// no flush has promised, and none of what was written before it. Whoever else opens a file finds a gathered block there once it
+/// is written, at the latest behind a flush; so let a device go before its files are opened again, or it writes over what was
+/// done there.
+///
+/// These two buffers are all the memory that a device takes; where there is none for them, nothing is read ahead, and each block
+/// is written by itself.
 ///
 /// After a write or a flush that failed each further write and flush answers a fault and makes no call, since the
 /// system may have dropped what it was handed: open the files again to see what is there. A read that fails changes
 /// nothing, and the device goes on.
-#[derive(Drop)]
 pub struct FileDevice<C: Contents> {
     contents: PhantomData<C>,
     files: NotedFiles,
@@ -68,6 +80,27 @@ pub struct FileDevice<C: Contents> {
     faults: u64,
     calls_made: u64,
     ahead: Ahead,
+    gathered: Gathered,
+}
+
+impl<C: Contents> Drop for FileDevice<C> {
+    fn drop(mut self) {
+        if !self.has_failed {
+            let _ = self.hand_on();
+        }
+        let FileDevice {
+            contents: _,
+            files: _,
+            size: _,
+            log_bytes: _,
+            home_bytes: _,
+            has_failed: _,
+            faults: _,
+            calls_made: _,
+            ahead: _,
+            gathered: _,
+        } = self;
+    }
 }
 
 impl<C: Contents> Model for FileDevice<C> {
@@ -75,8 +108,10 @@ impl<C: Contents> Model for FileDevice<C> {
 
     ghost Value = { FileState };
 
+    ghost use Rattle.std.specs.Prelude.{◌++◌};
     ghost use Rattle.file_device.specs.NotedFiles.{calls_of};
     ghost use Rattle.file_device.specs.Ahead.{KeepsAhead};
+    ghost use Rattle.file_device.specs.Gathered.{KeepsGathered, due_of};
     ghost use Rattle.file_device.specs.Files.{KeepsBlocks};
 
     ghost view = { λ d. record {
@@ -85,13 +120,17 @@ impl<C: Contents> Model for FileDevice<C> {
       home_file = d.files.home;
       log_bytes = d.log_bytes;
       home_bytes = d.home_bytes;
+      gathered = due_of d.size d.gathered;
       calls = calls_of d.files;
       has_failed = d.has_failed;
       faults = d.faults;
       calls_made = d.calls_made;
     } };
 
-    ghost invariant = { λ d. KeepsBlocks d.size (calls_of d.files) × KeepsAhead C.contents d.size (calls_of d.files) d.ahead };
+    ghost invariant = { λ d.
+        KeepsBlocks d.size (due_of d.size d.gathered ++ calls_of d.files)
+        × KeepsAhead C.contents d.size (due_of d.size d.gathered ++ calls_of d.files) d.ahead
+        × KeepsGathered d.size d.gathered };
 }
 
 /// Where block `n` of a file of so many bytes begins, for blocks of `size` bytes.
@@ -104,11 +143,12 @@ fn place_of(n: u64, size: usize, length: u64) -> u64
 }
 
 impl<C: Contents> FileDevice<C> {
-    ghost use Rattle.std.specs.Prelude.{◌≡◌, ◌<◌, length, IfErr, IfOk, IsNone, IsSome, IsTrue, OnErr, OnOk};
-    ghost use Rattle.block_device.specs.State.{blocks_in};
+    ghost use Rattle.std.specs.Prelude.{◌≡◌, ◌<◌, [], ◌∷◌, length, true, IfErr, IfOk, IsNone, IsSome, IsTrue, OnErr, OnOk};
+    ghost use Rattle.block_device.specs.State.{blocks_in, one_more_fault};
     ghost use Rattle.journal_model.specs.declared.number.Area.TheVariants.{Home, Log};
     ghost use Rattle.file_device.specs.Ahead.{HasRead, HasFailedRead};
-    ghost use Rattle.file_device.specs.Files.{HasAgreed, bytes_in, file_shape, file_state, new_device};
+    ghost use Rattle.file_device.specs.Calls.{Wrote, WriteFailed};
+    ghost use Rattle.file_device.specs.Files.{FailsToHandOn, HasAgreed, bytes_in, file_shape, file_state, files_disk, handed_on, new_device};
 
     /// A device with blocks of `block_size` bytes over these files. They are to be two regular files, each open for
     /// reading, and for writing where the device is to be written. What was done to their names and lengths is not synced
@@ -143,6 +183,7 @@ impl<C: Contents> FileDevice<C> {
             faults: 0,
             calls_made: 0,
             ahead: Ahead::new(alloc),
+            gathered: Gathered::new(alloc),
         })
     }
 
@@ -171,11 +212,15 @@ impl<C: Contents> FileDevice<C> {
         true
     }
 
-    /// Reads as many blocks of the log at once as there is room for, from block `n` on. Where there is no memory for them, none.
+    /// Reads as many blocks of the log at once as there is room for, from block `n` on. None is read where blocks of the log are
+    /// gathered, or where there is no memory for them.
     fn read_ahead(&mut self, n: u64)
         requires there { n < (file_shape self.old).log_blocks }
         ensures { HasRead self.old self.new }
     {
+        if !self.gathered.is_free_of(Area::Log) {
+            return;
+        }
         let size = self.size;
         let length = self.length(Area::Log);
         let room = (MOST_BYTES / size) as u64;
@@ -193,10 +238,11 @@ impl<C: Contents> FileDevice<C> {
         ahead.first = n;
     }
 
-    /// Reads a block of the log. Where its reader goes on from block to block, further ones are read with it.
+    /// Reads a block of the log that is not gathered. Where its reader goes on from block to block, further ones are read with it.
     fn read_log(&mut self, n: u64, into: &mut [u8]) -> Result<(), DeviceFault>
         requires block { length into.old ≡ self.old.block_size }
         requires there { n < (file_shape self.old).log_blocks }
+        requires apart { (file_state C.contents self.old).disk Log n ≡ files_disk C.contents self.old Log n }
         ensures bytes { OnOk result (HasAgreed C.contents self.new → into.new ≡ ((file_state C.contents self.old).disk Log n).reads) }
         ensures ok { OnOk result (HasRead self.old self.new) }
         ensures err { OnErr result (HasFailedRead self.old self.new Log (n * self.old.block_size)) }
@@ -214,10 +260,11 @@ impl<C: Contents> FileDevice<C> {
         self.read_block(Area::Log, n, into)
     }
 
-    /// Reads one block.
+    /// Reads one block that is not gathered.
     fn read_block(&mut self, area: Area, n: u64, into: &mut [u8]) -> Result<(), DeviceFault>
         requires block { length into.old ≡ self.old.block_size }
         requires there { n < blocks_in (file_state C.contents self.old).shape area }
+        requires apart { (file_state C.contents self.old).disk area n ≡ files_disk C.contents self.old area n }
         ensures bytes { OnOk result (HasAgreed C.contents self.new → into.new ≡ ((file_state C.contents self.old).disk area n).reads) }
         ensures ok { OnOk result (HasRead self.old self.new) }
         ensures err { OnErr result (HasFailedRead self.old self.new area (n * self.old.block_size)) }
@@ -226,6 +273,93 @@ impl<C: Contents> FileDevice<C> {
         match self.files.read(area, at, into) {
             Ok(()) => Ok(()),
             Err(_) => Err(self.fault()),
+        }
+    }
+
+    /// Hands out block `n` of an area, where it is gathered.
+    fn hand_back(&self, area: Area, n: u64, into: &mut [u8]) -> bool
+        requires block { length into.old ≡ self.now.block_size }
+        ensures bytes { IsTrue result → into.new ≡ ((file_state C.contents self.now).disk area n).reads }
+        ensures apart { result ≡ false → (file_state C.contents self.now).disk area n ≡ files_disk C.contents self.now area n }
+        ensures size { length into.new ≡ length into.old }
+    {
+        let Some(k) = self.gathered.place(area, n) else {
+            return false;
+        };
+        copy_block(&self.gathered.bytes, self.size, k, into);
+        true
+    }
+
+    /// Gathers block `n` of an area, where it comes right behind what is gathered and there is room for it.
+    fn gather(&mut self, area: Area, n: u64, bytes: &[u8]) -> bool
+        requires block { length bytes.now ≡ self.old.block_size }
+        requires there { n < blocks_in (file_state C.contents self.old).shape area }
+        ensures taken { IsTrue result → self.new ≡ record self.old { gathered = Wrote area (n * self.old.block_size) bytes.now ∷ self.old.gathered } }
+        ensures left { result ≡ false → self.new ≡ self.old }
+    {
+        self.ahead.forget(area);
+        self.gathered.push(area, n, bytes)
+    }
+
+    /// Gathers block `n` of the log as the first one. None of home is: a reader of a log may write home in any order.
+    fn gather_first(&mut self, area: Area, n: u64, bytes: &[u8]) -> bool
+        requires none { self.old.gathered ≡ [] }
+        requires block { length bytes.now ≡ self.old.block_size }
+        requires there { n < blocks_in (file_state C.contents self.old).shape area }
+        ensures taken { IsTrue result → self.new ≡ record self.old { gathered = Wrote area (n * self.old.block_size) bytes.now ∷ self.old.gathered } }
+        ensures left { result ≡ false → self.new ≡ self.old }
+    {
+        match area {
+            Area::Log => {
+                self.gathered.begin_at(area, n);
+                self.gather(area, n, bytes)
+            }
+            Area::Home => false,
+        }
+    }
+
+    /// Writes one block.
+    fn write_block(&mut self, area: Area, n: u64, bytes: &[u8]) -> Result<(), DeviceFault>
+        requires none { self.old.gathered ≡ [] }
+        requires block { length bytes.now ≡ self.old.block_size }
+        requires there { n < blocks_in (file_state C.contents self.old).shape area }
+        ensures ok { OnOk result (self.new ≡ record self.old { calls = Wrote area (n * self.old.block_size) bytes.now ∷ self.old.calls }) }
+        ensures err { OnErr result (self.new ≡ record self.old {
+          calls = WriteFailed area (n * self.old.block_size) bytes.now ∷ self.old.calls;
+          has_failed = true;
+          faults = one_more_fault self.old.faults;
+        }) }
+    {
+        self.ahead.forget(area);
+        self.gathered.begin_at(area, n.saturating_add(1));
+        let at = place_of(n, self.size, self.length(area));
+        match self.files.write(area, at, bytes) {
+            Ok(()) => Ok(()),
+            Err(_) => Err(self.fail()),
+        }
+    }
+
+    /// Hands on what is gathered, in one call.
+    fn hand_on(&mut self) -> Result<(), DeviceFault>
+        ensures ok { OnOk result (self.new ≡ handed_on self.old) }
+        ensures err { OnErr result (FailsToHandOn self.old self.new) }
+    {
+        if self.gathered.count == 0 {
+            return Ok(());
+        }
+        let size = self.size;
+        let FileDevice {
+            files,
+            gathered,
+            ..
+        } = self;
+        let at = gathered.first * size as u64;
+        match files.write_blocks(gathered.area, at, size, &gathered.bytes) {
+            Ok(()) => {
+                gathered.begin_at(gathered.area, gathered.first.saturating_add(gathered.count));
+                Ok(())
+            }
+            Err(_) => Err(self.fail()),
         }
     }
 
@@ -248,6 +382,7 @@ impl<C: Contents> FileDevice<C> {
 
     /// Counts a call, and answers a fault where a write or a flush has failed.
     fn check_usable(&mut self) -> Result<(), DeviceFault>
+        ensures some { 0 < self.old.block_size }
         ensures ok { IsOk result ↔ (self.old.has_failed ≡ false) }
         ensures usable { OnOk result (self.new ≡ counted self.old) }
         ensures failed { OnErr result (self.new ≡ record (counted self.old) { faults = one_more_fault self.old.faults }) }
@@ -281,8 +416,8 @@ impl<C: Contents> Device for FileDevice<C> {
     ghost use Rattle.journal_model.specs.Disk.{written, flushed};
     ghost use Rattle.file_device.specs.Ahead.{HasRead, HasFailedRead};
     ghost use Rattle.file_device.specs.Calls.{Wrote, WriteFailed, Synced, SyncFailed};
-    ghost use Rattle.file_device.specs.Files.{asked, failed_for_good, file_state, HasAgreed, IsRefused};
-    ghost use Rattle.block_device.specs.State.{blocks_in, CountsCall, CountsFaults, Stays, Moves, Writes};
+    ghost use Rattle.file_device.specs.Files.{asked, file_state, handed_on, FailsAt, GathersRun, HasAgreed, IsRefused, Takes};
+    ghost use Rattle.block_device.specs.State.{blocks_in, CountsCall, CountsFaults, HoldsWholeBlocks, Stays, Moves, Writes};
 
     ghost state = { λ d. file_state C.contents d };
 
@@ -302,6 +437,9 @@ impl<C: Contents> Device for FileDevice<C> {
         ensures failed { OnErr result (HasFailedRead (counted self.old) self.new area (n * self.old.block_size)) }
     {
         self.count_call();
+        if self.hand_back(area, n, into) {
+            return Ok(());
+        }
         match area {
             Area::Log => self.read_log(n, into),
             Area::Home => self.read_block(Area::Home, n, into),
@@ -317,22 +455,22 @@ impl<C: Contents> Device for FileDevice<C> {
         ensures calls { CountsCall (file_state C.contents self.old) (file_state C.contents self.new) }
         ensures honest { HasAgreed C.contents self.new → HasAgreed C.contents self.old }
 
-        // The file took the bytes at the block's place; or it was handed them there and failed, and nothing is written
-        // or flushed from then on.
-        ensures took { OnOk result (self.new ≡ asked self.old (Wrote area (n * self.old.block_size) bytes.now)) }
+        // The file took the bytes at the block's place, behind all that was gathered, or they are gathered with it; or the file was
+        // handed what was gathered, or else the bytes, and failed, and nothing is written or flushed from then on.
+        ensures took { OnOk result (Takes self.old self.new (Wrote area (n * self.old.block_size) bytes.now)) }
         ensures failed { self.old.has_failed ≡ false →
-            OnErr result (self.new ≡ failed_for_good self.old (WriteFailed area (n * self.old.block_size) bytes.now)) }
+            OnErr result (FailsAt self.old self.new (WriteFailed area (n * self.old.block_size) bytes.now)) }
         ensures refused { IsRefused result self.old self.new }
     {
         self.check_usable()?;
-        if let Area::Log = area {
-            self.ahead.count = 0;
+        if self.gather(area, n, bytes) {
+            return Ok(());
         }
-        let at = place_of(n, self.size, self.length(area));
-        match self.files.write(area, at, bytes) {
-            Ok(()) => Ok(()),
-            Err(_) => Err(self.fail()),
+        self.hand_on()?;
+        if self.gather_first(area, n, bytes) {
+            return Ok(());
         }
+        self.write_block(area, n, bytes)
     }
 
     fn flush(&mut self, area: Area) -> Result<(), DeviceFault>
@@ -342,24 +480,32 @@ impl<C: Contents> Device for FileDevice<C> {
         ensures calls { CountsCall (file_state C.contents self.old) (file_state C.contents self.new) }
         ensures honest { HasAgreed C.contents self.new → HasAgreed C.contents self.old }
 
-        // The file was synced; or the sync failed, and nothing is written or flushed from then on.
-        ensures synced { OnOk result (self.new ≡ asked self.old (Synced area)) }
-        ensures failed { self.old.has_failed ≡ false → OnErr result (self.new ≡ failed_for_good self.old (SyncFailed area)) }
+        // What was gathered is written, and then the file synced; or one of these calls failed, and nothing is written or flushed
+        // from then on.
+        ensures synced { OnOk result (self.new ≡ asked (handed_on self.old) (Synced area)) }
+        ensures failed { self.old.has_failed ≡ false → OnErr result (FailsAt self.old self.new (SyncFailed area)) }
         ensures refused { IsRefused result self.old self.new }
     {
         self.check_usable()?;
+        self.hand_on()?;
         self.ahead.count = 0;
-        if self.files.sync(area).is_err() {
-            return Err(self.fail());
+        match self.files.sync(area) {
+            Ok(()) => Ok(()),
+            Err(_) => Err(self.fail()),
         }
-        Ok(())
     }
 
     fn blocks(&self, area: Area) -> u64 {
         self.length(area) / self.size as u64
     }
 
-    fn block_size(&self) -> usize {
+    fn block_size(&self) -> usize
+        ensures size { result ≡ (file_state C.contents self.now).shape.block_size }
+        ensures whole { HoldsWholeBlocks (file_state C.contents self.now) }
+
+        // What is gathered is never more than a few blocks that follow one another.
+        ensures gathered { GathersRun self.now }
+    {
         self.size
     }
 }

@@ -31,6 +31,8 @@ pub(crate) enum Note<'a> {
     Wrote(Area, u64, &'a [u8]),
     /// These bytes were handed over for this place, and the call failed.
     WriteFailed(Area, u64, &'a [u8]),
+    /// These bytes of blocks that the device had taken were handed over at once for this place, and the call failed.
+    GatheredFailed(Area, u64, &'a [u8]),
     /// The file was synced.
     Synced(Area),
     /// The file was to be synced, and the call failed.

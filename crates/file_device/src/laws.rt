@@ -1,25 +1,40 @@
 //! The premise of a device over files can be met and kept.
-ghost use Rattle.std.specs.Prelude.{ℕ, ◌<◌, ◌*◌, List, Option};
+ghost use Rattle.std.specs.Prelude.{◌≡◌, ◌⊎◌, ℕ, ◌<◌, ◌*◌, List, Option};
 ghost use Rattle.std.specs.declared.fs.File.{File};
 ghost use Rattle.journal_model.specs.declared.number.Area.{Area};
-ghost use Rattle.file_device.specs.Calls.{Read, ReadFailed, Wrote, WriteFailed, Synced, SyncFailed};
-ghost use Rattle.file_device.specs.Files.{FileContents, FileState, new_device, asked, file_state, HasAgreed};
+ghost use Rattle.journal_model.specs.Disk.{Image, IsOneOf, Leaves, held};
+ghost use Rattle.file_device.specs.Calls.{Read, ReadFailed, Wrote, WriteFailed, GatheredFailed, Synced, SyncFailed};
+ghost use Rattle.file_device.specs.Files.{FileContents, FileState, new_device, asked, file_state, files_disk, handed_on, GathersRun, HasAgreed};
 
 /// The premise of a device over files can be met and kept, whatever the files hold: it holds of a new device; a read
-/// that gives what the disk reads keeps it; and so does every other call, whatever its answer.
+/// that gives what the file has keeps it; and so does every other call, whatever its answer, and a call that writes what was
+/// gathered.
 pub fn answers_that_agree_keep_the_premise()
     ensures new { (contents : FileContents) (size : ℕ) (log : File) (home : Option File) (log_bytes home_bytes : ℕ) →
         HasAgreed contents (new_device size log home log_bytes home_bytes) }
     ensures read { (contents : FileContents) (s : FileState) (area : Area) (n : ℕ) → 0 < s.block_size → HasAgreed contents s →
-        HasAgreed contents (asked s (Read area (n * s.block_size) ((file_state contents s).disk area n).reads)) }
+        HasAgreed contents (asked s (Read area (n * s.block_size) (files_disk contents s area n).reads)) }
     ensures failed_read { (contents : FileContents) (s : FileState) (area : Area) (at : ℕ) → HasAgreed contents s →
         HasAgreed contents (asked s (ReadFailed area at)) }
     ensures write { (contents : FileContents) (s : FileState) (area : Area) (at : ℕ) (bytes : List ℕ) → HasAgreed contents s →
         HasAgreed contents (asked s (Wrote area at bytes)) }
     ensures failed_write { (contents : FileContents) (s : FileState) (area : Area) (at : ℕ) (bytes : List ℕ) → HasAgreed contents s →
         HasAgreed contents (asked s (WriteFailed area at bytes)) }
+    ensures gathered { (contents : FileContents) (s : FileState) → GathersRun s → HasAgreed contents s →
+        HasAgreed contents (handed_on s) }
+    ensures failed_gathered { (contents : FileContents) (s : FileState) (area : Area) (at : ℕ) (bytes : List ℕ) → HasAgreed contents s →
+        HasAgreed contents (asked s (GatheredFailed area at bytes)) }
     ensures flush { (contents : FileContents) (s : FileState) (area : Area) → HasAgreed contents s →
         HasAgreed contents (asked s (Synced area)) }
     ensures failed_flush { (contents : FileContents) (s : FileState) (area : Area) → HasAgreed contents s →
         HasAgreed contents (asked s (SyncFailed area)) }
+{}
+
+/// What is gathered may be lost at a stop, or written, each block by itself, and so where the call that writes it fails or is cut:
+/// whatever holds of each block one of the values that its file may have been left with, or what the device reads, is an image
+/// that the device's disk may leave.
+pub fn what_is_gathered_may_be_lost()
+    ensures { (contents : FileContents) (s : FileState) (image : Image) → GathersRun s →
+        ((a : Area) (n : ℕ) → IsOneOf (held (files_disk contents s a n)) (image a n) ⊎ (image a n ≡ ((file_state contents s).disk a n).reads)) →
+        Leaves (file_state contents s).disk image }
 {}

@@ -8,10 +8,11 @@
 mod ahead;
 mod calls;
 mod device;
+mod gathered;
 mod history;
 mod laws;
 mod unmeasured;
 
 pub use device::{Contents, FileDevice, UnknownContents};
-pub use laws::answers_that_agree_keep_the_premise;
+pub use laws::{answers_that_agree_keep_the_premise, what_is_gathered_may_be_lost};
 pub use unmeasured::Unmeasured;

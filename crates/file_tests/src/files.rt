@@ -18,22 +18,22 @@ fn open(rt: &HostRuntime, path: &str) -> io::Result<File> {
 }
 
 /// Opens a file of a folder for reading and writing.
-fn open_in(rt: &HostRuntime, folder: &str, name: &str) -> io::Result<File> {
+pub fn open_in(rt: &HostRuntime, folder: &str, name: &str) -> io::Result<File> {
     open(rt, path_of(rt, folder, name)?.as_str())
 }
 
 /// Opens a file of a folder for reading alone.
-fn open_to_read(rt: &HostRuntime, folder: &str, name: &str) -> io::Result<File> {
+pub fn open_to_read(rt: &HostRuntime, folder: &str, name: &str) -> io::Result<File> {
     fs::open(rt, path_of(rt, folder, name)?.as_str())
 }
 
 /// Writes a file with these bytes in a folder.
-fn write_in(rt: &HostRuntime, folder: &str, name: &str, bytes: &[u8]) -> io::Result<()> {
+pub fn write_in(rt: &HostRuntime, folder: &str, name: &str, bytes: &[u8]) -> io::Result<()> {
     fs::write(rt, path_of(rt, folder, name)?.as_str(), bytes)
 }
 
 /// Makes a log with these bytes, alone in a folder of this name.
-fn make_log(rt: &HostRuntime, folder: &str, bytes: &[u8]) -> io::Result<()> {
+pub fn make_log(rt: &HostRuntime, folder: &str, bytes: &[u8]) -> io::Result<()> {
     let _ = fs::remove_dir_all(rt, folder);
     fs::create_dir(rt, folder)?;
     write_in(rt, folder, "log", bytes)
@@ -45,12 +45,12 @@ fn read_in(rt: &HostRuntime, folder: &str, name: &str) -> io::Result<Vec<u8>> {
 }
 
 /// The file in this folder holds these bytes, no more and no less.
-fn holds(rt: &HostRuntime, folder: &str, name: &str, bytes: &[u8]) -> io::Result<bool> {
+pub fn holds(rt: &HostRuntime, folder: &str, name: &str, bytes: &[u8]) -> io::Result<bool> {
     Ok(read_in(rt, folder, name)?.as_slice() == bytes)
 }
 
 /// Removes this folder. Its log held these bytes.
-fn log_held(rt: &HostRuntime, folder: &str, bytes: &[u8]) -> io::Result<bool> {
+pub fn log_held(rt: &HostRuntime, folder: &str, bytes: &[u8]) -> io::Result<bool> {
     let held = holds(rt, folder, "log", bytes)?;
     fs::remove_dir_all(rt, folder)?;
     Ok(held)
@@ -88,7 +88,7 @@ fn expect_whole_blocks<D: Device>(rt: &impl Abort, device: &mut D) -> Result<(),
 }
 
 /// A device over a log and a home with these bytes, in a folder of this name.
-fn two_files(
+pub fn two_files(
     rt: &HostRuntime,
     folder: &str,
     log: &[u8],

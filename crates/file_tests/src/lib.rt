@@ -5,3 +5,5 @@
 mod bytes;
 #[cfg(test)]
 mod files;
+#[cfg(test)]
+mod gathered;

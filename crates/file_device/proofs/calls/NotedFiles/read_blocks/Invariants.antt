@@ -1,6 +1,6 @@
 -- Each block so far is noted.
 use Rattle.std.proofs.Common.{◌≡◌, ◌++◌}
-use Rattle.file_device.specs.Ahead.{reads_of}
+use Rattle.file_device.specs.Blocks.{reads_of}
 use Rattle.file_device.proofs.calls.NotedFiles.read_blocks.Given as goal
 
 abbrev pub invariant-loop-k : goal.invariant-loop-k

@@ -3,9 +3,12 @@ use Rattle.std.specs.Prelude.{Bool, true, if◌then◌else◌, is_ok, Result}
 use Rattle.std.specs.Vec.{vec_len, with_items}
 use Rattle.std.proofs.lemmas.List.{with_items_is}
 use Rattle.journal_model.specs.declared.number.Area.TheVariants.{Log}
-use Rattle.file_device.specs.Ahead.{reads_of}
+use Rattle.file_device.specs.Blocks.{reads_of}
 use Rattle.file_device.specs.Calls.{FileCall, ReadFailed}
-use Rattle.file_device.specs.Files.{FileState}
+use Rattle.file_device.specs.Ahead.{KeepsAhead}
+use Rattle.file_device.specs.declared.ahead.Ahead.{Ahead}
+use Rattle.file_device.specs.Files.{FileState, KeepsBlocks}
+use Rattle.file_device.specs.Gathered.{due_of}
 use Rattle.file_device.specs.NotedFiles.{calls_of}
 use Rattle.file_device.specs.declared.calls.NotedFiles.{NotedFiles}
 use Rattle.file_device.proofs.KeptAhead.{failed-ahead-kept, read-ahead-kept, reads-ask, span-fits}
@@ -35,21 +38,22 @@ invariant_of-self-2 g c =
     let whole : length c.read_blocks.new.into ≡ c.min-count.result * d.size =
     c.read_blocks.ensures.size
     ∙ (c.deref_mut.ensures.len ∙ long-where-ok c.resize.result (c.min-count.result * d.size) (vec_len c.resize.new.self) (vec_len d.ahead.bytes) c.if-is_err.ensures.negation c.resize.ensures.len) in
-    elim c.match-read_blocks.branch [
-      | in-Ok w ↦ read-ahead-kept g.C.Contents.contents d.size (calls_of d.files) (calls_of c.read_blocks.new.self) c.args.n c.place_of-at.result c.min-count.result
-          (record { bytes = with_items c.resize.new.self c.read_blocks.new.into; first = c.args.n; count = c.match-read_blocks.ahead; next = d.ahead.next; is_steady = d.ahead.is_steady })
-          c.read_blocks.new.into c.self.invariant.0 c.place_of-at.ensures whole (ap calls_of w.in-Ok.ensures.ok)
+    let kept : Ahead = record { bytes = with_items c.resize.new.self c.read_blocks.new.into; first = c.args.n; count = c.match-read_blocks.ahead; next = d.ahead.next; is_steady = d.ahead.is_steady } in
+    let Kept : Type 0 = KeepsBlocks d.size (due_of d.size d.gathered ++ calls_of c.read_blocks.new.self) × KeepsAhead g.C.Contents.contents d.size (due_of d.size d.gathered ++ calls_of c.read_blocks.new.self) kept in
+    let both : Kept = elim c.match-read_blocks.branch [
+      | in-Ok w ↦ read-ahead-kept g.C.Contents.contents d.size d.gathered (calls_of d.files) (calls_of c.read_blocks.new.self) c.args.n c.place_of-at.result c.min-count.result kept
+          c.read_blocks.new.into (c.if-not-is_free_of.ensures refl) c.self.invariant.0 c.place_of-at.ensures whole (ap calls_of w.in-Ok.ensures.ok)
           (with_items_is c.resize.new.self c.read_blocks.new.into (c.read_blocks.ensures.size ∙ c.deref_mut.ensures.len)) refl w.ahead-is
-      | in-Err w ↦ failed-ahead-kept g.C.Contents.contents d.size (calls_of d.files) (calls_of c.read_blocks.new.self) c.place_of-at.result
-          (record { bytes = with_items c.resize.new.self c.read_blocks.new.into; first = c.args.n; count = c.match-read_blocks.ahead; next = d.ahead.next; is_steady = d.ahead.is_steady })
+      | in-Err w ↦ failed-ahead-kept g.C.Contents.contents d.size d.gathered (calls_of d.files) (calls_of c.read_blocks.new.self) c.place_of-at.result kept
           c.self.invariant.0 (ap calls_of w.in-Err.ensures.err) w.ahead-is
-    ]
+    ] in
+    (both.0, both.1, c.self.invariant.2)
 
 -- the file was asked for these blocks
 pub returns : goal.returns
 returns g c =
     let d = c.self.inside in
-    let View : NotedFiles → FileState = λ f. record { block_size = d.size; log_file = f.log; home_file = f.home; log_bytes = d.log_bytes; home_bytes = d.home_bytes; calls = calls_of f; has_failed = d.has_failed; faults = d.faults; calls_made = d.calls_made } in
+    let View : NotedFiles → FileState = λ f. record { block_size = d.size; log_file = f.log; home_file = f.home; log_bytes = d.log_bytes; home_bytes = d.home_bytes; gathered = due_of d.size d.gathered; calls = calls_of f; has_failed = d.has_failed; faults = d.faults; calls_made = d.calls_made } in
     let reads : List FileCall = reads_of Log c.place_of-at.result d.size c.read_blocks.new.into (length c.read_blocks.new.into / d.size) in
     elim c.match-read_blocks.branch [
       | in-Ok w ↦ record {

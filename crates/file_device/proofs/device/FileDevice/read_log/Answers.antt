@@ -1,9 +1,10 @@
-use Rattle.std.proofs.Common.{refl, ap, ◌∙◌}
+use Rattle.std.proofs.Common.{refl, ap, sym, ◌∙◌}
 use Rattle.journal_model.specs.declared.number.Area.TheVariants.{Log}
+use Rattle.journal_model.specs.Disk.{Disk}
 use Rattle.block_device.specs.State.{DeviceState}
 use Rattle.file_device.specs.Ahead.{HasRead}
 use Rattle.file_device.specs.Files.{file_state}
-use Rattle.file_device.proofs.KeptAhead.{failed-behind, on-err, on-ok, read-as, read-behind, read-leaves, same-read, no-read}
+use Rattle.file_device.proofs.KeptAhead.{failed-behind, files-leave, on-err, on-ok, read-as, read-behind, read-leaves, same-read, no-read}
 use Rattle.file_device.proofs.device.FileDevice.read_log.Given.{Over}
 use Rattle.file_device.proofs.device.FileDevice.read_log.Goals as goal
 use Rattle.file_device.proofs.device.FileDevice.read_log.Goals.{then-goes_on+else-hand_out-2, else-goes_on}
@@ -21,6 +22,19 @@ so_far g c = elim c.if-goes_on.branch [
   | then-goes_on+else-hand_out-2 w ↦ read-as (same-read (c.hand_out.ensures.same ∙ c.note_asked-goes_on.ensures) (read-as w.read_ahead.ensures w.hand_out-then-goes_on.ensures.same)) w.self-is
   | else-goes_on w ↦ same-read (c.hand_out.ensures.same ∙ c.note_asked-goes_on.ensures) (read-as (no-read c.hand_out.new.self) w.self-is)
 ]
+
+so_far_read : (g : Over) (c : goal.After-read_block-arg-2-1 g) → HasRead c.args.self.now c.if-goes_on.self
+so_far_read g c = elim c.if-goes_on.branch [
+  | then-goes_on+else-hand_out-2 w ↦ read-as (same-read (c.hand_out.ensures.same ∙ c.note_asked-goes_on.ensures) (read-as w.read_ahead.ensures w.hand_out-then-goes_on.ensures.same)) w.self-is
+  | else-goes_on w ↦ same-read (c.hand_out.ensures.same ∙ c.note_asked-goes_on.ensures) (read-as (no-read c.hand_out.new.self) w.self-is)
+]
+
+-- the block is as its file has it still
+pub read_block-requires-clause-apart : goal.read_block-requires-clause-apart
+read_block-requires-clause-apart g c =
+    let asked : HasRead c.args.self.now c.if-goes_on.self = so_far_read g c in
+    ap (λ (s : DeviceState). s.disk Log c.args.n) (read-leaves g.C.Contents.contents asked) ∙ c.requires.apart
+    ∙ sym (ap (λ (disk : Disk). disk Log c.args.n) (files-leave g.C.Contents.contents asked))
 
 pub returns-clause-bytes : goal.returns-clause-bytes
 returns-clause-bytes g c =

@@ -1,29 +1,60 @@
-use Rattle.std.proofs.Common.{◌≡◌, ◌<◌, ap, sym, subst, ◌∙◌}
-use Rattle.block_device.specs.State.{Whole, one_more_call, one_more_fault}
-use Rattle.file_device.specs.Files.{FileState}
-use Rattle.file_device.specs.NotedFiles.{calls_of}
-use Rattle.file_device.specs.declared.device.FileDevice.TheInside.{Inside}
-use Rattle.file_device.proofs.FileBlocks.{counted_writes, wrote_moves, failed_writes}
+use Rattle.std.proofs.Common.{◌*◌, refl, ◌∙◌}
+use Rattle.block_device.specs.State.{Undone, Whole}
+use Rattle.file_device.specs.Calls.{WriteFailed}
+use Rattle.file_device.proofs.FileBlocks.{failed_writes, fails_counted, fails_made, fails_stays, for_good_agreed, in-both, takes_agreed, takes_first, takes_gathered, takes_made, takes_moves}
+use Rattle.file_device.proofs.KeptAhead.{on-ok}
 use Rattle.file_device.proofs.device.FileDeviceDevice.write.Goals as goal
-use Rattle.file_device.proofs.device.FileDeviceDevice.write.Goals.{in-Log, in_default}
 
-pub returns-in-Ok-clause-ok : goal.returns-in-Ok-clause-ok
-returns-in-Ok-clause-ok g c =
-    let View : Inside g.row.C.Denot → FileState = λ d. record { block_size = d.size; log_file = d.files.log; home_file = d.files.home; log_bytes = d.log_bytes; home_bytes = d.home_bytes; calls = calls_of d.files; has_failed = d.has_failed; faults = d.faults; calls_made = d.calls_made } in
-    let same : View c.match-area.self-inside ≡ View c.self.inside = elim c.match-area.branch [ in-Log w ↦ ap View w.self-inside-is | in_default w ↦ ap View w.self-inside-is ] in
-    let some : 0 < c.match-area.self-inside.size = subst (λ (s : FileState). 0 < s.block_size) (sym same) c.self.invariant.0.some in
-    let moves = wrote_moves g.C.Contents.contents (calls_of c.write.new.self) c.place_of-at.result c.args.n c.args.area c.args.bytes.now
-    (same ∙ c.self.view_is ∙ c.in_ok-check_usable.ensures.usable) some c.place_of-at.ensures (ap calls_of c.in-Ok.ensures.ok) in
-    record { shape = moves.shape; now = moves.now; past = moves.past }
+-- the block is gathered with the others
+pub returns-then-gather-clause-ok : goal.returns-then-gather-clause-ok
+returns-then-gather-clause-ok g c =
+    takes_moves g.C.Contents.contents c.args.area c.args.n c.args.bytes.now c.check_usable.ensures.some
+    (takes_gathered c.args.area c.args.n c.args.bytes.now c.in_ok-check_usable.ensures.usable (c.if-gather.ensures.taken refl))
 
-pub returns-in-Ok-clause-writes : goal.returns-in-Ok-clause-writes
-returns-in-Ok-clause-writes g c = Whole (returns-in-Ok-clause-ok g c)
+pub returns-then-gather-clause-writes : goal.returns-then-gather-clause-writes
+returns-then-gather-clause-writes g c = Whole (returns-then-gather-clause-ok g c)
 
-pub returns-in-Err-clause-writes : goal.returns-in-Err-clause-writes
-returns-in-Err-clause-writes g c =
-    let View : Inside g.row.C.Denot → FileState = λ d. record { block_size = d.size; log_file = d.files.log; home_file = d.files.home; log_bytes = d.log_bytes; home_bytes = d.home_bytes; calls = calls_of d.files; has_failed = d.has_failed; faults = d.faults; calls_made = d.calls_made } in
-    let same : View c.match-area.self-inside ≡ View c.self.inside = elim c.match-area.branch [ in-Log w ↦ ap View w.self-inside-is | in_default w ↦ ap View w.self-inside-is ] in
-    let some : 0 < c.match-area.self-inside.size = subst (λ (s : FileState). 0 < s.block_size) (sym same) c.self.invariant.0.some in
-    counted_writes g.C.Contents.contents c.args.self.now (one_more_call c.args.self.now.calls_made) _ c.args.area c.args.n c.args.bytes.now
-    (failed_writes g.C.Contents.contents c.write.new.self.log c.write.new.self.home (calls_of c.write.new.self) (one_more_fault c.match-area.self-inside.faults) c.match-area.self-inside.calls_made c.place_of-at.result c.args.n c.args.area c.args.bytes.now
-    (same ∙ c.self.view_is ∙ c.in_ok-check_usable.ensures.usable) some c.place_of-at.ensures (ap calls_of c.in-Err.ensures.err) c.fail.ensures)
+-- those could not be written
+pub returns-in_err-hand_on-clause-writes : goal.returns-in_err-hand_on-clause-writes
+returns-in_err-hand_on-clause-writes g c =
+    Undone (fails_stays g.C.Contents.contents c.args.self.now c.hand_on.new.self
+    (fails_counted c.args.self.now c.gather.new.self c.hand_on.new.self (c.if-gather.ensures.left refl ∙ c.in_ok-check_usable.ensures.usable) c.in_err-hand_on.ensures.err))
+
+-- it is gathered as the first one
+pub returns-then-gather_first-clause-ok : goal.returns-then-gather_first-clause-ok
+returns-then-gather_first-clause-ok g c =
+    takes_moves g.C.Contents.contents c.args.area c.args.n c.args.bytes.now c.check_usable.ensures.some
+    (takes_first c.args.area c.args.n c.args.bytes.now (c.if-gather.ensures.left refl ∙ c.in_ok-check_usable.ensures.usable) c.in_ok-hand_on.ensures.ok (c.if-gather_first.ensures.taken refl))
+
+pub returns-then-gather_first-clause-writes : goal.returns-then-gather_first-clause-writes
+returns-then-gather_first-clause-writes g c = Whole (returns-then-gather_first-clause-ok g c)
+
+pub returns-then-gather_first-clause-honest : goal.returns-then-gather_first-clause-honest
+returns-then-gather_first-clause-honest g c =
+    takes_agreed g.C.Contents.contents
+    (takes_first c.args.area c.args.n c.args.bytes.now (c.if-gather.ensures.left refl ∙ c.in_ok-check_usable.ensures.usable) c.in_ok-hand_on.ensures.ok (c.if-gather_first.ensures.taken refl))
+
+-- it is written alone
+pub returns-clause-took : goal.returns-clause-took
+returns-clause-took g c =
+    on-ok c.write_block.result
+    (takes_made c.args.area c.args.n c.args.bytes.now (c.if-gather.ensures.left refl ∙ c.in_ok-check_usable.ensures.usable) (c.if-gather_first.ensures.left refl ∙ c.in_ok-hand_on.ensures.ok))
+    c.write_block.ensures.ok
+
+pub returns-clause-ok : goal.returns-clause-ok
+returns-clause-ok g c =
+    on-ok c.write_block.result (takes_moves g.C.Contents.contents c.args.area c.args.n c.args.bytes.now c.check_usable.ensures.some) (returns-clause-took g c)
+
+pub returns-clause-writes : goal.returns-clause-writes
+returns-clause-writes g c =
+    in-both c.write_block.result (returns-clause-ok g c) c.write_block.ensures.err Whole
+    (λ failed. failed_writes g.C.Contents.contents c.args.self.now c.write_block.new.self c.args.area c.args.n c.args.bytes.now c.check_usable.ensures.some
+    (fails_made c.args.self.now c.gather.new.self c.gather_first.new.self c.write_block.new.self c.args.area c.args.n c.args.bytes.now
+    (c.if-gather.ensures.left refl ∙ c.in_ok-check_usable.ensures.usable) (c.if-gather_first.ensures.left refl ∙ c.in_ok-hand_on.ensures.ok) failed))
+
+pub returns-clause-honest : goal.returns-clause-honest
+returns-clause-honest g c =
+    in-both c.write_block.result (returns-clause-took g c) c.write_block.ensures.err (takes_agreed g.C.Contents.contents)
+    (λ failed. for_good_agreed g.C.Contents.contents c.args.self.now c.write_block.new.self (WriteFailed c.args.area (c.args.n * c.args.self.now.block_size) c.args.bytes.now)
+    (fails_made c.args.self.now c.gather.new.self c.gather_first.new.self c.write_block.new.self c.args.area c.args.n c.args.bytes.now
+    (c.if-gather.ensures.left refl ∙ c.in_ok-check_usable.ensures.usable) (c.if-gather_first.ensures.left refl ∙ c.in_ok-hand_on.ensures.ok) failed))

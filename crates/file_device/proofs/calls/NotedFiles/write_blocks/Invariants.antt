@@ -1,0 +1,11 @@
+-- Each block so far is noted.
+use Rattle.std.proofs.Common.{◌≡◌, ◌++◌}
+use Rattle.file_device.specs.Blocks.{writes_of}
+use Rattle.file_device.proofs.calls.NotedFiles.write_blocks.Given as goal
+
+abbrev pub invariant-loop-k : goal.invariant-loop-k
+invariant-loop-k l = record {
+  log : l.self.log ≡ l.fn.self.log;
+  home : l.self.home ≡ l.fn.self.home;
+  noted : l.self.history.calls ≡ writes_of l.area l.at l.size l.bytes l.k ++ l.fn.self.history.calls;
+}
