@@ -17,9 +17,9 @@ use Rattle.journal_world.specs.Sound.{IsPlain, StageAgrees}
 use Rattle.journal_world.proofs.Positions.{tail-start}
 use Rattle.log_engine.specs.declared.ledger.Ledger.{Ledger}
 use Rattle.log_engine.specs.Engine.{MayHandOver}
-use Rattle.log_engine.specs.Ledger.{KeepsPending, Runs, engine_of}
+use Rattle.log_engine.specs.Ledger.{HasKept, KeepsPending, Runs, engine_of}
 use Rattle.log_engine.proofs.Copies.{counted}
-use Rattle.log_engine.proofs.Ledgers.{batch-taken, batch-there, done-taken, fault-taken, idle-head, taken-alike}
+use Rattle.log_engine.proofs.Ledgers.{batch-taken, batch-there, done-taken, fault-taken, idle-head, kept-alike, taken-alike}
 use Rattle.log_engine.proofs.Pendings.{aborted-keeps, done-keeps, steps-keeps, takes-keeps}
 use Rattle.log_engine.proofs.Running.{few-needed, need-of, needed_by, ring-few, room-of, takes, takes-runs}
 use Rattle.log_engine.proofs.Stepping.{fault-runs, step-runs}
@@ -40,20 +40,21 @@ record Stands (old new : Engine) : Type 0 where
   uuid : new.uuid ≡ old.uuid
   accepted : new.accepted ≡ old.accepted
   committed : new.committed ≡ old.committed
+  released : new.released ≡ old.released
 
 -- up to the last step
 stands-at : (e : Engine) (stage : Stage) → stage ≢ CommitFlush → Stands e (stepped_from e stage)
-stands-at e Idle before = record { layout = refl; start = refl; uuid = refl; accepted = refl; committed = refl }
-stands-at e SuperblockWrite before = record { layout = refl; start = refl; uuid = refl; accepted = refl; committed = refl }
-stands-at e SuperblockFlush before = record { layout = refl; start = refl; uuid = refl; accepted = refl; committed = refl }
-stands-at e (Blocks k) before = record { layout = refl; start = refl; uuid = refl; accepted = refl; committed = refl }
-stands-at e CommitWrite before = record { layout = refl; start = refl; uuid = refl; accepted = refl; committed = refl }
+stands-at e Idle before = record { layout = refl; start = refl; uuid = refl; accepted = refl; committed = refl; released = refl }
+stands-at e SuperblockWrite before = record { layout = refl; start = refl; uuid = refl; accepted = refl; committed = refl; released = refl }
+stands-at e SuperblockFlush before = record { layout = refl; start = refl; uuid = refl; accepted = refl; committed = refl; released = refl }
+stands-at e (Blocks k) before = record { layout = refl; start = refl; uuid = refl; accepted = refl; committed = refl; released = refl }
+stands-at e CommitWrite before = record { layout = refl; start = refl; uuid = refl; accepted = refl; committed = refl; released = refl }
 stands-at e CommitFlush before = absurd (before refl)
 
 -- a step before the last
 pub steps-on : (shape : Shape) (l new : Ledger) → l.stage ≢ Idle → l.stage ≢ CommitFlush → engine_of shape new ≡ stepped (engine_of shape l) →
-    new.ring ≡ l.ring → new.pending ≡ l.pending → Runs shape l → Runs shape new
-steps-on shape l new busy before is ring pending runs =
+    new.ring ≡ l.ring → new.pending ≡ l.pending → new.kept.items ≡ l.kept.items → Runs shape l → Runs shape new
+steps-on shape l new busy before is ring pending kept runs =
     let e = engine_of shape l in
     let call = call-at e l.stage busy in
     let stands : Stands e (engine_of shape new) = subst (Stands e) (sym is) (stands-at e l.stage before) in
@@ -63,13 +64,15 @@ steps-on shape l new busy before is ring pending runs =
       pending =
           subst (λ (p : PendingValue). KeepsPending (engine_of shape new) p) (sym pending)
           (subst (λ (x : Engine). KeepsPending x l.pending) (sym is) (steps-keeps e l.pending before runs.pending));
+      kept = kept-alike l new kept stands.released stands.accepted runs.kept;
     }
 
 -- the last step
 pub finishes : (shape : Shape) (l new : Ledger) (b : Batch) → l.stage ≡ CommitFlush → slice_get l.accepted.items l.committed ≡ Some b →
     engine_of shape new ≡ stepped_from (engine_of shape l) CommitFlush → new.ring ≡ l.ring → new.start ≡ l.ring.head →
-    IsCommitted l.pending b.entries (l.first + l.committed) new.pending → ArePending new.pending → Runs shape l → Runs shape new
-finishes shape l new b last stands is ring start commits kept runs =
+    IsCommitted l.pending b.entries (l.first + l.committed) new.pending → ArePending new.pending → new.kept.items ≡ l.kept.items →
+    Runs shape l → Runs shape new
+finishes shape l new b last stands is ring start commits kept same runs =
     let e = engine_of shape l in
     let due : call_due e ≡ Some (Flush Log) = ap (call_in e) last in
     let steps : engine_of shape new ≡ stepped e = is ∙ ap (stepped_from e) (sym last) in
@@ -80,13 +83,14 @@ finishes shape l new b last stands is ring start commits kept runs =
       pending =
           subst (λ (x : Engine). KeepsPending x new.pending) (sym is)
           (done-keeps e l.pending new.pending b runs.plain last stands runs.pending commits kept);
+      kept = kept-alike l new same (ap (λ (x : Engine). x.released) is) (ap (λ (x : Engine). x.accepted) is) runs.kept;
     }
 
 -- a batch that is taken
 pub takes-on : (shape : Shape) (l new : Ledger) (b : Batch) → l.aborted ≡ false → MayHandOver (engine_of shape l) b → HasRoom (engine_of shape l) b →
     engine_of shape new ≡ accepting (engine_of shape l) b → new.ring.head ≡ l.ring.head + needed_by l.layout b →
-    new.pending ≡ l.pending → Runs shape l → Runs shape new
-takes-on shape l new b running may room is head pending runs =
+    new.pending ≡ l.pending → HasKept new → Runs shape l → Runs shape new
+takes-on shape l new b running may room is head pending kept runs =
     let e = engine_of shape l in
     let can = takes-runs e (engine_of shape new) b runs.plain may (takes e (engine_of shape new) b running may room is) in
     let agrees : StageAgrees e Idle = subst (StageAgrees e) may.idle runs.plain.stage in
@@ -100,12 +104,13 @@ takes-on shape l new b running may room is head pending runs =
       pending =
           subst (λ (p : PendingValue). KeepsPending (engine_of shape new) p) (sym pending)
           (subst (λ (x : Engine). KeepsPending x l.pending) (sym is) (takes-keeps e b l.pending agrees.0 runs.pending));
+      kept = kept;
     }
 
 -- where memory ran out the ledger can run as before
 pub same-runs : (shape : Shape) (l new : Ledger) → engine_of shape new ≡ engine_of shape l → new.ring ≡ l.ring → new.pending ≡ l.pending →
-    Runs shape l → Runs shape new
-same-runs shape l new is ring pending runs = record {
+    HasKept new → Runs shape l → Runs shape new
+same-runs shape l new is ring pending kept runs = record {
   plain = subst IsPlain (sym is) runs.plain;
   taken =
       taken-alike shape l new ring (ap (λ (x : Engine). x.layout) is) (ap (λ (x : Engine). x.start) is) (ap (λ (x : Engine). x.uuid) is) (ap (λ (x : Engine). x.accepted) is)
@@ -113,6 +118,7 @@ same-runs shape l new is ring pending runs = record {
   pending =
       subst (λ (p : PendingValue). KeepsPending (engine_of shape new) p) (sym pending)
       (subst (λ (x : Engine). KeepsPending x l.pending) (sym is) runs.pending);
+  kept = kept;
 }
 
 -- what there is room for fits the ring, so it has few entries
@@ -151,4 +157,5 @@ faults-on shape after l same runs = record {
   pending =
       subst (λ (s : Shape). KeepsPending (engine_of s (record l { aborted = true })) l.pending) (sym same)
       (aborted-keeps (engine_of shape l) l.pending runs.pending);
+  kept = runs.kept;
 }

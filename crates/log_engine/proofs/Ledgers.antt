@@ -2,8 +2,9 @@
 use Rattle.std.proofs.Common.{arith, refl, sym, ap, ap₂, subst, ◌∙◌}
 use Rattle.std.proofs.lemmas.Bool.Decides.{nat_tests}
 use Rattle.std.proofs.lemmas.List.Elements.{All-weaker}
-use Rattle.std.proofs.lemmas.Option.{slice_get_past}
-use Rattle.std.specs.Prelude.{◌≡◌, ◌≢◌, ℕ, ◌+◌, ◌-◌, ◌^◌, ◌<◌, Bool, false, true, ◌≤◌, List, [], ◌∷◌, ◌++◌, length, Option, Some, None, Result, Ok, Err, IfOk, IfErr, slice_get, All, map, nat_eq, nat_le, nat_lt, if◌then◌else◌, IsTrue, ◌↔◌}
+use Rattle.std.proofs.lemmas.List.{drop-append-le, drop-drop, get_or-drop, length-drop}
+use Rattle.std.proofs.lemmas.Option.{slice_get_past, slice_get_read}
+use Rattle.std.specs.Prelude.{◌≡◌, ◌≢◌, ℕ, ◌+◌, ◌-◌, ◌^◌, ◌<◌, Bool, false, true, ◌≤◌, List, [], ◌∷◌, ◌++◌, length, drop, get_or, Option, Some, None, Result, Ok, Err, IfOk, IfErr, slice_get, All, map, nat_eq, nat_le, nat_lt, if◌then◌else◌, IsTrue, ◌↔◌}
 use Rattle.journal_model.specs.declared.entry.Batch.{Batch}
 use Rattle.journal_model.specs.declared.refusal.JournalError.{JournalError}
 use Rattle.journal_model.specs.declared.refusal.JournalError.TheVariants.{NeedSpace}
@@ -25,9 +26,9 @@ use Rattle.journal_world.specs.Sound.{IsPlain, StageAgrees}
 use Rattle.log_ring.specs.Ring.{RingValue, free}
 use Rattle.log_engine.specs.declared.ledger.Ledger.{Ledger}
 use Rattle.log_engine.specs.Engine.{MayHandOver}
-use Rattle.log_engine.specs.Ledger.{CanRunOn, HasTaken, Runs, engine_of}
+use Rattle.log_engine.specs.Ledger.{CanRunOn, HasKept, HasTaken, Runs, engine_of}
 use Rattle.journal_world.proofs.Elements.{all-at, get-last}
-use Rattle.journal_world.proofs.Positions.{tail-start}
+use Rattle.journal_world.proofs.Positions.{committed-few, tail-start}
 use Rattle.journal_world.proofs.Superblocks.{accepted-size}
 use Rattle.journal_world.proofs.Texts.{due-some}
 use Rattle.log_engine.proofs.Running.{HasRing, due-one, head-small, need-of, needed_by, runs-blocks, runs-few, runs-number, runs-ring, runs-size, superblock-of}
@@ -143,6 +144,48 @@ pub call-superblock : (e : Engine) (block : List ℕ) (sequence start : ℕ) →
 call-superblock e block sequence start is made number place =
     ap (λ (v : List ℕ). Some (Write Log 0 v)) (made ∙ ap₂ (with_tail e.superblock) number place) ∙ ap (call_in e) (sym is)
 
+-- the batches that are kept stay where none is handed over or released
+pub kept-alike : (l new : Ledger) → new.kept.items ≡ l.kept.items → new.released ≡ l.released → new.accepted.items ≡ l.accepted.items →
+    HasKept l → HasKept new
+kept-alike l new kept released accepted has =
+    kept ∙ has ∙ ap₂ (λ (n : ℕ) (bs : List Batch). drop n bs) (sym released) (sym accepted)
+
+-- one that is handed over is the last of them
+pub kept-more : (shape : Shape) (l : Ledger) (b : Batch) (held kept accepted : List Batch) → Runs shape l → l.stage ≡ Idle →
+    held ≡ l.kept.items → kept ≡ held ++ b ∷ [] → accepted ≡ l.accepted.items ++ b ∷ [] → kept ≡ drop l.released accepted
+kept-more shape l b held kept accepted runs idle same more noted =
+    let agrees : StageAgrees (engine_of shape l) Idle = subst (StageAgrees (engine_of shape l)) idle runs.plain.stage in
+    let all : length l.accepted.items ≡ l.committed = agrees.0 in
+    let low : l.released ≤ l.bound = runs.plain.order.0 in
+    let high : l.bound ≤ l.committed = runs.plain.order.1 in
+    more
+    ∙ ap (λ (bs : List Batch). bs ++ b ∷ []) (same ∙ runs.kept)
+    ∙ sym (drop-append-le l.released l.accepted.items (b ∷ []) (omega arith))
+    ∙ ap (λ (bs : List Batch). drop l.released bs) (sym noted)
+
+-- and those that a round releases are the first of them
+pub kept-fewer : (l : Ledger) → HasKept l → l.released ≤ l.bound → drop (l.bound - l.released) l.kept.items ≡ drop l.bound l.accepted.items
+kept-fewer l has low =
+    ap (λ (bs : List Batch). drop (l.bound - l.released) bs) has
+    ∙ drop-drop (l.bound - l.released) l.released l.accepted.items
+    ∙ ap (λ (n : ℕ). drop n l.accepted.items) {x = l.released + (l.bound - l.released)} {y = l.bound} (omega arith)
+
+-- a batch that is not released is one of them
+pub kept-within : (l : Ledger) (i : ℕ) → HasKept l → l.released ≤ i → i < length l.accepted.items → i - l.released < l.kept.len
+kept-within l i has low below =
+    let count : l.kept.len ≡ length l.kept.items = l.kept.ok.0 in
+    let same : length l.kept.items ≡ length (drop l.released l.accepted.items) = ap length has in
+    omega (arith, length-drop l.released l.accepted.items)
+
+-- and stands there as it was handed over
+pub kept-stands : (l : Ledger) (i : ℕ) (b : Batch) → HasKept l → l.released ≤ i → b ≡ get_or l.kept.items (i - l.released) b →
+    b ≡ get_or l.accepted.items i b
+kept-stands l i b has low is =
+    is
+    ∙ ap (λ (bs : List Batch). get_or bs (i - l.released) b) has
+    ∙ get_or-drop l.released l.accepted.items (i - l.released) b
+    ∙ ap (λ (n : ℕ). get_or l.accepted.items n b) {x = l.released + (i - l.released)} {y = i} (omega arith)
+
 module _ (l : Ledger) (size : ℕ) (on : CanRunOn l size) where
   -- its blocks have a size that a block may have
   pub on-size : IsBlockSize size
@@ -174,6 +217,30 @@ module _ (l : Ledger) (size : ℕ) (on : CanRunOn l size) where
   -- a batch is there where a call is due
   pub on-due : l.stage ≢ Idle → l.committed < length l.accepted.items
   on-due busy = let one : length l.accepted.items ≡ l.committed + 1 = due-one (engine_of on.shape l) l.stage on.runs.plain.stage busy in omega arith
+
+  -- and is not released
+  pub on-unreleased : l.released ≤ l.committed
+  on-unreleased =
+      let low : l.released ≤ l.bound = on.runs.plain.order.0 in
+      let high : l.bound ≤ l.committed = on.runs.plain.order.1 in
+      omega arith
+
+  -- so it is kept
+  pub on-within : l.stage ≢ Idle → l.committed - l.released < l.kept.len
+  on-within busy = kept-within l l.committed on.runs.kept on-unreleased (on-due busy)
+
+  pub on-kept : (b : Batch) → l.stage ≢ Idle → b ≡ get_or l.kept.items (l.committed - l.released) b → slice_get l.accepted.items l.committed ≡ Some b
+  on-kept b busy is =
+      slice_get_read l.accepted.items (length l.accepted.items) l.committed b refl (on-due busy) (kept-stands l l.committed b on.runs.kept on-unreleased is)
+
+  -- so are all that a round releases
+  pub on-bound : l.bound - l.released ≤ l.kept.len
+  on-bound =
+      let few : l.committed ≤ length l.accepted.items = committed-few (engine_of on.shape l) l.stage on.runs.plain.stage in
+      let high : l.bound ≤ l.committed = on.runs.plain.order.1 in
+      let count : l.kept.len ≡ length l.kept.items = l.kept.ok.0 in
+      let same : length l.kept.items ≡ length (drop l.released l.accepted.items) = ap length on.runs.kept in
+      omega (arith, length-drop l.released l.accepted.items)
 
   -- the numbers of all of them fit
   pub on-numbers : l.first + length l.accepted.items ≤ greatest_number + 1

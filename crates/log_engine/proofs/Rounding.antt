@@ -103,6 +103,7 @@ aborted-runs s t l same runs =
       plain = fault-runs (engine_of s l) s runs.plain refl;
       taken = fault-taken s s l refl runs.taken;
       pending = aborted-keeps (engine_of s l) l.pending runs.pending;
+      kept = runs.kept;
     } in
     subst (λ (x : Shape). Runs x (record l { aborted = true })) (sym same) here
 

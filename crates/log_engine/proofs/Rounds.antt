@@ -31,12 +31,13 @@ use Rattle.journal_world.proofs.RoundPlain.{round-plain}
 use Rattle.journal_world.proofs.Rounds.{begun-plain}
 use Rattle.journal_world.proofs.Superblocks.{accepted-first, accepted-ring, accepted-size, accepted-within, names-superblock}
 use Rattle.log_engine.specs.declared.ledger.Ledger.{Ledger}
-use Rattle.log_engine.specs.Ledger.{CanRunOn, HasTaken, IsPlaced, KeepsPending, Runs, engine_of}
+use Rattle.log_engine.specs.Ledger.{CanRunOn, HasKept, HasTaken, IsPlaced, KeepsPending, Runs, engine_of}
 use Rattle.log_engine.specs.declared.call.Due.{Due}
 use Rattle.log_engine.specs.declared.call.Due.TheVariants.{Write as WriteDue, Flush as FlushDue}
 use Rattle.log_engine.specs.Call.{call_of}
 use Rattle.log_engine.specs.Rounds.{HasDue, HasGone, IsDueHome}
 use Rattle.log_engine.proofs.Copies.{copy-size}
+use Rattle.log_engine.proofs.Ledgers.{kept-alike}
 use Rattle.log_engine.proofs.Pendings.{begun-keeps, next-copy}
 
 -- the superblock is one
@@ -160,8 +161,8 @@ gone-runs e call new plain busy due =
 -- a ledger has gone on by the call that was due
 pub gone : (shape : Shape) (l new : Ledger) (round : Round) (call : Call) (stepped : Engine) → Runs shape l → l.round ≡ round → round ≢ NoRound →
     RoundCall (engine_of shape l) round call stepped → engine_of shape new ≡ stepped → new.ring.head ≡ l.ring.head →
-    KeepsPending stepped new.pending → HasGone shape l new
-gone shape l new round call stepped runs at busy due is head pending =
+    KeepsPending stepped new.pending → HasKept new → HasGone shape l new
+gone shape l new round call stepped runs at busy due is head pending kept =
     let e : Engine = engine_of shape l in
     let there : RoundCall e l.round call (engine_of shape new) =
     subst (λ (r : Round). RoundCall e r call (engine_of shape new)) (sym at) (subst (RoundCall e round call) (sym is) due) in
@@ -172,6 +173,7 @@ gone shape l new round call stepped runs at busy due is head pending =
         plain = gone-runs e call (engine_of shape new) runs.plain (λ none. busy (sym at ∙ none)) there;
         taken = round-taken shape l new (call-keeps e l.round call (engine_of shape new) there) head runs.taken;
         pending = subst (λ (x : Engine). KeepsPending x new.pending) (sym is) pending;
+        kept = kept;
       };
     }
 
@@ -186,8 +188,8 @@ below released bound committed low high apart =
 -- the ledger with a round that has just begun
 pub begins : (shape : Shape) (l new : Ledger) → Runs shape l → l.round ≡ NoRound → l.released ≢ l.committed →
     engine_of shape new ≡ begun_from (engine_of shape l) NoRound → new.ring.head ≡ l.ring.head → new.pending ≡ l.pending →
-    HasRound (engine_of shape l) × (engine_of shape new ≡ begun (engine_of shape l)) × Runs shape new
-begins shape l new runs at more is head pending =
+    new.kept.items ≡ l.kept.items → HasRound (engine_of shape l) × (engine_of shape new ≡ begun (engine_of shape l)) × Runs shape new
+begins shape l new runs at more is head pending same =
     let e : Engine = engine_of shape l in
     let plain = runs.plain in
     let low : l.released ≤ l.bound = plain.order.0 in
@@ -204,6 +206,7 @@ begins shape l new runs at more is head pending =
         plain = subst IsPlain (sym is) can;
         taken = round-taken shape l new (subst (KeepsCommit e) (sym is) keeps) head runs.taken;
         pending = subst (λ (x : Engine). KeepsPending x new.pending) (sym is) kept;
+        kept = kept-alike l new same (ap (λ (x : Engine). x.released) is) (ap (λ (x : Engine). x.accepted) is) runs.kept;
       },
     )
 

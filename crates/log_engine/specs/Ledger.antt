@@ -1,5 +1,5 @@
 -- The engine as the pure machine sees it, and what its ledger keeps.
-use Rattle.std.specs.Prelude.{◌≡◌, ◌⊎◌, ⊤, ℕ, ◌+◌, ◌<◌, ◌≤◌, nat_le, List, length, filter, Some, slice_get, None, Contains}
+use Rattle.std.specs.Prelude.{◌≡◌, ◌⊎◌, ⊤, ℕ, ◌+◌, ◌<◌, ◌≤◌, nat_le, List, length, drop, filter, Some, slice_get, None, Contains}
 use Rattle.journal_model.specs.declared.entry.Batch.{Batch}
 use Rattle.journal_model.specs.declared.entry.Entry.TheVariants.{Copy}
 use Rattle.journal_model.specs.Superblock.{Shape}
@@ -76,11 +76,16 @@ pub record KeepsPending (e : Engine) (p : PendingValue) : Type 0 where
   pub numbers : (t b : ℕ) → Contains p.queue (t, b) → (e.first + e.released ≤ t) × (t < e.first + e.committed)
   pub used : (i : ℕ) → e.released ≤ i → i ≤ e.committed → length (filter (λ x. nat_le (e.first + i) x.0) p.queue) + position e i ≤ e.start
 
+-- the batches that are not released are kept
+abbrev pub HasKept : Ledger → Type 0
+HasKept l = l.kept.items ≡ drop l.released l.accepted.items
+
 -- the ledger can run on a device of this shape
 pub record Runs (shape : Shape) (l : Ledger) : Type 0 where
   pub plain : IsPlain (engine_of shape l)
   pub taken : HasTaken shape l
   pub pending : KeepsPending (engine_of shape l) l.pending
+  pub kept : HasKept l
 
 -- there is a device on which it can run, with blocks of this size
 pub record CanRunOn (l : Ledger) (size : ℕ) : Type 0 where

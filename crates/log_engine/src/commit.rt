@@ -9,7 +9,7 @@ ghost use Rattle.journal_world.specs.Sound.{IsPlain};
 ghost use Rattle.log_engine.specs.declared.engine.Progress.TheVariants.{Step, Done};
 ghost use Rattle.log_engine.specs.Call.{Fits, call_of};
 ghost use Rattle.log_engine.specs.Engine.{IsProgress};
-ghost use Rattle.log_engine.specs.Ledger.{CanRunOn, HasPlan, Runs, engine_of};
+ghost use Rattle.log_engine.specs.Ledger.{CanRunOn, HasKept, HasPlan, Runs, engine_of};
 
 use crate::call::Due;
 use crate::engine::Progress;
@@ -23,10 +23,12 @@ use log_format::Super;
 impl Ledger {
     /// The batch that is being committed.
     pub(crate) fn batch_due(&self) -> &Batch
-        requires { self.now.committed < length self.now.accepted.items }
+        requires due { self.now.committed < length self.now.accepted.items }
+        requires kept { HasKept self.now }
+        requires unreleased { self.now.released ≤ self.now.committed }
         ensures { slice_get self.now.accepted.items self.now.committed ≡ Some result.now }
     {
-        &self.accepted[self.committed]
+        self.batch(self.committed)
     }
 
     /// The number of the transaction that is being committed.
@@ -118,6 +120,7 @@ impl Ledger {
         ensures stepped { (shape : Shape) → shape.block_size ≡ length self.old.superblock.items → engine_of shape self.new ≡ stepped_from (engine_of shape self.old) SuperblockWrite }
         ensures ring { self.new.ring ≡ self.old.ring }
         ensures pending { self.new.pending ≡ self.old.pending }
+        ensures kept { self.new.kept.items ≡ self.old.kept.items }
         ensures step { result ≡ Step }
     {
         let start = self.ring.place(self.start);
@@ -150,7 +153,7 @@ impl Ledger {
         ensures done { result ≡ Done (self.old.first + self.old.committed) }
     {
         let number = self.number_due();
-        let batch = &self.accepted[self.committed];
+        let batch = &self.kept[self.committed - self.released];
         self.pending.commit(batch.entries.as_slice(), Tid(number));
         self.start = self.ring.head();
         self.committed += 1;

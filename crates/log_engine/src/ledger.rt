@@ -1,5 +1,5 @@
 //! What an engine knows beside its device.
-ghost use Rattle.std.specs.Prelude.{◌≡◌, ◌+◌, ◌<◌, ◌≤◌, ◌↔◌, IsTrue, if◌then◌else◌, is_some, length, IfErr, IfSome, OnErr, OnOk};
+ghost use Rattle.std.specs.Prelude.{◌≡◌, ◌+◌, ◌<◌, ◌≤◌, ◌↔◌, IsTrue, if◌then◌else◌, is_some, length, slice_index_or, IfErr, IfSome, OnErr, OnOk};
 ghost use Rattle.journal_model.specs.OwnText.{copied, revoked};
 ghost use Rattle.journal_model.specs.Room.{need};
 ghost use Rattle.journal_model.specs.Superblock.{Shape, least_ring, super_in};
@@ -7,14 +7,16 @@ ghost use Rattle.journal_world.specs.declared.stage.Stage.TheVariants.{Idle, Blo
 ghost use Rattle.journal_world.specs.Engine.{HasRoom, accepting};
 ghost use Rattle.journal_world.specs.Journal.{fresh_engine};
 ghost use Rattle.log_engine.specs.Engine.{MayHandOver};
-ghost use Rattle.log_engine.specs.Ledger.{CanRunOn, Runs, engine_of};
+ghost use Rattle.log_engine.specs.Ledger.{CanRunOn, HasKept, Runs, engine_of};
 
 use checkpoint::Pending;
+use history::History;
 use journal_model::{Batch, LogLayout};
 use journal_world::{Round, Stage};
 use log_format::Super;
 use log_ring::Ring;
 use std::alloc::Global;
+use std::collections::VecDeque;
 
 /// More copies, or more revokes, fit no ring.
 const MOST_OF_EITHER: u64 = 1 << 32;
@@ -37,7 +39,9 @@ pub(crate) struct Ledger {
     /// The number of the first transaction since the opening.
     pub(crate) first: u32,
     /// The transactions handed over since then.
-    pub(crate) accepted: Vec<Batch>,
+    pub(crate) accepted: History<Batch>,
+    /// Those of them that are not released.
+    pub(crate) kept: VecDeque<Batch>,
     /// How many of them are committed.
     pub(crate) committed: usize,
     /// How far the commit of the next one is.
@@ -65,6 +69,7 @@ impl Ledger {
         ensures engine { (shape : Shape) → engine_of shape result ≡ fresh_engine shape superblock.items first }
         ensures pending { result.pending ≡ pending }
         ensures head { result.ring.head ≡ 0 }
+        ensures kept { HasKept result }
     {
         let fields = Super::fields(&superblock);
         let uuid = fields.s_uuid;
@@ -76,7 +81,8 @@ impl Ledger {
             superblock,
             started: false,
             first,
-            accepted: Vec::new(alloc),
+            accepted: History::new(),
+            kept: VecDeque::new(alloc),
             committed: 0,
             stage: Stage::Idle,
             pending,
@@ -105,6 +111,16 @@ impl Ledger {
         Some(blocks)
     }
 
+    /// The batch at this place among those that were handed over. It is not released.
+    pub(crate) fn batch(&self, place: usize) -> &Batch
+        requires kept { HasKept self.now }
+        requires unreleased { self.now.released ≤ place }
+        requires there { place < length self.now.accepted.items }
+        ensures { result.now ≡ slice_index_or self.now.accepted.items place result.now }
+    {
+        &self.kept[place - self.released]
+    }
+
     /// Takes a batch that there is room for, and which needs so many log blocks; it is then to be committed. Where memory
     /// runs out it comes back, and nothing changes.
     pub(crate) fn take(&mut self, batch: Batch, blocks: u64) -> Result<(), Batch>
@@ -113,12 +129,15 @@ impl Ledger {
         ensures ok { OnOk result ((shape : Shape) → engine_of shape self.new ≡ accepting (engine_of shape self.old) batch) }
         ensures head { OnOk result (self.new.ring.head ≡ self.old.ring.head + blocks) }
         ensures pending { self.new.pending ≡ self.old.pending }
+        ensures kept { HasKept self.new }
         ensures err { IfErr result (λ b. b ≡ batch) }
         ensures same { OnErr result (((shape : Shape) → engine_of shape self.new ≡ engine_of shape self.old) × (self.new.ring ≡ self.old.ring)) }
     {
-        if let Err(e) = self.accepted.push(batch) {
-            return Err(e.value);
+        if self.kept.reserve(1).is_err() {
+            return Err(batch);
         }
+        self.accepted.push(&batch);
+        self.kept.push_back_reserved(batch);
         let _never_fails = self.ring.take(blocks);
         self.stage = first_stage(self.started);
         Ok(())

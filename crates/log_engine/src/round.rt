@@ -10,7 +10,7 @@ ghost use Rattle.journal_world.specs.Checkpoint.{HasRound, begun};
 ghost use Rattle.log_engine.specs.declared.engine.Progress.TheVariants.{Step, Done};
 ghost use Rattle.log_engine.specs.Call.{Fits};
 ghost use Rattle.log_engine.specs.Engine.{IsRoundProgress};
-ghost use Rattle.log_engine.specs.Ledger.{CanRunOn, IsPlaced, Runs, engine_of};
+ghost use Rattle.log_engine.specs.Ledger.{CanRunOn, HasKept, IsPlaced, Runs, engine_of};
 ghost use Rattle.log_engine.specs.Rounds.{HasDue, HasGone, IsDueHome};
 
 use crate::call::Due;
@@ -114,11 +114,12 @@ impl Ledger {
 
     /// The bytes of a pending copy.
     pub(crate) fn copy(&self, version: Version) -> &[u8]
-        requires { (shape : Shape) × (i : ℕ) × (b : ℕ) × (version.tid ≡ self.now.first + i) × IsPlaced (engine_of shape self.now) i b version.place }
+        requires kept { HasKept self.now }
+        requires placed { (shape : Shape) × (i : ℕ) × (b : ℕ) × (version.tid ≡ self.now.first + i) × IsPlaced (engine_of shape self.now) i b version.place }
         ensures { (shape : Shape) (i b : ℕ) → version.tid ≡ self.now.first + i → (placed : IsPlaced (engine_of shape self.now) i b version.place) →
             result.now ≡ placed.bytes }
     {
-        let batch = &self.accepted[(version.tid.0 - self.first) as usize];
+        let batch = self.batch((version.tid.0 - self.first) as usize);
         match &batch.entries.as_slice()[version.place].1 {
             Entry::Copy(block) => block.bytes(),
             Entry::Revoke => &[],
@@ -185,6 +186,7 @@ impl Ledger {
         let last = self.last_of_round();
         self.pending.release(last);
         self.ring.release(self.bound_position - self.ring.tail());
+        self.kept.drain(..self.bound - self.released);
         self.released = self.bound;
         self.round = Round::Idle;
         Progress::Done(last)

@@ -1,4 +1,4 @@
-use Rattle.std.proofs.Common.{refl, sym, ap, subst, ◌∙◌, ◌≡◌, ◌+◌, ◌≤◌, List, ℕ, length, Option, Some, None, IsTrue, is_some, slice_get}
+use Rattle.std.proofs.Common.{arith, refl, sym, ap, subst, ◌∙◌, ◌≡◌, ◌+◌, ◌≤◌, List, ℕ, length, Option, Some, None, IsTrue, is_some, slice_get}
 use Rattle.std.proofs.lemmas.Option.{same_Some, slice_get_within}
 use Rattle.journal_model.specs.declared.entry.Batch.{Batch}
 use Rattle.journal_model.specs.declared.entry.Entry.{Entry}
@@ -101,7 +101,7 @@ invariant_of-self-in-Err g c =
     let e = engine_of state.shape l in
     let may : MayHandOver e c.args.batch = subst (λ (v : EngineValue g.row.D.Denot). MayHandOver v.engine c.args.batch) (sym c.self.view_is) c.requires in
     let same = c.in-Err.ensures.same in
-    let runs = same-runs state.shape l c.take.new.self (same.0 state.shape) same.1 c.take.ensures.pending c.self.invariant.0 in (
+    let runs = same-runs state.shape l c.take.new.self (same.0 state.shape) same.1 c.take.ensures.pending c.take.ensures.kept c.self.invariant.0 in (
       runs,
       c.self.invariant.1,
       λ honest. subst (λ (e : Engine). Sound e state.disk) (sym (same.0 state.shape)) (c.self.invariant.2 honest),
@@ -126,8 +126,8 @@ returns-in-Err-clause-err g c =
     )
 
 -- the batch is then the one that is to be committed
-pub batch_due-requires : goal.batch_due-requires
-batch_due-requires g c =
+pub batch_due-requires-clause-due : goal.batch_due-requires-clause-due
+batch_due-requires-clause-due g c =
     let shape = (g.D.Device.state c.self.inside.device).shape in
     let l = c.self.inside.ledger in
     let may : MayHandOver (engine_of shape l) c.args.batch =
@@ -138,6 +138,16 @@ batch_due-requires g c =
     slice_get_within c.take.new.self.accepted.items c.take.new.self.committed c.args.batch
     (ap (slice_get c.take.new.self.accepted.items) committed
     ∙ batch-there shape l c.args.batch c.take.new.self.accepted.items c.self.invariant.0 may accepted)
+
+-- and is not released
+pub batch_due-requires-clause-unreleased : goal.batch_due-requires-clause-unreleased
+batch_due-requires-clause-unreleased g c =
+    let shape = (g.D.Device.state c.self.inside.device).shape in
+    let l = c.self.inside.ledger in
+    let low : l.released ≤ l.bound = c.self.invariant.0.plain.order.0 in
+    let high : l.bound ≤ l.committed = c.self.invariant.0.plain.order.1 in
+    let between : l.released ≤ l.committed = omega arith in
+    subst (λ (e : Engine). e.released ≤ e.committed) (sym (c.in_default-take.ensures.ok shape)) between
 
 -- and the table has room for its blocks
 pub note-requires : goal.note-requires
@@ -180,7 +190,7 @@ invariant_of-self-2 g c =
     same_Some c.args.batch c.batch_due.result.now
     (sym (batch-there state.shape l c.args.batch c.take.new.self.accepted.items c.self.invariant.0 may accepted)
     ∙ ap (slice_get c.take.new.self.accepted.items) (sym committed) ∙ c.batch_due.ensures) in (
-      takes-on state.shape l c.take.new.self c.args.batch c.if-self.false may room is head c.take.ensures.pending c.self.invariant.0,
+      takes-on state.shape l c.take.new.self c.args.batch c.if-self.false may room is head c.take.ensures.pending c.take.ensures.kept c.self.invariant.0,
       c.self.invariant.1,
       λ honest. accepts-sound e c.args.batch _ state.disk (c.self.invariant.2 honest) (takes e _ c.args.batch c.if-self.false may room is),
       λ honest. taken-clean e _ c.args.batch state.disk (takes e _ c.args.batch c.if-self.false may room is),

@@ -71,6 +71,7 @@ invariant_of-result g c =
         pending =
             subst (λ (p : PendingValue). KeepsPending (engine_of state.shape c.new-3.result) p) (sym c.new-3.ensures.pending)
             (subst (λ (e : Engine). KeepsPending e c.in-Ok-new.pending) (sym is) keeps);
+        kept = c.new-3.ensures.kept;
       },
       c.in-Ok.ensures ∙ c.layout.ensures.size ∙ ap (λ (d : g.row.D.Denot). (g.D.Device.state d).shape.block_size) (sym made.device),
       λ honest. subst (λ (e : Engine). Sound e state.disk) (sym is) (fresh-sound state.shape state.disk superblock next (log honest)),

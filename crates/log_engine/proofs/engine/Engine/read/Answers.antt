@@ -38,8 +38,8 @@ pub returns-then-not-is_allowed-clause-untouched : goal.returns-then-not-is_allo
 returns-then-not-is_allowed-clause-untouched g c = λ other. refl
 
 -- a pending copy stands where the pending copies say
-pub copy-requires : goal.copy-requires
-copy-requires g c =
+pub copy-requires-clause-placed : goal.copy-requires-clause-placed
+copy-requires-clause-placed g c =
     let shape = (g.D.Device.state c.self.inside.device).shape in
     let one = c.self.invariant.0.pending.placed c.args.block c.in-Some.version (sym c.in-Some.ensures.newest) in
     (shape, one.0, c.args.block, one.1, one.2)

@@ -28,14 +28,14 @@ returns-in-SuperblockWrite-clause-runs c = λ shape runs.
     let size = (superblock-of (engine_of shape c.args.self.now) runs.plain).size in
     steps-on shape c.args.self.now c.start_log.new.self (λ idle. cc) (λ last. cc)
     (c.start_log.ensures.stepped shape (sym size) ∙ ap (stepped_from (engine_of shape c.args.self.now)) (sym c.in-SuperblockWrite.is))
-    c.start_log.ensures.ring c.start_log.ensures.pending runs
+    c.start_log.ensures.ring c.start_log.ensures.pending c.start_log.ensures.kept runs
 
 -- so it can behind the flush of the superblock
 pub returns-in-SuperblockFlush-clause-runs : goal.returns-in-SuperblockFlush-clause-runs
 returns-in-SuperblockFlush-clause-runs c = λ shape runs.
     steps-on shape c.args.self.now c.go_to.new.self (λ idle. cc) (λ last. cc)
     (ap (engine_of shape) c.go_to.ensures.stage ∙ ap (stepped_from (engine_of shape c.args.self.now)) (sym c.in-SuperblockFlush.is))
-    (ap (λ (l : Ledger). l.ring) c.go_to.ensures.stage) (ap (λ (l : Ledger). l.pending) c.go_to.ensures.stage) runs
+    (ap (λ (l : Ledger). l.ring) c.go_to.ensures.stage) (ap (λ (l : Ledger). l.pending) c.go_to.ensures.stage) (ap (λ (l : Ledger). l.kept.items) c.go_to.ensures.stage) runs
 
 -- behind a block
 pub returns-in-Blocks-clause-runs : goal.returns-in-Blocks-clause-runs
@@ -45,11 +45,11 @@ returns-in-Blocks-clause-runs c = λ shape runs.
     let stage = c.after_block-next.ensures shape (sym size) in
     steps-on shape c.args.self.now c.go_to-in-Blocks.new.self (λ idle. cc) (λ last. cc)
     (ap (engine_of shape) c.go_to-in-Blocks.ensures.stage ∙ ap (λ (s : Stage). record e { stage = s }) stage ∙ ap (stepped_from e) (sym c.in-Blocks.is))
-    (ap (λ (l : Ledger). l.ring) c.go_to-in-Blocks.ensures.stage) (ap (λ (l : Ledger). l.pending) c.go_to-in-Blocks.ensures.stage) runs
+    (ap (λ (l : Ledger). l.ring) c.go_to-in-Blocks.ensures.stage) (ap (λ (l : Ledger). l.pending) c.go_to-in-Blocks.ensures.stage) (ap (λ (l : Ledger). l.kept.items) c.go_to-in-Blocks.ensures.stage) runs
 
 -- and behind the commit block
 pub returns-in-CommitWrite-clause-runs : goal.returns-in-CommitWrite-clause-runs
 returns-in-CommitWrite-clause-runs c = λ shape runs.
     steps-on shape c.args.self.now c.go_to-in-CommitWrite.new.self (λ idle. cc) (λ last. cc)
     (ap (engine_of shape) c.go_to-in-CommitWrite.ensures.stage ∙ ap (stepped_from (engine_of shape c.args.self.now)) (sym c.in-CommitWrite.is))
-    (ap (λ (l : Ledger). l.ring) c.go_to-in-CommitWrite.ensures.stage) (ap (λ (l : Ledger). l.pending) c.go_to-in-CommitWrite.ensures.stage) runs
+    (ap (λ (l : Ledger). l.ring) c.go_to-in-CommitWrite.ensures.stage) (ap (λ (l : Ledger). l.pending) c.go_to-in-CommitWrite.ensures.stage) (ap (λ (l : Ledger). l.kept.items) c.go_to-in-CommitWrite.ensures.stage) runs

@@ -3,7 +3,7 @@ use Rattle.std.specs.List.{slice_get}
 use Rattle.journal_world.specs.declared.round.Round.TheVariants.{Copies, TailWrite}
 use Rattle.journal_world.specs.Checkpoint.RoundCall.{FlushHome}
 use Rattle.log_engine.specs.declared.ledger.Ledger.{Ledger}
-use Rattle.log_engine.specs.Ledger.{KeepsPending, engine_of}
+use Rattle.log_engine.specs.Ledger.{HasKept, KeepsPending, engine_of}
 use Rattle.log_engine.proofs.Pendings.{flushed-keeps, none-left}
 use Rattle.log_engine.proofs.Rounds.{gone}
 use Rattle.log_engine.proofs.ledger.Ledger.advance_round.Goals as goal
@@ -20,3 +20,4 @@ returns-in-None-clause-gone c = λ shape runs.
     let pending = subst (KeepsPending (record e { round = TailWrite })) (sym (ap (λ (m : Ledger). m.pending) c.go_round.ensures.round)) now in
     gone shape l c.go_round.new.self (Copies c.in-Copies.transaction c.in-Copies.block) _ _ runs c.in-Copies.is (λ none. cc) (FlushHome _ _ none)
     (ap (engine_of shape) c.go_round.ensures.round) (ap (λ (m : Ledger). m.ring.head) c.go_round.ensures.round) pending
+    (subst HasKept (sym c.go_round.ensures.round) runs.kept)

@@ -8,4 +8,4 @@ returns-then-self-clause-nothing c = λ no. (c.in-Idle.is, c.if-self.true, refl)
 
 -- the round releases all that are committed by now
 pub returns-else-self-clause-begun : goal.returns-else-self-clause-begun
-returns-else-self-clause-begun c = λ yes shape runs. begins shape c.args.self.now _ runs c.in-Idle.is c.if-self.false refl refl refl
+returns-else-self-clause-begun c = λ yes shape runs. begins shape c.args.self.now _ runs c.in-Idle.is c.if-self.false refl refl refl refl

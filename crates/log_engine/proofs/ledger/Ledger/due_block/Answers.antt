@@ -1,7 +1,11 @@
 use Rattle.std.proofs.Common.{arith, sym, ◌∙◌}
-use Rattle.log_engine.proofs.Ledgers.{on-few, on-layout, on-small, on-spelled, on-taken, on-whole}
+use Rattle.log_engine.proofs.Ledgers.{on-few, on-layout, on-small, on-spelled, on-taken, on-unreleased, on-whole}
 use Rattle.log_engine.proofs.Running.{runs-ring}
 use Rattle.log_engine.proofs.ledger.Ledger.due_block.Goals as goal
+
+-- the batch is not released
+pub batch_due-requires-clause-unreleased : goal.batch_due-requires-clause-unreleased
+batch_due-requires-clause-unreleased c = on-unreleased c.args.self.now _ c.requires.can_run
 
 -- the layout is one that is taken
 pub write_block-requires-clause-taken : goal.write_block-requires-clause-taken

@@ -6,8 +6,8 @@ use Rattle.log_engine.proofs.Rounds.{due-copy, next-home, placed-allowed, placed
 use Rattle.log_engine.proofs.ledger.Ledger.home_write.Goals as goal
 
 -- it stands where the pending copies say
-pub copy-requires : goal.copy-requires
-copy-requires c =
+pub copy-requires-clause-placed : goal.copy-requires-clause-placed
+copy-requires-clause-placed c =
     let l = c.args.self.now in
     let on = c.requires.can_run in
     let due = c.requires.next in

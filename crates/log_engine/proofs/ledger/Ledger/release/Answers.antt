@@ -5,6 +5,7 @@ use Rattle.journal_world.specs.Checkpoint.RoundCall.{FlushTail}
 use Rattle.journal_world.proofs.Positions.{tail-end}
 use Rattle.log_ring.specs.Ring.{RingValue}
 use Rattle.log_engine.specs.Ledger.{engine_of}
+use Rattle.log_engine.proofs.Ledgers.{kept-fewer, on-bound}
 use Rattle.log_engine.proofs.Pendings.{released-keeps}
 use Rattle.log_engine.proofs.Rounds.{gone}
 use Rattle.log_engine.proofs.ledger.Ledger.release.Goals as goal
@@ -16,6 +17,14 @@ overflow_sub-self c =
     let low = tail-end (engine_of on.shape c.args.self.now) on.runs.plain in
     let tail = c.tail.ensures.tail in
     omega arith
+
+-- the round releases some of the transactions
+pub overflow_sub-self-2 : goal.overflow_sub-self-2
+overflow_sub-self-2 c = c.requires.can_run.runs.plain.order.0
+
+-- whose batches are kept
+pub drain-requires-clause-in_bounds : goal.drain-requires-clause-in_bounds
+drain-requires-clause-in_bounds c = on-bound c.args.self.now _ c.requires.can_run
 
 -- they are released
 pub returns-clause-gone : goal.returns-clause-gone
@@ -31,3 +40,4 @@ returns-clause-gone c = λ shape runs.
     let releases = subst (λ (n : ℕ). IsReleased l.pending n c.release.new.self) c.last_of_round-last.ensures.last c.release.ensures.released in
     gone shape l _ TailFlush _ _ runs c.requires.round (λ none. cc) FlushTail is (ap (λ (r : RingValue). r.head) ring)
     (released-keeps e l.pending c.release.new.self plain c.requires.round runs.pending releases c.release.ensures.kept)
+    (c.drop-drain.ensures.items ∙ c.drain.ensures.kept ∙ kept-fewer l runs.kept plain.order.0)

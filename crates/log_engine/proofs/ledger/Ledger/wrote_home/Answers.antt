@@ -4,7 +4,7 @@ use Rattle.checkpoint.specs.declared.version.HomeCopy.{HomeCopy}
 use Rattle.journal_world.specs.declared.round.Round.TheVariants.{Copies}
 use Rattle.journal_world.specs.Checkpoint.RoundCall.{CopyHome}
 use Rattle.log_engine.specs.declared.ledger.Ledger.{Ledger}
-use Rattle.log_engine.specs.Ledger.{KeepsPending, engine_of}
+use Rattle.log_engine.specs.Ledger.{HasKept, KeepsPending, engine_of}
 use Rattle.log_engine.proofs.Pendings.{wrote-keeps}
 use Rattle.log_engine.proofs.Rounds.{gone, next-home, placed-allowed}
 use Rattle.log_engine.proofs.ledger.Ledger.wrote_home.Goals as goal
@@ -61,3 +61,4 @@ returns-clause-gone c = λ shape runs.
     let pending = subst (KeepsPending (record e { round = Copies n.index (copy.block + 1) })) (sym (ap (λ (m : Ledger). m.pending) c.go_round.ensures.round)) now in
     gone shape l c.go_round.new.self (Copies due.transaction due.block) _ _ runs due.round (λ none. cc)
     (CopyHome due.transaction due.block n.index copy.block n.placed.bytes n.next) is (ap (λ (m : Ledger). m.ring.head) c.go_round.ensures.round) pending
+    (subst HasKept (sym c.go_round.ensures.round) runs.kept)

@@ -7,7 +7,7 @@ use Rattle.journal_world.specs.Checkpoint.{tail_superblock}
 use Rattle.journal_world.specs.Checkpoint.RoundCall.{WriteTail}
 use Rattle.journal_world.proofs.Tails.{length-tail}
 use Rattle.log_engine.specs.declared.ledger.Ledger.{Ledger}
-use Rattle.log_engine.specs.Ledger.{KeepsPending, engine_of}
+use Rattle.log_engine.specs.Ledger.{HasKept, KeepsPending, engine_of}
 use Rattle.log_engine.proofs.Pendings.{tail-keeps}
 use Rattle.log_engine.proofs.Rounds.{gone, round-long, round-size}
 use Rattle.log_engine.proofs.ledger.Ledger.wrote_tail.Goals as goal
@@ -36,4 +36,4 @@ returns-clause-gone c = λ shape runs.
     let pending = subst (KeepsPending (record e { superblock = tail_superblock e; round = TailFlush }))
     (sym (ap (λ (m : Ledger). m.pending) c.go_round.ensures.round)) now in
     gone shape l c.go_round.new.self TailWrite _ _ runs c.requires.round (λ none. cc) WriteTail is
-    (ap (λ (m : Ledger). m.ring.head) c.go_round.ensures.round) pending
+    (ap (λ (m : Ledger). m.ring.head) c.go_round.ensures.round) pending (subst HasKept (sym c.go_round.ensures.round) runs.kept)
