@@ -55,9 +55,10 @@ impl Plan {
 /// A journal on an opened log, and its caller's seat.
 #[derive(Drop)]
 pub(crate) struct Work<D: Device> {
-    alloc: Global,
     journal: Journal<D>,
     seat: Seat,
+    /// The bytes of the block that was written last.
+    bytes: Vec<u8>,
 }
 
 impl<D: Device + Drop> Work<D> {
@@ -69,7 +70,7 @@ impl<D: Device + Drop> Work<D> {
     pub(crate) fn new(alloc: Global, opened: Opened<D>) -> Result<Self, JournalError> {
         match Journal::new(alloc, opened) {
             Ok((journal, seat)) => Ok(Work {
-                alloc,
+                bytes: Vec::new(alloc),
                 journal,
                 seat,
             }),
@@ -105,8 +106,9 @@ impl<D: Device + Drop> Work<D> {
 
     /// Writes a block that is filled with one byte.
     fn write(&mut self, handle: &mut Handle, block: BlockNo, fill: u8) -> Result<(), JournalError> {
-        let bytes = vec![in self.alloc; fill; self.journal.block_size()]?;
-        self.journal.write(handle, block, &bytes)
+        self.bytes.resize(self.journal.block_size(), 0)?;
+        self.bytes.fill(fill);
+        self.journal.write(handle, block, &self.bytes)
     }
 
     /// Commits the transaction of a ticket, with a round where the ring has no room for it.
@@ -153,9 +155,9 @@ impl<D: Device + Drop> Work<D> {
     /// Those of a close.
     pub(crate) fn close(self) -> Result<D, JournalError> {
         let Work {
-            alloc: _,
             journal,
             seat: _,
+            bytes: _,
         } = self;
         if journal.has_open_handles() {
             return Err(JournalError::NotRunning);
