@@ -1,8 +1,9 @@
 #!/usr/bin/env bash
 # Durable transactions a second of `jbench bench` beside a plain log in C with two syncs a commit, LMDB, and SQLite in WAL mode with
-# synchronous=FULL: one thread, transactions of 2, 3 and 4 blocks of 1024 bytes over 8,192 blocks.
+# synchronous=FULL: one thread, transactions of 2, 3 and 4 blocks of 1024 bytes over 8,192 blocks. The log of `jbench` has 32,768
+# blocks, unless LENGTH says otherwise: the longer a log, the fewer copies go home, for a round writes each block once.
 #
-# usage: bench/commits.sh [FOLDER] [SECONDS]
+# usage: bench/commits.sh [FOLDER] [SECONDS] [LENGTH]
 #
 # FOLDER (default: a new one under /dev/shm, a memory file system; name one on a disk for that) is where the files are made; SECONDS
 # (default: 5) how long each runs. Run it by hand on a quiet machine: times are no test. It needs a C compiler and the headers of
@@ -12,6 +13,7 @@ set -eu
 top=$(dirname -- "$(readlink -f -- "$0")")/..
 folder=$(mktemp -d "${1:-/dev/shm}/commits.XXXXXX")
 seconds=${2:-5}
+length=${3:-32768}
 trap 'rm -rf "$folder"' EXIT
 for store in plain_log lmdb_store:-llmdb sqlite_store:-lsqlite3; do
     cc -O2 -o "$folder/${store%%:*}" "$top/bench/commits/main.c" "$top/bench/commits/${store%%:*}.c" $(echo "$store:" | cut -d: -f2)
@@ -24,7 +26,7 @@ for copies in 2 3 4; do
         echo "copies=$copies $store $("$folder/$store" "$folder/files" "$seconds" "$copies")"
         rm -rf "$folder/files"
     done
-    "$top/jbench" format "$folder/log" "$folder/home" --length 8192 --home 8192 >/dev/null
+    "$top/jbench" format "$folder/log" "$folder/home" --length "$length" --home 8192 >/dev/null
     echo "copies=$copies jbench"
     "$top/jbench" bench "$folder/log" "$folder/home" --seconds "$seconds" --copies "$copies"
     rm -f "$folder/log" "$folder/home"
