@@ -280,6 +280,7 @@ impl<J: JournalName, D: Device> Journal<J, D> {
 
     /// What the credit word has, and how many entries the running transaction, at one moment. Where no handle is open and nobody has
     /// credits, and none is about to be given back, the word is that number.
+    /// Source: fs/jbd2/transaction.c by behaviour (`t_outstanding_credits` beside the buffers of the transaction).
     pub fn tally<R: Wait>(&self, rt: &R, seat: &mut Seat<J>) -> Tally
         ensures { seat.new ≡ loading_credits seat.old result.word }
     {

@@ -299,6 +299,7 @@ impl<J: JournalName, D: Device> Locked<J, D> {
 
     /// What the credit word has, and how many entries the running transaction: with no credits beside these, and no open handle,
     /// the word is that number.
+    /// Source: fs/jbd2/transaction.c by behaviour (`t_outstanding_credits` beside the buffers of the transaction).
     pub fn tally(&self, counters: &Counters<J>, seat: &mut Seat<J>) -> Tally
         ensures seat { seat.new ≡ loading_credits seat.old result.word }
         ensures entries { result.entries ≡ length (entries self.now.journal.front.running.steps) }
