@@ -1,6 +1,7 @@
 #!/usr/bin/env bash
-# Times `jbench recover` beside a plain C program that reads the log and writes each copy home with one fsync: one line for each
-# block size and length of the log, with the medians in microseconds and their ratio.
+# Times `jbench recover` beside two C programs: a plain one that reads the log once and writes each copy home with one fsync, and one
+# that tests each header of the ring first, as a recovery must, and so reads the log twice. One line for each block size and length of
+# the log, with the medians in microseconds and their ratios to the plain program's.
 #
 # usage: bench/recovery.sh [FOLDER] [ROUNDS]
 #
@@ -12,8 +13,9 @@ top=$(dirname -- "$(readlink -f -- "$0")")/..
 folder=${1:-$(mktemp -d /dev/shm/recovery.XXXXXX)}
 rounds=${2:-9}
 mkdir -p "$folder"
-trap 'rm -f "$folder"/plain "$folder"/log "$folder"/home "$folder"/one.log "$folder"/one.home' EXIT
+trap 'rm -f "$folder"/plain "$folder"/checked "$folder"/log "$folder"/home "$folder"/one.log "$folder"/one.home' EXIT
 cc -O2 -o "$folder/plain" "$top/bench/plain_recovery.c"
+cc -O2 -o "$folder/checked" "$top/bench/checked_recovery.c"
 "$top/jbench" --help >/dev/null
 
 # Microseconds that a command takes.
@@ -24,6 +26,8 @@ timed() {
     ended=$(date +%s%N)
     echo $(((ended - begun) / 1000))
 }
+
+ratio() { awk "BEGIN { printf \"%.2f\", $1 / $2 }"; }
 
 median() { sort -n | awk '{ a[NR] = $1 } END { print a[int((NR + 1) / 2)] }'; }
 
@@ -41,7 +45,9 @@ for size in 1024 4096; do
     for blocks in 8192 32768 131072; do
         python3 "$top/bench/make_full_log.py" "$folder/log" "$folder/home" "$blocks" "$size"
         plain=$(runs "$folder/plain")
+        checked=$(runs "$folder/checked")
         ours=$(runs "$top/jbench" recover)
-        echo "size=$size blocks=$blocks plain=${plain}us recover=${ours}us ratio=$(awk "BEGIN { printf \"%.2f\", $ours / $plain }")"
+        echo "size=$size blocks=$blocks plain=${plain}us checked=${checked}us recover=${ours}us" \
+            "checked/plain=$(ratio "$checked" "$plain") recover/plain=$(ratio "$ours" "$plain")"
     done
 done
