@@ -25,12 +25,13 @@ use Rattle.group_commit.specs.Direct.{DirectSyncRefused, DirectWriteRefused}
 use Rattle.group_commit.specs.Direct.DirectSyncRefused.{SyncAborted, SyncFailed}
 use Rattle.group_commit.specs.Direct.DirectWriteRefused.{WriteAborted, WriteFailed, WriteNotDirect, WriteOutside}
 use Rattle.group_commit.specs.Extension.{Extends, RestartRefused, Restarts, Starts}
-use Rattle.group_commit.specs.Front.{IsOpenHandle}
+use Rattle.journal_front.specs.Front.{IsOpenHandle}
 use Rattle.group_commit.specs.Journal.{CheckTurnDid, CheckTurnRefused, Does, ReadRefused, Requests, TurnDid, TurnRefused}
 use Rattle.group_commit.specs.Journal.CheckTurnRefused.{CheckAborted, CheckFailed}
 use Rattle.group_commit.specs.Journal.ReadRefused.{ReadAborted, ReadFailed, ReadOutside, ReadRevoked}
 use Rattle.group_commit.specs.Journal.TurnRefused.{DeviceFailed, MemoryIsShort, RingIsShort, WasAborted}
-use Rattle.group_commit.specs.Values.{HandleValue, JournalValue}
+use Rattle.journal_front.specs.Values.{HandleValue}
+use Rattle.group_commit.specs.Values.{JournalValue}
 use Rattle.bench_script.specs.declared.script.Operation.{Operation}
 use Rattle.bench_script.specs.Named.{IsDirectOf}
 use Rattle.bench_client.specs.Told.{AreDirectsOf, HasLedTo, running_world, with_told}

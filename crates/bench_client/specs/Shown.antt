@@ -1,7 +1,7 @@
 -- What a client notes of an answer.
 use Rattle.std.specs.Prelude.{◌≡◌, ℕ, Option}
-use Rattle.group_commit.specs.declared.handle.Status.{Status}
-use Rattle.group_commit.specs.declared.handle.Status.TheVariants.{Committed as IsCommitted, Open as IsOpen}
+use Rattle.group_commit.specs.declared.ticket.Status.{Status}
+use Rattle.group_commit.specs.declared.ticket.Status.TheVariants.{Committed as IsCommitted, Open as IsOpen}
 use Rattle.bench_client.specs.declared.client.Waited.{Waited}
 use Rattle.bench_client.specs.declared.client.Waited.TheVariants.{Committed, Open, Refused}
 use Rattle.bench_client.specs.Told.{with_told}

@@ -1,22 +1,20 @@
 -- Direct writes of a journal: the right to them by front and engine, and both agree behind a direct call.
-use Rattle.std.proofs.Common.{arith, inl, refl, sym, ap, ap₂, subst, ◌∙◌}
-use Rattle.std.specs.Prelude.{◌≡◌, Bool, ℕ, ◌+◌, ◌-◌, ◌≤◌, true, false, List, [], ◌∷◌, ◌++◌, length, take, drop, Option, Some, None}
+use Rattle.std.proofs.Common.{inl, refl, sym, ap, ap₂, subst, ◌∙◌}
+use Rattle.std.specs.Prelude.{◌≡◌, Bool, ℕ, true, false, List, [], ◌∷◌, ◌++◌, length, drop, Option, Some, None}
 use Rattle.std.proofs.Math.Seq.{drop-append_seam, take-append_seam}
 use Rattle.std.proofs.lemmas.Bool.{true≢false}
 use Rattle.std.proofs.lemmas.List.{drop-append-le, take-append-le}
 use Rattle.std.proofs.lemmas.Option.{none-some}
 use Rattle.journal_model.specs.declared.entry.Entry.{Entry}
 use Rattle.journal_model.specs.declared.refusal.JournalError.{JournalError}
-use Rattle.journal_model.specs.Block.{IsAllowedBlock}
 use Rattle.journal_model.specs.Disk.{Disk}
-use Rattle.journal_model.specs.Reading.{HasDirectRight}
-use Rattle.journal_model.specs.Transaction.{History, Transaction, content_of, effect, last_effect, later}
+use Rattle.journal_model.specs.Transaction.{History, content_of, effect, last_effect, later}
 use Rattle.block_device.specs.State.{DeviceState, EachMoment}
 use Rattle.block_device.proofs.Moments.{each-stays}
 use Rattle.journal_world.specs.Call.{Call}
 use Rattle.journal_world.specs.Direct.{DirectFaults, DirectSteps, IsLeftToHome}
-use Rattle.journal_world.specs.Engine.{AreBatchesOf, Engine}
-use Rattle.journal_world.specs.Front.{Front, IsUntouched, aborting, finished_count, transactions}
+use Rattle.journal_world.specs.Engine.{Engine}
+use Rattle.journal_world.specs.Front.{Front, IsUntouched, aborting, finished_count}
 use Rattle.journal_world.specs.Journal.{Journal}
 use Rattle.journal_world.specs.Sound.{IsPlain}
 use Rattle.journal_world.proofs.DirectRights.{front-right, left-or_right}
@@ -27,10 +25,9 @@ use Rattle.log_engine.specs.Direct.DirectSyncRefused.{SyncAborted as AbortedSync
 use Rattle.log_engine.specs.Engine.{EngineValue}
 use Rattle.group_commit.specs.Direct.{DirectSyncRefused, DirectWriteRefused, IsDuringDirectSync, IsDuringDirectWrite, MayWriteDirectly}
 use Rattle.group_commit.specs.Direct.DirectSyncRefused.{SyncAborted, SyncFailed}
-use Rattle.group_commit.specs.Direct.DirectWriteRefused.{WriteAborted, WriteFailed, WriteNotDirect}
-use Rattle.group_commit.specs.Front.{MayTouch}
+use Rattle.group_commit.specs.Direct.DirectWriteRefused.{WriteFailed, WriteNotDirect}
+use Rattle.journal_front.specs.Front.{MayTouch}
 use Rattle.group_commit.specs.Journal.{Agrees, OpensNow}
-use Rattle.group_commit.specs.Values.{JournalValue}
 use Rattle.group_commit.proofs.Reading.{all, few, finished-is, last-from, unfinished-is}
 use Rattle.group_commit.proofs.Rounding.{told-again}
 use Rattle.group_commit.proofs.Sealing.{agrees-told, allowed-here}

@@ -6,9 +6,8 @@ use Rattle.std.proofs.lemmas.Option.{none-some}
 use Rattle.journal_model.specs.declared.refusal.JournalError.{JournalError}
 use Rattle.journal_model.specs.declared.refusal.JournalError.TheVariants.{Device}
 use Rattle.journal_model.specs.Layout.{Layout}
-use Rattle.journal_model.specs.Superblock.{Shape}
 use Rattle.journal_model.specs.Chain.{Ring}
-use Rattle.journal_model.specs.Transaction.{History, Transaction, entries}
+use Rattle.journal_model.specs.Transaction.{History, Transaction}
 use Rattle.block_device.specs.State.{DeviceState, one_more_fault}
 use Rattle.journal_world.specs.declared.round.Round.{Round}
 use Rattle.journal_world.specs.declared.round.Round.TheVariants.{Idle as NoRound, Copies, TailWrite, TailFlush}

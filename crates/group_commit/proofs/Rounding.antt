@@ -21,7 +21,7 @@ use Rattle.group_commit.specs.Journal.{Agrees, CheckTurnDid, CheckTurnRefused, O
 use Rattle.group_commit.specs.Journal.CheckTurnRefused.{CheckAborted, CheckFailed}
 use Rattle.group_commit.specs.Journal.ReadRefused.{ReadFailed as FailedRead}
 use Rattle.journal_world.specs.Front.{unfinished}
-use Rattle.group_commit.specs.Front.{MayTouch}
+use Rattle.journal_front.specs.Front.{MayTouch}
 use Rattle.group_commit.proofs.Reading.{kept-pending}
 use Rattle.group_commit.proofs.Sealing.{agrees-moved, agrees-told, allowed-here}
 use Rattle.group_commit.proofs.Turning.{round-fault-keeps, round-keeps}

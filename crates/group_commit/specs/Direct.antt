@@ -1,5 +1,5 @@
 -- Direct writes of a journal and the flush of home behind them: what holds at each moment, and why they are refused.
-use Rattle.std.specs.Prelude.{◌≡◌, ℕ, true, false, List, length}
+use Rattle.std.specs.Prelude.{◌≡◌, ℕ, true, false, List}
 use Rattle.journal_model.specs.declared.refusal.JournalError.{JournalError}
 use Rattle.journal_model.specs.declared.refusal.JournalError.TheVariants.{Aborted, BadBlock, Device, NotDirect}
 use Rattle.journal_model.specs.Disk.{Disk}
@@ -11,7 +11,7 @@ use Rattle.journal_world.specs.Front.{finished_count, transactions}
 use Rattle.journal_world.specs.Journal.{Journal}
 use Rattle.journal_world.specs.Journal.Event.{DirectSyncFault, DirectWriteFault}
 use Rattle.log_engine.specs.Direct.{NoAddition}
-use Rattle.group_commit.specs.Front.{MayTouch}
+use Rattle.journal_front.specs.Front.{MayTouch}
 use Rattle.group_commit.specs.Journal.{Does, OpensNow}
 use Rattle.group_commit.specs.Values.{JournalValue}
 

@@ -27,13 +27,13 @@ use Rattle.journal_world.specs.Front.FrontEvent.{Lock, Raise}
 use Rattle.journal_world.specs.Journal.{Event, Happens, Journal}
 use Rattle.journal_world.specs.Journal.Event.{CheckpointFault, CheckpointStep, CommitFault, CommitStep, Finish, FrontStep, ReadFault, Seal}
 use Rattle.journal_world.specs.Sound.{CopiesHome, KeepsHome}
-use Rattle.group_commit.specs.declared.handle.Status.{Status}
-use Rattle.group_commit.specs.declared.handle.Status.TheVariants.{Committed as IsCommitted, Open}
+use Rattle.group_commit.specs.declared.ticket.Status.{Status}
+use Rattle.group_commit.specs.declared.ticket.Status.TheVariants.{Committed as IsCommitted, Open}
 use Rattle.group_commit.specs.declared.journal.CheckTurn.{CheckTurn}
 use Rattle.group_commit.specs.declared.journal.CheckTurn.TheVariants.{Idle as IdleCheck, Step as StepCheck, Released}
 use Rattle.group_commit.specs.declared.journal.Turn.{Turn}
 use Rattle.group_commit.specs.declared.journal.Turn.TheVariants.{Idle as IdleTurn, Waiting, Step, Sealed, Committed}
-use Rattle.group_commit.specs.Front.{MayTouch}
+use Rattle.journal_front.specs.Front.{MayTouch}
 use Rattle.group_commit.specs.Values.{JournalValue}
 
 -- the journal and the disk of its device go from old to new by this one step

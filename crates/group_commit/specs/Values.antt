@@ -4,12 +4,6 @@ use Rattle.journal_world.specs.Front.{Front}
 use Rattle.journal_world.specs.Journal.{Journal}
 use Rattle.log_engine.specs.Engine.{EngineValue}
 
--- a handle: its number, that of its transaction, and how many credits it has left
-pub record HandleValue : Type 0 where
-  pub number : ℕ
-  pub tid : ℕ
-  pub left : ℕ
-
 -- a ticket or a receipt
 pub record TicketValue : Type 0 where
   pub handle : ℕ

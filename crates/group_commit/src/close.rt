@@ -8,8 +8,8 @@ ghost use Rattle.group_commit.specs.Close.{CloseRefused, ComesTo, FitsRing, HasS
 ghost use Rattle.group_commit.specs.Journal.{HasRoomFor, NothingToRelease};
 
 use crate::journal::{CheckTurn, Journal};
-use crate::record::Record;
 use block_device::Device;
+use journal_front::Record;
 use journal_model::JournalError;
 
 /// Seals the running transaction where a handle has joined it, and commits and releases everything. Where it is refused,

@@ -10,9 +10,9 @@ ghost use Rattle.group_commit.specs.Direct.{DirectSyncRefused, DirectWriteRefuse
 ghost use Rattle.group_commit.specs.Journal.{Does};
 
 use crate::journal::Journal;
-use crate::record::Record;
 use crate::steps;
 use block_device::Device;
+use journal_front::Record;
 use journal_model::{BlockNo, JournalError};
 
 impl<D: Device, R: Record> Journal<D, R> {

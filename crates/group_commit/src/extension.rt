@@ -4,13 +4,13 @@ ghost use Rattle.journal_world.specs.Front.{next_handle};
 ghost use Rattle.journal_world.specs.Front.FrontEvent.{ExtendHandle, GiveBack, Join};
 ghost use Rattle.journal_world.specs.Journal.Event.{FrontStep};
 ghost use Rattle.group_commit.specs.Extension.{Extends, ExtensionRefused, RestartRefused, Restarts, StartRefused, Starts};
-ghost use Rattle.group_commit.specs.Front.{ExtendRefused, IsOpenHandle, JoinRefused};
+ghost use Rattle.journal_front.specs.Front.{ExtendRefused, IsOpenHandle, JoinRefused};
 ghost use Rattle.group_commit.specs.Journal.{Does};
 
-use crate::handle::{Credits, Handle, Seat, Ticket};
 use crate::journal::Journal;
-use crate::record::Record;
+use crate::ticket::{Seat, Ticket};
 use block_device::Device;
+use journal_front::{Credits, Handle, Record};
 use journal_model::JournalError;
 
 impl<D: Device, R: Record> Journal<D, R> {

@@ -17,16 +17,15 @@ ghost use Rattle.log_engine.specs.Call.{IsOneMoment};
 ghost use Rattle.log_engine.specs.Close.{IsAllReleased};
 ghost use Rattle.log_engine.specs.Left.{commit_calls};
 ghost use Rattle.group_commit.specs.Close.{CloseDid, CloseRefused, EndsWith, LeavesFewerRounds, SealRefused, closing, locked_journal};
-ghost use Rattle.group_commit.specs.Front.{IsOpenHandle, JoinRefused, MayTouch, ReserveRefused, Spends, TouchRefused};
+ghost use Rattle.journal_front.specs.Front.{IsOpenHandle, JoinRefused, MayTouch, ReserveRefused, Spends, TouchRefused};
 ghost use Rattle.group_commit.specs.Journal.{Agrees, CheckTurnDid, CheckTurnRefused, Does, HasCopyKept, HasRoomFor, IsDuringCheckTurn, IsDuringTurn, IsSeen, OpensNow, OpensOver, ReadRefused, Requests, SealIsDue, StatusIs, TurnDid, TurnRefused};
 
 use crate::close::finish;
-use crate::front::Front;
-use crate::handle::{Credits, Handle, Receipt, Seat, Status, Ticket};
-use crate::record::Record;
 use crate::steps;
+use crate::ticket::{Receipt, Seat, Status, Ticket};
 use block_device::Device;
 use history::History;
+use journal_front::{Credits, Front, Handle, Record};
 use journal_model::{BlockNo, JournalError, Sealed, Tid};
 use log_engine::Engine;
 use log_ring::Layout;
@@ -160,8 +159,7 @@ impl<D: Device, R: Record> Journal<D, R> {
         ensures err { IfErr result (λ e. ReserveRefused self.old.journal.front n e × (self.new ≡ self.old)) }
         ensures device { self.new.device ≡ self.old.device }
     {
-        self.front.reserve(n)?;
-        Ok(Credits::new(n))
+        self.front.reserve(n)
     }
 
     /// Takes back credits that no handle was made of. More than are held so were granted by another journal: nothing changes.
@@ -190,7 +188,7 @@ impl<D: Device, R: Record> Journal<D, R> {
         ensures device { self.new.device ≡ self.old.device }
     {
         match self.front.join(credits.count()) {
-            Ok((number, tid)) => Ok(Handle::new(number, tid, credits.count())),
+            Ok(handle) => Ok(handle),
             Err(e) => Err((credits, e)),
         }
     }

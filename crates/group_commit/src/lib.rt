@@ -3,22 +3,22 @@
 //! a stop at any moment leaves.
 //!
 //! It is one plain value: its calls take `&mut self`, and there is no lock or thread. Two parts know each other by one
-//! contract each: the engine (`log_engine`) commits batches to the log and writes them home, and `front`, with the `journal`
-//! around both, turns handles and their writes into batches. `extension` is for handles that
-//! need more, `direct` writes blocks past both, and `close` takes the turns that are left before a log is closed. How a journal keeps
-//! what it sealed is its caller's to choose (`record`).
+//! contract each: the engine (`log_engine`) commits batches to the log and writes them home, and the front (`journal_front`), with
+//! the `journal` around both, turns handles and their writes into batches. `extension` is for handles that need more, `direct`
+//! writes blocks past both, and `close` takes the turns that are left before a log is closed. How a journal keeps what it sealed is
+//! its caller's to choose (`Record`).
+//!
+//! Nobody but a journal has its front: so its credits and handles come of its own calls alone, and no transaction of it is sealed
+//! but by a turn or a close. Seats, tickets and receipts (`ticket`) are made by journals alone.
 #![tactic(auto)]
 
 mod close;
 mod direct;
 mod extension;
-mod front;
-mod handle;
 mod journal;
-mod record;
 pub mod steps;
+mod ticket;
 
-pub use front::Front;
-pub use handle::{Credits, Handle, Receipt, Seat, Status, Ticket};
 pub use journal::{CheckTurn, Journal, Parts, Turn};
-pub use record::Record;
+pub use journal_front::{Credits, Front, Handle, Record};
+pub use ticket::{Receipt, Seat, Status, Ticket};

@@ -10,14 +10,13 @@ ghost use Rattle.log_engine.specs.Call.{IsOneMoment};
 ghost use Rattle.log_engine.specs.Left.{commit_calls};
 ghost use Rattle.group_commit.specs.Close.{LeavesFewerRounds};
 ghost use Rattle.group_commit.specs.Direct.{DirectSyncRefused, DirectWriteRefused, IsDuringDirectSync, IsDuringDirectWrite, MayWriteDirectly};
-ghost use Rattle.group_commit.specs.Front.{MayTouch};
+ghost use Rattle.journal_front.specs.Front.{MayTouch};
 ghost use Rattle.group_commit.specs.Journal.{Agrees, CheckTurnDid, CheckTurnRefused, Does, HasCopyKept, HasRoomFor, IsDuringCheckTurn, IsDuringTurn, IsSeen, OpensNow, ReadRefused, SealIsDue, TurnDid, TurnRefused};
 ghost use Rattle.group_commit.specs.Values.{together};
 
-use crate::front::Front;
 use crate::journal::{CheckTurn, Turn};
-use crate::record::Record;
 use block_device::Device;
+use journal_front::{Front, Record};
 use journal_model::{BlockNo, Entry, JournalError};
 use log_engine::{Engine, Progress};
 

@@ -3,12 +3,12 @@ use Rattle.std.proofs.Common.{◌≡◌, ◌+◌, ◌≤◌, ◌<◌, ℕ, refl,
 use Rattle.journal_model.specs.declared.refusal.JournalError.{JournalError}
 use Rattle.journal_model.specs.declared.refusal.JournalError.TheVariants.{Aborted, BadBlock, Memory, NoCredit, NotRunning, SequenceEnd}
 use Rattle.journal_world.specs.Front.{Front, IsFirstTouch, reserving}
-use Rattle.group_commit.specs.Front.{ExtendRefused, IsKeptOut, JoinRefused, TouchRefused}
-use Rattle.group_commit.specs.Front.ExtendRefused.{ExtendAborted as WasAborted, ExtendLocked as WasLocked, ExtendUngranted, ExtendUnopened as WasUnopened}
-use Rattle.group_commit.specs.Front.IsKeptOut.{NotOpen, OutOfHome, WhileAborted}
-use Rattle.group_commit.specs.Front.JoinRefused.{IsAborted, IsLocked, NoHandle, NoMemory, NoNumber, NotGranted}
-use Rattle.group_commit.specs.Front.TouchRefused.{KeptOut, WithoutCredit, WithoutMemory}
-use Rattle.group_commit.specs.Values.{HandleValue}
+use Rattle.journal_front.specs.Front.{ExtendRefused, IsKeptOut, JoinRefused, TouchRefused}
+use Rattle.journal_front.specs.Front.ExtendRefused.{ExtendAborted as WasAborted, ExtendLocked as WasLocked, ExtendUngranted, ExtendUnopened as WasUnopened}
+use Rattle.journal_front.specs.Front.IsKeptOut.{NotOpen, OutOfHome, WhileAborted}
+use Rattle.journal_front.specs.Front.JoinRefused.{IsAborted, IsLocked, NoHandle, NoMemory, NoNumber, NotGranted}
+use Rattle.journal_front.specs.Front.TouchRefused.{KeptOut, WithoutCredit, WithoutMemory}
+use Rattle.journal_front.specs.Values.{HandleValue}
 use Rattle.shared_journal.specs.Refusals.{IsExtendRefusal, IsJoinRefusal, IsTouchRefusal}
 use Rattle.shared_journal.specs.Refusals.IsExtendRefusal.{ExtendAborted, ExtendLocked, ExtendUnopened}
 use Rattle.shared_journal.specs.Refusals.IsJoinRefusal.{JoinAborted, JoinLocked, JoinMemory, JoinNumber}

@@ -4,7 +4,7 @@ use Rattle.std.specs.Prelude.{◌≡◌, ◌-◌, ◌<◌, ℕ}
 use Rattle.journal_model.specs.declared.refusal.JournalError.{JournalError}
 use Rattle.journal_model.specs.declared.refusal.JournalError.TheVariants.{Aborted, BadBlock, Memory, NoCredit, NotRunning, SequenceEnd}
 use Rattle.handle.specs.Values.{Grants, ReserveRefused, SeatValue}
-use Rattle.group_commit.specs.Values.{HandleValue}
+use Rattle.journal_front.specs.Values.{HandleValue}
 
 -- why a handle may not join
 pub data IsJoinRefusal : JournalError → Type 0 where

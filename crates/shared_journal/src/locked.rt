@@ -10,7 +10,7 @@ ghost use Rattle.log_engine.specs.Call.{IsOneMoment};
 ghost use Rattle.handle.specs.Values.{fresh_ticket, loading_credits};
 ghost use Rattle.group_commit.specs.Direct.{DirectSyncRefused, DirectWriteRefused, IsDuringDirectSync, IsDuringDirectWrite, MayWriteDirectly};
 ghost use Rattle.group_commit.specs.Extension.{Extends, Starts};
-ghost use Rattle.group_commit.specs.Front.{ExtendRefused, IsOpenHandle, JoinRefused, MayTouch, Spends, TouchRefused};
+ghost use Rattle.journal_front.specs.Front.{ExtendRefused, IsOpenHandle, JoinRefused, MayTouch, Spends, TouchRefused};
 ghost use Rattle.group_commit.specs.Journal.{CheckTurnDid, CheckTurnRefused, Does, IsDuringCheckTurn, IsDuringTurn, IsSeen, ReadRefused, Requests, TurnDid, TurnRefused};
 
 use crate::open_handle::Handle;

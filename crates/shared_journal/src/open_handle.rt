@@ -17,7 +17,7 @@ pub struct Handle<'j, J: JournalName> {
 impl<'j, J: JournalName> Model for Handle<'j, J> {
     ghost use Rattle.std.specs.Prelude.{◌≡◌};
     ghost use Rattle.handle.specs.Values.{fresh_ticket};
-    ghost use Rattle.group_commit.specs.Values.{HandleValue};
+    ghost use Rattle.journal_front.specs.Values.{HandleValue};
 
     ghost Value = { HandleValue };
 

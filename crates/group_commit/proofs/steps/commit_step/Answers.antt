@@ -1,6 +1,4 @@
-use Rattle.std.proofs.Common.{sym, subst, ◌≡◌}
-use Rattle.std.specs.Prelude.{false}
-use Rattle.std.proofs.lemmas.Result.{err_from_is_err_and}
+use Rattle.std.proofs.Common.{subst}
 use Rattle.log_engine.specs.declared.engine.Progress.{Progress}
 use Rattle.log_engine.specs.Engine.{StepDid}
 use Rattle.group_commit.proofs.Sealing.{agrees-last, agrees-refused, finishes-commit, may-raise, refused-turn}

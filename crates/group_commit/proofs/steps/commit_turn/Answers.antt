@@ -1,5 +1,4 @@
-use Rattle.std.proofs.Common.{refl, sym, ap, subst, ◌∙◌}
-use Rattle.std.proofs.lemmas.Bool.{true≢false}
+use Rattle.std.proofs.Common.{refl, sym, subst, ◌∙◌}
 use Rattle.block_device.specs.State.{EachMoment}
 use Rattle.log_engine.specs.Call.{IsOneMoment}
 use Rattle.group_commit.specs.Journal.{IsDuringTurn, TurnRefused}

@@ -1,8 +1,7 @@
-use Rattle.std.proofs.Common.{◌≡◌, ◌+◌, ◌≤◌, ◌↔◌, ℕ, IsTrue, length, subst}
+use Rattle.std.proofs.Common.{◌+◌, ◌≤◌, ◌↔◌, ℕ, IsTrue, length, subst}
 use Rattle.journal_model.specs.OwnText.{revoked}
 use Rattle.journal_model.specs.Room.{need}
 use Rattle.journal_model.specs.Transaction.{entries}
-use Rattle.group_commit.specs.Journal.{HasRoomFor}
 use Rattle.group_commit.proofs.steps.has_room.Goals as goal
 
 -- the engine is asked for as many copies and revokes as the front has

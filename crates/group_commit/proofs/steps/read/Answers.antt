@@ -1,12 +1,11 @@
-use Rattle.std.proofs.Common.{Some, refl, sym, ap, subst, ◌∙◌, ◌≡◌, ℕ, length}
+use Rattle.std.proofs.Common.{Some, refl, sym, ap, subst, ◌∙◌, length}
 use Rattle.std.proofs.lemmas.Bool.{true≢false}
-use Rattle.journal_model.specs.Block.{IsAllowedBlock}
 use Rattle.journal_model.specs.Superblock.{Shape}
 use Rattle.journal_world.specs.Engine.{Engine}
 use Rattle.journal_world.specs.Journal.{Journal}
 use Rattle.log_engine.specs.Engine.{EngineValue}
 use Rattle.group_commit.specs.Journal.{Agrees, IsSeen, ReadRefused}
-use Rattle.group_commit.specs.Front.{MayTouch}
+use Rattle.journal_front.specs.Front.{MayTouch}
 use Rattle.group_commit.proofs.Reading.{kept-pending, kept-whole, seen-kept, seen-read}
 use Rattle.group_commit.proofs.Rounding.{agrees-read_refused, opens-read, opens-unread, refused-read}
 use Rattle.group_commit.proofs.Turning.{opens-now}

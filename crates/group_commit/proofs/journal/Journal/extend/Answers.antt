@@ -1,12 +1,11 @@
-use Rattle.std.proofs.Common.{◌≡◌, ◌≤◌, ◌+◌, ℕ, refl, subst, ◌∙◌}
-use Rattle.journal_model.specs.declared.refusal.JournalError.{JournalError}
+use Rattle.std.proofs.Common.{◌≡◌, ◌≤◌, ◌+◌, ℕ, refl, subst}
 use Rattle.std.proofs.lemmas.Result.{IfErr-weaker}
 use Rattle.journal_world.specs.Front.{Front}
 use Rattle.journal_world.specs.Front.FrontEvent.{ExtendHandle, GiveBack}
 use Rattle.journal_world.specs.Journal.Event.{FrontStep}
 use Rattle.group_commit.specs.Extension.{ExtensionRefused}
 use Rattle.group_commit.specs.Extension.ExtensionRefused.{NotExtended, NotGranted}
-use Rattle.group_commit.specs.Front.{ExtendRefused}
+use Rattle.journal_front.specs.Front.{ExtendRefused}
 use Rattle.group_commit.specs.Journal.{Does}
 use Rattle.group_commit.proofs.Extending.{on-ok, undone}
 use Rattle.group_commit.proofs.journal.Journal.extend.Goals as goal

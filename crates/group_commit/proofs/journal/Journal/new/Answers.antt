@@ -1,11 +1,11 @@
-use Rattle.std.proofs.Common.{refl, sym, ap, ap₂, ◌∙◌, ◌≡◌, subst, ◌<◌, ℕ}
+use Rattle.std.proofs.Common.{refl, sym, ap, ap₂, ◌∙◌, subst, ◌<◌, ℕ}
 use Rattle.std.specs.Prelude.{Some, None, []}
 use Rattle.journal_model.specs.Layout.{Layout}
 use Rattle.journal_model.specs.Room.{IsCapacity}
 use Rattle.journal_model.specs.Superblock.{Shape}
 use Rattle.journal_world.specs.Engine.{Engine}
-use Rattle.journal_world.specs.Front.{Front, fresh_front}
-use Rattle.journal_world.specs.Journal.{IsFresh, fresh_engine}
+use Rattle.journal_world.specs.Front.{fresh_front}
+use Rattle.journal_world.specs.Journal.{fresh_engine}
 use Rattle.journal_world.specs.Opening.{IsOpenedLog}
 use Rattle.journal_model.specs.Disk.{Disk}
 use Rattle.log_epochs.specs.EngineWorld.Begins.{Made}

@@ -1,11 +1,11 @@
-use Rattle.std.proofs.Common.{◌≡◌, ◌≤◌, ℕ, subst, ◌∙◌}
+use Rattle.std.proofs.Common.{◌≡◌, ◌≤◌, ℕ, subst}
 use Rattle.std.proofs.lemmas.Result.{IfErr-weaker, IfOk-weaker}
 use Rattle.journal_world.specs.Front.{Front, next_handle}
 use Rattle.journal_world.specs.Front.FrontEvent.{GiveBack, Join}
 use Rattle.journal_world.specs.Journal.Event.{FrontStep}
 use Rattle.group_commit.specs.Extension.{StartRefused, Starts}
 use Rattle.group_commit.specs.Extension.StartRefused.{NotJoined, Ungranted}
-use Rattle.group_commit.specs.Front.{JoinRefused}
+use Rattle.journal_front.specs.Front.{JoinRefused}
 use Rattle.group_commit.specs.Journal.{Does}
 use Rattle.group_commit.proofs.Extending.{undone}
 use Rattle.group_commit.proofs.journal.Journal.try_start.Goals as goal

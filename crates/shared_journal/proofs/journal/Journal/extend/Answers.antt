@@ -1,7 +1,7 @@
 use Rattle.std.proofs.Common.{◌≡◌}
 use Rattle.std.proofs.lemmas.Result.{IfErr-weaker}
 use Rattle.journal_world.specs.Front.{reserving}
-use Rattle.group_commit.specs.Front.{ExtendRefused}
+use Rattle.journal_front.specs.Front.{ExtendRefused}
 use Rattle.shared_journal.specs.Refusals.{IsExtendRefusal}
 use Rattle.shared_journal.proofs.Refused.{extends}
 use Rattle.shared_journal.proofs.journal.Journal.extend.Goals as goal

@@ -1,6 +1,6 @@
 use Rattle.std.proofs.Common.{◌≡◌}
 use Rattle.std.proofs.lemmas.Result.{IfErr-weaker}
-use Rattle.group_commit.specs.Front.{TouchRefused}
+use Rattle.journal_front.specs.Front.{TouchRefused}
 use Rattle.shared_journal.specs.Refusals.{IsTouchRefusal}
 use Rattle.shared_journal.proofs.Refused.{touches}
 use Rattle.shared_journal.proofs.journal.Journal.revoke.Goals as goal

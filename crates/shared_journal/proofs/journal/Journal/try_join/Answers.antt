@@ -1,7 +1,7 @@
 use Rattle.std.proofs.Common.{◌≡◌}
 use Rattle.std.proofs.lemmas.Result.{IfErr-weaker}
 use Rattle.journal_world.specs.Front.{reserving}
-use Rattle.group_commit.specs.Front.{JoinRefused}
+use Rattle.journal_front.specs.Front.{JoinRefused}
 use Rattle.shared_journal.specs.Refusals.{IsJoinRefusal}
 use Rattle.shared_journal.proofs.Refused.{joins}
 use Rattle.shared_journal.proofs.journal.Journal.try_join.Goals as goal

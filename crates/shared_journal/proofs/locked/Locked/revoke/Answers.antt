@@ -1,6 +1,6 @@
 use Rattle.std.proofs.Common.{◌≡◌, ap}
 use Rattle.journal_model.specs.declared.refusal.JournalError.{JournalError}
-use Rattle.group_commit.specs.Front.{TouchRefused}
+use Rattle.journal_front.specs.Front.{TouchRefused}
 use Rattle.shared_journal.proofs.Counting.{revoke}
 use Rattle.shared_journal.proofs.locked.Locked.revoke.Goals as goal
 

@@ -1,0 +1,34 @@
+use Rattle.std.proofs.Common.{◌≡◌, ◌+◌, ◌≤◌, [], ◌∷◌, ◌++◌, arith, sym, ap, ◌∙◌, length}
+use Rattle.std.proofs.lemmas.Bool.{true≢false}
+use Rattle.journal_model.specs.Opening.{greatest_number}
+use Rattle.journal_model.specs.Transaction.{Transaction, entries}
+use Rattle.transaction.specs.Transaction.{OpenTransaction}
+use Rattle.journal_front.proofs.Unfinished.{committing-sealed}
+use Rattle.journal_front.proofs.front.Front.seal.Goals as goal
+
+-- the entries of the running transaction are those of the one that is being committed
+pub invariant_of-self : goal.invariant_of-self
+invariant_of-self g c =
+    let f = c.self.inside in
+    let front = c.self.invariant.front in
+    let next = c.seal-sealed.ensures.next in
+    let tid : c.seal-sealed.new.self.transaction.tid ≡ f.running.transaction.tid + 1 = ap (λ (t : OpenTransaction). t.transaction.tid) next in
+    let held_are = c.self.invariant.held_are in
+    let count = ap length c.seal-sealed.ensures.entries in
+    let none : length (entries c.seal-sealed.new.self.transaction.steps) ≡ 0 = ap (λ (t : OpenTransaction). length (entries t.transaction.steps)) next in
+    let told : f.finished + 1 ≡ f.running.transaction.tid = rw (← c.self.view_is) at c.requires.finished in
+    record {
+      front = record {
+        layout = front.layout;
+        credits = let within = front.credits in omega arith;
+        numbers = front.numbers;
+        given = front.given;
+        joined = λ is. absurd (true≢false (sym is ∙ ap (λ (t : OpenTransaction). t.locked) next));
+        number = let most : f.running.transaction.tid ≤ greatest_number = rw (← c.self.view_is) at c.requires.number in omega arith;
+      };
+      held_are = omega arith;
+      committing_are =
+          committing-sealed (g.R.Record.transactions f.sealed) _ f.running.transaction f.finished _ _
+          (c.note.ensures ∙ ap (λ (t : Transaction). (g.R.Record.transactions f.sealed) ++ t ∷ []) c.seal-sealed.ensures.sealed) c.seal-sealed.ensures.entries (omega arith);
+      room = λ joined. absurd (let none : length c.seal-sealed.new.self.transaction.handles ≡ 0 = ap (λ (t : OpenTransaction). length t.transaction.handles) next in omega arith);
+    }

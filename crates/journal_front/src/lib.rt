@@ -1,0 +1,15 @@
+//! The front of a journal: the transaction that handles join, write to and revoke blocks in, and what is kept of those that
+//! are sealed. It knows no device and no engine: `group_commit` keeps a front beside an engine, and both agree.
+//!
+//! Credits and handles are made, changed and ended by a front alone, and no other call makes one. So only who has the front can
+//! do so, or seal its transaction: it is to be kept where callers can't reach it, as `group_commit::Journal` keeps its own.
+//! How a front keeps what it sealed is its owner's to choose (`record`).
+#![tactic(auto)]
+
+mod front;
+mod handle;
+mod record;
+
+pub use front::Front;
+pub use handle::{Credits, Handle};
+pub use record::Record;
