@@ -11,8 +11,8 @@ use Rattle.block_device.specs.State.{DeviceState, Stays}
 use Rattle.journal_world.specs.Engine.{Engine}
 use Rattle.journal_world.specs.Front.{Front, aborting}
 use Rattle.journal_world.proofs.Onward.{round-unfailed}
-use Rattle.log_engine.specs.declared.engine.Progress.{Progress}
-use Rattle.log_engine.specs.declared.engine.Progress.TheVariants.{Idle as NoProgress, Step, Done}
+use Rattle.log_ledger.specs.declared.progress.Progress.{Progress}
+use Rattle.log_ledger.specs.declared.progress.Progress.TheVariants.{Idle as NoProgress, Step, Done}
 use Rattle.log_engine.specs.Engine.{EngineValue, ReadRefused, RoundDid, RoundRefused}
 use Rattle.log_engine.specs.Engine.ReadRefused.{ReadAborted, ReadFailed, ReadOutside}
 use Rattle.log_engine.specs.Engine.RoundRefused.{RoundAborted, RoundFailed}

@@ -37,7 +37,8 @@ use Rattle.journal_world.proofs.Batches.{batches-last}
 use Rattle.journal_world.proofs.Onward.{step-unfailed}
 use Rattle.journal_world.specs.Sound.{IsPlain, StageAgrees}
 use Rattle.journal_model.proofs.Taken.{taken-layout}
-use Rattle.log_engine.specs.Engine.{AcceptRefused, MayHandOver, StepRefused}
+use Rattle.log_ledger.specs.Steps.{MayHandOver}
+use Rattle.log_engine.specs.Engine.{AcceptRefused, StepRefused}
 use Rattle.log_engine.specs.Engine.AcceptRefused.{AfterFailure, MemoryIsShort, RingIsShort}
 use Rattle.log_engine.specs.Engine.StepRefused.{WasAborted, DeviceFailed}
 use Rattle.group_commit.specs.Journal.TurnRefused.{DeviceFailed as FailedTurn, MemoryIsShort as NoMemory}

@@ -10,9 +10,10 @@ use Rattle.block_device.proofs.Moments.{each-moves, each-stays}
 use Rattle.journal_world.specs.Call.{Call, IsAfterFault, after_success}
 use Rattle.journal_world.specs.Call.Call.{Write, Flush}
 use Rattle.journal_world.specs.Call.IsAfterFault.{Undone as NotDone, Whole as AllDone, HandedOver as Given}
-use Rattle.log_engine.specs.declared.call.Due.{Due}
-use Rattle.log_engine.specs.declared.call.Due.TheVariants.{Write as WriteDue, Flush as FlushDue}
-use Rattle.log_engine.specs.Call.{IsOneMoment, call_of}
+use Rattle.log_ledger.specs.declared.due.Due.{Due}
+use Rattle.log_ledger.specs.declared.due.Due.TheVariants.{Write as WriteDue, Flush as FlushDue}
+use Rattle.log_ledger.specs.Due.{call_of}
+use Rattle.log_engine.specs.Call.{IsOneMoment}
 use Rattle.log_engine.specs.Call.IsOneMoment.{Same, Another}
 
 -- what holds in any case holds where it is asked of a failure

@@ -10,9 +10,9 @@ use Rattle.journal_world.specs.declared.stage.Stage.{Stage}
 use Rattle.journal_world.specs.declared.stage.Stage.TheVariants.{Idle, SuperblockWrite, SuperblockFlush, Blocks, CommitWrite, CommitFlush}
 use Rattle.journal_world.specs.Checkpoint.{RoundFaults, RoundSteps, begun}
 use Rattle.journal_world.specs.Engine.{CommitSteps, Engine, accepting, stepped_from}
-use Rattle.log_engine.specs.Ledger.{HasEffects}
+use Rattle.log_ledger.proofs.Rounds.{call-keeps}
+use Rattle.log_engine.specs.Engine.{HasEffects}
 use Rattle.log_engine.proofs.Rounding.{begun-commit, both-keep}
-use Rattle.log_engine.proofs.Rounds.{call-keeps}
 
 -- where no transaction was handed over there are none
 pub none-noted : (e : Engine) (table : EffectsValue) → e.accepted ≡ [] → table.effects ≡ [] → HasEffects e table

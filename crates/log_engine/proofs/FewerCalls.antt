@@ -21,11 +21,11 @@ use Rattle.journal_world.specs.Engine.{CommitSteps, Engine, IsBatch, due_blocks,
 use Rattle.journal_world.specs.Sound.{IsPlain, StageAgrees}
 use Rattle.journal_world.proofs.Elements.{all-at}
 use Rattle.journal_world.proofs.Rounds.{begun-plain}
-use Rattle.log_engine.specs.declared.engine.Progress.{Progress}
-use Rattle.log_engine.specs.declared.engine.Progress.TheVariants.{Idle as NoProgress, Step, Done}
+use Rattle.log_ledger.specs.declared.progress.Progress.{Progress}
+use Rattle.log_ledger.specs.declared.progress.Progress.TheVariants.{Idle as NoProgress, Step, Done}
+use Rattle.log_ledger.proofs.Rounds.{KeepsCommit, due-alike}
 use Rattle.log_engine.specs.Engine.{RoundDid, StepDid}
 use Rattle.log_engine.specs.Left.{LeavesFewer, calls_from, commit_calls, round_calls, round_calls_from, whole_round}
-use Rattle.log_engine.proofs.Rounds.{KeepsCommit, due-alike}
 use Rattle.log_engine.proofs.Stepping.{busy}
 
 -- up to the last call of a commit its transaction is the same

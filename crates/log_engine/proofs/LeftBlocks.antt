@@ -19,7 +19,7 @@ use Rattle.journal_world.specs.Sound.{IsPlain}
 use Rattle.journal_world.proofs.Batches.{number-at}
 use Rattle.journal_world.proofs.Elements.{all-at}
 use Rattle.journal_world.proofs.Lasts.{entry-block}
-use Rattle.log_engine.specs.Ledger.{HasEffects}
+use Rattle.log_engine.specs.Engine.{HasEffects}
 
 -- entries of different blocks have one for each block
 one-entry : (es : List (ℕ × Entry)) (b : ℕ) (x y : Entry) → IsDistinct nat_eq (map (λ p. p.0) es) → Contains es (b, x) → Contains es (b, y) → x ≡ y

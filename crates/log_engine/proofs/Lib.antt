@@ -1,24 +1,13 @@
 -- The lemmas of this crate.
-pub mod Advancing
 pub mod Calls
 pub mod Closing
-pub mod Copies
 pub mod Directs
 pub mod Effects
 pub mod FewerCalls
+pub mod Fresh
 pub mod KeptClean
-pub mod Ledgers
 pub mod LeftBlocks
-pub mod PendingCommits
-pub mod PendingLists
-pub mod PendingRounds
-pub mod PendingSame
-pub mod Pendings
 pub mod Plans
 pub mod Reading
 pub mod Rounding
-pub mod Rounds
-pub mod Running
 pub mod Stepping
-pub mod Tags
-pub mod TextBlocks

@@ -10,12 +10,12 @@ use Rattle.journal_world.specs.Checkpoint.{RoundFaults, RoundSteps, begun}
 use Rattle.journal_world.specs.Engine.{CommitSteps, Engine, accepting, stepped_from}
 use Rattle.journal_world.specs.Sound.{IsPlain, StageAgrees}
 use Rattle.journal_world.proofs.Elements.{get-last}
-use Rattle.log_engine.specs.declared.plan.Plan.{Plan}
-use Rattle.log_engine.specs.Engine.{MayHandOver}
-use Rattle.log_engine.specs.Ledger.{HasPlan}
-use Rattle.log_engine.specs.Text.{IsPlanOf}
+use Rattle.log_ledger.specs.declared.plan.Plan.{Plan}
+use Rattle.log_ledger.specs.Steps.{MayHandOver}
+use Rattle.log_ledger.specs.Ledger.{HasPlan}
+use Rattle.log_ledger.specs.Text.{IsPlanOf}
+use Rattle.log_ledger.proofs.Rounds.{call-keeps}
 use Rattle.log_engine.proofs.Rounding.{begun-commit, both-keep}
-use Rattle.log_engine.proofs.Rounds.{call-keeps}
 
 -- where all that was accepted is committed there is nothing to plan
 pub none-planned : (e : Engine) (plan : Plan) → length e.accepted ≤ e.committed → HasPlan e plan

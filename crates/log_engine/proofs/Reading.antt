@@ -12,8 +12,8 @@ use Rattle.journal_world.specs.Engine.{Engine}
 use Rattle.journal_world.specs.Sound.{IsPlain, Sound}
 use Rattle.journal_world.proofs.Faults.{abort-sound}
 use Rattle.journal_world.proofs.Pending.{newest-bytes}
-use Rattle.log_engine.specs.declared.ledger.Ledger.{Ledger}
-use Rattle.log_engine.specs.Ledger.{IsPlaced, KeepsPending, engine_of}
+use Rattle.log_ledger.specs.declared.ledger.Ledger.{Ledger}
+use Rattle.log_ledger.specs.Ledger.{IsPlaced, KeepsPending, engine_of}
 
 -- an engine whose device failed in a read, and stays as it was, is sound
 pub aborted-sound : (s t : Shape) (l : Ledger) (disk after : Disk) → t ≡ s → after ≡ disk → Sound (engine_of s l) disk →

@@ -15,20 +15,21 @@ use Rattle.journal_world.proofs.HomeCopies.{keeps-copies, round-fault-home, roun
 use Rattle.journal_world.proofs.Images.{images-open}
 use Rattle.journal_world.proofs.RoundFaults.{round-fault-sound}
 use Rattle.journal_world.proofs.RoundSteps.{round-sound}
-use Rattle.log_engine.specs.declared.call.Due.{Due}
-use Rattle.log_engine.specs.declared.engine.Progress.{Progress}
-use Rattle.log_engine.specs.declared.engine.Progress.TheVariants.{Idle as NoProgress, Step, Done}
-use Rattle.log_engine.specs.declared.ledger.Ledger.{Ledger}
+use Rattle.log_ledger.specs.declared.due.Due.{Due}
+use Rattle.log_ledger.specs.declared.progress.Progress.{Progress}
+use Rattle.log_ledger.specs.declared.progress.Progress.TheVariants.{Idle as NoProgress, Step, Done}
+use Rattle.log_ledger.specs.declared.ledger.Ledger.{Ledger}
+use Rattle.log_ledger.specs.Steps.{IsRoundProgress}
+use Rattle.log_ledger.specs.Ledger.{Runs, engine_of}
+use Rattle.log_ledger.specs.Rounds.{HasDue, HasGone}
+use Rattle.log_ledger.proofs.Ledgers.{fault-taken}
+use Rattle.log_ledger.proofs.Pendings.{aborted-keeps}
+use Rattle.log_ledger.proofs.Rounds.{KeepsCommit, call-keeps, one-call}
+use Rattle.log_ledger.proofs.Running.{fault-runs}
 use Rattle.log_engine.specs.Call.{IsOneMoment}
 use Rattle.log_engine.specs.Call.IsOneMoment.{Same}
-use Rattle.log_engine.specs.Engine.{IsDuringRound, IsRoundProgress, RoundDid}
-use Rattle.log_engine.specs.Ledger.{Runs, engine_of}
-use Rattle.log_engine.specs.Rounds.{HasDue, HasGone}
+use Rattle.log_engine.specs.Engine.{IsDuringRound, RoundDid}
 use Rattle.log_engine.proofs.Calls.{each-one}
-use Rattle.log_engine.proofs.Ledgers.{fault-taken}
-use Rattle.log_engine.proofs.Pendings.{aborted-keeps}
-use Rattle.log_engine.proofs.Rounds.{KeepsCommit, call-keeps, one-call}
-use Rattle.log_engine.proofs.Stepping.{fault-runs}
 
 -- a sound engine between two steps
 during-round : (e : Engine) (disk : Disk) → Sound e disk → IsDuringRound e disk disk

@@ -1,6 +1,6 @@
 -- A step of a commit on a device: what it does to the engine and the disk, and what holds at each of its moments.
 use Rattle.std.proofs.Common.{arith, refl, sym, ap, subst, ◌∙◌}
-use Rattle.std.specs.Prelude.{◌≡◌, ◌≢◌, ℕ, ◌≤◌, true, false, List, length, Some, None, Result, Ok, Err, MatchResult, OnErr, OnOk, is_err}
+use Rattle.std.specs.Prelude.{◌≡◌, ◌≢◌, ℕ, ◌≤◌, true, false, List, length, Some, None}
 use Rattle.std.proofs.lemmas.Option.{none-some}
 use Rattle.journal_model.specs.declared.entry.Batch.{Batch}
 use Rattle.journal_model.specs.Disk.{Disk}
@@ -10,19 +10,19 @@ use Rattle.journal_world.specs.declared.stage.Stage.{Stage}
 use Rattle.journal_world.specs.declared.stage.Stage.TheVariants.{Idle, SuperblockWrite, SuperblockFlush, Blocks, CommitWrite, CommitFlush}
 use Rattle.journal_world.specs.Call.{Call, IsAfterFault, after_success}
 use Rattle.journal_world.specs.Engine.{CommitFaults, CommitSteps, Engine, call_due, call_in, stepped, stepped_from}
-use Rattle.journal_world.specs.Sound.{IsPlain, OpensBetween, Sound}
+use Rattle.journal_world.specs.Sound.{OpensBetween, Sound}
 use Rattle.journal_world.proofs.Faults.{fault-sound}
 use Rattle.journal_world.proofs.Homes.{fault-home, step-home}
 use Rattle.journal_world.proofs.Images.{images-open}
-use Rattle.journal_world.proofs.Changes.{plain-at}
-use Rattle.journal_world.proofs.Plain.{step-plain}
 use Rattle.journal_world.proofs.Steps.{step-sound}
-use Rattle.log_engine.specs.declared.call.Due.{Due}
-use Rattle.log_engine.specs.declared.call.Due.TheVariants.{Nothing, Write as WriteDue, Flush as FlushDue}
-use Rattle.log_engine.specs.declared.engine.Progress.{Progress}
-use Rattle.log_engine.specs.declared.engine.Progress.TheVariants.{Idle as NoProgress, Step, Done}
-use Rattle.log_engine.specs.Call.{IsOneMoment, call_of}
-use Rattle.log_engine.specs.Engine.{IsDuringCommit, IsProgress, StepDid}
+use Rattle.log_ledger.specs.declared.due.Due.{Due}
+use Rattle.log_ledger.specs.declared.due.Due.TheVariants.{Nothing, Write as WriteDue, Flush as FlushDue}
+use Rattle.log_ledger.specs.declared.progress.Progress.{Progress}
+use Rattle.log_ledger.specs.declared.progress.Progress.TheVariants.{Idle as NoProgress, Step, Done}
+use Rattle.log_ledger.specs.Due.{call_of}
+use Rattle.log_ledger.specs.Steps.{IsProgress}
+use Rattle.log_engine.specs.Call.{IsOneMoment}
+use Rattle.log_engine.specs.Engine.{IsDuringCommit, StepDid}
 use Rattle.log_engine.proofs.Calls.{each-one}
 
 -- a step that is to do something makes a call
@@ -108,32 +108,6 @@ step-did NoProgress old new disk after progress step = absurd progress
 step-did Step old new disk after progress step = (step, progress)
 step-did (Done tid) old new disk after progress step = (step, progress.0, progress.1)
 
--- what is known of a failure, where the answer is one
-pub at-err : {T E P : Type 0} (r : Result T E) → is_err r ≡ true → OnErr r P → P
-at-err (Ok x) is p = cc
-at-err (Err e) is p = p
-
--- and of a success
-pub at-ok : {T E P : Type 0} (r : Result T E) → is_err r ≡ false → OnOk r P → P
-at-ok (Ok x) is p = p
-at-ok (Err e) is p = cc
-
--- how often the device has failed after a failure
-pub count-err : {T E : Type 0} (A B : Type 0) (r : Result T E) → is_err r ≡ true → MatchResult r (λ _. A) (λ _. B) → B
-count-err A B (Ok x) is p = cc
-count-err A B (Err e) is p = p
-
--- and after a success
-pub count-ok : {T E : Type 0} (A B : Type 0) (r : Result T E) → is_err r ≡ false → MatchResult r (λ _. A) (λ _. B) → A
-count-ok A B (Ok x) is p = p
-count-ok A B (Err e) is p = cc
-
--- an engine that can run can run when it is aborted, on a device of the same shape
-pub fault-runs : (e : Engine) (shape : Shape) → IsPlain e → shape ≡ e.shape → IsPlain (record e { shape = shape; aborted = true })
-fault-runs e shape plain same =
-    let here : IsPlain (record e { aborted = true }) = plain-at e e.stage e.stage e.aborted true plain plain.stage in
-    subst (λ (s : Shape). IsPlain (record e { shape = s; aborted = true })) (sym same) here
-
 -- a fault on a device whose shape stays
 pub faults-here : (e : Engine) (shape : Shape) (call : Call) (disk after : Disk) → shape ≡ e.shape → e.aborted ≡ false → call_due e ≡ Some call →
     IsAfterFault call disk after → CommitFaults e disk (record e { shape = shape; aborted = true }) after
@@ -149,7 +123,3 @@ faults-here e shape call disk after same running due fault = record {
 pub steps-here : (e new : Engine) (call : Call) (disk after : Disk) → e.aborted ≡ false → call_due e ≡ Some call → new ≡ stepped e →
     after ≡ after_success call disk → CommitSteps e disk new after
 steps-here e new call disk after running due engine is = record { running = running; call = call; due = due; engine = engine; disk_is = is }
-
--- an engine that can run can run after a step
-pub step-runs : (e new : Engine) (call : Call) → IsPlain e → call_due e ≡ Some call → new ≡ stepped e → IsPlain new
-step-runs e new call plain due is = subst IsPlain (sym is) (step-plain e call plain due)

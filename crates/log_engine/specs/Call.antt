@@ -1,24 +1,6 @@
--- One device call of a step.
-use Rattle.std.specs.Prelude.{◌≡◌, ⊤, ℕ, ◌<◌, List, length, Option, Some, None}
+-- The moments of one device call.
 use Rattle.journal_model.specs.Disk.{Disk}
-use Rattle.journal_model.specs.Superblock.{Shape}
-use Rattle.block_device.specs.State.{DeviceState, Stays, Moves, blocks_in}
-use Rattle.journal_world.specs.Call.{Call}
-use Rattle.journal_world.specs.Call.Call.{Write, Flush}
-use Rattle.log_engine.specs.declared.call.Due.{Due}
-use Rattle.log_engine.specs.declared.call.Due.TheVariants.{Nothing, Write as WriteDue, Flush as FlushDue}
-
--- the device call that a step is to make, with the block that was built for it
-abbrev pub call_of : Due → List ℕ → Option Call
-call_of Nothing bytes = None
-call_of (WriteDue area place) bytes = Some (Write area place bytes)
-call_of (FlushDue area) bytes = Some (Flush area)
-
--- the call is one that the device takes
-abbrev pub Fits : Shape → Due → List ℕ → Type 0
-Fits shape Nothing bytes = ⊤
-Fits shape (WriteDue area place) bytes = (place < blocks_in shape area) × (length bytes ≡ shape.block_size)
-Fits shape (FlushDue area) bytes = ⊤
+use Rattle.block_device.specs.State.{DeviceState, Stays, Moves}
 
 -- at most one moment: the disk stays, or it is another one
 pub data IsOneMoment (old new : DeviceState) : Type 0 where

@@ -1,43 +1,34 @@
 -- What the calls of an engine do, each as one step of the pure machine, and why they are refused.
-use Rattle.std.specs.Prelude.{◌≡◌, ◌≢◌, ℕ, ◌+◌, ◌≤◌, false, true, List, length}
+use Rattle.std.specs.Prelude.{◌≡◌, ◌≢◌, ℕ, ◌+◌, false, true, List, None, length}
 use Rattle.journal_model.specs.declared.entry.Batch.{Batch}
 use Rattle.journal_model.specs.declared.refusal.JournalError.{JournalError}
 use Rattle.journal_model.specs.declared.refusal.JournalError.TheVariants.{Aborted, BadBlock, Device, Memory, NeedSpace}
 use Rattle.journal_model.specs.Block.{IsAllowedBlock}
 use Rattle.journal_model.specs.Disk.{Disk}
-use Rattle.journal_model.specs.Opening.{greatest_number}
 use Rattle.block_device.specs.State.{DeviceState, Stays, one_more_fault}
+use Rattle.last_effects.specs.Effects.{EffectsValue, effect_on, last_effect}
 use Rattle.journal_world.specs.declared.round.Round.TheVariants.{Idle as NoRound}
 use Rattle.journal_world.specs.declared.stage.Stage.TheVariants.{Idle}
 use Rattle.journal_world.specs.Checkpoint.{IsPending, RoundFaults, RoundSteps}
-use Rattle.journal_world.specs.Engine.{Engine, CommitFaults, CommitSteps, HasRoom, IsBatch}
+use Rattle.journal_world.specs.Engine.{Engine, CommitFaults, CommitSteps, HasRoom}
 use Rattle.journal_world.specs.Sound.{CopiesHome, KeepsHome, OpensBetween}
-use Rattle.log_engine.specs.declared.engine.Progress.{Progress}
-use Rattle.log_engine.specs.declared.engine.Progress.TheVariants.{Idle as NoProgress, Step, Done}
+use Rattle.log_ledger.specs.declared.progress.Progress.{Progress}
+use Rattle.log_ledger.specs.declared.progress.Progress.TheVariants.{Idle as NoProgress, Step, Done}
 
 -- an engine and its device
 pub record EngineValue (D : Type 0) : Type 0 where
   pub device : D
   pub engine : Engine
 
--- a batch may be handed over: nothing is being committed, it has the next number, and its entries are those of a batch
-pub record MayHandOver (e : Engine) (b : Batch) : Type 0 where
-  pub idle : e.stage ≡ Idle
-  pub number : b.tid ≡ e.first + e.committed
-  pub left : b.tid ≤ greatest_number
-  pub batch : IsBatch e.layout e.shape b
+-- the table has the last effect on each block of the transactions that were handed over
+abbrev pub HasEffects : Engine → EffectsValue → Type 0
+HasEffects e table = (b : ℕ) → effect_on table b ≡ last_effect e.accepted b None
 
 -- why a batch is refused: the device failed before, the ring is too short, or memory runs out
 pub data AcceptRefused (e : Engine) (b : Batch) : JournalError → Type 0 where
   AfterFailure : e.aborted ≡ true → AcceptRefused e b Aborted
   RingIsShort : e.aborted ≡ false → (HasRoom e b → ⊥) → AcceptRefused e b NeedSpace
   MemoryIsShort : e.aborted ≡ false → HasRoom e b → AcceptRefused e b Memory
-
--- the progress that a step makes: it is the last one where nothing is being committed behind it
-abbrev pub IsProgress : Progress → Engine → Engine → Type 0
-IsProgress NoProgress old new = ⊥
-IsProgress Step old new = new.stage ≢ Idle
-IsProgress (Done tid) old new = (new.stage ≡ Idle) × (tid ≡ old.first + old.committed)
 
 -- what a commit step did
 abbrev pub StepDid : Progress → Engine → Disk → Engine → Disk → Type 0
@@ -49,12 +40,6 @@ StepDid (Done tid) old disk new after = CommitSteps old disk new after × (new.s
 pub data StepRefused (old : Engine) (before : DeviceState) (new : Engine) (after : DeviceState) : JournalError → Type 0 where
   WasAborted : old.aborted ≡ true → new ≡ old → Stays before after → after.faults ≡ before.faults → StepRefused old before new after Aborted
   DeviceFailed : CommitFaults old before.disk new after.disk → after.faults ≡ one_more_fault before.faults → StepRefused old before new after Device
-
--- the progress that a step of a round makes: it is the last one where the round is over behind it
-abbrev pub IsRoundProgress : Progress → Engine → Type 0
-IsRoundProgress NoProgress new = ⊥
-IsRoundProgress Step new = new.round ≢ NoRound
-IsRoundProgress (Done tid) new = (new.round ≡ NoRound) × (tid + 1 ≡ new.first + new.released)
 
 -- what a step of a checkpoint round did: it is the last one where the round is over behind it
 abbrev pub RoundDid : Progress → Engine → Disk → Engine → Disk → Type 0

@@ -5,8 +5,8 @@ use Rattle.journal_world.specs.declared.round.Round.TheVariants.{Idle as NoRound
 use Rattle.journal_world.specs.declared.stage.Stage.{Stage}
 use Rattle.journal_world.specs.declared.stage.Stage.TheVariants.{Idle, SuperblockWrite, SuperblockFlush, Blocks, CommitWrite, CommitFlush}
 use Rattle.journal_world.specs.Engine.{Engine, due_blocks}
-use Rattle.log_engine.specs.declared.engine.Progress.{Progress}
-use Rattle.log_engine.specs.declared.engine.Progress.TheVariants.{Idle as NoProgress, Step, Done}
+use Rattle.log_ledger.specs.declared.progress.Progress.{Progress}
+use Rattle.log_ledger.specs.declared.progress.Progress.TheVariants.{Idle as NoProgress, Step, Done}
 
 -- of the commit of a transaction with so many log blocks
 abbrev pub calls_from : ℕ → Stage → ℕ

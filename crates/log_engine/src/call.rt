@@ -2,21 +2,11 @@
 ghost use Rattle.std.specs.Prelude.{◌≡◌, Some, OnOk, OnErr};
 ghost use Rattle.block_device.specs.State.{CountsFaults, MakesAtMostOneCall};
 ghost use Rattle.journal_world.specs.Call.{Call, IsAfterFault, after_success};
-ghost use Rattle.log_engine.specs.Call.{Fits, IsOneMoment, call_of};
+ghost use Rattle.log_ledger.specs.Due.{Fits, call_of};
+ghost use Rattle.log_engine.specs.Call.{IsOneMoment};
 
 use block_device::{Device, DeviceFault};
-use journal_model::Area;
-
-/// The device call that is due, if one is.
-#[derive(Clone, Copy, Debug)]
-pub(crate) enum Due {
-    /// None.
-    Nothing,
-    /// The block that was built is to be written to this place of an area.
-    Write(Area, u64),
-    /// An area is to be flushed.
-    Flush(Area),
-}
+use log_ledger::Due;
 
 /// Makes one device call.
 pub(crate) fn make_call<D: Device>(

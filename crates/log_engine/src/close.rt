@@ -1,40 +1,15 @@
-//! The close: the superblock of a clean log, which has the number of the next transaction, and its flush.
+//! The close: the write of a block 0, and its flush.
 //! Source: fs/jbd2/journal.c by behaviour (a journal that is destroyed is marked empty); journal.rst (s_start 0).
 ghost use Rattle.std.specs.Prelude.{◌≡◌, ◌+◌, ◌<◌, ◌≤◌, length, OnOk, OnErr};
 ghost use Rattle.journal_model.specs.declared.number.Area.TheVariants.{Log};
 ghost use Rattle.journal_model.specs.Disk.{flushed, written};
-ghost use Rattle.journal_model.specs.Superblock.{Shape};
 ghost use Rattle.block_device.specs.State.{CountsFaults, EachMoment};
 ghost use Rattle.journal_world.specs.Call.{IsAfterFault};
 ghost use Rattle.journal_world.specs.Call.Call.{Write};
-ghost use Rattle.log_epochs.specs.EngineSteps.{closed_superblock};
 ghost use Rattle.log_engine.specs.Close.{IsWritingFirst};
-ghost use Rattle.log_engine.specs.Ledger.{CanRunOn, engine_of};
 
-use crate::ledger::Ledger;
-use crate::text::TextWriter;
 use block_device::{Device, DeviceFault};
 use journal_model::Area;
-
-impl Ledger {
-    /// The number of the first transaction that is not committed.
-    pub(crate) fn next_number(&self) -> u32
-        requires { CanRunOn self.now (length self.now.superblock.items) }
-        ensures { result ≡ self.now.first + self.now.committed }
-    {
-        self.first + self.committed as u32
-    }
-
-    /// Builds the superblock of the clean log that a close leaves.
-    pub(crate) fn write_closed(&self, writer: &mut TextWriter)
-        requires { CanRunOn self.now (length writer.old) }
-        ensures closed { (shape : Shape) → writer.new ≡ closed_superblock (engine_of shape self.now) }
-        ensures size { length writer.new ≡ length writer.old }
-    {
-        let number = self.next_number();
-        writer.write_superblock(&self.superblock, number, 0);
-    }
-}
 
 /// Writes block 0 of the log, and flushes the log.
 pub(crate) fn write_first<D: Device>(device: &mut D, block: &[u8]) -> Result<(), DeviceFault>

@@ -9,14 +9,16 @@ ghost use Rattle.block_device.specs.State.{CountsFaults, EachMoment, MakesAtMost
 ghost use Rattle.journal_world.specs.Call.{Call};
 ghost use Rattle.journal_world.specs.Call.Call.{Flush, Write};
 ghost use Rattle.journal_world.specs.Direct.{DirectCall, DirectFaults, DirectSteps, IsLeftToHome};
-ghost use Rattle.log_engine.specs.Call.{Fits, IsOneMoment, call_of};
+ghost use Rattle.log_ledger.specs.Due.{Fits, call_of};
+ghost use Rattle.log_engine.specs.Call.{IsOneMoment};
 ghost use Rattle.log_engine.specs.Direct.{DirectSyncRefused, DirectWriteRefused, IsDuringDirectSync, IsDuringDirectWrite};
 ghost use Rattle.log_engine.specs.Engine.{MayTouch};
 
-use crate::call::{Due, make_call};
+use crate::call::make_call;
 use crate::engine::Engine;
 use block_device::Device;
 use journal_model::{Area, BlockNo, JournalError, Tid};
+use log_ledger::Due;
 
 impl<D: Device> Engine<D> {
     /// Writes a block to home directly, past the log, where it is left to home: its last entry in the transactions that were

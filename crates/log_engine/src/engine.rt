@@ -12,36 +12,24 @@ ghost use Rattle.journal_world.specs.Engine.{Accepts};
 ghost use Rattle.journal_world.specs.Journal.{fresh_engine};
 ghost use Rattle.journal_world.specs.Opening.{IsOpenedLog};
 ghost use Rattle.journal_world.specs.Sound.{IsPlain, OpensBetween};
+ghost use Rattle.log_ledger.specs.Steps.{MayHandOver};
 ghost use Rattle.log_engine.specs.Call.{IsOneMoment};
 ghost use Rattle.log_engine.specs.Close.{CloseDid, CloseRefused, IsAllReleased, IsClosedLog, IsDuringClose};
-ghost use Rattle.log_engine.specs.Engine.{AcceptRefused, IsDuringCommit, IsDuringRound, MayHandOver, MayTouch, ReadRefused, RoundDid, RoundRefused, StepDid, StepRefused};
+ghost use Rattle.log_engine.specs.Engine.{AcceptRefused, IsDuringCommit, IsDuringRound, MayTouch, ReadRefused, RoundDid, RoundRefused, StepDid, StepRefused};
 ghost use Rattle.log_engine.specs.Left.{LeavesFewer, commit_calls, round_calls};
 
-use crate::call::{Due, make_call};
+use crate::call::make_call;
 use crate::close::write_first;
-use crate::ledger::Ledger;
-use crate::plan::{Plan, count_copies};
-use crate::text::TextWriter;
 use block_device::Device;
 use checkpoint::Pending;
-use journal_model::{Area, Batch, BlockNo, JournalError, LogLayout, Tid};
+use journal_model::{Area, Batch, BlockNo, JournalError, LogLayout};
 use journal_world::Stage;
 use last_effects::LastEffects;
 use log_format::Super;
+use log_ledger::{Due, Ledger, Plan, Progress, TextWriter, count_copies};
 use recovery::Opened;
 use std::alloc::Global;
 use std::marker::Model;
-
-/// How far a step of a commit, or of a checkpoint round, has come.
-#[derive(Clone, Copy, Debug, PartialEq, Eq)]
-pub enum Progress {
-    /// There is nothing to do: nothing is being committed, or every committed transaction is released.
-    Idle,
-    /// One step was made, and another is due.
-    Step,
-    /// It was the last step: this transaction is committed, or all up to this one are released.
-    Done(Tid),
-}
 
 /// The transactions of an opened log, and the device that it lies on.
 #[derive(Drop)]
@@ -58,9 +46,9 @@ pub struct Engine<D: Device> {
 impl<D: Device> Model for Engine<D> {
     ghost use Rattle.std.specs.Prelude.{◌≡◌, length};
     ghost use Rattle.journal_world.specs.Sound.{Sound};
+    ghost use Rattle.log_ledger.specs.Ledger.{HasPlan, Runs, engine_of};
     ghost use Rattle.log_engine.specs.Close.{KeepsClean};
-    ghost use Rattle.log_engine.specs.Engine.{EngineValue};
-    ghost use Rattle.log_engine.specs.Ledger.{HasEffects, HasPlan, Runs, engine_of};
+    ghost use Rattle.log_engine.specs.Engine.{EngineValue, HasEffects};
 
     ghost Value = { EngineValue D };
 

@@ -6,12 +6,8 @@
 
 mod call;
 mod close;
-mod commit;
 mod direct;
 mod engine;
-mod ledger;
-mod plan;
-mod round;
-mod text;
 
-pub use engine::{Engine, Progress};
+pub use engine::Engine;
+pub use log_ledger::Progress;

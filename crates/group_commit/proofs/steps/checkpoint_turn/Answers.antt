@@ -1,5 +1,5 @@
 use Rattle.std.proofs.Common.{subst}
-use Rattle.log_engine.specs.declared.engine.Progress.{Progress}
+use Rattle.log_ledger.specs.declared.progress.Progress.{Progress}
 use Rattle.log_engine.specs.Engine.{RoundDid}
 use Rattle.group_commit.proofs.Rounding.{agrees-round, agrees-round_refused, done-check, idle-check, refused-check, step-check}
 use Rattle.group_commit.proofs.Turning.{each-check}

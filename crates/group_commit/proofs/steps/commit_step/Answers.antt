@@ -1,5 +1,5 @@
 use Rattle.std.proofs.Common.{subst}
-use Rattle.log_engine.specs.declared.engine.Progress.{Progress}
+use Rattle.log_ledger.specs.declared.progress.Progress.{Progress}
 use Rattle.log_engine.specs.Engine.{StepDid}
 use Rattle.group_commit.proofs.Sealing.{agrees-last, agrees-refused, finishes-commit, may-raise, refused-turn}
 use Rattle.group_commit.proofs.Turning.{each-turn}

@@ -4,7 +4,8 @@ use Rattle.std.proofs.lemmas.Result.{err_from_is_err_and}
 use Rattle.journal_model.specs.declared.entry.Batch.{Batch}
 use Rattle.journal_world.specs.Engine.{Accepts}
 use Rattle.journal_world.specs.Front.{Front}
-use Rattle.log_engine.specs.Engine.{AcceptRefused, EngineValue, MayHandOver}
+use Rattle.log_ledger.specs.Steps.{MayHandOver}
+use Rattle.log_engine.specs.Engine.{AcceptRefused, EngineValue}
 use Rattle.group_commit.specs.Journal.{Agrees, HasRoomFor, TurnRefused}
 use Rattle.group_commit.proofs.Sealing.{agrees-sealed, may-hand_over, refused-seal}
 use Rattle.group_commit.proofs.steps.seal.Goals as goal

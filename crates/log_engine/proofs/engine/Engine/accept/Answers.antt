@@ -7,17 +7,18 @@ use Rattle.journal_world.proofs.Accepted.{accepts-sound}
 use Rattle.journal_world.specs.Engine.{Engine, HasRoom}
 use Rattle.journal_world.specs.Sound.{Sound}
 use Rattle.last_effects.specs.Effects.{effect_on, last_among}
+use Rattle.log_ledger.specs.Steps.{MayHandOver}
+use Rattle.log_ledger.specs.Ledger.{engine_of}
+use Rattle.log_ledger.specs.Text.{IsPlanOf}
+use Rattle.log_ledger.proofs.Advancing.{needed-told, room-told, same-runs, takes-on}
+use Rattle.log_ledger.proofs.Ledgers.{batch-there}
+use Rattle.log_ledger.proofs.Running.{takes}
+use Rattle.log_ledger.proofs.Outcomes.{at-ok}
 use Rattle.log_engine.specs.Close.{KeepsClean}
-use Rattle.log_engine.specs.Engine.{AcceptRefused, EngineValue, MayHandOver}
-use Rattle.log_engine.specs.Ledger.{engine_of}
-use Rattle.log_engine.specs.Text.{IsPlanOf}
-use Rattle.log_engine.proofs.Advancing.{needed-told, room-told, same-runs, takes-on}
+use Rattle.log_engine.specs.Engine.{AcceptRefused, EngineValue}
 use Rattle.log_engine.proofs.Effects.{roomy-noted, same-noted, taken-noted}
 use Rattle.log_engine.proofs.KeptClean.{taken-clean}
-use Rattle.log_engine.proofs.Ledgers.{batch-there}
 use Rattle.log_engine.proofs.Plans.{idle-planned, taken-planned}
-use Rattle.log_engine.proofs.Running.{takes}
-use Rattle.log_engine.proofs.Stepping.{at-ok}
 use Rattle.log_engine.proofs.engine.Engine.accept.Goals as goal
 
 -- an answer of none is not one of some

@@ -4,12 +4,12 @@ use Rattle.journal_model.specs.Superblock.{Shape}
 use Rattle.journal_world.specs.Call.{Call}
 use Rattle.journal_world.specs.Direct.{DirectCall, DirectFaults, DirectSteps}
 use Rattle.journal_world.proofs.DirectCalls.{direct-fault-sound, direct-sound}
+use Rattle.log_ledger.specs.Ledger.{Runs, engine_of}
+use Rattle.log_ledger.proofs.Outcomes.{at-err, at-ok}
 use Rattle.log_engine.specs.Engine.{EngineValue}
-use Rattle.log_engine.specs.Ledger.{Runs, engine_of}
 use Rattle.log_engine.proofs.Directs.{direct-faults-here, directs-here}
 use Rattle.log_engine.proofs.KeptClean.{direct-clean, direct-fault-clean}
 use Rattle.log_engine.proofs.Rounding.{aborted-runs}
-use Rattle.log_engine.proofs.Stepping.{at-err, at-ok}
 use Rattle.log_engine.proofs.engine.Engine.call_directly.Goals as goal
 
 -- where the device fails the engine is aborted, and can still be asked

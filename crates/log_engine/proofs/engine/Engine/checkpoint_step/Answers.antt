@@ -3,15 +3,15 @@ use Rattle.journal_model.specs.Superblock.{Shape}
 use Rattle.journal_world.specs.Checkpoint.{RoundFaults, RoundSteps}
 use Rattle.journal_world.proofs.RoundFaults.{round-fault-sound}
 use Rattle.journal_world.proofs.RoundSteps.{round-sound}
-use Rattle.log_engine.specs.Call.{call_of}
+use Rattle.log_ledger.specs.Due.{call_of}
+use Rattle.log_ledger.specs.Ledger.{Runs, engine_of}
+use Rattle.log_ledger.proofs.Outcomes.{at-err, at-ok, count-err, count-ok}
 use Rattle.log_engine.specs.Engine.{RoundRefused}
-use Rattle.log_engine.specs.Ledger.{Runs, engine_of}
 use Rattle.log_engine.proofs.Effects.{round-fault-noted, round-noted}
 use Rattle.log_engine.proofs.FewerCalls.{round-fewer}
 use Rattle.log_engine.proofs.KeptClean.{round-clean, round-fault-clean}
 use Rattle.log_engine.proofs.Plans.{round-fault-planned, round-planned}
 use Rattle.log_engine.proofs.Rounding.{aborted-runs, each-round, each-round-fault, each-still, round-did, round-faults, round-steps}
-use Rattle.log_engine.proofs.Stepping.{at-err, at-ok, count-err, count-ok}
 use Rattle.log_engine.proofs.engine.Engine.checkpoint_step.Goals as goal
 
 -- an aborted journal refuses, and nothing changes

@@ -5,11 +5,11 @@ use Rattle.block_device.specs.State.{EachMoment}
 use Rattle.journal_world.specs.Call.{IsAfterFault}
 use Rattle.journal_world.specs.Call.Call.{Write}
 use Rattle.log_epochs.specs.EngineSteps.{MayClose, closed_superblock}
+use Rattle.log_ledger.specs.Ledger.{engine_of}
+use Rattle.log_ledger.proofs.Rounds.{round-log}
 use Rattle.log_engine.specs.Close.{CloseDid, CloseRefused, IsAllReleased, IsWritingFirst}
 use Rattle.log_engine.specs.Engine.{EngineValue}
-use Rattle.log_engine.specs.Ledger.{engine_of}
 use Rattle.log_engine.proofs.Closing.{close-fails, closes-by, each-closing, each-unclosed, is-closed, may-close, was-closed}
-use Rattle.log_engine.proofs.Rounds.{round-log}
 use Rattle.log_engine.proofs.engine.Engine.close.Goals as goal
 
 -- after a failure it refuses, and hands out the device as it was

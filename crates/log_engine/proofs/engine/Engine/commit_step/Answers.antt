@@ -3,16 +3,18 @@ use Rattle.journal_model.specs.Superblock.{Shape}
 use Rattle.journal_world.specs.Engine.{CommitFaults, CommitSteps, call_due, stepped}
 use Rattle.journal_world.proofs.Faults.{fault-sound}
 use Rattle.journal_world.proofs.Steps.{step-sound}
-use Rattle.log_engine.specs.Call.{call_of}
-use Rattle.log_engine.specs.Engine.{IsProgress, StepRefused}
-use Rattle.log_engine.specs.Ledger.{Runs, engine_of}
-use Rattle.log_engine.proofs.Advancing.{faults-on}
+use Rattle.log_ledger.specs.Due.{call_of}
+use Rattle.log_ledger.specs.Steps.{IsProgress}
+use Rattle.log_ledger.specs.Ledger.{Runs, engine_of}
+use Rattle.log_ledger.proofs.Advancing.{faults-on}
+use Rattle.log_ledger.proofs.Running.{superblock-of}
+use Rattle.log_ledger.proofs.Outcomes.{at-err, at-ok, count-err, count-ok}
+use Rattle.log_engine.specs.Engine.{StepRefused}
 use Rattle.log_engine.proofs.Effects.{step-noted}
 use Rattle.log_engine.proofs.FewerCalls.{step-fewer}
 use Rattle.log_engine.proofs.KeptClean.{fault-clean, step-clean}
 use Rattle.log_engine.proofs.Plans.{step-planned}
-use Rattle.log_engine.proofs.Running.{superblock-of}
-use Rattle.log_engine.proofs.Stepping.{at-err, at-ok, busy, call-there, count-err, count-ok, each-fault, each-now, each-step, faults-here, idle-at, step-did, steps-here}
+use Rattle.log_engine.proofs.Stepping.{busy, call-there, each-fault, each-now, each-step, faults-here, idle-at, step-did, steps-here}
 use Rattle.log_engine.proofs.engine.Engine.commit_step.Goals as goal
 
 -- an aborted journal refuses, and nothing changes

@@ -7,14 +7,14 @@ use Rattle.journal_world.specs.Journal.{fresh_engine}
 use Rattle.journal_world.specs.Opening.{IsOpenedLog}
 use Rattle.journal_world.specs.Sound.{IsPlain, Sound}
 use Rattle.journal_world.proofs.Fresh.{fresh-sound}
+use Rattle.log_ledger.specs.Ledger.{HasPlan, KeepsPending, engine_of}
+use Rattle.log_ledger.proofs.Ledgers.{fresh-taken}
+use Rattle.log_ledger.proofs.Pendings.{fresh-keeps}
 use Rattle.log_engine.specs.Close.{KeepsClean}
-use Rattle.log_engine.specs.Ledger.{HasPlan, KeepsPending, engine_of}
 use Rattle.log_engine.proofs.Effects.{none-noted}
 use Rattle.log_engine.proofs.KeptClean.{fresh-clean}
-use Rattle.log_engine.proofs.Ledgers.{fresh-taken}
-use Rattle.log_engine.proofs.Pendings.{fresh-keeps}
 use Rattle.log_engine.proofs.Plans.{none-planned}
-use Rattle.log_engine.proofs.Running.{HasFields, fresh-runs, named-fields}
+use Rattle.log_engine.proofs.Fresh.{HasFields, fresh-runs, named-fields}
 use Rattle.recovery.specs.Values.{IsNextNamed}
 use Rattle.log_engine.proofs.engine.Engine.new.Goals as goal
 

@@ -3,13 +3,13 @@ use Rattle.journal_model.specs.declared.number.Area.TheVariants.{Home}
 use Rattle.journal_model.specs.Block.{IsAllowedBlock}
 use Rattle.journal_model.specs.Superblock.{Shape}
 use Rattle.journal_world.specs.Checkpoint.{IsPending}
+use Rattle.log_ledger.specs.Ledger.{engine_of}
+use Rattle.log_ledger.proofs.Rounds.{placed-size}
+use Rattle.log_ledger.proofs.Outcomes.{at-ok, count-err}
 use Rattle.log_engine.specs.Engine.{EngineValue, ReadRefused}
-use Rattle.log_engine.specs.Ledger.{engine_of}
 use Rattle.log_engine.proofs.KeptClean.{same-clean}
 use Rattle.log_engine.proofs.Reading.{aborted-sound, home-read, none-pending, pending-bytes, pending-read}
 use Rattle.log_engine.proofs.Rounding.{aborted-runs}
-use Rattle.log_engine.proofs.Rounds.{placed-size}
-use Rattle.log_engine.proofs.Stepping.{at-ok, count-err}
 use Rattle.log_engine.proofs.engine.Engine.read.Goals as goal
 
 -- an aborted journal refuses, and nothing changes

@@ -5,9 +5,9 @@ use Rattle.journal_world.specs.Call.Call.{Write}
 use Rattle.journal_world.specs.Direct.{DirectCall, IsLeftToHome}
 use Rattle.journal_world.specs.Direct.DirectCall.{WriteDirect}
 use Rattle.journal_world.specs.Sound.{Sound}
+use Rattle.log_ledger.specs.Ledger.{engine_of}
 use Rattle.log_engine.specs.Direct.{DirectWriteRefused}
 use Rattle.log_engine.specs.Engine.{EngineValue}
-use Rattle.log_engine.specs.Ledger.{engine_of}
 use Rattle.log_engine.proofs.Calls.{on-ok}
 use Rattle.log_engine.proofs.Directs.{each-unwritten, each-write, write-lost}
 use Rattle.log_engine.proofs.LeftBlocks.{table-told}

@@ -1,5 +1,0 @@
-use Rattle.log_engine.proofs.ledger.Ledger.new_tail.Goals as goal
-
--- it is the place of the position behind them
-pub returns : goal.returns
-returns c = c.place.ensures.place

@@ -1,0 +1,5 @@
+pub mod Due
+pub mod Ledger
+pub mod Rounds
+pub mod Steps
+pub mod Text

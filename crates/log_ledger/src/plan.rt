@@ -1,0 +1,59 @@
+//! Where the copies of a transaction stand among its entries, and which blocks it revokes.
+ghost use Rattle.std.specs.Prelude.{◌≡◌, ◌≤◌, [], length, OnOk};
+ghost use Rattle.journal_model.specs.OwnText.{copied};
+ghost use Rattle.log_ledger.specs.Text.{IsPlanOf};
+
+use journal_model::{BlockNo, Entry};
+use std::alloc::{AllocError, Global};
+
+/// The copies and the revokes of a transaction, each in the order of its entries, so that each of its log blocks is built
+/// without a look at any other entry.
+#[derive(Drop)]
+pub struct Plan {
+    /// The places of the copies among the entries.
+    pub copies: Vec<usize>,
+    /// The revoked blocks.
+    pub revokes: Vec<BlockNo>,
+}
+
+impl Plan {
+    /// The plan of no entries. It takes no memory.
+    pub fn new(alloc: Global) -> Self
+        ensures { IsPlanOf [] result }
+    {
+        Plan {
+            copies: Vec::new(alloc),
+            revokes: Vec::new(alloc),
+        }
+    }
+
+    /// Makes it the plan of these entries, in memory in proportion to them. Where memory runs out it is the plan of a part
+    /// of them.
+    pub fn make(&mut self, entries: &[(BlockNo, Entry)]) -> Result<(), AllocError>
+        ensures { OnOk result (IsPlanOf entries.now self.new) }
+    {
+        self.copies.clear();
+        self.revokes.clear();
+        for (place, (block, entry)) in entries.iter().enumerate() {
+            match entry {
+                Entry::Copy(_) => self.copies.push(place)?,
+                Entry::Revoke => self.revokes.push(*block)?,
+            }
+        }
+        Ok(())
+    }
+}
+
+/// How many of the entries are copies.
+pub fn count_copies(entries: &[(BlockNo, Entry)]) -> usize
+    ensures count { result ≡ length (copied entries.now) }
+    ensures most { result ≤ length entries.now }
+{
+    let mut copies = 0;
+    for (_, entry) in entries {
+        if let Entry::Copy(_) = entry {
+            copies += 1;
+        }
+    }
+    copies
+}
