@@ -1,7 +1,6 @@
 -- What is left of a journal that its client has ended.
 use Rattle.std.specs.Prelude.{◌≡◌, ℕ, List, [], Option, Some, None}
-use Rattle.journal_model.specs.Disk.{Disk, Image, Leaves}
-use Rattle.journal_model.specs.Superblock.{Shape}
+use Rattle.journal_model.specs.Disk.{Disk, Image, Leaves, Shape}
 use Rattle.journal_model.specs.Transaction.{History}
 use Rattle.block_device.specs.State.{DeviceState}
 use Rattle.journal_world.specs.Journal.{Journal}

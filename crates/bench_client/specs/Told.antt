@@ -1,8 +1,7 @@
 -- What the client of a journal records, and the moves of the machine that led there.
 use Rattle.std.specs.Prelude.{◌≡◌, ⊤, ℕ, max, replicate, List, [], ◌∷◌, Option, Some, None}
 use Rattle.journal_model.specs.declared.number.Area.TheVariants.{Home}
-use Rattle.journal_model.specs.Disk.{Disk, IsOneOf}
-use Rattle.journal_model.specs.Superblock.{Shape}
+use Rattle.journal_model.specs.Disk.{Disk, IsOneOf, Shape}
 use Rattle.journal_model.specs.Transaction.{History}
 use Rattle.block_device.specs.State.{DeviceState}
 use Rattle.journal_world.specs.Journal.{Journal}

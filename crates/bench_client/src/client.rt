@@ -1,7 +1,6 @@
 //! The client of a journal: it calls it, and records what it is shown.
 ghost use Rattle.std.specs.Prelude.{◌≡◌, ◌≤◌, length, IfOk, OnOk};
-ghost use Rattle.journal_model.specs.Disk.{Disk};
-ghost use Rattle.journal_model.specs.Superblock.{Shape};
+ghost use Rattle.journal_model.specs.Disk.{Disk, Shape};
 ghost use Rattle.journal_world.specs.Front.FrontEvent.{RevokeBlock, WriteBlock};
 ghost use Rattle.journal_world.specs.Journal.Event.{DirectSync, DirectWrite, FrontStep};
 ghost use Rattle.bench_script.specs.Named.{IsDirectOf};

@@ -3,8 +3,8 @@ use Rattle.std.proofs.Common.{◌∙◌, refl, sym, ap, subst, arith, false}
 use Rattle.std.specs.Prelude.{◌≡◌, ℕ, ◌^◌, ◌<◌, ◌≤◌, List, [], ◌∷◌, length, replicate}
 use Rattle.journal_model.specs.declared.number.Area.{Area}
 use Rattle.journal_model.specs.declared.number.Area.TheVariants.{Home, Log}
-use Rattle.journal_model.specs.Disk.{Cell, Disk, flushed}
-use Rattle.journal_model.specs.Superblock.{Shape, Super, formatted_super, greatest_length, super_in}
+use Rattle.journal_model.specs.Disk.{Cell, Disk, Shape, flushed}
+use Rattle.log_model.specs.Superblock.{Super, formatted_super, greatest_length, super_in}
 use Rattle.block_device.specs.Memory.{MemState, crashed, durable, kept_value, state_of, unflushed}
 use Rattle.block_device.specs.State.{DeviceState}
 use Rattle.block_device.specs.declared.fail.FailOnce.{FailOnce}

@@ -1,8 +1,7 @@
 -- What the device of a run leaves.
 use Rattle.std.proofs.Common.{refl, sym, subst}
 use Rattle.std.specs.Prelude.{◌≡◌, ℕ, List, Option}
-use Rattle.journal_model.specs.Disk.{Disk}
-use Rattle.journal_model.specs.Superblock.{Shape}
+use Rattle.journal_model.specs.Disk.{Disk, Shape}
 use Rattle.journal_model.specs.Transaction.{History}
 use Rattle.block_device.specs.Memory.{MemState, state_of}
 use Rattle.block_device.specs.declared.fail.FailOnce.{FailOnce}

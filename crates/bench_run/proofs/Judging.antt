@@ -4,10 +4,9 @@ use Rattle.std.specs.List.{count_by}
 use Rattle.journal_model.specs.declared.entry.Entry.{Entry}
 use Rattle.journal_model.specs.declared.number.Area.TheVariants.{Home}
 use Rattle.journal_model.specs.declared.number.Area.{Area}
-use Rattle.journal_model.specs.Disk.{Disk, Image, reading}
-use Rattle.journal_model.specs.Opening.{HasLimit, OpensAs, numbered_below}
-use Rattle.journal_model.specs.Opening.HasLimit.{OfClean as CleanLimit, OfChain as ChainLimit}
-use Rattle.journal_model.specs.Superblock.{Shape}
+use Rattle.journal_model.specs.Disk.{Disk, Image, Shape, reading}
+use Rattle.log_model.specs.Opening.{HasLimit, OpensAs, numbered_below}
+use Rattle.log_model.specs.Opening.HasLimit.{OfClean as CleanLimit, OfChain as ChainLimit}
 use Rattle.journal_model.specs.Transaction.{History}
 use Rattle.block_device.specs.Memory.{MemState, crashed, state_of}
 use Rattle.block_device.specs.State.{DeviceState, Stays}

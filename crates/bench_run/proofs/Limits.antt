@@ -2,11 +2,11 @@
 use Rattle.std.proofs.Common.{◌∙◌, ap, ap₂, subst, sym, arith}
 use Rattle.std.specs.Prelude.{◌≡◌, ◌≢◌, ◌==◌, ℕ, ◌+◌, List, length, None, true, false}
 use Rattle.std.proofs.lemmas.Bool.Decides.{nat_tests}
-use Rattle.journal_model.specs.declared.log.Text.{Text}
+use Rattle.log_model.specs.declared.log.Text.{Text}
 use Rattle.journal_model.specs.declared.number.Area.TheVariants.{Log}
-use Rattle.journal_model.specs.Disk.{Image}
-use Rattle.journal_model.specs.Opening.{HasChain, super_of}
-use Rattle.journal_model.specs.Superblock.{Shape, Super, super_in, super_refusal}
+use Rattle.journal_model.specs.Disk.{Image, Shape}
+use Rattle.log_model.specs.Opening.{HasChain, super_of}
+use Rattle.log_model.specs.Superblock.{Super, super_in, super_refusal}
 use Rattle.log_scan.specs.Scanning.{AreTextsOf, IsScanned}
 use Rattle.recovery.specs.Opening.{Tells}
 use Rattle.recovery.specs.Opening.Tells.{OfClean, OfChain}

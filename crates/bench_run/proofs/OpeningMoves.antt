@@ -1,8 +1,7 @@
 -- The moves of the machine behind a stop of a run: the stop, and what an opening then does.
 use Rattle.std.proofs.Common.{refl, sym, ap₂, subst}
 use Rattle.std.specs.Prelude.{◌≡◌, ℕ, List, [], ◌∷◌, ◌++◌, Some, Option}
-use Rattle.journal_model.specs.Disk.{Disk, Image, Leaves, disk_of, reading}
-use Rattle.journal_model.specs.Superblock.{Shape}
+use Rattle.journal_model.specs.Disk.{Disk, Image, Leaves, Shape, disk_of, reading}
 use Rattle.block_device.specs.State.{DeviceState}
 use Rattle.journal_world.specs.Call.{Call, after_success}
 use Rattle.journal_world.specs.Journal.{Journal}

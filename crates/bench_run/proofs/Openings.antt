@@ -3,9 +3,8 @@ use Rattle.std.proofs.Common.{◌∙◌, ℕ, List, [], Bool, Option, ap, ap₂,
 use Rattle.std.specs.Prelude.{◌≡◌, ◌↔◌, ◌<◌, All, IsTrue, Some, None}
 use Rattle.journal_model.specs.declared.number.Area.{Area}
 use Rattle.journal_model.specs.declared.number.Area.TheVariants.{Home}
-use Rattle.journal_model.specs.Disk.{Disk, Image, reading}
-use Rattle.journal_model.specs.Opening.{OpensAs, numbered_below}
-use Rattle.journal_model.specs.Superblock.{Shape}
+use Rattle.journal_model.specs.Disk.{Disk, Image, Shape, reading}
+use Rattle.log_model.specs.Opening.{OpensAs, numbered_below}
 use Rattle.journal_model.specs.Transaction.{History, Volume}
 use Rattle.block_device.specs.Memory.{MemState, after_calls, crashed, state_of}
 use Rattle.block_device.specs.State.{DeviceState, Stays}

@@ -2,11 +2,11 @@
 use Rattle.std.proofs.Common.{sym, ap, ap₂, subst, ◌∙◌, arith, ⊎_elim}
 use Rattle.std.specs.Prelude.{◌≡◌, ◌≢◌, ℕ, ◌+◌, Bool, List, length}
 use Rattle.std.proofs.lemmas.Bool.Decides.{eqb_tells}
-use Rattle.journal_model.specs.declared.log.Text.{Text}
+use Rattle.log_model.specs.declared.log.Text.{Text}
 use Rattle.journal_model.specs.declared.number.Area.TheVariants.{Log}
-use Rattle.journal_model.specs.Disk.{Disk, Image, Leaves, reading}
-use Rattle.journal_model.specs.Opening.{HasChain, super_of}
-use Rattle.journal_model.specs.Superblock.{Shape, super_in}
+use Rattle.journal_model.specs.Disk.{Disk, Image, Leaves, Shape, reading}
+use Rattle.log_model.specs.Opening.{HasChain, super_of}
+use Rattle.log_model.specs.Superblock.{super_in}
 use Rattle.journal_world.specs.Sound.{durable_cell}
 use Rattle.log_epochs.specs.OpeningRun.{IsPastFlush, KeepsCount}
 use Rattle.log_epochs.specs.OpeningRun.KeepsCount.{Past, Unwritten}

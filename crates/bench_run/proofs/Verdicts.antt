@@ -8,12 +8,11 @@ use Rattle.std.specs.List.{list_any}
 use Rattle.journal_model.specs.declared.entry.Entry.{Entry}
 use Rattle.journal_model.specs.declared.entry.Entry.TheVariants.{Copy, Revoke}
 use Rattle.journal_model.specs.declared.number.Area.TheVariants.{Home}
-use Rattle.journal_model.specs.Disk.{Disk, Image, IsOneOf, Leaves, disk_of, reading}
-use Rattle.journal_model.specs.HomeChange.{IsRightlyHeld}
-use Rattle.journal_model.specs.HomeChange.IsRightlyHeld.{FromCopy, FromDirectWrite, FromOpening}
-use Rattle.journal_model.specs.Opening.{OpensAs, numbered_below}
+use Rattle.journal_model.specs.Disk.{Disk, Image, IsOneOf, Leaves, Shape, disk_of, reading}
+use Rattle.log_model.specs.HomeChange.{IsRightlyHeld}
+use Rattle.log_model.specs.HomeChange.IsRightlyHeld.{FromCopy, FromDirectWrite, FromOpening}
+use Rattle.log_model.specs.Opening.{OpensAs, numbered_below}
 use Rattle.journal_model.specs.Record.{acknowledged}
-use Rattle.journal_model.specs.Superblock.{Shape}
 use Rattle.journal_model.specs.Transaction.{History, Transaction, Volume, bytes_of, content_of, effect, last_effect, later}
 use Rattle.journal_world.proofs.Suffixes.{get-take}
 use Rattle.block_device.specs.Memory.{MemState, crashed, state_of}

@@ -1,7 +1,7 @@
 -- The disk on which a run begins, and the device over it.
 use Rattle.std.specs.Prelude.{◌≡◌}
 use Rattle.journal_model.specs.declared.number.Area.TheVariants.{Log}
-use Rattle.journal_model.specs.Superblock.{super_in}
+use Rattle.log_model.specs.Superblock.{super_in}
 use Rattle.block_device.specs.Fail.{failing}
 use Rattle.block_device.specs.Memory.{MemState, state_of}
 use Rattle.block_device.specs.State.{DeviceState}

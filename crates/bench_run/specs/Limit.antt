@@ -1,9 +1,9 @@
 -- A log whose superblock was read and accepted.
 use Rattle.std.specs.Prelude.{◌≡◌, None}
 use Rattle.journal_model.specs.declared.number.Area.TheVariants.{Log}
-use Rattle.journal_model.specs.Disk.{Image}
-use Rattle.journal_model.specs.Opening.{super_of}
-use Rattle.journal_model.specs.Superblock.{Shape, Super, super_refusal}
+use Rattle.journal_model.specs.Disk.{Image, Shape}
+use Rattle.log_model.specs.Opening.{super_of}
+use Rattle.log_model.specs.Superblock.{Super, super_refusal}
 
 -- the superblock is accepted, and these are its fields
 pub record IsReadLog (shape : Shape) (image : Image) (s : Super) : Type 0 where

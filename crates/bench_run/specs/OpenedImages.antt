@@ -1,9 +1,8 @@
 -- An image that was opened.
 use Rattle.std.specs.Prelude.{◌≡◌}
 use Rattle.journal_model.specs.declared.number.Area.TheVariants.{Home}
-use Rattle.journal_model.specs.Disk.{Disk, reading}
-use Rattle.journal_model.specs.Opening.{OpensAs}
-use Rattle.journal_model.specs.Superblock.{Shape}
+use Rattle.journal_model.specs.Disk.{Disk, Shape, reading}
+use Rattle.log_model.specs.Opening.{OpensAs}
 use Rattle.block_device.specs.Memory.{state_of}
 use Rattle.recovery.specs.Opening.{Tells}
 use Rattle.bench_run.specs.declared.opening.OpenedImage.{OpenedImage}

@@ -1,8 +1,7 @@
 -- The verdict where the opening of an image is stopped, and what that left is opened.
 use Rattle.std.specs.Prelude.{◌≡◌, ◌↔◌, ℕ, ◌+◌, ◌<◌, Bool, true, false, IsTrue, List, Option, All}
-use Rattle.journal_model.specs.Disk.{Image, reading}
-use Rattle.journal_model.specs.Opening.{OpensAs, numbered_below}
-use Rattle.journal_model.specs.Superblock.{Shape}
+use Rattle.journal_model.specs.Disk.{Image, Shape, reading}
+use Rattle.log_model.specs.Opening.{OpensAs, numbered_below}
 use Rattle.journal_model.specs.Transaction.{History, Volume}
 use Rattle.block_device.specs.Memory.{MemState, crashed, state_of, writes_of}
 use Rattle.block_device.specs.State.{DeviceState}

@@ -3,10 +3,9 @@ use Rattle.std.specs.Prelude.{◌≡◌, ◌↔◌, ◌⊎◌, ℕ, ◌<◌, ◌
 use Rattle.std.specs.BTreeSet.{keys}
 use Rattle.journal_model.specs.declared.entry.Entry.{Entry}
 use Rattle.journal_model.specs.declared.entry.Entry.TheVariants.{Copy, Revoke}
-use Rattle.journal_model.specs.Disk.{Image}
-use Rattle.journal_model.specs.Opening.{HasLimit, OpensAs, numbered_below}
+use Rattle.journal_model.specs.Disk.{Image, Shape}
+use Rattle.log_model.specs.Opening.{HasLimit, OpensAs, numbered_below}
 use Rattle.journal_model.specs.Record.{acknowledged}
-use Rattle.journal_model.specs.Superblock.{Shape}
 use Rattle.journal_model.specs.Transaction.{History, Volume, last_effect}
 use Rattle.block_device.specs.Memory.{MemState, crashed}
 use Rattle.bench_script.specs.declared.script.NamedBlocks.{NamedBlocks}

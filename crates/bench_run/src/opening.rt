@@ -3,7 +3,7 @@ ghost use Rattle.std.specs.Prelude.{◌↔◌, ◌<◌, All, IfOk, IsTrue, OnOk}
 ghost use Rattle.std.specs.BTreeSet.{keys};
 ghost use Rattle.journal_model.specs.declared.number.Area.TheVariants.{Home};
 ghost use Rattle.journal_model.specs.Disk.{reading};
-ghost use Rattle.journal_model.specs.Opening.{numbered_below};
+ghost use Rattle.log_model.specs.Opening.{numbered_below};
 ghost use Rattle.block_device.specs.Memory.{state_of};
 ghost use Rattle.block_device.specs.State.{Stays};
 ghost use Rattle.bench_run.specs.OpenedImages.{IsOpenedImage};

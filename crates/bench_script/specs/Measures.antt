@@ -1,6 +1,6 @@
 -- The limits of a script's keys.
 use Rattle.std.specs.Prelude.{◌≤◌}
-use Rattle.journal_model.specs.Superblock.{greatest_length, least_length}
+use Rattle.log_model.specs.Superblock.{greatest_length, least_length}
 use Rattle.log_format.specs.Size.{IsBlockSize}
 use Rattle.bench_script.specs.declared.measures.Measures.{Measures}
 

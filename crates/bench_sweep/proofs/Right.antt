@@ -3,7 +3,7 @@ use Rattle.std.proofs.Common.{ℕ, Bool, List, [], refl, true}
 use Rattle.std.specs.Prelude.{◌≡◌, ◌↔◌, ◌<◌, All, IsTrue, Some, None}
 use Rattle.journal_model.specs.declared.number.Area.TheVariants.{Home}
 use Rattle.journal_model.specs.Disk.{reading}
-use Rattle.journal_model.specs.Opening.{numbered_below}
+use Rattle.log_model.specs.Opening.{numbered_below}
 use Rattle.block_device.specs.Memory.{MemState, state_of}
 use Rattle.recovery.specs.declared.opening.Report.{Report}
 use Rattle.std.specs.BTreeSet.{keys}

@@ -2,8 +2,7 @@
 use Rattle.std.specs.Prelude.{ℕ, ◌+◌, ◌==◌, ◌&&◌, if◌then◌else◌, List, [], ◌∷◌, ◌++◌, replicate}
 use Rattle.std.specs.List.{fold, list_any}
 use Rattle.journal_model.specs.declared.number.Area.{Area}
-use Rattle.journal_model.specs.Disk.{Disk, Cell, same_area, with_cell, written, flushed}
-use Rattle.journal_model.specs.Superblock.{Shape}
+use Rattle.journal_model.specs.Disk.{Disk, Cell, same_area, with_cell, written, flushed, Shape}
 use Rattle.block_device.specs.State.{DeviceState}
 use Rattle.block_device.specs.declared.memory.Call.{Call}
 use Rattle.block_device.specs.declared.memory.Call.TheVariants.{Wrote, Flushed}

@@ -6,8 +6,7 @@ use Rattle.journal_model.specs.declared.number.Area.{Area}
 use Rattle.journal_model.specs.declared.number.Area.TheVariants.{Log, Home}
 use Rattle.journal_model.specs.declared.refusal.JournalError.{JournalError}
 use Rattle.journal_model.specs.declared.refusal.JournalError.TheVariants.{Device, Memory}
-use Rattle.journal_model.specs.Disk.{Disk, Image, IsOneOf, Leaves, held, written, handed_over}
-use Rattle.journal_model.specs.Superblock.{Shape}
+use Rattle.journal_model.specs.Disk.{Disk, Image, IsOneOf, Leaves, held, written, handed_over, Shape}
 
 -- a device at one moment
 pub record DeviceState : Type 0 where

@@ -6,7 +6,7 @@ use Rattle.std.proofs.lemmas.Map.Keys.{IsDistinct-cons, IsDistinct-head, IsDisti
 use Rattle.std.proofs.lemmas.Option.{slice_get-get_or}
 use Rattle.journal_model.specs.declared.entry.Entry.{Entry}
 use Rattle.journal_model.specs.declared.entry.Entry.TheVariants.{Copy, Revoke}
-use Rattle.journal_model.specs.OwnText.{copied}
+use Rattle.journal_model.specs.Transaction.{copied}
 use Rattle.journal_model.proofs.ListElements.{contains-behind, contains-cases, contains-first, contains-none}
 use Rattle.checkpoint.specs.Copies.{newest_in}
 use Rattle.checkpoint.specs.Pending.{is_touched}

@@ -6,7 +6,7 @@ use Rattle.std.proofs.lemmas.Bool.{cases_Bool, eqb-false}
 use Rattle.std.proofs.lemmas.List.Sorted.{IsNonDecreasingBy-drop}
 use Rattle.std.proofs.lemmas.Map.Keys.{IsDistinct-head, IsDistinct-tail}
 use Rattle.std.proofs.lemmas.Option.{get_or_from_slice_get, slice_get_within}
-use Rattle.journal_model.proofs.OwnTextEach.{each-append}
+use Rattle.journal_model.proofs.ListElements.{each-append}
 use Rattle.checkpoint.specs.declared.copies.QueuedCopy.{QueuedCopy}
 use Rattle.checkpoint.specs.Pending.{Before, IsOrdered}
 use Rattle.checkpoint.specs.PendingView.{key_of}

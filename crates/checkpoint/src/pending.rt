@@ -1,7 +1,7 @@
 //! The pending copies: what a commit adds, what goes home next, and what a release drops.
 ghost use Rattle.std.specs.Prelude.{◌≡◌, ℕ, ◌+◌, ◌<◌, ◌≤◌, List, [], None, Some, IfNone, IfOk, IfSome, length, map, drop, nat_eq, slice_get};
 ghost use Rattle.std.specs.List.{AllByRecursion, IsDistinct};
-ghost use Rattle.journal_model.specs.OwnText.{copied};
+ghost use Rattle.journal_model.specs.Transaction.{copied};
 ghost use Rattle.checkpoint.specs.Pending.{ArePending, IsCommitted, IsOldest, IsReleased, newest_of};
 
 #[cfg(test)]

@@ -1,7 +1,7 @@
 //! The steps of a commit and of a release.
 ghost use Rattle.std.specs.Prelude.{◌≡◌, ℕ, ◌+◌, ◌<◌, ◌≤◌, ◌++◌, List, None, Some, false, length, map, drop, nat_eq, slice_get, vec_capacity};
 ghost use Rattle.std.specs.List.{IsDistinct};
-ghost use Rattle.journal_model.specs.OwnText.{copied};
+ghost use Rattle.journal_model.specs.Transaction.{copied};
 ghost use Rattle.checkpoint.specs.Copies.{AreCopies, newest_in};
 ghost use Rattle.checkpoint.specs.Steps.{AreDead, IsAtLive, Releases, fresh, places_of, withdrawn_all};
 ghost use Rattle.checkpoint.specs.declared.copies.QueuedCopy.{QueuedCopy};

@@ -9,8 +9,9 @@ use crate::telling::{
     block_text, bytes_before_zeros, malformed_text, numbers_text, tags_text, text,
 };
 use crate::words::{cut, hex32, number32, series, values};
-use journal_model::{BlockNo, Items, LogLayout, Tag};
+use journal_model::{BlockNo, Items, LogLayout};
 use log_format::{CommitBlock, Descriptor, Header, Malformed, RevokeBlock};
+use log_model::Tag;
 use std::alloc::Global;
 
 /// Blocks of 1024 bytes.

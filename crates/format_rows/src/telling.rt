@@ -1,7 +1,8 @@
 //! What rows tell: blocks, their bytes, and refusals.
 use crate::RowError;
-use journal_model::{BlockNo, JournalError, Tag};
+use journal_model::{BlockNo, JournalError};
 use log_format::Malformed;
+use log_model::Tag;
 use std::alloc::Global;
 use std::fmt::Write;
 

@@ -5,7 +5,7 @@ use Rattle.std.proofs.lemmas.Bool.{true≢false}
 use Rattle.journal_model.specs.declared.refusal.JournalError.{JournalError}
 use Rattle.journal_model.specs.declared.refusal.JournalError.TheVariants.{Device}
 use Rattle.journal_model.specs.Disk.{Disk, Image, Leaves}
-use Rattle.journal_model.specs.Opening.{Opens}
+use Rattle.log_model.specs.Opening.{Opens}
 use Rattle.journal_model.specs.Transaction.{History}
 use Rattle.block_device.specs.State.{DeviceState, one_more_fault}
 use Rattle.journal_world.specs.declared.stage.Stage.TheVariants.{Idle}

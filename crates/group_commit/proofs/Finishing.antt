@@ -6,7 +6,7 @@ use Rattle.std.proofs.lemmas.Option.{none-some}
 use Rattle.journal_model.specs.declared.refusal.JournalError.{JournalError}
 use Rattle.journal_model.specs.declared.refusal.JournalError.TheVariants.{Device}
 use Rattle.journal_model.specs.Layout.{Layout}
-use Rattle.journal_model.specs.Chain.{Ring}
+use Rattle.log_model.specs.Chain.{Ring}
 use Rattle.journal_model.specs.Transaction.{History, Transaction}
 use Rattle.block_device.specs.State.{DeviceState, one_more_fault}
 use Rattle.journal_world.specs.declared.round.Round.{Round}

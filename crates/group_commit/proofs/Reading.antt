@@ -15,9 +15,8 @@ use Rattle.journal_model.specs.declared.entry.Entry.{Entry}
 use Rattle.journal_model.specs.declared.entry.Entry.TheVariants.{Copy, Revoke}
 use Rattle.journal_model.specs.declared.number.Area.TheVariants.{Home}
 use Rattle.journal_model.specs.Disk.{Disk}
-use Rattle.journal_model.specs.OwnText.{copied, copy_of}
 use Rattle.journal_model.specs.Reading.{answer_of}
-use Rattle.journal_model.specs.Transaction.{History, effect, last_effect, later}
+use Rattle.journal_model.specs.Transaction.{History, copied, copy_of, effect, last_effect, later}
 use Rattle.journal_world.specs.Checkpoint.{IsNewestCopy, IsPending, IsRead}
 use Rattle.journal_world.specs.Engine.{Engine, AreBatchesOf, IsBatch}
 use Rattle.journal_world.specs.Journal.{Journal}

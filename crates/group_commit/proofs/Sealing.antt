@@ -11,20 +11,18 @@ use Rattle.journal_model.specs.declared.entry.Batch.{Batch}
 use Rattle.journal_model.specs.declared.entry.Entry.{Entry}
 use Rattle.journal_model.specs.declared.entry.Entry.TheVariants.{Copy, Revoke}
 use Rattle.journal_model.specs.declared.refusal.JournalError.{JournalError}
-use Rattle.journal_model.specs.Disk.{Disk}
+use Rattle.journal_model.specs.Disk.{Disk, Shape}
 use Rattle.journal_model.specs.declared.transaction.Op.{Op}
 use Rattle.journal_model.specs.declared.transaction.Op.TheVariants.{Write, Revoke as RevokeOp, Read}
 use Rattle.journal_model.specs.declared.transaction.Step.{Step}
 use Rattle.journal_model.specs.Block.{IsAllowedBlock}
 use Rattle.journal_model.specs.Layout.{Layout}
-use Rattle.journal_model.specs.OwnText.{copied}
-use Rattle.journal_model.specs.Superblock.{Shape}
-use Rattle.journal_model.specs.Text.{text_blocks}
-use Rattle.journal_model.specs.Opening.{greatest_number}
-use Rattle.journal_model.specs.Transaction.{History, Transaction, effect, entries, entry_of, later, touched}
+use Rattle.log_model.specs.Text.{text_blocks}
+use Rattle.log_model.specs.Opening.{greatest_number}
+use Rattle.journal_model.specs.Transaction.{History, Transaction, copied, effect, entries, entry_of, later, touched}
 use Rattle.journal_model.proofs.Effects.{entries-blocks, touched-distinct}
-use Rattle.journal_model.proofs.OwnTextEach.{each-append}
-use Rattle.journal_model.proofs.OwnTextWhole.{length_own_text}
+use Rattle.journal_model.proofs.ListElements.{each-append}
+use Rattle.log_model.proofs.OwnTextWhole.{length_own_text}
 use Rattle.journal_world.specs.declared.stage.Stage.{Stage}
 use Rattle.journal_world.specs.declared.stage.Stage.TheVariants.{Idle, SuperblockWrite, SuperblockFlush, Blocks, CommitWrite, CommitFlush}
 use Rattle.block_device.specs.State.{DeviceState}

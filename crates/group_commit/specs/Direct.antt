@@ -3,7 +3,7 @@ use Rattle.std.specs.Prelude.{◌≡◌, ℕ, true, false, List}
 use Rattle.journal_model.specs.declared.refusal.JournalError.{JournalError}
 use Rattle.journal_model.specs.declared.refusal.JournalError.TheVariants.{Aborted, BadBlock, Device, NotDirect}
 use Rattle.journal_model.specs.Disk.{Disk}
-use Rattle.journal_model.specs.HomeChange.{HomeAddsOnly}
+use Rattle.log_model.specs.HomeChange.{HomeAddsOnly}
 use Rattle.journal_model.specs.Reading.{HasDirectRight}
 use Rattle.block_device.specs.State.{DeviceState, one_more_fault}
 use Rattle.journal_world.specs.Direct.{DirectsHome}

@@ -9,14 +9,12 @@ use Rattle.journal_model.specs.declared.transaction.Op.{Op}
 use Rattle.journal_model.specs.declared.transaction.Op.TheVariants.{Write, Revoke, Read}
 use Rattle.journal_model.specs.declared.transaction.Step.{Step as HandleStep}
 use Rattle.journal_model.specs.Block.{IsAllowedBlock}
-use Rattle.journal_model.specs.Disk.{Disk, Image, Leaves}
+use Rattle.journal_model.specs.Disk.{Disk, Image, Leaves, Shape}
 use Rattle.journal_model.specs.Layout.{Layout}
-use Rattle.journal_model.specs.Opening.{Opens, IsCountOf, greatest_number}
-use Rattle.journal_model.specs.OwnText.{copied, revoked}
+use Rattle.log_model.specs.Opening.{Opens, IsCountOf, greatest_number}
 use Rattle.journal_model.specs.Reading.{seen}
-use Rattle.journal_model.specs.Room.{need}
-use Rattle.journal_model.specs.Superblock.{Shape}
-use Rattle.journal_model.specs.Transaction.{History, Transaction, entries, last_effect}
+use Rattle.log_model.specs.Room.{need}
+use Rattle.journal_model.specs.Transaction.{History, Transaction, copied, entries, last_effect, revoked}
 use Rattle.block_device.specs.State.{DeviceState, Stays, one_more_fault}
 use Rattle.journal_world.specs.declared.round.Round.TheVariants.{Idle as NoRound}
 use Rattle.journal_world.specs.declared.stage.Stage.TheVariants.{Idle}

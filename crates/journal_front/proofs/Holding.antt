@@ -6,15 +6,14 @@ use Rattle.std.proofs.lemmas.Option.{none-some, same_Some}
 use Rattle.std.specs.List.{AllByRecursion}
 use Rattle.std.specs.Map.{lookup, remove_entry}
 use Rattle.indexmap.specs.IndexMap.{insert_entry}
-use Rattle.journal_model.proofs.OwnTextEach.{each-append}
 use Rattle.journal_model.specs.Layout.{IsTaken}
-use Rattle.journal_model.specs.Opening.{greatest_number}
+use Rattle.log_model.specs.Opening.{greatest_number}
 use Rattle.journal_model.specs.declared.transaction.Op.{Op}
 use Rattle.journal_model.specs.declared.transaction.Op.TheVariants.{Write, Revoke}
 use Rattle.journal_model.specs.declared.transaction.Step.{Step}
 use Rattle.journal_model.specs.declared.entry.Entry.{Entry}
 use Rattle.journal_model.specs.Transaction.{History, effect}
-use Rattle.journal_model.proofs.ListElements.{option-known}
+use Rattle.journal_model.proofs.ListElements.{each-append, option-known}
 use Rattle.journal_world.specs.Front.{ExtendsHandle, Front, FrontEvent, FrontHappens, IsFirstTouch, IsOpen, Joins, MayJoin, RevokesBlock, StopsHandle, WritesBlock, held, left_after, left_in, next_handle, revoke_step, touching, write_step}
 use Rattle.journal_world.specs.Front.FrontEvent.{Reserve, RefuseReserve, TakeBack, GiveBack, LoadCredits, LoadMark, Join, ExtendHandle, WriteBlock, RevokeBlock, StopHandle, Lock, Raise}
 use Rattle.journal_world.proofs.Credits.{held-within, stopped-credits}

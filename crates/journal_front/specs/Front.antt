@@ -6,7 +6,7 @@ use Rattle.journal_model.specs.declared.refusal.JournalError.{JournalError}
 use Rattle.journal_model.specs.declared.refusal.JournalError.TheVariants.{Aborted, BadBlock, Full, Memory, NoCredit, NotRunning, SequenceEnd, TooMany}
 use Rattle.journal_model.specs.Block.{IsAllowedBlock}
 use Rattle.journal_model.specs.Layout.{IsTaken}
-use Rattle.journal_model.specs.Opening.{greatest_number}
+use Rattle.log_model.specs.Opening.{greatest_number}
 use Rattle.journal_world.specs.Front.{Front, IsFirstTouch, MayJoin, held, next_handle}
 use Rattle.journal_front.specs.Values.{HandleValue}
 

@@ -60,3 +60,9 @@ reading disk a n = (disk a n).reads
 -- the disk after a crash that left the image: what is there is durable
 abbrev pub disk_of : Image → Disk
 disk_of image = λ a n. record { reads = image a n; others = [] }
+
+-- the measures of a device, in bytes and in blocks
+pub record Shape : Type 0 where
+  pub block_size : ℕ
+  pub log_blocks : ℕ
+  pub home_blocks : ℕ

@@ -6,16 +6,3 @@ pub mod Disk
 pub mod Credits
 pub mod Layout
 pub mod Block
-pub mod Escape
-pub mod Superblock
-pub mod Descriptor
-pub mod RevokeBlock
-pub mod Text
-pub mod OwnText
-pub mod Room
-pub mod Chain
-pub mod Replay
-pub mod Opening
-pub mod HomeChange
-pub mod Dump
-pub mod ReadingLog

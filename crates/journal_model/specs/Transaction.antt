@@ -59,6 +59,21 @@ touched (s ∷ ss) = if is_some (entry_of s.op) then s.block ∷ without s.block
 abbrev pub entries : List Step → List (ℕ × Entry)
 entries ss = filter_map (λ b. option_map (λ e. (b, e)) (effect b ss)) (touched ss)
 
+-- the copies among entries, and the revoked blocks, each in the order of the entries
+abbrev pub copy_of : ℕ → Entry → Option (ℕ × List ℕ)
+copy_of b (Copy v) = Some (b, v)
+copy_of b Revoke = None
+
+abbrev pub revoke_of : ℕ → Entry → Option ℕ
+revoke_of b (Copy v) = None
+revoke_of b Revoke = Some b
+
+abbrev pub copied : List (ℕ × Entry) → List (ℕ × List ℕ)
+copied entries = filter_map (λ p. copy_of p.0 p.1) entries
+
+abbrev pub revoked : List (ℕ × Entry) → List ℕ
+revoked entries = filter_map (λ p. revoke_of p.0 p.1) entries
+
 -- the last effect on block b in these transactions
 abbrev pub last_effect : ℕ → History → Option Entry
 last_effect b [] = None

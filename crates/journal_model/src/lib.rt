@@ -1,5 +1,6 @@
-//! The words of the journal: its numbers, blocks, entries and refusals, and in `specs/` the definitions
-//! that the promises of the crates above are stated by.
+//! The words of the journal: its numbers, blocks, entries, transactions and refusals, the disk that may lose power, and the numbers
+//! that a log is written with. `specs/` has the definitions that the promises of the crates above are stated by, those on logs
+//! apart, which `log_model` has.
 #![tactic(auto)]
 
 mod block;
@@ -7,11 +8,8 @@ pub mod disk_laws;
 mod entry;
 pub mod layout;
 mod list;
-mod log;
-pub mod log_laws;
 mod log_layout;
 mod number;
-pub mod own_text_laws;
 mod refusal;
 mod transaction;
 pub mod transaction_laws;
@@ -19,7 +17,6 @@ pub mod transaction_laws;
 pub use block::Block;
 pub use entry::{Batch, Content, Entry};
 pub use list::Items;
-pub use log::{Piece, Tag, Text};
 pub use log_layout::LogLayout;
 pub use number::{Area, BlockNo, HandleNo, Tid};
 pub use refusal::JournalError;

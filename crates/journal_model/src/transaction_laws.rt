@@ -1,11 +1,9 @@
-//! What follows from the definitions of transactions and of replay, each law on a function of its own.
+//! What follows from the definitions of transactions, each law on a function of its own.
 
 ghost use Rattle.std.specs.Prelude.{◌≡◌, ◌++◌, ◌<◌, ◌==◌, ◌∷◌, ◌↔◌, [], Contains, List, None, Some, if◌then◌else◌, map, nat_eq, ℕ};
 ghost use Rattle.std.specs.List.{IsDistinct};
 ghost use Rattle.journal_model.specs.declared.entry.Entry.{Entry};
-ghost use Rattle.journal_model.specs.declared.log.Text.{Text};
 ghost use Rattle.journal_model.specs.declared.transaction.Step.{Step};
-ghost use Rattle.journal_model.specs.Replay.{IsNewest, IsReplayed};
 ghost use Rattle.journal_model.specs.Transaction.{History, Recovered, Volume, effect, entries, entry_of};
 
 /// The entries of a transaction name each block that it touched once, with the effect of its steps on that
@@ -29,18 +27,5 @@ pub fn a_step_keeps_the_order_of_entries()
 pub fn recovered_is_determined()
     ensures { (count n : ℕ) (ts : History) (left one other : Volume) →
         Recovered count ts n left one → Recovered count ts n left other →
-        (b : ℕ) → b < count → one b ≡ other b }
-{}
-
-/// A block has at most one newest live copy in a chain.
-pub fn one_newest_copy()
-    ensures { (texts : List Text) (b : ℕ) (one other : List ℕ) →
-        IsNewest texts b one → IsNewest texts b other → one ≡ other }
-{}
-
-/// What replay of a chain makes of a volume is one volume.
-pub fn replay_is_determined()
-    ensures { (count : ℕ) (texts : List Text) (left one other : Volume) →
-        IsReplayed count texts left one → IsReplayed count texts left other →
         (b : ℕ) → b < count → one b ≡ other b }
 {}

@@ -3,10 +3,10 @@ use Rattle.std.proofs.Common.{◌≡◌, ◌⊎◌, inl, inr, ℕ, ◌+◌, ◌<
 use Rattle.std.specs.List.{flat_map, zip}
 use Rattle.std.proofs.lemmas.Grind.{flat_map-append}
 use Rattle.std.proofs.lemmas.List.{append-nil}
-use Rattle.journal_model.specs.declared.log.Tag.{Tag}
-use Rattle.journal_model.specs.declared.log.Piece.{Piece}
-use Rattle.journal_model.specs.Escape.{unescaped}
-use Rattle.journal_model.specs.Text.{piece_copies}
+use Rattle.log_model.specs.declared.log.Tag.{Tag}
+use Rattle.log_model.specs.declared.log.Piece.{Piece}
+use Rattle.log_model.specs.Escape.{unescaped}
+use Rattle.log_model.specs.Text.{piece_copies}
 use Rattle.journal_model.proofs.ListElements.{take-more_read}
 
 -- a tag and its copy in the log, as the home block and the bytes that replay writes there

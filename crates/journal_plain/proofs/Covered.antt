@@ -5,9 +5,9 @@ use Rattle.std.proofs.lemmas.List.{get_or-drop, length-drop}
 use Rattle.std.proofs.lemmas.List.Folds.{Any-from_list_any, list_any_at}
 use Rattle.std.proofs.lemmas.Option.{slice_get_read, slice_get_within, get_or_from_slice_get}
 use Rattle.journal_model.proofs.ListElements.{contains-from_any, any-from_contains}
-use Rattle.journal_model.specs.declared.log.Text.{Text}
-use Rattle.journal_model.specs.Replay.{IsCovered}
-use Rattle.journal_model.specs.Text.{text_revokes}
+use Rattle.log_model.specs.declared.log.Text.{Text}
+use Rattle.log_model.specs.Replay.{IsCovered}
+use Rattle.log_model.specs.Text.{text_revokes}
 
 -- whether a text revokes block b
 abbrev pub revokes : ℕ → Text → Bool

@@ -1,6 +1,6 @@
 -- What is found under one name is found under another that means the same.
 use Rattle.std.proofs.Common.{Option, Some, None}
-use Rattle.journal_model.specs.ReadingLog.{Finds}
+use Rattle.log_model.specs.ReadingLog.{Finds}
 
 -- two facts that follow from each other are found together
 pub found_same :

@@ -4,7 +4,7 @@ use Rattle.std.proofs.Math.Nat.{div-eq_of_lt-le}
 use Rattle.std.proofs.lemmas.Bool.{cases_lt}
 use Rattle.std.proofs.lemmas.Grind.{div_ceil_times}
 use Rattle.std.specs.Int.{div_ceil}
-use Rattle.journal_model.specs.OwnText.{ceil_div}
+use Rattle.log_model.specs.OwnText.{ceil_div}
 
 -- both ways to say that a division is rounded up
 pub div_ceil-is : (a b : ℕ) → 0 < b → div_ceil a b ≡ ceil_div a b

@@ -1,17 +1,18 @@
 //! The plain program that reads the chain of a log, and the damaged block behind it.
 
 ghost use Rattle.std.specs.Prelude.{◌≡◌, ℕ, ◌+◌, ◌*◌, ◌^◌, ◌<◌, ◌≤◌, ◌↔◌, List, length, drop, IsTrue, IfOk, IfSome, IfNone, MatchOption, All};
-ghost use Rattle.journal_model.specs.declared.log.Tag.{Tag};
+ghost use Rattle.log_model.specs.declared.log.Tag.{Tag};
 ghost use Rattle.journal_model.specs.Layout.{number_at, HasHeader, revoke_header_bytes, descriptor_type, revoke_type, tag_bytes};
-ghost use Rattle.journal_model.specs.Descriptor.{flag_word, uuid_behind, BeginsWithTag, IsDescriptor};
-ghost use Rattle.journal_model.specs.RevokeBlock.{IsRevokeBlock, numbers_in};
-ghost use Rattle.journal_model.specs.Chain.{IsChain, IsMalformed, IsDamaged};
-ghost use Rattle.journal_model.specs.ReadingLog.{Finds, layout_with, HasTags, NoPieceBegins, PieceBegins, PiecesBegin, NoTextBegins, TextBegins, TextsBegin};
+ghost use Rattle.log_model.specs.Descriptor.{flag_word, uuid_behind, BeginsWithTag, IsDescriptor};
+ghost use Rattle.log_model.specs.RevokeBlock.{IsRevokeBlock, numbers_in};
+ghost use Rattle.log_model.specs.Chain.{IsChain, IsMalformed, IsDamaged};
+ghost use Rattle.log_model.specs.ReadingLog.{Finds, layout_with, HasTags, NoPieceBegins, PieceBegins, PiecesBegin, NoTextBegins, TextBegins, TextsBegin};
 
 use journal_model::layout::{
     COMMIT_TYPE, DESCRIPTOR_TYPE, HEADER_BYTES, MAGIC, REVOKE_HEADER_BYTES, REVOKE_TYPE, UUID_BYTES,
 };
-use journal_model::{Block, BlockNo, Items, Piece, Tag, Text};
+use journal_model::{Block, BlockNo, Items};
+use log_model::{Piece, Tag, Text};
 use std::alloc::{AllocError, Global};
 
 /// What a reader knows of a log before it reads: the bytes in a block and in a block number, and how many blocks

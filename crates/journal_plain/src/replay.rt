@@ -2,12 +2,13 @@
 
 ghost use Rattle.std.specs.Prelude.{◌≡◌, ◌++◌, ◌==◌, ◌↔◌, ◌<◌, ◌≤◌, ℕ, IfOk, IsTrue, List, MatchOption, OnOk, Some, length, map, slice_get};
 ghost use Rattle.std.specs.List.{list_any, zip};
-ghost use Rattle.journal_model.specs.Escape.{unescaped};
-ghost use Rattle.journal_model.specs.Replay.{HasNoLive, IsCovered, IsLive, IsNewest};
-ghost use Rattle.journal_model.specs.Text.{piece_copies, piece_revokes, text_copies, text_revokes};
+ghost use Rattle.log_model.specs.Escape.{unescaped};
+ghost use Rattle.log_model.specs.Replay.{HasNoLive, IsCovered, IsLive, IsNewest};
+ghost use Rattle.log_model.specs.Text.{piece_copies, piece_revokes, text_copies, text_revokes};
 
 use journal_model::layout::MAGIC;
-use journal_model::{Block, BlockNo, Items, Piece, Tag, Text};
+use journal_model::{Block, BlockNo, Items};
+use log_model::{Piece, Tag, Text};
 use std::alloc::{AllocError, Global};
 
 /// Whether a piece revokes a block.

@@ -3,8 +3,8 @@
 
 ghost use Rattle.std.specs.Prelude.{◌≡◌, ◌+◌, ◌/◌, ◌<◌, ◌≤◌, ◌↔◌, IsTrue};
 ghost use Rattle.journal_model.specs.Layout.{numbers_of, tags_of};
-ghost use Rattle.journal_model.specs.OwnText.{ceil_div};
-ghost use Rattle.journal_model.specs.Room.{IsCapacity, need};
+ghost use Rattle.log_model.specs.OwnText.{ceil_div};
+ghost use Rattle.log_model.specs.Room.{IsCapacity, need};
 
 use journal_model::layout::{HEADER_BYTES, REVOKE_HEADER_BYTES, UUID_BYTES};
 

@@ -3,7 +3,8 @@
 //!
 //! `row_file` reads a file of rows, `repetition` writes out what a row says more than once, `kinds` knows what may be done with
 //! a row, and `report` compares what is found with what is wanted. Rows of blocks, logs, openings and runs are done by the
-//! crates `format_rows`, `log_rows`, `opening_rows` and `run_rows`; those of the commands of `jbench` and its words by `commands`.
+//! crates `format_rows`, `log_rows`, `opening_rows`, `run_rows` and `sweep_rows`; those of the commands of `jbench` and its
+//! words by `commands`.
 #![tactic(auto)]
 
 mod benches;

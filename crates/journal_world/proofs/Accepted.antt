@@ -2,13 +2,12 @@
 use Rattle.std.proofs.Common.{refl, sym, ◌∙◌, ap, subst, arith, inl, inr, ⊎_elim, length-append}
 use Rattle.std.specs.Prelude.{◌≡◌, ◌⊎◌, ℕ, suc, ◌+◌, ◌*◌, ◌≤◌, Bool, true, false, List, [], ◌∷◌, ◌++◌, length, map}
 use Rattle.std.proofs.lemmas.List.{take-append-le}
-use Rattle.journal_model.proofs.ListElements.{get-front}
-use Rattle.journal_model.proofs.OwnTextEach.{each-append}
+use Rattle.journal_model.proofs.ListElements.{each-append, get-front}
 use Rattle.journal_model.specs.declared.entry.Batch.{Batch}
-use Rattle.journal_model.specs.Chain.{texts_blocks}
+use Rattle.log_model.specs.Chain.{texts_blocks}
 use Rattle.journal_model.specs.Disk.{Disk}
-use Rattle.journal_model.specs.Opening.{greatest_number}
-use Rattle.journal_model.specs.Text.{text_blocks}
+use Rattle.log_model.specs.Opening.{greatest_number}
+use Rattle.log_model.specs.Text.{text_blocks}
 use Rattle.journal_world.specs.declared.stage.Stage.{Stage}
 use Rattle.journal_world.specs.declared.stage.Stage.TheVariants.{Idle, SuperblockWrite, Blocks}
 use Rattle.journal_world.specs.Engine.{Engine, Accepts, HasRoom, IsBatch, accepting, block_at, committed_texts, due_blocks, text_of}

@@ -1,7 +1,7 @@
 -- The ring blocks from a position on, once around the ring.
 use Rattle.std.proofs.Common.{◌≡◌, ℕ, ◌+◌, ◌-◌, ◌*◌, ◌/◌, ◌%◌, ◌<◌, ◌≤◌, arith, ◌∙◌, subst, ap}
 use Rattle.std.proofs.Math.Nat.{add-mod-mod, add-mod_right, add-mul-mod_self_left, div-add-mod, mod-add-mod, mod-lt}
-use Rattle.journal_model.specs.Chain.{Ring, place_from, ring_place}
+use Rattle.log_model.specs.Chain.{Ring, place_from, ring_place}
 
 -- the lap from the place of a position goes through the positions behind it
 pub place-lap : (r : Ring) (from k : ℕ) → place_from r (ring_place r from) k ≡ ring_place r (from + k)

@@ -6,11 +6,11 @@ use Rattle.std.proofs.lemmas.Bool.Decides.{nat_tests}
 use Rattle.std.proofs.lemmas.List.Sums.{sum_by-cons}
 use Rattle.std.proofs.lemmas.Option.{none-some, same_Some}
 use Rattle.journal_model.specs.declared.entry.Batch.{Batch}
-use Rattle.journal_model.specs.declared.log.Text.{Text}
+use Rattle.log_model.specs.declared.log.Text.{Text}
 use Rattle.journal_model.specs.Layout.{IsLayout, Layout, uuid_bytes}
-use Rattle.journal_model.specs.Opening.{greatest_number, numbered_below}
-use Rattle.journal_model.specs.OwnText.{own_text}
-use Rattle.journal_model.specs.Superblock.{Shape}
+use Rattle.log_model.specs.Opening.{greatest_number, numbered_below}
+use Rattle.log_model.specs.OwnText.{own_text}
+use Rattle.journal_model.specs.Disk.{Shape}
 use Rattle.journal_model.specs.Transaction.{History, Transaction}
 use Rattle.journal_world.specs.Engine.{AreBatchesOf, IsBatch}
 use Rattle.journal_world.specs.Journal.{batch_of}

@@ -2,12 +2,12 @@
 use Rattle.std.proofs.Common.{◌≡◌, ℕ, ◌+◌, ◌<◌, List, [], ◌∷◌, ◌++◌, length, refl, sym, ◌∙◌, subst, append_assoc}
 use Rattle.std.specs.List.{AllByRecursion}
 use Rattle.std.proofs.lemmas.List.{append_cancel_left}
-use Rattle.journal_model.specs.declared.log.Text.{Text}
-use Rattle.journal_model.specs.Chain.{AreTexts, IsChain, IsDamaged, IsMalformed, texts_blocks}
+use Rattle.log_model.specs.declared.log.Text.{Text}
+use Rattle.log_model.specs.Chain.{AreTexts, IsChain, IsDamaged, IsMalformed, texts_blocks}
 use Rattle.journal_model.specs.Layout.{Layout}
-use Rattle.journal_model.specs.ReadingLog.{NoTextBegins}
-use Rattle.journal_model.specs.Text.{IsCommitBlock, pieces_blocks}
-use Rattle.journal_model.proofs.ReadingTexts.{most_texts, one_chain_of}
+use Rattle.log_model.specs.ReadingLog.{NoTextBegins}
+use Rattle.log_model.specs.Text.{IsCommitBlock, pieces_blocks}
+use Rattle.log_model.proofs.ReadingTexts.{most_texts, one_chain_of}
 
 -- the block is no commit block of this number, nor a malformed block of it
 pub record IsNotDue (l : Layout) (count next : ℕ) (block : List ℕ) : Type 0 where

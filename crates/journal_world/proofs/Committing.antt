@@ -3,7 +3,7 @@ use Rattle.std.proofs.Common.{refl, sym, ◌∙◌, ap, subst, arith, inl, inr, 
 use Rattle.std.specs.Prelude.{◌≡◌, ◌⊎◌, ℕ, ◌+◌, ◌-◌, ◌*◌, ◌<◌, ◌≤◌, Bool, true, List, ◌++◌, length}
 use Rattle.std.proofs.lemmas.Bool.{cases_lt, true≢false}
 use Rattle.journal_model.specs.declared.number.Area.TheVariants.{Log}
-use Rattle.journal_model.specs.Chain.{texts_blocks, ring_place}
+use Rattle.log_model.specs.Chain.{texts_blocks, ring_place}
 use Rattle.journal_model.specs.Disk.{Disk, flushed}
 use Rattle.journal_world.specs.declared.stage.Stage.TheVariants.{CommitFlush, Idle}
 use Rattle.journal_world.specs.Engine.{Engine, block_at, committed_texts, due_blocks, stepped_from}

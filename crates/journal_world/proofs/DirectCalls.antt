@@ -2,9 +2,9 @@
 use Rattle.std.proofs.Common.{refl, sym, ◌∙◌, ap, subst}
 use Rattle.std.specs.Prelude.{◌≡◌, ℕ, List}
 use Rattle.journal_model.specs.declared.number.Area.TheVariants.{Log, Home}
-use Rattle.journal_model.specs.Chain.{ring_place}
+use Rattle.log_model.specs.Chain.{ring_place}
 use Rattle.journal_model.specs.Disk.{Cell, Disk, IsOneOf, held}
-use Rattle.journal_model.specs.HomeChange.{Addition, HomeAddsOnly}
+use Rattle.log_model.specs.HomeChange.{Addition, HomeAddsOnly}
 use Rattle.journal_world.specs.declared.round.Round.{Round}
 use Rattle.journal_world.specs.declared.round.Round.TheVariants.{Idle as NoRound, Copies, TailWrite, TailFlush}
 use Rattle.journal_world.specs.declared.stage.Stage.{Stage}

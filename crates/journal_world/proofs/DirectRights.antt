@@ -11,7 +11,7 @@ use Rattle.journal_model.specs.declared.entry.Entry.{Entry}
 use Rattle.journal_model.specs.declared.entry.Entry.TheVariants.{Copy, Revoke}
 use Rattle.journal_model.specs.declared.number.Area.TheVariants.{Home}
 use Rattle.journal_model.specs.Disk.{Disk, IsOneOf}
-use Rattle.journal_model.specs.HomeChange.{HomeAddsOnly, IsDirectWrite}
+use Rattle.log_model.specs.HomeChange.{HomeAddsOnly, IsDirectWrite}
 use Rattle.journal_model.specs.Reading.{HasDirectRight}
 use Rattle.journal_model.specs.Transaction.{History, after, content_of, last_effect}
 use Rattle.journal_world.specs.Call.{Call, after_success}

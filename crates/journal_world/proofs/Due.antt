@@ -4,9 +4,9 @@ use Rattle.std.specs.List.{AllByRecursion, slice_get}
 use Rattle.std.proofs.lemmas.List.{length-map}
 use Rattle.std.proofs.lemmas.Option.{none-some, slice_get_within}
 use Rattle.journal_model.specs.declared.entry.Batch.{Batch}
-use Rattle.journal_model.specs.Chain.{texts_blocks}
+use Rattle.log_model.specs.Chain.{texts_blocks}
 use Rattle.journal_model.specs.Layout.{IsLayout}
-use Rattle.journal_model.specs.Text.{text_blocks}
+use Rattle.log_model.specs.Text.{text_blocks}
 use Rattle.journal_world.specs.Engine.{Engine, IsBatch, blocks_if, committed_texts, due_blocks, text_of}
 use Rattle.journal_world.specs.Opening.{IsBehind}
 use Rattle.journal_world.specs.Sound.{IsPlain}

@@ -3,11 +3,11 @@ use Rattle.std.proofs.Common.{refl, sym, subst, arith, inl, length-take, length-
 use Rattle.std.specs.Prelude.{◌≡◌, ℕ, ◌+◌, ◌-◌, ◌%◌, ◌<◌, ◌≤◌, List, length, None}
 use Rattle.std.proofs.Math.Nat.{mod-lt}
 use Rattle.journal_model.specs.declared.number.Area.TheVariants.{Log}
-use Rattle.journal_model.specs.Chain.{ring_place}
-use Rattle.journal_model.specs.Disk.{Disk, IsOneOf, held}
+use Rattle.log_model.specs.Chain.{ring_place}
+use Rattle.journal_model.specs.Disk.{Disk, IsOneOf, Shape, held}
 use Rattle.journal_model.specs.Layout.{uuid_bytes}
-use Rattle.journal_model.specs.Opening.{greatest_number, ring_of}
-use Rattle.journal_model.specs.Superblock.{Shape, Super, super_in, super_refusal}
+use Rattle.log_model.specs.Opening.{greatest_number, ring_of}
+use Rattle.log_model.specs.Superblock.{Super, super_in, super_refusal}
 use Rattle.journal_world.specs.Journal.{fresh_engine}
 use Rattle.journal_world.specs.Opening.{IsBehind, IsOpenedLog, NamesNothing}
 use Rattle.journal_world.specs.Sound.{IsPlain, Sound}

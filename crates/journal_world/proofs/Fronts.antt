@@ -8,13 +8,13 @@ use Rattle.std.proofs.lemmas.Cmp.{nat_eq_equiv}
 use Rattle.std.proofs.lemmas.List.{map-append}
 use Rattle.std.proofs.lemmas.List.Elements.{Contains-append_left, Contains-push}
 use Rattle.std.proofs.lemmas.Map.Keys.{IsDistinct-push}
-use Rattle.journal_model.proofs.OwnTextEach.{each-append}
+use Rattle.journal_model.proofs.ListElements.{each-append}
 use Rattle.journal_model.specs.declared.entry.Batch.{Batch}
 use Rattle.journal_model.specs.declared.transaction.Op.{Op}
 use Rattle.journal_model.specs.declared.transaction.Op.TheVariants.{Write, Revoke}
-use Rattle.journal_model.specs.Chain.{Ring}
-use Rattle.journal_model.specs.Room.{IsCapacity}
-use Rattle.journal_model.specs.Superblock.{Shape}
+use Rattle.log_model.specs.Chain.{Ring}
+use Rattle.log_model.specs.Room.{IsCapacity}
+use Rattle.journal_model.specs.Disk.{Shape}
 use Rattle.journal_world.specs.Engine.{Engine, Accepts, AreBatchesOf}
 use Rattle.journal_world.specs.Front.{Front, FrontEvent, FrontHappens, IsOpen, MaySeal, aborting, extending, finishing, fresh_front, held, joining, left_after, next_handle, raising, sealing, stopping, touching}
 use Rattle.journal_world.specs.Front.FrontEvent.{Reserve, RefuseReserve, TakeBack, GiveBack, LoadCredits, LoadMark, Join, ExtendHandle, WriteBlock, RevokeBlock, StopHandle, Lock, Raise}

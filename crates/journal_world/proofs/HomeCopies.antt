@@ -10,7 +10,7 @@ use Rattle.journal_model.specs.declared.entry.Entry.{Entry}
 use Rattle.journal_model.specs.declared.entry.Entry.TheVariants.{Copy}
 use Rattle.journal_model.specs.declared.number.Area.TheVariants.{Home}
 use Rattle.journal_model.specs.Disk.{Cell, Disk, IsOneOf, flushed, handed_over, held, written}
-use Rattle.journal_model.specs.HomeChange.{Addition, HomeAddsOnly, IsCommittedCopy}
+use Rattle.log_model.specs.HomeChange.{Addition, HomeAddsOnly, IsCommittedCopy}
 use Rattle.journal_model.specs.Transaction.{History, Transaction, content_of, effect, entries, last_effect, later}
 use Rattle.journal_world.specs.declared.round.Round.{Round}
 use Rattle.journal_world.specs.declared.round.Round.TheVariants.{Idle as NoRound, Copies, TailWrite, TailFlush}

@@ -10,8 +10,8 @@ use Rattle.journal_model.specs.declared.entry.Entry.{Entry}
 use Rattle.journal_model.specs.declared.entry.Entry.TheVariants.{Copy}
 use Rattle.journal_model.specs.declared.number.Area.TheVariants.{Home}
 use Rattle.journal_model.specs.Disk.{Disk, Image, IsOneOf, Leaves, held}
-use Rattle.journal_model.specs.HomeChange.{Addition, HomeAddsOnly, IsRightlyHeld, OthersRightlyHeld}
-use Rattle.journal_model.specs.HomeChange.IsRightlyHeld.{FromCopy, FromDirectWrite, FromOpening}
+use Rattle.log_model.specs.HomeChange.{Addition, HomeAddsOnly, IsRightlyHeld, OthersRightlyHeld}
+use Rattle.log_model.specs.HomeChange.IsRightlyHeld.{FromCopy, FromDirectWrite, FromOpening}
 use Rattle.journal_model.specs.Transaction.{History, Transaction, entries}
 use Rattle.journal_world.specs.Checkpoint.{HasCommittedCopy, IsNewestCopy, RoundFaults, RoundSteps}
 use Rattle.journal_world.specs.Engine.{Accepts, AreBatchesOf, CommitFaults, CommitSteps, Engine}

@@ -2,11 +2,11 @@
 use Rattle.std.proofs.Common.{◌≡◌, inl, inr, ℕ, ◌+◌, ◌-◌, ◌<◌, ◌≤◌, false, true≢false, List, ◌++◌, length, length-append, length-drop, take, drop, arith, refl, sym, ◌∙◌, subst, ap}
 use Rattle.std.proofs.lemmas.Bool.{cases_eq, cases_lt}
 use Rattle.journal_model.specs.declared.number.Area.TheVariants.{Log, Home}
-use Rattle.journal_model.specs.Chain.{texts_blocks, ring_place}
+use Rattle.log_model.specs.Chain.{texts_blocks, ring_place}
 use Rattle.journal_model.specs.Disk.{Disk, Image, Leaves}
 use Rattle.journal_model.specs.Layout.{IsLayout}
-use Rattle.journal_model.specs.Opening.{numbered_below}
-use Rattle.journal_model.specs.Opening.HasLimit.{OfChain}
+use Rattle.log_model.specs.Opening.{numbered_below}
+use Rattle.log_model.specs.Opening.HasLimit.{OfChain}
 use Rattle.journal_model.specs.Transaction.{bytes_of, content_of, last_effect}
 use Rattle.journal_world.specs.declared.stage.Stage.{Stage}
 use Rattle.journal_world.specs.declared.stage.Stage.TheVariants.{Idle, SuperblockWrite, SuperblockFlush, Blocks, CommitWrite, CommitFlush}

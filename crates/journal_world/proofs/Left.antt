@@ -5,7 +5,7 @@ use Rattle.std.specs.List.{slice_get}
 use Rattle.std.proofs.lemmas.Bool.{cases_eq, cases_lt}
 use Rattle.std.proofs.lemmas.Option.{slice_get_within}
 use Rattle.journal_model.specs.declared.number.Area.TheVariants.{Log}
-use Rattle.journal_model.specs.Chain.{texts_blocks, ring_place}
+use Rattle.log_model.specs.Chain.{texts_blocks, ring_place}
 use Rattle.journal_model.specs.Disk.{Disk, Image, Leaves}
 use Rattle.journal_model.specs.Layout.{IsLayout}
 use Rattle.journal_world.specs.declared.stage.Stage.{Stage}

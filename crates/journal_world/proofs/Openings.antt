@@ -3,16 +3,15 @@ use Rattle.std.proofs.Common.{◌≡◌, ℕ, suc, ◌+◌, ◌-◌, ◌<◌, �
 use Rattle.std.specs.List.{AllByRecursion, range_with_len}
 use Rattle.std.proofs.lemmas.List.{length-map}
 use Rattle.journal_model.specs.declared.entry.Batch.{Batch}
-use Rattle.journal_model.specs.declared.log.Text.{Text}
+use Rattle.log_model.specs.declared.log.Text.{Text}
 use Rattle.journal_model.specs.declared.number.Area.TheVariants.{Log, Home}
-use Rattle.journal_model.specs.Chain.{AreTexts, IsAhead, IsChain, IsDamaged, Ring, lap, place_from, texts_blocks, ring_place}
-use Rattle.journal_model.specs.Disk.{Image}
+use Rattle.log_model.specs.Chain.{AreTexts, IsAhead, IsChain, IsDamaged, Ring, lap, place_from, texts_blocks, ring_place}
+use Rattle.journal_model.specs.Disk.{Image, Shape}
 use Rattle.journal_model.specs.Layout.{IsLayout, Layout, uuid_bytes}
-use Rattle.journal_model.specs.Opening.{HasChain, IsClean, IsStarted, NothingAhead, OpensAs, greatest_number, layout_of, log_lap, super_of}
-use Rattle.journal_model.specs.Opening.HasLimit.{OfClean}
-use Rattle.journal_model.specs.Opening.OpensAs.{Clean, Replayed}
-use Rattle.journal_model.specs.OwnText.{own_text}
-use Rattle.journal_model.specs.Superblock.{Shape}
+use Rattle.log_model.specs.Opening.{HasChain, IsClean, IsStarted, NothingAhead, OpensAs, greatest_number, layout_of, log_lap, super_of}
+use Rattle.log_model.specs.Opening.HasLimit.{OfClean}
+use Rattle.log_model.specs.Opening.OpensAs.{Clean, Replayed}
+use Rattle.log_model.specs.OwnText.{own_text}
 use Rattle.journal_model.specs.Transaction.{History, bytes_of, content_of, last_effect}
 use Rattle.journal_world.specs.Engine.{AreBatchesOf, IsBatch, block_at}
 use Rattle.journal_world.specs.Opening.{IsBehind, IsSuperblock, NamesNothing}

@@ -2,19 +2,20 @@
 use Rattle.std.proofs.Common.{◌≡◌, ℕ, suc, ◌+◌, ◌<◌, Bool, true, false, true≢false, List, [], ◌∷◌, length, map, Some, arith, refl, sym, ◌∙◌, inl, inr}
 use Rattle.std.specs.Prelude.{◌^◌, if◌then◌else◌, drop, All}
 use Rattle.std.specs.List.{AllByRecursion, slice_get}
-use Rattle.journal_model.proofs.HomeCounts.{own_text_of_allowed}
-use Rattle.journal_model.proofs.OwnTextEach.{each-append}
-use Rattle.journal_model.proofs.ReadingPieces.{one_type}
+use Rattle.log_model.proofs.HomeCounts.{own_text_of_allowed}
+use Rattle.journal_model.proofs.ListElements.{each-append}
+use Rattle.log_model.proofs.ReadingPieces.{one_type}
 use Rattle.journal_model.specs.declared.entry.Entry.{Entry}
-use Rattle.journal_model.specs.declared.log.Piece.{Piece}
-use Rattle.journal_model.specs.declared.log.Piece.TheVariants.{Revokes, Copies}
-use Rattle.journal_model.specs.declared.log.Text.{Text}
+use Rattle.log_model.specs.declared.log.Piece.{Piece}
+use Rattle.log_model.specs.declared.log.Piece.TheVariants.{Revokes, Copies}
+use Rattle.log_model.specs.declared.log.Text.{Text}
 use Rattle.journal_model.specs.Block.{IsAllowedBlock}
-use Rattle.journal_model.specs.Chain.{AreTexts, texts_blocks}
-use Rattle.journal_model.specs.Escape.{escaped}
+use Rattle.log_model.specs.Chain.{AreTexts, texts_blocks}
+use Rattle.log_model.specs.Escape.{escaped}
 use Rattle.journal_model.specs.Layout.{Layout, IsLayout, HasHeader, begins_with_magic, commit_type, descriptor_type, numbers_of, revoke_type, sequence_in, tags_of, uuid_bytes}
-use Rattle.journal_model.specs.OwnText.{copied, groups, own_copies, own_revokes, own_text, revoked}
-use Rattle.journal_model.specs.Text.{IsPiece, IsText, piece_blocks, pieces_blocks, text_blocks}
+use Rattle.journal_model.specs.Transaction.{copied, revoked}
+use Rattle.log_model.specs.OwnText.{groups, own_copies, own_revokes, own_text}
+use Rattle.log_model.specs.Text.{IsPiece, IsText, piece_blocks, pieces_blocks, text_blocks}
 use Rattle.journal_world.proofs.Chains.{IsNotDue}
 use Rattle.journal_world.proofs.Elements.{all-before, all-map, all-weaker}
 use Rattle.journal_world.specs.Opening.{IsBehind}

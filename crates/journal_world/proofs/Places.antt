@@ -5,7 +5,7 @@ use Rattle.std.proofs.Math.Nat.{add-mod_right, div-add-mod, lt_of_mul-lt-mul_lef
 use Rattle.std.proofs.lemmas.Bool.{cases_eq, cases_lt}
 use Rattle.std.proofs.lemmas.Bool.Decides.{nat_tests}
 use Rattle.journal_model.specs.declared.number.Area.TheVariants.{Log}
-use Rattle.journal_model.specs.Chain.{Ring, ring_place}
+use Rattle.log_model.specs.Chain.{Ring, ring_place}
 use Rattle.journal_model.specs.Disk.{Cell, Disk, IsOneOf, flushed, handed_over, held, written}
 use Rattle.journal_world.specs.Call.{IsAfterFault}
 use Rattle.journal_world.specs.Call.IsAfterFault.{Undone, Whole, HandedOver}

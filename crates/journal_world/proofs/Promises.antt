@@ -4,17 +4,16 @@ use Rattle.std.specs.Prelude.{nat_le, if◌then◌else◌}
 use Rattle.std.specs.List.{AllByRecursion, list_any}
 use Rattle.std.proofs.lemmas.Bool.Decides.{nat_tests}
 use Rattle.std.proofs.lemmas.List.Sums.{sum_by-cons}
-use Rattle.journal_model.proofs.Newest.{replayed-same}
-use Rattle.journal_model.proofs.ReadingTexts.{one_chain_of}
+use Rattle.log_model.proofs.Newest.{replayed-same}
+use Rattle.log_model.proofs.ReadingTexts.{one_chain_of}
 use Rattle.journal_model.specs.declared.entry.Batch.{Batch}
-use Rattle.journal_model.specs.declared.log.Text.{Text}
+use Rattle.log_model.specs.declared.log.Text.{Text}
 use Rattle.journal_model.specs.declared.number.Area.TheVariants.{Home}
-use Rattle.journal_model.specs.Disk.{Image}
-use Rattle.journal_model.specs.Opening.{HasChain, OpensAs, layout_of, log_lap, super_of}
-use Rattle.journal_model.specs.Opening.OpensAs.{Clean, Replayed}
+use Rattle.journal_model.specs.Disk.{Image, Shape}
+use Rattle.log_model.specs.Opening.{HasChain, OpensAs, layout_of, log_lap, super_of}
+use Rattle.log_model.specs.Opening.OpensAs.{Clean, Replayed}
 use Rattle.journal_model.specs.Record.{acknowledged}
-use Rattle.journal_model.specs.Replay.{IsReplayed}
-use Rattle.journal_model.specs.Superblock.{Shape}
+use Rattle.log_model.specs.Replay.{IsReplayed}
 use Rattle.journal_model.specs.Transaction.{History, Transaction, Volume}
 use Rattle.journal_world.specs.Engine.{AreBatchesOf}
 use Rattle.journal_world.specs.Sound.{AreNumberedFrom}

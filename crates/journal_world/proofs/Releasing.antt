@@ -2,12 +2,12 @@
 use Rattle.std.proofs.Common.{refl, sym, ◌∙◌, ap, subst, arith, inl, inr, ⊎_elim, length-append}
 use Rattle.std.specs.Prelude.{◌≡◌, ◌⊎◌, ℕ, zero, suc, ◌+◌, ◌-◌, ◌<◌, ◌≤◌, Bool, List, [], ◌∷◌, length, map, take}
 use Rattle.journal_model.specs.declared.entry.Batch.{Batch}
-use Rattle.journal_model.specs.declared.log.Text.{Text}
+use Rattle.log_model.specs.declared.log.Text.{Text}
 use Rattle.journal_model.specs.declared.number.Area.TheVariants.{Log, Home}
-use Rattle.journal_model.specs.Chain.{ring_place, texts_blocks}
+use Rattle.log_model.specs.Chain.{ring_place, texts_blocks}
 use Rattle.journal_model.specs.Disk.{Cell, Disk, IsOneOf, flushed, held, written}
-use Rattle.journal_model.specs.Opening.{greatest_number}
-use Rattle.journal_model.specs.Text.{text_blocks}
+use Rattle.log_model.specs.Opening.{greatest_number}
+use Rattle.log_model.specs.Text.{text_blocks}
 use Rattle.journal_world.specs.declared.round.Round.TheVariants.{Idle as NoRound, TailWrite, TailFlush}
 use Rattle.journal_world.specs.declared.stage.Stage.{Stage}
 use Rattle.journal_world.specs.declared.stage.Stage.TheVariants.{Idle, SuperblockWrite, SuperblockFlush, Blocks, CommitWrite, CommitFlush}

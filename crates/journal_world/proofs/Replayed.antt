@@ -5,17 +5,17 @@ use Rattle.std.proofs.lemmas.Bool.{cases_eq}
 use Rattle.std.proofs.lemmas.Option.{none-some, same_Some, slice_get_read, some_pair_parts}
 use Rattle.journal_model.proofs.Effects.{entries-effect, effect-entries}
 use Rattle.journal_model.proofs.ListElements.{contains-behind, contains-cases, contains-filter_map, contains-first, contains-none}
-use Rattle.journal_model.proofs.OwnTextWhole.{own_text_copies, own_text_revokes}
+use Rattle.log_model.proofs.OwnTextWhole.{own_text_copies, own_text_revokes}
 use Rattle.journal_model.specs.declared.entry.Batch.{Batch}
 use Rattle.journal_model.specs.declared.entry.Entry.{Entry}
 use Rattle.journal_model.specs.declared.entry.Entry.TheVariants.{Copy, Revoke}
-use Rattle.journal_model.specs.declared.log.Text.{Text}
+use Rattle.log_model.specs.declared.log.Text.{Text}
 use Rattle.journal_model.specs.declared.transaction.Step.{Step}
 use Rattle.journal_model.specs.Layout.{Layout, IsLayout}
-use Rattle.journal_model.specs.OwnText.{copied, copy_of, own_text, revoke_of, revoked}
-use Rattle.journal_model.specs.Replay.{HasNoLive, IsCovered, IsLive, IsNewest, IsReplayed}
-use Rattle.journal_model.specs.Text.{text_copies, text_revokes}
-use Rattle.journal_model.specs.Transaction.{History, Volume, bytes_of, content_of, effect, entries, last_effect, later}
+use Rattle.log_model.specs.OwnText.{own_text}
+use Rattle.log_model.specs.Replay.{HasNoLive, IsCovered, IsLive, IsNewest, IsReplayed}
+use Rattle.log_model.specs.Text.{text_copies, text_revokes}
+use Rattle.journal_model.specs.Transaction.{History, Volume, bytes_of, content_of, copied, copy_of, effect, entries, last_effect, later, revoke_of, revoked}
 use Rattle.journal_world.specs.Engine.{AreBatchesOf}
 
 -- what stands at a place of a list is one of its elements

@@ -2,9 +2,9 @@
 use Rattle.std.proofs.Common.{refl, sym, ◌∙◌, ap, subst, arith, inl, inr, ⊎_elim}
 use Rattle.std.specs.Prelude.{◌≡◌, ◌⊎◌, ℕ, ◌+◌, ◌<◌, ◌≤◌, Bool, true, false, List, length}
 use Rattle.journal_model.specs.declared.number.Area.TheVariants.{Log}
-use Rattle.journal_model.specs.Chain.{ring_place}
+use Rattle.log_model.specs.Chain.{ring_place}
 use Rattle.journal_model.specs.Disk.{Cell, Disk, IsOneOf, flushed, held, written}
-use Rattle.journal_model.specs.Opening.{greatest_number}
+use Rattle.log_model.specs.Opening.{greatest_number}
 use Rattle.journal_world.specs.declared.round.Round.{Round}
 use Rattle.journal_world.specs.declared.round.Round.TheVariants.{Idle as NoRound, Copies, TailWrite, TailFlush}
 use Rattle.journal_world.specs.declared.stage.Stage.TheVariants.{SuperblockFlush, SuperblockWrite, Blocks}

@@ -6,10 +6,11 @@ use Rattle.std.proofs.lemmas.Bool.Decides.{nat_tests}
 use Rattle.std.proofs.lemmas.Option.{none-some}
 use Rattle.journal_model.specs.declared.refusal.JournalError.{JournalError}
 use Rattle.journal_model.specs.declared.refusal.JournalError.TheVariants.{BadLength}
-use Rattle.journal_model.specs.Chain.{Ring}
+use Rattle.log_model.specs.Chain.{Ring}
 use Rattle.journal_model.specs.Layout.{IsTaken, Layout, narrow}
-use Rattle.journal_model.specs.Opening.{layout_of}
-use Rattle.journal_model.specs.Superblock.{Shape, first_failed, greatest_length, is_block_size, least_length, least_ring, super_in, super_refusal, super_tests}
+use Rattle.log_model.specs.Opening.{layout_of}
+use Rattle.journal_model.specs.Disk.{Shape}
+use Rattle.log_model.specs.Superblock.{first_failed, greatest_length, is_block_size, least_length, least_ring, super_in, super_refusal, super_tests}
 use Rattle.journal_model.proofs.Taken.{taken-narrow}
 use Rattle.journal_world.specs.declared.round.Round.{Round}
 use Rattle.journal_world.specs.declared.round.Round.TheVariants.{Idle as NoRound, Copies, TailWrite, TailFlush}

@@ -1,9 +1,10 @@
 -- The superblock that says where the log begins: one with a new tail.
 use Rattle.std.proofs.Common.{◌∙◌, ap, ap₂, arith, inr, length-append, length-take, length-drop}
 use Rattle.std.specs.Prelude.{◌≡◌, ℕ, ◌+◌, ◌-◌, ◌<◌, ◌≤◌, List, length}
-use Rattle.journal_model.specs.Chain.{Ring, ring_place}
-use Rattle.journal_model.specs.Opening.{greatest_number, ring_of}
-use Rattle.journal_model.specs.Superblock.{Shape, greatest_length, super_in, with_tail}
+use Rattle.log_model.specs.Chain.{Ring, ring_place}
+use Rattle.log_model.specs.Opening.{greatest_number, ring_of}
+use Rattle.journal_model.specs.Disk.{Shape}
+use Rattle.log_model.specs.Superblock.{greatest_length, super_in, with_tail}
 use Rattle.log_format.proofs.Accepting.{tail_accepted}
 use Rattle.log_format.proofs.Superblocks.{before_tail, sequence_of_tail, start_of_tail}
 use Rattle.journal_world.specs.Opening.{IsSuperblock}

@@ -6,9 +6,9 @@ use Rattle.std.proofs.lemmas.Grind.{flat_map-append}
 use Rattle.std.proofs.lemmas.List.{append-nil, map-append}
 use Rattle.std.proofs.lemmas.Option.{none-some, slice_get_past}
 use Rattle.journal_model.specs.declared.entry.Batch.{Batch}
-use Rattle.journal_model.specs.declared.log.Text.{Text}
-use Rattle.journal_model.specs.Chain.{texts_blocks}
-use Rattle.journal_model.specs.Text.{pieces_blocks, text_blocks}
+use Rattle.log_model.specs.declared.log.Text.{Text}
+use Rattle.log_model.specs.Chain.{texts_blocks}
+use Rattle.log_model.specs.Text.{pieces_blocks, text_blocks}
 use Rattle.journal_world.specs.Engine.{Engine, block_at, blocks_if, committed_texts, due_blocks, text_of}
 use Rattle.journal_model.proofs.ListElements.{get-behind, get-front}
 use Rattle.journal_world.proofs.Elements.{get-within, take-one_more}

@@ -5,7 +5,7 @@ use Rattle.journal_model.specs.declared.entry.Batch.{Batch}
 use Rattle.journal_model.specs.declared.number.Area.TheVariants.{Home}
 use Rattle.journal_model.specs.Block.{IsAllowedBlock}
 use Rattle.journal_model.specs.Disk.{Disk}
-use Rattle.journal_model.specs.HomeChange.{Addition, HomeAddsOnly, IsDirectWrite}
+use Rattle.log_model.specs.HomeChange.{Addition, HomeAddsOnly, IsDirectWrite}
 use Rattle.journal_model.specs.Transaction.{History}
 use Rattle.journal_world.specs.Call.{Call, after_success, IsAfterFault}
 use Rattle.journal_world.specs.Call.Call.{Write, Flush}

@@ -3,17 +3,17 @@
 use Rattle.std.specs.Prelude.{◌≡◌, ℕ, ◌+◌, ◌-◌, ◌≤◌, nat_lt, nat_eq, Bool, true, false, if◌then◌else◌, List, [], ◌∷◌, ◌++◌, length, map, take, unwrap_or, slice_get, Option, Some, None, All}
 use Rattle.std.specs.List.{IsDistinct}
 use Rattle.journal_model.specs.declared.entry.Batch.{Batch}
-use Rattle.journal_model.specs.declared.log.Text.{Text}
+use Rattle.log_model.specs.declared.log.Text.{Text}
 use Rattle.journal_model.specs.declared.number.Area.TheVariants.{Log}
 use Rattle.journal_model.specs.Block.{IsAllowedBlock}
-use Rattle.journal_model.specs.Chain.{Ring, ring_place}
-use Rattle.journal_model.specs.Disk.{Disk}
+use Rattle.log_model.specs.Chain.{Ring, ring_place}
+use Rattle.journal_model.specs.Disk.{Disk, Shape}
 use Rattle.journal_model.specs.Layout.{Layout}
-use Rattle.journal_model.specs.Opening.{greatest_number}
-use Rattle.journal_model.specs.OwnText.{copied, own_text}
-use Rattle.journal_model.specs.Superblock.{Shape, with_tail}
-use Rattle.journal_model.specs.Text.{text_blocks}
-use Rattle.journal_model.specs.Transaction.{History, entries}
+use Rattle.log_model.specs.Opening.{greatest_number}
+use Rattle.log_model.specs.OwnText.{own_text}
+use Rattle.log_model.specs.Superblock.{with_tail}
+use Rattle.log_model.specs.Text.{text_blocks}
+use Rattle.journal_model.specs.Transaction.{History, copied, entries}
 use Rattle.journal_world.specs.declared.round.Round.{Round}
 use Rattle.journal_world.specs.declared.stage.Stage.{Stage}
 use Rattle.journal_world.specs.declared.stage.Stage.TheVariants.{Idle, SuperblockWrite, SuperblockFlush, Blocks, CommitWrite, CommitFlush}

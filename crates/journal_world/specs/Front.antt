@@ -9,7 +9,7 @@ use Rattle.journal_model.specs.declared.transaction.Op.TheVariants.{Write, Revok
 use Rattle.journal_model.specs.declared.transaction.Step.{Step}
 use Rattle.journal_model.specs.Block.{IsAllowedBlock}
 use Rattle.journal_model.specs.Layout.{Layout}
-use Rattle.journal_model.specs.Opening.{greatest_number}
+use Rattle.log_model.specs.Opening.{greatest_number}
 use Rattle.journal_model.specs.Transaction.{History, Transaction, effect, entries, last_effect}
 
 pub record Front : Type 0 where

@@ -3,10 +3,10 @@ use Rattle.std.specs.Prelude.{◌≡◌, ℕ, ◌+◌, ◌<◌, ◌≤◌, nat_e
 use Rattle.std.specs.List.{AllByRecursion, IsDistinct}
 use Rattle.journal_model.specs.declared.entry.Batch.{Batch}
 use Rattle.journal_model.specs.declared.number.Area.TheVariants.{Home}
-use Rattle.journal_model.specs.Disk.{Disk}
-use Rattle.journal_model.specs.Opening.{layout_of, ring_of}
-use Rattle.journal_model.specs.Room.{IsCapacity}
-use Rattle.journal_model.specs.Superblock.{Shape, Super, super_in}
+use Rattle.journal_model.specs.Disk.{Disk, Shape}
+use Rattle.log_model.specs.Opening.{layout_of, ring_of}
+use Rattle.log_model.specs.Room.{IsCapacity}
+use Rattle.log_model.specs.Superblock.{Super, super_in}
 use Rattle.journal_model.specs.Transaction.{Transaction, entries}
 use Rattle.journal_world.specs.declared.round.Round.TheVariants.{Idle as NoRound}
 use Rattle.journal_world.specs.declared.stage.Stage.TheVariants.{Idle}

@@ -2,11 +2,11 @@
 -- fs/jbd2/recovery.c by behaviour; that the log is left clean is this project's own.
 use Rattle.std.specs.Prelude.{◌≡◌, ℕ, ◌+◌, ◌==◌, ◌<◌, ◌≤◌, true, if◌then◌else◌, List, [], length, None}
 use Rattle.journal_model.specs.declared.number.Area.TheVariants.{Log, Home}
-use Rattle.journal_model.specs.Chain.{Ring}
-use Rattle.journal_model.specs.Disk.{Disk, Image, IsOneOf, Leaves, flushed, held, reading}
+use Rattle.log_model.specs.Chain.{Ring}
+use Rattle.journal_model.specs.Disk.{Disk, Image, IsOneOf, Leaves, Shape, flushed, held, reading}
 use Rattle.journal_model.specs.Layout.{begins_with_magic, sequence_in}
-use Rattle.journal_model.specs.Opening.{OpensAs, Opens, HasLimit, greatest_number, ring_of}
-use Rattle.journal_model.specs.Superblock.{Shape, super_in, super_refusal, with_tail}
+use Rattle.log_model.specs.Opening.{OpensAs, Opens, HasLimit, greatest_number, ring_of}
+use Rattle.log_model.specs.Superblock.{super_in, super_refusal, with_tail}
 use Rattle.journal_model.specs.Transaction.{History}
 
 -- the block is none of the log's own, or is numbered below this transaction

@@ -4,12 +4,12 @@ use Rattle.std.specs.Prelude.{◌≡◌, ◌⊎◌, ⊤, ℕ, suc, ◌+◌, ◌-
 use Rattle.std.specs.List.{AllByRecursion}
 use Rattle.journal_model.specs.declared.entry.Batch.{Batch}
 use Rattle.journal_model.specs.declared.number.Area.TheVariants.{Log, Home}
-use Rattle.journal_model.specs.Chain.{Ring, texts_blocks, ring_place}
-use Rattle.journal_model.specs.Disk.{Disk, Cell, Image, IsOneOf, Leaves, held}
-use Rattle.journal_model.specs.HomeChange.{HomeAddsOnly, IsCommittedCopy}
+use Rattle.log_model.specs.Chain.{Ring, texts_blocks, ring_place}
+use Rattle.journal_model.specs.Disk.{Disk, Cell, Image, IsOneOf, Leaves, held, Shape}
+use Rattle.log_model.specs.HomeChange.{HomeAddsOnly, IsCommittedCopy}
 use Rattle.journal_model.specs.Layout.{IsTaken, uuid_bytes}
-use Rattle.journal_model.specs.Opening.{Opens, IsCountOf, greatest_number}
-use Rattle.journal_model.specs.Superblock.{Shape, super_in}
+use Rattle.log_model.specs.Opening.{Opens, IsCountOf, greatest_number}
+use Rattle.log_model.specs.Superblock.{super_in}
 use Rattle.journal_model.specs.Transaction.{History}
 use Rattle.journal_world.specs.declared.round.Round.{Round}
 use Rattle.journal_world.specs.declared.round.Round.TheVariants.{Idle as NoRound, Copies, TailWrite, TailFlush}

@@ -5,14 +5,14 @@ use Rattle.std.specs.Fmt.{decimal}
 use Rattle.std.specs.Io.KnownBytes.{Appends}
 use Rattle.std.proofs.lemmas.Bool.Decides.{nat_tests}
 use Rattle.std.proofs.lemmas.Grind.{flat_map-append}
-use Rattle.journal_model.specs.declared.log.Text.{Text}
+use Rattle.log_model.specs.declared.log.Text.{Text}
 use Rattle.journal_model.specs.declared.refusal.JournalError.{JournalError}
-use Rattle.journal_model.specs.Disk.{Disk, Image, reading}
-use Rattle.journal_model.specs.Dump.{IsDump, IsDumpRefused, block_lines, dump_shape, dump_text, end_line, super_line, texts_captions}
-use Rattle.journal_model.specs.Dump.IsDump.{OfChain, OfClean}
-use Rattle.journal_model.specs.Dump.IsDumpRefused.{ByDamage, BySuperblock}
-use Rattle.journal_model.specs.Opening.{HasChain, IsStarted, super_of}
-use Rattle.journal_model.specs.Superblock.{Shape, Super, super_refusal}
+use Rattle.journal_model.specs.Disk.{Disk, Image, Shape, reading}
+use Rattle.log_model.specs.Dump.{IsDump, IsDumpRefused, block_lines, dump_shape, dump_text, end_line, super_line, texts_captions}
+use Rattle.log_model.specs.Dump.IsDump.{OfChain, OfClean}
+use Rattle.log_model.specs.Dump.IsDumpRefused.{ByDamage, BySuperblock}
+use Rattle.log_model.specs.Opening.{HasChain, IsStarted, super_of}
+use Rattle.log_model.specs.Superblock.{Super, super_refusal}
 use Rattle.block_device.specs.State.{DeviceState, one_more_fault}
 use Rattle.log_format.specs.Accepted.{IsAccepted}
 use Rattle.log_dump.specs.declared.fault.Fault.{Fault}

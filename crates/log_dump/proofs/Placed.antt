@@ -6,11 +6,11 @@ use Rattle.std.specs.List.{join_with_byte}
 use Rattle.std.proofs.lemmas.Bool.Decides.{nat_tests}
 use Rattle.std.proofs.lemmas.List.{length-map, length-take-le, map-append}
 use Rattle.journal_model.proofs.ListElements.{take-more_read}
-use Rattle.journal_model.specs.declared.log.Tag.{Tag}
-use Rattle.journal_model.specs.Chain.{place_from}
-use Rattle.journal_model.specs.Dump.{comma, copy_caption}
-use Rattle.journal_model.specs.Opening.{ring_of}
-use Rattle.journal_model.specs.Superblock.{Super}
+use Rattle.log_model.specs.declared.log.Tag.{Tag}
+use Rattle.log_model.specs.Chain.{place_from}
+use Rattle.log_model.specs.Dump.{comma, copy_caption}
+use Rattle.log_model.specs.Opening.{ring_of}
+use Rattle.log_model.specs.Superblock.{Super}
 use Rattle.log_dump.specs.Lines.{copies_captions, ended, listed, placed_line, placed_lines}
 
 -- one more text in a row with commas between each two: it is behind the others

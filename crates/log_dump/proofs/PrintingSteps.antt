@@ -6,19 +6,19 @@ use Rattle.std.specs.Io.KnownBytes.{Appends}
 use Rattle.std.specs.List.{AllByRecursion, flat_map}
 use Rattle.std.proofs.lemmas.Grind.{flat_map-append}
 use Rattle.std.proofs.lemmas.List.{length-map}
-use Rattle.journal_model.specs.declared.log.Piece.{Piece}
-use Rattle.journal_model.specs.declared.log.Piece.TheVariants.{Revokes, Copies}
-use Rattle.journal_model.specs.declared.log.Text.{Text}
-use Rattle.journal_model.specs.Chain.{AreTexts, IsMalformed, lap, place_from, texts_blocks}
+use Rattle.log_model.specs.declared.log.Piece.{Piece}
+use Rattle.log_model.specs.declared.log.Piece.TheVariants.{Revokes, Copies}
+use Rattle.log_model.specs.declared.log.Text.{Text}
+use Rattle.log_model.specs.Chain.{AreTexts, IsMalformed, lap, place_from, texts_blocks}
 use Rattle.journal_model.specs.Disk.{Image}
-use Rattle.journal_model.specs.Dump.{copy_caption, piece_captions, text_captions, texts_captions}
+use Rattle.log_model.specs.Dump.{copy_caption, piece_captions, text_captions, texts_captions}
 use Rattle.journal_model.specs.Layout.{Layout}
-use Rattle.journal_model.specs.Opening.{layout_of, ring_of}
-use Rattle.journal_model.specs.ReadingLog.{NoTextBegins, PieceBegins, PiecesBegin, TextBegins, TextsBegin}
-use Rattle.journal_model.specs.Superblock.{Super}
-use Rattle.journal_model.specs.Text.{IsCommitBlock, IsPiece, IsText, piece_blocks, pieces_blocks, text_blocks}
-use Rattle.journal_model.proofs.ReadingTexts.{most_texts, one_list_of_texts}
-use Rattle.journal_model.proofs.ReadingFronts.{texts_more}
+use Rattle.log_model.specs.Opening.{layout_of, ring_of}
+use Rattle.log_model.specs.ReadingLog.{NoTextBegins, PieceBegins, PiecesBegin, TextBegins, TextsBegin}
+use Rattle.log_model.specs.Superblock.{Super}
+use Rattle.log_model.specs.Text.{IsCommitBlock, IsPiece, IsText, piece_blocks, pieces_blocks, text_blocks}
+use Rattle.log_model.proofs.ReadingTexts.{most_texts, one_list_of_texts}
+use Rattle.log_model.proofs.ReadingFronts.{texts_more}
 use Rattle.block_device.specs.State.{DeviceState, one_more_fault}
 use Rattle.log_dump.specs.declared.fault.Fault.{Fault}
 use Rattle.log_dump.specs.declared.fault.Fault.TheVariants.{Refused, Output}

@@ -1,15 +1,15 @@
 -- What a dump makes of a device, and why there is none.
 use Rattle.std.specs.Prelude.{◌≡◌, ◌≢◌, ◌⊎◌, ℕ, ◌+◌, List, Option, Some, None}
 use Rattle.std.specs.Io.KnownBytes.{Appends}
-use Rattle.journal_model.specs.declared.log.Text.{Text}
+use Rattle.log_model.specs.declared.log.Text.{Text}
 use Rattle.journal_model.specs.declared.number.Area.TheVariants.{Log}
 use Rattle.journal_model.specs.declared.refusal.JournalError.{JournalError}
 use Rattle.journal_model.specs.declared.refusal.JournalError.TheVariants.{Device, Memory}
-use Rattle.journal_model.specs.Disk.{Image, IsOneOf, reading}
-use Rattle.journal_model.specs.Dump.{IsDump, IsDumpRefused, dump_shape, text_captions}
-use Rattle.journal_model.specs.Opening.{layout_of, super_of}
-use Rattle.journal_model.specs.ReadingLog.{TextBegins}
-use Rattle.journal_model.specs.Superblock.{Shape, Super, super_refusal}
+use Rattle.journal_model.specs.Disk.{Image, IsOneOf, Shape, reading}
+use Rattle.log_model.specs.Dump.{IsDump, IsDumpRefused, dump_shape, text_captions}
+use Rattle.log_model.specs.Opening.{layout_of, super_of}
+use Rattle.log_model.specs.ReadingLog.{TextBegins}
+use Rattle.log_model.specs.Superblock.{Super, super_refusal}
 use Rattle.block_device.specs.State.{DeviceState, IsDeviceFailure, IsFailure, one_more_fault}
 use Rattle.log_scan.specs.Finding.{blocks_from, every_block}
 use Rattle.log_scan.specs.Refusals.{NamesDamage, super_refusals}

@@ -2,12 +2,12 @@
 use Rattle.std.specs.Prelude.{ℕ, ◌==◌, if◌then◌else◌, List, [], ◌∷◌, ◌++◌, map, codes}
 use Rattle.std.specs.List.{flat_map, enumerate_from}
 use Rattle.std.specs.Fmt.{decimal}
-use Rattle.journal_model.specs.declared.log.Tag.{Tag}
-use Rattle.journal_model.specs.declared.log.Piece.TheVariants.{Copies}
-use Rattle.journal_model.specs.Chain.{place_from}
-use Rattle.journal_model.specs.Dump.{blank, comma, copy_caption, newline, piece_captions}
-use Rattle.journal_model.specs.Opening.{ring_of}
-use Rattle.journal_model.specs.Superblock.{Super}
+use Rattle.log_model.specs.declared.log.Tag.{Tag}
+use Rattle.log_model.specs.declared.log.Piece.TheVariants.{Copies}
+use Rattle.log_model.specs.Chain.{place_from}
+use Rattle.log_model.specs.Dump.{blank, comma, copy_caption, newline, piece_captions}
+use Rattle.log_model.specs.Opening.{ring_of}
+use Rattle.log_model.specs.Superblock.{Super}
 
 -- a line, and the newline behind it
 abbrev pub ended : List ℕ → List ℕ

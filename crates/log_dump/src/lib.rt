@@ -7,7 +7,7 @@
 //!
 //! The first way is the scan of `log_scan`, and `printing` is the second; `lines` has the form of each line, and `dumping` puts
 //! them together. What a dump is, and why there is none, is said by
-//! the definitions of `journal_model`, `specs/Dump.antt`.
+//! the definitions of `log_model`, `specs/Dump.antt`.
 #![tactic(auto)]
 
 mod dumping;

@@ -3,11 +3,12 @@ ghost use Rattle.std.specs.Prelude.{◌≡◌, ◌+◌, ◌++◌, ◌∷◌, [],
 ghost use Rattle.std.specs.Fmt.{decimal};
 ghost use Rattle.std.specs.Io.KnownBytes.{Appends};
 ghost use Rattle.std.specs.List.{join_with_byte};
-ghost use Rattle.journal_model.specs.Dump.{comma, copy_caption, super_line};
+ghost use Rattle.log_model.specs.Dump.{comma, copy_caption, super_line};
 ghost use Rattle.log_dump.specs.Lines.{ended, listed, placed_line};
 
-use journal_model::{BlockNo, Tag};
+use journal_model::BlockNo;
 use log_format::Super;
+use log_model::Tag;
 use std::io;
 use std::io::Write;
 

@@ -1,12 +1,12 @@
 //! The second way over a log: the complete transactions are printed.
 ghost use Rattle.std.specs.Prelude.{◌≡◌, ℕ, ◌+◌, ◌≤◌, List, length, IfOk, IfErr, OnOk, MatchResult};
 ghost use Rattle.std.specs.Io.KnownBytes.{Appends};
-ghost use Rattle.journal_model.specs.declared.log.Text.{Text};
+ghost use Rattle.log_model.specs.declared.log.Text.{Text};
 ghost use Rattle.journal_model.specs.Disk.{reading};
-ghost use Rattle.journal_model.specs.Dump.{texts_captions};
-ghost use Rattle.journal_model.specs.Opening.{layout_of, ring_of};
-ghost use Rattle.journal_model.specs.ReadingLog.{NoTextBegins};
-ghost use Rattle.journal_model.specs.Superblock.{greatest_length};
+ghost use Rattle.log_model.specs.Dump.{texts_captions};
+ghost use Rattle.log_model.specs.Opening.{layout_of, ring_of};
+ghost use Rattle.log_model.specs.ReadingLog.{NoTextBegins};
+ghost use Rattle.log_model.specs.Superblock.{greatest_length};
 ghost use Rattle.block_device.specs.State.{Stays};
 ghost use Rattle.log_format.specs.Accepted.{IsAccepted};
 ghost use Rattle.log_scan.specs.Finding.{blocks_from, every_block};
@@ -17,7 +17,8 @@ ghost use Rattle.log_dump.specs.Lines.{placed_lines, tags_captions};
 use crate::fault::Fault;
 use crate::lines::{write_commit, write_copy, write_descriptor, write_revokes};
 use block_device::Device;
-use journal_model::{JournalError, Tag};
+use journal_model::JournalError;
+use log_model::Tag;
 use log_scan::{Finder, Found, Log};
 use std::io;
 use std::io::Write;

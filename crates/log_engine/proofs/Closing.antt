@@ -3,8 +3,8 @@ use Rattle.std.proofs.Common.{refl, sym, ◌∙◌, ap, subst, arith, inl, inr, 
 use Rattle.std.specs.Prelude.{◌≡◌, ℕ, ◌≤◌, true, false, List, [], ◌∷◌, length, None, Result, Ok, Err, OnOk, OnErr}
 use Rattle.journal_model.specs.declared.number.Area.TheVariants.{Log}
 use Rattle.journal_model.specs.Disk.{Cell, Disk, Image, IsOneOf, Leaves, flushed, held, written}
-use Rattle.journal_model.specs.Opening.{IsClean, IsCountOf, Opens}
-use Rattle.journal_model.specs.Superblock.{super_in, super_refusal}
+use Rattle.log_model.specs.Opening.{IsClean, IsCountOf, Opens}
+use Rattle.log_model.specs.Superblock.{super_in, super_refusal}
 use Rattle.journal_model.specs.Transaction.{History}
 use Rattle.block_device.specs.State.{DeviceState, EachMoment, Moves, Stays, Writes}
 use Rattle.block_device.proofs.Moments.{each-joins, each-moves, each-stays}

@@ -4,9 +4,8 @@ use Rattle.std.specs.Prelude.{◌≡◌, ℕ, true, false, List, length, Result,
 use Rattle.journal_model.specs.declared.number.Area.TheVariants.{Home}
 use Rattle.journal_model.specs.declared.refusal.JournalError.{JournalError}
 use Rattle.journal_model.specs.declared.refusal.JournalError.TheVariants.{Device}
-use Rattle.journal_model.specs.Disk.{Disk}
-use Rattle.journal_model.specs.HomeChange.{HomeAddsOnly}
-use Rattle.journal_model.specs.Superblock.{Shape}
+use Rattle.journal_model.specs.Disk.{Disk, Shape}
+use Rattle.log_model.specs.HomeChange.{HomeAddsOnly}
 use Rattle.block_device.specs.State.{CountsFaults, DeviceState, EachMoment}
 use Rattle.journal_world.specs.Call.{Call, IsAfterFault, after_success}
 use Rattle.journal_world.specs.Call.Call.{Flush, Write}

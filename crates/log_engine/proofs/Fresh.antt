@@ -1,7 +1,8 @@
 -- What the superblock of an opened log says, and that its engine can run.
 use Rattle.std.proofs.Common.{arith}
 use Rattle.std.specs.Prelude.{◌≡◌, ℕ, ◌+◌, ◌-◌, ◌<◌, ◌≤◌, List, length}
-use Rattle.journal_model.specs.Superblock.{Shape, least_ring, super_in}
+use Rattle.journal_model.specs.Disk.{Shape}
+use Rattle.log_model.specs.Superblock.{least_ring, super_in}
 use Rattle.journal_world.specs.Journal.{fresh_engine}
 use Rattle.journal_world.specs.Sound.{IsPlain}
 use Rattle.journal_world.proofs.Fresh.{fresh-plain}

@@ -4,8 +4,7 @@ use Rattle.std.specs.Prelude.{◌≡◌, ℕ, ◌<◌, true, List, None}
 use Rattle.std.proofs.lemmas.Bool.{cases_lt}
 use Rattle.std.proofs.lemmas.Option.{none-some}
 use Rattle.journal_model.specs.declared.number.Area.TheVariants.{Home}
-use Rattle.journal_model.specs.Disk.{Cell, Disk}
-use Rattle.journal_model.specs.Superblock.{Shape}
+use Rattle.journal_model.specs.Disk.{Cell, Disk, Shape}
 use Rattle.checkpoint.specs.Pending.{PendingValue, newest_of}
 use Rattle.journal_world.specs.Checkpoint.{IsNewestCopy, IsPending, IsRead}
 use Rattle.journal_world.specs.Engine.{Engine}

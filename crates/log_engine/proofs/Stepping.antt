@@ -3,8 +3,7 @@ use Rattle.std.proofs.Common.{arith, refl, sym, ap, subst, ◌∙◌}
 use Rattle.std.specs.Prelude.{◌≡◌, ◌≢◌, ℕ, ◌≤◌, true, false, List, length, Some, None}
 use Rattle.std.proofs.lemmas.Option.{none-some}
 use Rattle.journal_model.specs.declared.entry.Batch.{Batch}
-use Rattle.journal_model.specs.Disk.{Disk}
-use Rattle.journal_model.specs.Superblock.{Shape}
+use Rattle.journal_model.specs.Disk.{Disk, Shape}
 use Rattle.block_device.specs.State.{DeviceState, EachMoment}
 use Rattle.journal_world.specs.declared.stage.Stage.{Stage}
 use Rattle.journal_world.specs.declared.stage.Stage.TheVariants.{Idle, SuperblockWrite, SuperblockFlush, Blocks, CommitWrite, CommitFlush}

@@ -5,7 +5,7 @@ use Rattle.journal_model.specs.declared.number.Area.TheVariants.{Log}
 use Rattle.journal_model.specs.declared.refusal.JournalError.{JournalError}
 use Rattle.journal_model.specs.declared.refusal.JournalError.TheVariants.{Aborted, Device}
 use Rattle.journal_model.specs.Disk.{Disk, Image, IsOneOf, Leaves, flushed, held, written}
-use Rattle.journal_model.specs.Opening.{IsClean}
+use Rattle.log_model.specs.Opening.{IsClean}
 use Rattle.block_device.specs.State.{DeviceState, one_more_fault}
 use Rattle.journal_world.specs.declared.stage.Stage.TheVariants.{Idle}
 use Rattle.journal_world.specs.Call.{IsAfterFault}

@@ -4,7 +4,7 @@ use Rattle.journal_model.specs.declared.number.Area.TheVariants.{Home}
 use Rattle.journal_model.specs.declared.refusal.JournalError.{JournalError}
 use Rattle.journal_model.specs.declared.refusal.JournalError.TheVariants.{Aborted, BadBlock, Device, NotDirect}
 use Rattle.journal_model.specs.Disk.{Disk}
-use Rattle.journal_model.specs.HomeChange.{Addition, HomeAddsOnly}
+use Rattle.log_model.specs.HomeChange.{Addition, HomeAddsOnly}
 use Rattle.block_device.specs.State.{DeviceState, one_more_fault}
 use Rattle.journal_world.specs.Call.Call.{Flush, Write}
 use Rattle.journal_world.specs.Direct.{DirectFaults, DirectsHome, IsLeftToHome}

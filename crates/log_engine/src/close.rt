@@ -1,5 +1,5 @@
-//! The close: the write of a block 0, and its flush.
-//! Source: fs/jbd2/journal.c by behaviour (a journal that is destroyed is marked empty); journal.rst (s_start 0).
+//! The device calls of a close: the write of block 0 of the log, and its flush.
+//! Source: fs/jbd2/journal.c by behaviour (a journal that is destroyed is marked empty).
 ghost use Rattle.std.specs.Prelude.{◌≡◌, ◌+◌, ◌<◌, ◌≤◌, length, OnOk, OnErr};
 ghost use Rattle.journal_model.specs.declared.number.Area.TheVariants.{Log};
 ghost use Rattle.journal_model.specs.Disk.{flushed, written};

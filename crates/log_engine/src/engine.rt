@@ -2,9 +2,9 @@
 ghost use Rattle.std.specs.Prelude.{◌≡◌, ◌≢◌, ◌+◌, ◌≤◌, ◌↔◌, ℕ, List, IsTrue, false, length, IfOk, IfErr, MatchResult, OnOk};
 ghost use Rattle.journal_model.specs.declared.refusal.JournalError.TheVariants.{Device as DeviceFailed, Memory};
 ghost use Rattle.journal_model.specs.Layout.{IsTaken};
-ghost use Rattle.journal_model.specs.Opening.{ring_of};
-ghost use Rattle.journal_model.specs.Room.{need};
-ghost use Rattle.journal_model.specs.Superblock.{super_in};
+ghost use Rattle.log_model.specs.Opening.{ring_of};
+ghost use Rattle.log_model.specs.Room.{need};
+ghost use Rattle.log_model.specs.Superblock.{super_in};
 ghost use Rattle.block_device.specs.State.{EachMoment, MakesAtMostOneCall, Stays};
 ghost use Rattle.journal_world.specs.declared.stage.Stage.TheVariants.{Idle};
 ghost use Rattle.journal_world.specs.Checkpoint.{IsPending, IsRead};

@@ -3,13 +3,13 @@ use Rattle.std.proofs.Common.{refl, sym, ◌∙◌, ap₂, subst, arith, inl, in
 use Rattle.std.specs.Prelude.{◌≡◌, ◌≢◌, ℕ, ◌+◌, ◌-◌, ◌<◌, ◌≤◌, ◌==◌, true, false, List, length, None}
 use Rattle.std.proofs.lemmas.Bool.{cases_lt}
 use Rattle.std.proofs.lemmas.Bool.Decides.{nat_tests}
-use Rattle.journal_model.specs.declared.log.Text.{Text}
+use Rattle.log_model.specs.declared.log.Text.{Text}
 use Rattle.journal_model.specs.declared.number.Area.TheVariants.{Log}
-use Rattle.journal_model.specs.Chain.{Ring}
-use Rattle.journal_model.specs.Disk.{Disk, Image, IsOneOf, held}
+use Rattle.log_model.specs.Chain.{Ring}
+use Rattle.journal_model.specs.Disk.{Disk, Image, IsOneOf, Shape, held}
 use Rattle.journal_model.specs.Layout.{begins_with_magic, sequence_in}
-use Rattle.journal_model.specs.Opening.{HasChain, IsClean, NothingAhead, greatest_number, ring_of, super_of}
-use Rattle.journal_model.specs.Superblock.{Shape, super_in, super_refusal, with_tail}
+use Rattle.log_model.specs.Opening.{HasChain, IsClean, NothingAhead, greatest_number, ring_of, super_of}
+use Rattle.log_model.specs.Superblock.{super_in, super_refusal, with_tail}
 use Rattle.log_format.proofs.Accepting.{tail_accepted}
 use Rattle.log_format.proofs.Superblocks.{before_tail, sequence_of_tail, start_of_tail}
 use Rattle.journal_world.specs.Opening.{IsBehind, IsOpenedLog, NamesNothing, cleaned}

@@ -3,7 +3,7 @@ use Rattle.std.proofs.Common.{refl}
 use Rattle.std.specs.Prelude.{◌≡◌, [], ◌∷◌, Some}
 use Rattle.journal_model.specs.declared.number.Area.TheVariants.{Log}
 use Rattle.journal_model.specs.Disk.{flushed, reading}
-use Rattle.journal_model.specs.Opening.{IsClean}
+use Rattle.log_model.specs.Opening.{IsClean}
 use Rattle.journal_world.specs.Opening.{cleaned}
 use Rattle.log_epochs.specs.EngineWorld.{ComesToRun, World}
 use Rattle.log_epochs.specs.EngineWorld.Move.{Begin, OpeningStep, AnswerOk}

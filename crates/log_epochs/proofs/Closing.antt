@@ -5,11 +5,11 @@ use Rattle.std.proofs.lemmas.Bool.{cases_eq}
 use Rattle.std.proofs.lemmas.Bool.Decides.{nat_tests}
 use Rattle.journal_model.specs.declared.number.Area.{Area}
 use Rattle.journal_model.specs.declared.number.Area.TheVariants.{Log, Home}
-use Rattle.journal_model.specs.Chain.{ring_place}
-use Rattle.journal_model.specs.Disk.{Cell, Disk, Image, IsOneOf, Leaves, held}
-use Rattle.journal_model.specs.Opening.{IsClean, Opens, numbered_below, super_of}
-use Rattle.journal_model.specs.Opening.HasLimit.{OfClean}
-use Rattle.journal_model.specs.Superblock.{Shape, super_in}
+use Rattle.log_model.specs.Chain.{ring_place}
+use Rattle.journal_model.specs.Disk.{Cell, Disk, Image, IsOneOf, Leaves, Shape, held}
+use Rattle.log_model.specs.Opening.{IsClean, Opens, numbered_below, super_of}
+use Rattle.log_model.specs.Opening.HasLimit.{OfClean}
+use Rattle.log_model.specs.Superblock.{super_in}
 use Rattle.journal_model.specs.Transaction.{History, after, bytes_of, content_of, last_effect}
 use Rattle.journal_world.specs.declared.stage.Stage.{Stage}
 use Rattle.journal_world.specs.Engine.{AreBatchesOf, Engine, due_blocks}

@@ -3,10 +3,9 @@
 use Rattle.std.proofs.Common.{refl, sym, ap, subst, inl, inr, ⊎_elim}
 use Rattle.std.specs.Prelude.{◌≡◌, ℕ, List, Option}
 use Rattle.journal_model.specs.declared.number.Area.TheVariants.{Home}
-use Rattle.journal_model.specs.Disk.{Disk, Image, IsOneOf, Leaves, disk_of, held}
-use Rattle.journal_model.specs.HomeChange.{Addition, HomeAddsOnly}
-use Rattle.journal_model.specs.Replay.{IsNewest}
-use Rattle.journal_model.specs.Superblock.{Shape}
+use Rattle.journal_model.specs.Disk.{Disk, Image, IsOneOf, Leaves, Shape, disk_of, held}
+use Rattle.log_model.specs.HomeChange.{Addition, HomeAddsOnly}
+use Rattle.log_model.specs.Replay.{IsNewest}
 use Rattle.journal_world.specs.Call.{Call, IsAfterFault, after_success}
 use Rattle.journal_world.specs.Call.Call.{Write}
 use Rattle.journal_world.specs.Direct.{IsAddedDirectly, IsLeftToHome}

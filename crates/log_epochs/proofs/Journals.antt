@@ -4,10 +4,9 @@ use Rattle.std.specs.Prelude.{◌≡◌, ⊤, ℕ, suc, ◌≤◌, List, [], ◌
 use Rattle.std.specs.List.{AllByRecursion}
 use Rattle.journal_model.specs.declared.entry.Batch.{Batch}
 use Rattle.journal_model.specs.declared.number.Area.TheVariants.{Home}
-use Rattle.journal_model.specs.Disk.{Disk, Image, reading}
-use Rattle.journal_model.specs.HomeChange.{Addition, HomeAddsOnly}
-use Rattle.journal_model.specs.Opening.{Opens}
-use Rattle.journal_model.specs.Superblock.{Shape}
+use Rattle.journal_model.specs.Disk.{Disk, Image, Shape, reading}
+use Rattle.log_model.specs.HomeChange.{Addition, HomeAddsOnly}
+use Rattle.log_model.specs.Opening.{Opens}
 use Rattle.journal_model.specs.Transaction.{AreNumbered, History}
 use Rattle.journal_world.specs.Call.Call.{Write}
 use Rattle.journal_world.specs.Engine.{AreBatchesOf, Engine}

@@ -2,14 +2,14 @@
 use Rattle.std.proofs.Common.{refl, sym, ◌∙◌, ap, subst, arith, inl, inr}
 use Rattle.std.proofs.Math.Path.{fun_ext}
 use Rattle.std.specs.Prelude.{◌≡◌, ◌⊎◌, ⊤, ℕ, ◌+◌, ◌<◌, List, length, Option, Some, None, unwrap_or}
-use Rattle.journal_model.specs.declared.log.Text.{Text}
+use Rattle.log_model.specs.declared.log.Text.{Text}
 use Rattle.journal_model.specs.declared.number.Area.{Area}
 use Rattle.journal_model.specs.declared.number.Area.TheVariants.{Log, Home}
-use Rattle.journal_model.specs.Disk.{Cell, Disk, Image, IsOneOf, Leaves, disk_of, flushed, held, reading}
-use Rattle.journal_model.specs.HomeChange.{OthersRightlyHeld}
-use Rattle.journal_model.specs.Opening.{HasChain, HasLimit, IsClean, IsCountOf, Opens, greatest_number, numbered_below, super_of}
-use Rattle.journal_model.specs.Opening.HasLimit.{OfChain, OfClean}
-use Rattle.journal_model.specs.Superblock.{Shape, super_in, super_refusal}
+use Rattle.journal_model.specs.Disk.{Cell, Disk, Image, IsOneOf, Leaves, Shape, disk_of, flushed, held, reading}
+use Rattle.log_model.specs.HomeChange.{OthersRightlyHeld}
+use Rattle.log_model.specs.Opening.{HasChain, HasLimit, IsClean, IsCountOf, Opens, greatest_number, numbered_below, super_of}
+use Rattle.log_model.specs.Opening.HasLimit.{OfChain, OfClean}
+use Rattle.log_model.specs.Superblock.{super_in, super_refusal}
 use Rattle.journal_model.specs.Transaction.{History}
 use Rattle.journal_world.specs.Opening.{OpensAlways}
 use Rattle.journal_world.specs.Sound.{durable_cell}

@@ -4,9 +4,9 @@ use Rattle.std.specs.Prelude.{◌≡◌, ℕ, List, [], ◌∷◌, Option, Some,
 use Rattle.std.specs.List.{AllByRecursion}
 use Rattle.std.proofs.lemmas.Option.{same_Some}
 use Rattle.journal_model.specs.declared.number.Area.TheVariants.{Log}
-use Rattle.journal_model.specs.Disk.{Cell, Disk, Image, Leaves, flushed, reading, written}
-use Rattle.journal_model.specs.Opening.{IsClean}
-use Rattle.journal_model.specs.Superblock.{Shape, super_in, super_refusal}
+use Rattle.journal_model.specs.Disk.{Cell, Disk, Image, Leaves, Shape, flushed, reading, written}
+use Rattle.log_model.specs.Opening.{IsClean}
+use Rattle.log_model.specs.Superblock.{super_in, super_refusal}
 use Rattle.journal_world.specs.Call.{Call, IsAfterFault, after_success}
 use Rattle.journal_world.specs.Journal.{fresh_engine}
 use Rattle.journal_world.specs.Opening.{IsOpenedLog, cleaned}

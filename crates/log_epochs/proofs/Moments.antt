@@ -3,12 +3,11 @@
 use Rattle.std.proofs.Common.{refl, sym, subst, inl, inr, ⊎_elim}
 use Rattle.std.specs.Prelude.{◌≡◌, ◌⊎◌, ⊤, ℕ, ◌<◌, [], length, None}
 use Rattle.journal_model.specs.declared.number.Area.TheVariants.{Log, Home}
-use Rattle.journal_model.specs.Disk.{Disk, Image, flushed}
-use Rattle.journal_model.specs.Opening.{HasChain, HasLimit, OpensAs, greatest_number, super_of}
-use Rattle.journal_model.specs.Opening.HasLimit.{OfChain, OfClean}
-use Rattle.journal_model.specs.Opening.OpensAs.{Clean, Replayed}
-use Rattle.journal_model.specs.Replay.{IsNewest}
-use Rattle.journal_model.specs.Superblock.{Shape}
+use Rattle.journal_model.specs.Disk.{Disk, Image, Shape, flushed}
+use Rattle.log_model.specs.Opening.{HasChain, HasLimit, OpensAs, greatest_number, super_of}
+use Rattle.log_model.specs.Opening.HasLimit.{OfChain, OfClean}
+use Rattle.log_model.specs.Opening.OpensAs.{Clean, Replayed}
+use Rattle.log_model.specs.Replay.{IsNewest}
 use Rattle.journal_model.specs.Transaction.{Volume}
 use Rattle.journal_world.specs.Call.{Call, IsAfterFault}
 use Rattle.journal_world.proofs.Places.{is_write-fault}

@@ -1,10 +1,10 @@
 -- What holds of the disk while an opening writes home and then cleans the log.
 use Rattle.std.specs.Prelude.{◌≡◌, ◌≢◌, ◌⊎◌, ℕ, ◌<◌, List}
-use Rattle.journal_model.specs.declared.log.Text.{Text}
+use Rattle.log_model.specs.declared.log.Text.{Text}
 use Rattle.journal_model.specs.declared.number.Area.TheVariants.{Log, Home}
 use Rattle.journal_model.specs.Disk.{Disk, IsOneOf, held}
-use Rattle.journal_model.specs.HomeChange.{HomeAddsOnly}
-use Rattle.journal_model.specs.Replay.{HasNoLive, IsNewest}
+use Rattle.log_model.specs.HomeChange.{HomeAddsOnly}
+use Rattle.log_model.specs.Replay.{HasNoLive, IsNewest}
 use Rattle.journal_world.specs.Sound.{durable_cell}
 
 -- a log block that is not written is as it was, or durable as it read

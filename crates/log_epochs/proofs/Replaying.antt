@@ -4,20 +4,20 @@ use Rattle.std.specs.Prelude.{◌≡◌, ◌≢◌, ◌⊎◌, ℕ, ◌+◌, ◌
 use Rattle.std.specs.List.{range_with_len}
 use Rattle.journal_model.specs.declared.entry.Content.{Content}
 use Rattle.journal_model.specs.declared.entry.Content.TheVariants.{Copy, Direct}
-use Rattle.journal_model.specs.declared.log.Text.{Text}
+use Rattle.log_model.specs.declared.log.Text.{Text}
 use Rattle.journal_model.specs.declared.number.Area.{Area}
 use Rattle.journal_model.specs.declared.number.Area.TheVariants.{Log, Home}
-use Rattle.journal_model.specs.Chain.{IsChain, IsDamaged, Ring, lap, place_from}
-use Rattle.journal_model.specs.Disk.{Cell, Disk, Image, IsOneOf, Leaves, held}
+use Rattle.log_model.specs.Chain.{IsChain, IsDamaged, Ring, lap, place_from}
+use Rattle.journal_model.specs.Disk.{Cell, Disk, Image, IsOneOf, Leaves, Shape, held}
 use Rattle.journal_model.specs.Layout.{begins_with_magic, sequence_in}
-use Rattle.journal_model.specs.Opening.{HasChain, IsClean, IsDamagedImage, IsStarted, NothingAhead, Opens, OpensAs, layout_of, log_lap, ring_of, super_of}
-use Rattle.journal_model.specs.Opening.OpensAs.{Clean, Replayed}
-use Rattle.journal_model.specs.Replay.{HasNoLive, IsNewest, IsReplayed}
-use Rattle.journal_model.specs.Superblock.{Shape, super_in, super_refusal}
+use Rattle.log_model.specs.Opening.{HasChain, IsClean, IsDamagedImage, IsStarted, NothingAhead, Opens, OpensAs, layout_of, log_lap, ring_of, super_of}
+use Rattle.log_model.specs.Opening.OpensAs.{Clean, Replayed}
+use Rattle.log_model.specs.Replay.{HasNoLive, IsNewest, IsReplayed}
+use Rattle.log_model.specs.Superblock.{super_in, super_refusal}
 use Rattle.journal_model.specs.Transaction.{History, Volume, after, bytes_of}
-use Rattle.journal_model.proofs.Newest.{newest-same}
-use Rattle.journal_model.proofs.ReadingTexts.{one_chain_of}
-use Rattle.journal_model.specs.HomeChange.{HomeAddsOnly, IsRightlyHeld, OthersRightlyHeld}
+use Rattle.log_model.proofs.Newest.{newest-same}
+use Rattle.log_model.proofs.ReadingTexts.{one_chain_of}
+use Rattle.log_model.specs.HomeChange.{HomeAddsOnly, IsRightlyHeld, OthersRightlyHeld}
 use Rattle.journal_world.specs.Opening.{KeepsOpening, OpensAlways}
 use Rattle.journal_world.specs.Sound.{durable_cell}
 use Rattle.journal_world.proofs.Superblocks.{accepted-first}

@@ -3,8 +3,7 @@ use Rattle.std.proofs.Common.{refl, sym, ◌∙◌, ap, subst}
 use Rattle.std.specs.Prelude.{◌≡◌, ℕ, suc, List, [], ◌∷◌, Some, None}
 use Rattle.journal_model.specs.declared.entry.Batch.{Batch}
 use Rattle.journal_model.specs.declared.number.Area.TheVariants.{Home}
-use Rattle.journal_model.specs.Disk.{Disk, Image, Leaves}
-use Rattle.journal_model.specs.Superblock.{Shape}
+use Rattle.journal_model.specs.Disk.{Disk, Image, Leaves, Shape}
 use Rattle.journal_model.specs.Transaction.{AreNumbered, History}
 use Rattle.journal_world.specs.declared.round.Round.{Round}
 use Rattle.journal_world.specs.declared.round.Round.TheVariants.{Idle as NoRound, Copies, TailWrite, TailFlush}

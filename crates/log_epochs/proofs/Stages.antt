@@ -1,14 +1,13 @@
 -- What an opening keeps at each stage, over each of its calls, whether it succeeds or fails.
 use Rattle.std.proofs.Common.{refl, sym, ◌∙◌, ap, subst, inl, inr, ⊎_elim}
 use Rattle.std.specs.Prelude.{◌≡◌, ◌≢◌, ◌⊎◌, ℕ, List, Option}
-use Rattle.journal_model.specs.declared.log.Text.{Text}
+use Rattle.log_model.specs.declared.log.Text.{Text}
 use Rattle.journal_model.specs.declared.number.Area.{Area}
 use Rattle.journal_model.specs.declared.number.Area.TheVariants.{Log, Home}
-use Rattle.journal_model.specs.Disk.{Cell, Disk, Image, IsOneOf, flushed, held, reading, written}
-use Rattle.journal_model.specs.HomeChange.{HomeAddsOnly}
-use Rattle.journal_model.specs.Opening.{HasChain, IsClean}
-use Rattle.journal_model.specs.Replay.{HasNoLive, IsNewest, IsReplayed}
-use Rattle.journal_model.specs.Superblock.{Shape}
+use Rattle.journal_model.specs.Disk.{Cell, Disk, Image, IsOneOf, Shape, flushed, held, reading, written}
+use Rattle.log_model.specs.HomeChange.{HomeAddsOnly}
+use Rattle.log_model.specs.Opening.{HasChain, IsClean}
+use Rattle.log_model.specs.Replay.{HasNoLive, IsNewest, IsReplayed}
 use Rattle.journal_world.specs.Call.{Call, IsAfterFault, after_success}
 use Rattle.journal_world.specs.Call.Call.{Flush}
 use Rattle.journal_world.specs.Call.IsAfterFault.{Undone}

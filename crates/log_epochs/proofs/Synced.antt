@@ -5,15 +5,14 @@ use Rattle.std.specs.List.{AllByRecursion}
 use Rattle.std.proofs.lemmas.List.Elements.{Contains-append_left, Contains-append_right}
 use Rattle.std.proofs.lemmas.Option.{none-some}
 use Rattle.journal_model.proofs.ListElements.{contains-behind, contains-first}
-use Rattle.journal_model.proofs.Newest.{newest-same}
+use Rattle.log_model.proofs.Newest.{newest-same}
 use Rattle.journal_model.specs.declared.entry.Content.{Content}
 use Rattle.journal_model.specs.declared.entry.Content.TheVariants.{Direct}
-use Rattle.journal_model.specs.declared.log.Text.{Text}
+use Rattle.log_model.specs.declared.log.Text.{Text}
 use Rattle.journal_model.specs.declared.number.Area.TheVariants.{Home}
-use Rattle.journal_model.specs.Disk.{Cell, Disk, Image, IsOneOf, held, reading}
-use Rattle.journal_model.specs.Opening.{HasChain}
-use Rattle.journal_model.specs.Replay.{IsNewest}
-use Rattle.journal_model.specs.Superblock.{Shape}
+use Rattle.journal_model.specs.Disk.{Cell, Disk, Image, IsOneOf, Shape, held, reading}
+use Rattle.log_model.specs.Opening.{HasChain}
+use Rattle.log_model.specs.Replay.{IsNewest}
 use Rattle.journal_model.specs.Transaction.{History, after, bytes_of}
 use Rattle.journal_world.specs.Call.{Call}
 use Rattle.journal_world.specs.Call.Call.{Write}

@@ -1,13 +1,12 @@
 -- A whole opening by the machine's calls is an opening as the journal's definitions say, and keeps what every image opens to.
 use Rattle.std.proofs.Common.{refl, sym, ◌∙◌, ap, subst, ⊎_elim}
 use Rattle.std.specs.Prelude.{◌≡◌, ◌≢◌, ℕ, List, Option, None}
-use Rattle.journal_model.specs.declared.log.Text.{Text}
+use Rattle.log_model.specs.declared.log.Text.{Text}
 use Rattle.journal_model.specs.declared.number.Area.TheVariants.{Log, Home}
-use Rattle.journal_model.specs.Disk.{Disk, Image, flushed, reading}
-use Rattle.journal_model.specs.Opening.{HasLimit, NothingAhead, OpensAs, super_of}
-use Rattle.journal_model.specs.Opening.HasLimit.{OfChain, OfClean}
-use Rattle.journal_model.specs.Opening.OpensAs.{Clean, Replayed}
-use Rattle.journal_model.specs.Superblock.{Shape}
+use Rattle.journal_model.specs.Disk.{Disk, Image, Shape, flushed, reading}
+use Rattle.log_model.specs.Opening.{HasLimit, NothingAhead, OpensAs, super_of}
+use Rattle.log_model.specs.Opening.HasLimit.{OfChain, OfClean}
+use Rattle.log_model.specs.Opening.OpensAs.{Clean, Replayed}
 use Rattle.journal_world.specs.Call.{after_success}
 use Rattle.journal_world.specs.Opening.{IsOpening, KeepsOpening, cleaned}
 use Rattle.log_epochs.specs.OpeningSteps.{Found, HasTexts, IsFound, OpeningStage, clean_superblock, next_of}

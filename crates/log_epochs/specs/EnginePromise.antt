@@ -3,11 +3,10 @@
 use Rattle.std.specs.Prelude.{◌≡◌, ⊤, ℕ, ◌≤◌, List, [], ◌∷◌, length, Option, Some, None, unwrap_or}
 use Rattle.std.specs.List.{AllByRecursion}
 use Rattle.journal_model.specs.declared.number.Area.TheVariants.{Home}
-use Rattle.journal_model.specs.Disk.{Disk, Image, IsOneOf, Leaves, held, reading}
-use Rattle.journal_model.specs.HomeChange.{Addition, HomeAddsOnly, OthersRightlyHeld}
-use Rattle.journal_model.specs.Opening.{IsClean, IsCountOf, Opens}
-use Rattle.journal_model.specs.Replay.{IsNewest}
-use Rattle.journal_model.specs.Superblock.{Shape}
+use Rattle.journal_model.specs.Disk.{Disk, Image, IsOneOf, Leaves, Shape, held, reading}
+use Rattle.log_model.specs.HomeChange.{Addition, HomeAddsOnly, OthersRightlyHeld}
+use Rattle.log_model.specs.Opening.{IsClean, IsCountOf, Opens}
+use Rattle.log_model.specs.Replay.{IsNewest}
 use Rattle.journal_model.specs.Transaction.{AreNumbered, History}
 use Rattle.journal_world.specs.Checkpoint.{IsNewestCopy}
 use Rattle.journal_world.specs.Direct.{IsAddedDirectly}

@@ -2,8 +2,7 @@
 -- Source: the GoJournal paper (a disk that may crash at any step); fs/jbd2/recovery.c by behaviour.
 use Rattle.std.specs.Prelude.{◌≡◌, ℕ, List, [], ◌∷◌, Option, Some, None}
 use Rattle.journal_model.specs.declared.number.Area.TheVariants.{Log}
-use Rattle.journal_model.specs.Disk.{Disk, Image, Leaves, disk_of, reading}
-use Rattle.journal_model.specs.Superblock.{Shape}
+use Rattle.journal_model.specs.Disk.{Disk, Image, Leaves, Shape, disk_of, reading}
 use Rattle.journal_world.specs.Call.{Call, after_success, IsAfterFault}
 use Rattle.journal_world.specs.Call.Call.{Write, Flush}
 use Rattle.journal_world.specs.Engine.{Engine}

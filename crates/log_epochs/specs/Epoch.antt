@@ -1,7 +1,6 @@
 -- An epoch of a log: from an opening that answered Ok to the next one that does.
 use Rattle.std.specs.Prelude.{ℕ, List, [], ◌∷◌, Option, Some, None, unwrap_or}
-use Rattle.journal_model.specs.Disk.{Disk, Image}
-use Rattle.journal_model.specs.Superblock.{Shape}
+use Rattle.journal_model.specs.Disk.{Disk, Image, Shape}
 use Rattle.journal_world.specs.Engine.{Engine}
 use Rattle.journal_world.specs.Journal.{fresh_engine}
 use Rattle.log_epochs.specs.OpeningSteps.{OpeningStage}

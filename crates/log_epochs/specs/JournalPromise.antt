@@ -2,11 +2,10 @@
 -- Source: the GoJournal paper (atomic handles over a disk that may crash at any step), journalling.rst.
 use Rattle.std.specs.Prelude.{◌≡◌, ⊤, ℕ, ◌≤◌, List, [], ◌∷◌, ◌++◌, length, Option, Some, None, unwrap_or}
 use Rattle.journal_model.specs.declared.number.Area.TheVariants.{Home}
-use Rattle.journal_model.specs.Disk.{Disk, Image, Leaves}
-use Rattle.journal_model.specs.HomeChange.{Addition, HomeAddsOnly, IsCommittedCopy, IsDirectWrite, OthersRightlyHeld}
-use Rattle.journal_model.specs.Opening.{IsClean, IsCountOf, Opens}
+use Rattle.journal_model.specs.Disk.{Disk, Image, Leaves, Shape}
+use Rattle.log_model.specs.HomeChange.{Addition, HomeAddsOnly, IsCommittedCopy, IsDirectWrite, OthersRightlyHeld}
+use Rattle.log_model.specs.Opening.{IsClean, IsCountOf, Opens}
 use Rattle.journal_model.specs.Record.{EachHandleOnce, acknowledged}
-use Rattle.journal_model.specs.Superblock.{Shape}
 use Rattle.journal_model.specs.Transaction.{AreNumbered, History}
 use Rattle.journal_world.specs.Front.{Front, IsOpen, finished_count, handle_numbers, handles_of, revoke_step, transactions, write_step}
 use Rattle.journal_world.specs.Front.FrontEvent.{RevokeBlock, WriteBlock}

@@ -1,11 +1,10 @@
 -- What the calls of an opening lead to, from the disk that it read: how far they came, and each moment between them.
 use Rattle.std.specs.Prelude.{◌≡◌, ◌≢◌, ◌⊎◌, ℕ, List}
 use Rattle.journal_model.specs.declared.number.Area.TheVariants.{Log}
-use Rattle.journal_model.specs.Disk.{Disk, IsOneOf, flushed, held, reading}
-use Rattle.journal_model.specs.HomeChange.{HomeAddsOnly}
-use Rattle.journal_model.specs.Opening.{HasChain}
-use Rattle.journal_model.specs.Replay.{IsNewest}
-use Rattle.journal_model.specs.Superblock.{Shape}
+use Rattle.journal_model.specs.Disk.{Disk, IsOneOf, Shape, flushed, held, reading}
+use Rattle.log_model.specs.HomeChange.{HomeAddsOnly}
+use Rattle.log_model.specs.Opening.{HasChain}
+use Rattle.log_model.specs.Replay.{IsNewest}
 use Rattle.journal_world.specs.Call.{Call, IsAfterFault, after_success}
 use Rattle.journal_world.specs.Opening.{KeepsOpening}
 use Rattle.log_epochs.specs.OpeningSteps.{Found, IsFound, OpeningCall, OpeningStage, clean_superblock}

@@ -1,12 +1,12 @@
 -- An opening as a machine: what it read and found good, how far it is, and the one device call of each step.
 -- Source: fs/jbd2/recovery.c by behaviour; the flush at its begin and the clean log at its end are this project's own.
 use Rattle.std.specs.Prelude.{◌≡◌, ℕ, ◌+◌, ◌<◌, List, [], length}
-use Rattle.journal_model.specs.declared.log.Text.{Text}
+use Rattle.log_model.specs.declared.log.Text.{Text}
 use Rattle.journal_model.specs.declared.number.Area.TheVariants.{Log, Home}
-use Rattle.journal_model.specs.Disk.{Disk, Image, reading}
-use Rattle.journal_model.specs.Opening.{HasChain, IsClean, NothingAhead, greatest_number, super_of}
-use Rattle.journal_model.specs.Replay.{IsNewest, IsReplayed}
-use Rattle.journal_model.specs.Superblock.{Shape, with_tail}
+use Rattle.journal_model.specs.Disk.{Disk, Image, Shape, reading}
+use Rattle.log_model.specs.Opening.{HasChain, IsClean, NothingAhead, greatest_number, super_of}
+use Rattle.log_model.specs.Replay.{IsNewest, IsReplayed}
+use Rattle.log_model.specs.Superblock.{with_tail}
 use Rattle.journal_world.specs.Call.{Call}
 use Rattle.journal_world.specs.Call.Call.{Write, Flush}
 

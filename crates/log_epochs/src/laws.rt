@@ -1,9 +1,8 @@
 //! What every run keeps. Each function states a law of the words in `specs/`, and has no body to run.
 ghost use Rattle.std.specs.Prelude.{◌≡◌, ℕ, ◌<◌, List, length};
-ghost use Rattle.journal_model.specs.Disk.{Disk, Image};
+ghost use Rattle.journal_model.specs.Disk.{Disk, Image, Shape};
 ghost use Rattle.journal_model.specs.declared.number.Area.TheVariants.{Log};
-ghost use Rattle.journal_model.specs.Opening.{HasLimit, IsClean, OpensAs, greatest_number};
-ghost use Rattle.journal_model.specs.Superblock.{Shape};
+ghost use Rattle.log_model.specs.Opening.{HasLimit, IsClean, OpensAs, greatest_number};
 ghost use Rattle.journal_model.specs.Transaction.{Volume};
 ghost use Rattle.journal_world.specs.Opening.{IsOpening, cleaned};
 ghost use Rattle.log_epochs.specs.OpeningSteps.{Found, IsFound, next_of};

@@ -2,7 +2,8 @@
 use Rattle.std.proofs.Common.{arith, inl, inr}
 use Rattle.std.specs.Prelude.{◌≡◌, ◌⊎◌, ℕ, ◌^◌, ◌<◌, ◌≤◌, ◌==◌, ◌&&◌, ◌||◌, nat_le, nat_lt, true, List, length, None}
 use Rattle.std.proofs.lemmas.Bool.Decides.{nat_tests}
-use Rattle.journal_model.specs.Superblock.{Shape, greatest_length, super_in, super_refusal, with_tail}
+use Rattle.journal_model.specs.Disk.{Shape}
+use Rattle.log_model.specs.Superblock.{greatest_length, super_in, super_refusal, with_tail}
 use Rattle.log_format.proofs.Superblocks.{before_tail, behind_tail, magic_of_tail, start_of_tail}
 
 -- a superblock that is accepted has no more blocks than a log may have

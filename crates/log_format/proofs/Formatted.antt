@@ -4,8 +4,9 @@ use Rattle.std.specs.Prelude.{◌≡◌, ℕ, ◌-◌, ◌^◌, ◌<◌, ◌≤�
 use Rattle.std.specs.List.{flat_map}
 use Rattle.std.proofs.lemmas.Bool.Decides.{nat_tests}
 use Rattle.journal_model.specs.Layout.{big_endian, header, number_at, padded, super_type, uuid_bytes}
-use Rattle.journal_model.specs.Superblock.{Shape, Super, formatted_super, greatest_length, is_block_size, least_length, revoke_feature, super_in, super_refusal}
-use Rattle.journal_model.proofs.OwnTextNumbers.{number_behind_bytes}
+use Rattle.journal_model.specs.Disk.{Shape}
+use Rattle.log_model.specs.Superblock.{Super, formatted_super, greatest_length, is_block_size, least_length, revoke_feature, super_in, super_refusal}
+use Rattle.log_model.proofs.OwnTextNumbers.{number_behind_bytes}
 use Rattle.log_format.proofs.Formatting.{numbers_of_super}
 use Rattle.log_format.specs.Size.{IsBlockSize}
 

@@ -5,7 +5,7 @@ use Rattle.std.specs.List.{flat_map}
 use Rattle.std.proofs.lemmas.Slice.{take-put_mid}
 use borrow.Rule.Slice.PartMut.{put_mid}
 use Rattle.journal_model.specs.Layout.{big_endian, header, padded, super_type}
-use Rattle.journal_model.specs.Superblock.{formatted_super}
+use Rattle.log_model.specs.Superblock.{formatted_super}
 use Rattle.log_format.proofs.Writing.{filled, written_more}
 
 -- writing within a list leaves it as long as it was

@@ -1,8 +1,8 @@
 -- The layout of an accepted log.
 use Rattle.std.proofs.Common.{ℕ, refl, subst, sym}
 use Rattle.journal_model.specs.Layout.{IsTaken}
-use Rattle.journal_model.specs.Opening.{layout_of}
-use Rattle.journal_model.specs.Superblock.{Super}
+use Rattle.log_model.specs.Opening.{layout_of}
+use Rattle.log_model.specs.Superblock.{Super}
 use Rattle.log_format.specs.Accepted.{IsAccepted}
 use Rattle.log_format.specs.Size.{IsBlockSize}
 

@@ -2,9 +2,9 @@
 use Rattle.std.proofs.Common.{refl, ap, sym, subst, ◌∙◌, arith, append_assoc, drop_at}
 use Rattle.std.specs.Prelude.{◌≡◌, ℕ, ◌+◌, ◌*◌, ◌<◌, ◌≤◌, Bool, true, false, if◌then◌else◌, List, [], ◌∷◌, ◌++◌, length, drop, All}
 use Rattle.std.proofs.lemmas.List.Elements.{All-drop, All-head, All-push, All-same}
-use Rattle.journal_model.specs.declared.log.Tag.{Tag}
+use Rattle.log_model.specs.declared.log.Tag.{Tag}
 use Rattle.journal_model.specs.Layout.{Layout, tag_bytes}
-use Rattle.journal_model.specs.Descriptor.{BeginsWithTag, BeginsWithTags, flag_word, uuid_behind}
+use Rattle.log_model.specs.Descriptor.{BeginsWithTag, BeginsWithTags, flag_word, uuid_behind}
 
 -- a flag is a multiple of its own number
 times : (flag : Bool) (n : ℕ) → (if flag then n else 0) ≡ n * (if flag then 1 else 0)

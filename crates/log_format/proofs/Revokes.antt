@@ -5,7 +5,7 @@ use Rattle.std.specs.List.{range_with_len}
 use Rattle.std.proofs.lemmas.List.{take_all, take_more}
 use Rattle.std.proofs.lemmas.List.FromFn.{get_or-map-range_with_len, length-map-range_with_len, take-map-range_with_len}
 use Rattle.journal_model.specs.Layout.{Layout, number_at}
-use Rattle.journal_model.specs.RevokeBlock.{numbers_in}
+use Rattle.log_model.specs.RevokeBlock.{numbers_in}
 
 -- one more number
 pub numbers_more : (l : Layout) (block : List ℕ) (i n : ℕ) →

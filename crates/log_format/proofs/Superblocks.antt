@@ -3,8 +3,8 @@ use Rattle.std.proofs.Common.{refl, ap, ap₂, sym, ◌∙◌, arith, append_ass
 use Rattle.std.specs.Prelude.{◌≡◌, ℕ, zero, suc, ◌+◌, ◌*◌, ◌^◌, ◌<◌, ◌≤◌, List, [], ◌∷◌, ◌++◌, length, take, drop}
 use Rattle.std.proofs.lemmas.List.{get_or_append_left, take-append-drop, take_at}
 use Rattle.journal_model.specs.Layout.{begins_with_magic, big_endian, number_at}
-use Rattle.journal_model.specs.Superblock.{with_tail}
-use Rattle.journal_model.proofs.OwnTextNumbers.{number_behind, number_behind_bytes}
+use Rattle.log_model.specs.Superblock.{with_tail}
+use Rattle.log_model.proofs.OwnTextNumbers.{number_behind, number_behind_bytes}
 use Rattle.log_format.proofs.Numbers.{number_at-drop}
 
 -- a number is read from its own bytes, whatever stands behind them

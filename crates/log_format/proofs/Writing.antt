@@ -6,11 +6,11 @@ use Rattle.std.proofs.lemmas.List.{drop_all, flat_map_more, take_at, take_more, 
 use Rattle.std.proofs.lemmas.List.Folds.{length-flat_map-take}
 use Rattle.std.proofs.lemmas.List.Elements.{All-head, All-tail}
 use borrow.Rule.Slice.PartMut.{put_mid}
-use Rattle.journal_model.specs.declared.log.Tag.{Tag}
+use Rattle.log_model.specs.declared.log.Tag.{Tag}
 use Rattle.journal_model.specs.Layout.{IsTaken, Layout, header_bytes, padded, tag_bytes, uuid_bytes}
-use Rattle.journal_model.specs.Descriptor.{tag_spelling, uuid_behind}
+use Rattle.log_model.specs.Descriptor.{tag_spelling, uuid_behind}
 use Rattle.log_format.specs.Size.{FitDescriptor}
-use Rattle.journal_model.proofs.OwnTextTags.{length-tag_spelling}
+use Rattle.log_model.proofs.OwnTextTags.{length-tag_spelling}
 
 -- zeros behind what is written fill up the block
 pub filled : (block written zeros : List ℕ) (at : ℕ) →

@@ -3,15 +3,15 @@ use Rattle.std.proofs.Common.{refl, ap, sym, ◌∙◌, arith}
 use Rattle.std.specs.Prelude.{◌≡◌, ℕ, suc, ◌+◌, ◌*◌, ◌^◌, ◌<◌, ◌≤◌, Bool, true, false, List, [], ◌∷◌, ◌++◌, length, drop, min, All}
 use Rattle.std.proofs.lemmas.List.Elements.{All-cons, All-head, All-nil, All-tail, All-weaker}
 use Rattle.std.proofs.Math.Nat.{le-min, min-le_left, min-le_right}
-use Rattle.journal_model.specs.declared.log.Tag.{Tag}
+use Rattle.log_model.specs.declared.log.Tag.{Tag}
 use Rattle.journal_model.specs.Block.{IsAllowedBlock}
-use Rattle.journal_model.specs.Descriptor.{IsDescriptor, descriptor_block}
+use Rattle.log_model.specs.Descriptor.{IsDescriptor, descriptor_block}
 use Rattle.journal_model.specs.Layout.{IsLayout, Layout, big_endian, every_number, header, number_at, numbers_of, padded, revoke_header_bytes, revoke_type, tags_of, uuid_bytes}
-use Rattle.journal_model.specs.OwnText.{tags_from}
-use Rattle.journal_model.specs.RevokeBlock.{IsRevokeBlock, revoke_block}
-use Rattle.journal_model.proofs.OwnTextBlocks.{copies_are}
-use Rattle.journal_model.proofs.OwnTextHeader.{header_read}
-use Rattle.journal_model.proofs.OwnTextRevokes.{revoke_block_is}
+use Rattle.log_model.specs.OwnText.{tags_from}
+use Rattle.log_model.specs.RevokeBlock.{IsRevokeBlock, revoke_block}
+use Rattle.log_model.proofs.OwnTextBlocks.{copies_are}
+use Rattle.log_model.proofs.OwnTextHeader.{header_read}
+use Rattle.log_model.proofs.OwnTextRevokes.{revoke_block_is}
 use Rattle.log_format.specs.Size.{FitDescriptor}
 
 -- there is a tag for each copy

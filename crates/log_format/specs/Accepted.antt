@@ -1,6 +1,6 @@
 -- What an opening may rely on in a superblock that is not refused.
 use Rattle.std.specs.Prelude.{◌≡◌, ◌⊎◌, ℕ, ◌+◌, ◌<◌, ◌≤◌}
-use Rattle.journal_model.specs.Superblock.{Super, greatest_length, least_length, least_ring}
+use Rattle.log_model.specs.Superblock.{Super, greatest_length, least_length, least_ring}
 use Rattle.log_format.specs.Size.{IsBlockSize}
 
 -- the log has the device's block size, which is one that a log may have, and lies within the log area, and its ring

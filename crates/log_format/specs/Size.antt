@@ -1,6 +1,6 @@
 -- The sizes that a block may have, and what fits one.
 use Rattle.std.specs.Prelude.{◌≡◌, ◌⊎◌, ℕ, ◌-◌, ◌/◌, ◌<◌, ◌≤◌, true, List, length, drop, All}
-use Rattle.journal_model.specs.declared.log.Tag.{Tag}
+use Rattle.log_model.specs.declared.log.Tag.{Tag}
 use Rattle.journal_model.specs.Layout.{Layout, every_number, header_bytes, numbers_of, tag_bytes, tags_of}
 
 -- the size of a block in bytes: 1, 2 or 4 KiB

@@ -1,7 +1,7 @@
 //! The commit block.
 ghost use Rattle.std.specs.Prelude.{◌≡◌, length};
 ghost use Rattle.journal_model.specs.Layout.{Layout};
-ghost use Rattle.journal_model.specs.OwnText.{commit_block};
+ghost use Rattle.log_model.specs.OwnText.{commit_block};
 ghost use Rattle.log_format.specs.Size.{IsBlockSize};
 
 use crate::Header;

@@ -1,14 +1,15 @@
 //! The descriptor block: its tags, written and read.
 ghost use Rattle.std.specs.Prelude.{ℕ, ◌≡◌, ◌<◌, ◌≤◌, ◌+◌, ◌++◌, length, take, drop, List, MatchResult};
-ghost use Rattle.journal_model.specs.declared.log.Tag.{Tag};
+ghost use Rattle.log_model.specs.declared.log.Tag.{Tag};
 ghost use Rattle.journal_model.specs.Layout.{descriptor_type, every_number, sequence_in, tag_bytes, HasHeader, IsTaken};
-ghost use Rattle.journal_model.specs.Descriptor.{BeginsWithTag, IsDescriptor, descriptor_block, flag_word, tag_spelling, uuid_behind};
+ghost use Rattle.log_model.specs.Descriptor.{BeginsWithTag, IsDescriptor, descriptor_block, flag_word, tag_spelling, uuid_behind};
 ghost use Rattle.log_format.specs.Size.{FitDescriptor, most_tags};
 
 use crate::{Header, Malformed};
 use byteorder::{BigEndian, ByteOrder};
 use journal_model::layout::{DESCRIPTOR_TYPE, HEADER_BYTES, UUID_BYTES};
-use journal_model::{BlockNo, LogLayout, Tag};
+use journal_model::{BlockNo, LogLayout};
+use log_model::Tag;
 
 /// Flag: the copy is escaped.
 const ESCAPED: u16 = 1;

@@ -1,6 +1,6 @@
 //! What stands in the log for a copy that begins with the magic.
 ghost use Rattle.std.specs.Prelude.{◌≡◌, length};
-ghost use Rattle.journal_model.specs.Escape.{escaped, unescaped};
+ghost use Rattle.log_model.specs.Escape.{escaped, unescaped};
 ghost use Rattle.journal_model.specs.Layout.{begins_with_magic};
 ghost use Rattle.log_format.specs.Size.{IsBlockSize};
 

@@ -1,13 +1,14 @@
 //! What is written is read back. Each function states a law of the words in `specs/`, and has no body to run.
 ghost use Rattle.std.specs.Prelude.{◌≡◌, ◌⊎◌, ℕ, ◌^◌, ◌<◌, ◌≤◌, true, List, length, None, All};
-ghost use Rattle.journal_model.specs.declared.log.Tag.{Tag};
+ghost use Rattle.log_model.specs.declared.log.Tag.{Tag};
 ghost use Rattle.journal_model.specs.Block.{IsAllowedBlock};
-ghost use Rattle.journal_model.specs.Descriptor.{IsDescriptor, descriptor_block};
+ghost use Rattle.log_model.specs.Descriptor.{IsDescriptor, descriptor_block};
 ghost use Rattle.journal_model.specs.Layout.{IsLayout, Layout, every_number, numbers_of, tags_of, uuid_bytes};
-ghost use Rattle.journal_model.specs.OwnText.{commit_block, tags_from};
-ghost use Rattle.journal_model.specs.RevokeBlock.{IsRevokeBlock, revoke_block};
-ghost use Rattle.journal_model.specs.Superblock.{Shape, Super, formatted_super, greatest_length, least_length, revoke_feature, super_in, super_refusal, with_tail};
-ghost use Rattle.journal_model.specs.Text.{IsCommitBlock};
+ghost use Rattle.log_model.specs.OwnText.{commit_block, tags_from};
+ghost use Rattle.log_model.specs.RevokeBlock.{IsRevokeBlock, revoke_block};
+ghost use Rattle.journal_model.specs.Disk.{Shape};
+ghost use Rattle.log_model.specs.Superblock.{Super, formatted_super, greatest_length, least_length, revoke_feature, super_in, super_refusal, with_tail};
+ghost use Rattle.log_model.specs.Text.{IsCommitBlock};
 ghost use Rattle.log_format.specs.Size.{FitDescriptor, FitRevokeBlock, IsBlockSize};
 
 /// The tags that the writer makes of some copies, of which there are not too many, fit one descriptor.

@@ -1,7 +1,7 @@
 //! The revoke block: its numbers, written and read.
 ghost use Rattle.std.specs.Prelude.{ℕ, ◌≡◌, ◌<◌, ◌≤◌, ◌+◌, length, take, List, MatchResult};
 ghost use Rattle.journal_model.specs.Layout.{numbers_of, revoke_type, sequence_in, HasHeader, IsTaken};
-ghost use Rattle.journal_model.specs.RevokeBlock.{IsRevokeBlock, revoke_block};
+ghost use Rattle.log_model.specs.RevokeBlock.{IsRevokeBlock, revoke_block};
 ghost use Rattle.log_format.specs.Size.{FitRevokeBlock};
 
 use crate::{Header, Malformed};

@@ -1,8 +1,9 @@
 //! The superblock: its fields, the tests of an opening, and what is written of it.
 ghost use Rattle.std.specs.Prelude.{ℕ, ◌≡◌, ◌≤◌, ◌-◌, ◌==◌, ◌&&◌, ◌||◌, nat_le, nat_lt, length, IfOk, MatchResult, Some, None};
 ghost use Rattle.journal_model.specs.Layout.{super_type, type_in};
-ghost use Rattle.journal_model.specs.Opening.{layout_of};
-ghost use Rattle.journal_model.specs.Superblock.{Shape, formatted_super, greatest_length, is_block_size, least_length, least_ring, revoke_feature, super_in, super_refusal, with_tail};
+ghost use Rattle.log_model.specs.Opening.{layout_of};
+ghost use Rattle.journal_model.specs.Disk.{Shape};
+ghost use Rattle.log_model.specs.Superblock.{formatted_super, greatest_length, is_block_size, least_length, least_ring, revoke_feature, super_in, super_refusal, with_tail};
 ghost use Rattle.log_format.specs.Accepted.{IsAccepted};
 ghost use Rattle.log_format.specs.Size.{IsBlockSize};
 
@@ -47,7 +48,7 @@ pub struct Super {
 }
 
 impl Model for Super {
-    ghost use Rattle.journal_model.specs.Superblock.{Super as Fields};
+    ghost use Rattle.log_model.specs.Superblock.{Super as Fields};
 
     ghost Value = { Fields };
 

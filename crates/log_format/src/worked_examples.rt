@@ -1,17 +1,17 @@
 //! Worked examples of the log's format, in a log with blocks of 1024 bytes whose UUID is sixteen bytes `aa`: what
 //! the words in `specs/` say of them, byte for byte. Each function states some of them, and has no body to run.
-#![tactic(auto, unfolding(journal_model::specs::Layout::padded, journal_model::specs::Descriptor::descriptor_block, journal_model::specs::RevokeBlock::revoke_block, journal_model::specs::OwnText::groups, journal_model::specs::OwnText::commit_block, journal_model::specs::OwnText::own_text, journal_model::specs::Superblock::formatted_super))]
+#![tactic(auto, unfolding(journal_model::specs::Layout::padded, log_model::specs::Descriptor::descriptor_block, log_model::specs::RevokeBlock::revoke_block, log_model::specs::OwnText::groups, log_model::specs::OwnText::commit_block, log_model::specs::OwnText::own_text, log_model::specs::Superblock::formatted_super))]
 
 ghost use Rattle.std.specs.Prelude.{◌≡◌, ◌++◌, ◌∷◌, [], drop, false, map, replicate, true};
 ghost use Rattle.std.specs.List.{range_with_len};
 ghost use Rattle.journal_model.specs.declared.entry.Entry.TheVariants.{Copy, Revoke};
-ghost use Rattle.journal_model.specs.declared.log.Piece.TheVariants.{Copies, Revokes};
-ghost use Rattle.journal_model.specs.Descriptor.{tag_spelling};
-ghost use Rattle.journal_model.specs.Escape.{unescaped};
+ghost use Rattle.log_model.specs.declared.log.Piece.TheVariants.{Copies, Revokes};
+ghost use Rattle.log_model.specs.Descriptor.{tag_spelling};
+ghost use Rattle.log_model.specs.Escape.{unescaped};
 ghost use Rattle.journal_model.specs.Layout.{narrow};
-ghost use Rattle.journal_model.specs.OwnText.{own_text};
-ghost use Rattle.journal_model.specs.Room.{IsCapacity, need};
-ghost use Rattle.journal_model.specs.Superblock.{formatted_super};
+ghost use Rattle.log_model.specs.OwnText.{own_text};
+ghost use Rattle.log_model.specs.Room.{IsCapacity, need};
+ghost use Rattle.log_model.specs.Superblock.{formatted_super};
 
 /// A tag is the number of its block, a checksum field of zeros and the flags. The UUID stands behind the first tag
 /// of a descriptor, which a sole tag is too.

@@ -4,9 +4,9 @@ use Rattle.std.specs.Prelude.{◌≡◌, ◌≢◌, ◌↔◌, ℕ, ◌+◌, ◌
 use Rattle.journal_model.specs.declared.entry.Batch.{Batch}
 use Rattle.journal_model.specs.declared.number.Area.TheVariants.{Log}
 use Rattle.journal_model.specs.Layout.{Layout}
-use Rattle.journal_model.specs.OwnText.{copied, revoked}
-use Rattle.journal_model.specs.Room.{need}
-use Rattle.journal_model.specs.Superblock.{Shape}
+use Rattle.journal_model.specs.Transaction.{copied, revoked}
+use Rattle.log_model.specs.Room.{need}
+use Rattle.journal_model.specs.Disk.{Shape}
 use Rattle.checkpoint.specs.Pending.{ArePending, IsCommitted, PendingValue}
 use Rattle.journal_world.specs.declared.stage.Stage.{Stage}
 use Rattle.journal_world.specs.declared.stage.Stage.TheVariants.{Idle, SuperblockWrite, SuperblockFlush, Blocks, CommitWrite, CommitFlush}

@@ -7,7 +7,7 @@ use Rattle.std.proofs.lemmas.Option.{none-some, same_Some, slice_get-get_or}
 use Rattle.journal_model.specs.declared.entry.Entry.{Entry}
 use Rattle.journal_model.specs.declared.entry.Entry.TheVariants.{Copy, Revoke}
 use Rattle.journal_model.specs.Layout.{header_bytes}
-use Rattle.journal_model.specs.OwnText.{copied, revoked}
+use Rattle.journal_model.specs.Transaction.{copied, revoked}
 use Rattle.journal_world.proofs.Elements.{all-at}
 use Rattle.log_ledger.specs.Text.{IsLong, bytes_in, copies_at, copy_at, entry_at}
 

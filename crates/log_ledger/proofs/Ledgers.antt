@@ -8,14 +8,16 @@ use Rattle.std.specs.Prelude.{◌≡◌, ◌≢◌, ℕ, ◌+◌, ◌-◌, ◌^�
 use Rattle.journal_model.specs.declared.entry.Batch.{Batch}
 use Rattle.journal_model.specs.declared.refusal.JournalError.{JournalError}
 use Rattle.journal_model.specs.declared.refusal.JournalError.TheVariants.{NeedSpace}
-use Rattle.journal_model.specs.Chain.{ring_place}
+use Rattle.log_model.specs.Chain.{ring_place}
 use Rattle.journal_model.specs.Block.{IsAllowedBlock}
 use Rattle.journal_model.specs.Layout.{IsTaken, Layout, every_number}
-use Rattle.journal_model.specs.Opening.{greatest_number}
-use Rattle.journal_model.specs.OwnText.{copied, own_text}
+use Rattle.log_model.specs.Opening.{greatest_number}
+use Rattle.journal_model.specs.Transaction.{copied}
+use Rattle.log_model.specs.OwnText.{own_text}
 use Rattle.journal_model.specs.declared.number.Area.TheVariants.{Log}
-use Rattle.journal_model.specs.Superblock.{Shape, with_tail}
-use Rattle.journal_model.specs.Text.{text_blocks}
+use Rattle.journal_model.specs.Disk.{Shape}
+use Rattle.log_model.specs.Superblock.{with_tail}
+use Rattle.log_model.specs.Text.{text_blocks}
 use Rattle.log_format.specs.Size.{IsBlockSize}
 use Rattle.journal_world.specs.declared.stage.Stage.TheVariants.{Idle, Blocks, CommitFlush, CommitWrite, SuperblockWrite}
 use Rattle.journal_world.specs.Call.Call.{Write, Flush}

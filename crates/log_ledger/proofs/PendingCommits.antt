@@ -12,10 +12,11 @@ use Rattle.journal_model.specs.declared.entry.Batch.{Batch}
 use Rattle.journal_model.specs.declared.entry.Entry.{Entry}
 use Rattle.journal_model.specs.declared.entry.Entry.TheVariants.{Copy, Revoke}
 use Rattle.journal_model.specs.Layout.{Layout, IsLayout, numbers_of, tags_of}
-use Rattle.journal_model.specs.OwnText.{ceil_div, copied, revoked}
-use Rattle.journal_model.specs.Room.{need}
+use Rattle.journal_model.specs.Transaction.{copied, revoked}
+use Rattle.log_model.specs.OwnText.{ceil_div}
+use Rattle.log_model.specs.Room.{need}
 use Rattle.journal_model.proofs.ListElements.{contains-filter, contains-from_filter}
-use Rattle.journal_model.proofs.OwnTextWhole.{length_own_text}
+use Rattle.log_model.proofs.OwnTextWhole.{length_own_text}
 use Rattle.checkpoint.specs.declared.version.Version.{Version}
 use Rattle.checkpoint.specs.Pending.{ArePending, IsCommitted, PendingValue, is_touched, newest_of}
 use Rattle.journal_world.specs.declared.round.Round.{Round}

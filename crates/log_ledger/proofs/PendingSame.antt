@@ -2,7 +2,7 @@
 use Rattle.std.proofs.Common.{sym, ◌∙◌, subst, arith, inl, inr}
 use Rattle.std.specs.Prelude.{◌≡◌, ℕ, ◌+◌, ◌<◌, ◌≤◌, nat_le, List, length, filter, map, take, slice_get}
 use Rattle.journal_model.specs.declared.entry.Batch.{Batch}
-use Rattle.journal_model.specs.Chain.{texts_blocks}
+use Rattle.log_model.specs.Chain.{texts_blocks}
 use Rattle.checkpoint.specs.Pending.{PendingValue}
 use Rattle.journal_world.specs.declared.round.Round.{Round}
 use Rattle.journal_world.specs.declared.round.Round.TheVariants.{Idle as NoRound, Copies, TailWrite, TailFlush}

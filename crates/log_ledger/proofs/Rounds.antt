@@ -8,11 +8,12 @@ use Rattle.journal_model.specs.declared.entry.Entry.{Entry}
 use Rattle.journal_model.specs.declared.entry.Entry.TheVariants.{Copy}
 use Rattle.journal_model.specs.declared.number.Area.TheVariants.{Log, Home}
 use Rattle.journal_model.specs.Block.{IsAllowedBlock}
-use Rattle.journal_model.specs.Chain.{ring_place}
+use Rattle.log_model.specs.Chain.{ring_place}
 use Rattle.journal_model.specs.Layout.{Layout}
-use Rattle.journal_model.specs.OwnText.{own_text}
-use Rattle.journal_model.specs.Superblock.{Shape, super_in, with_tail}
-use Rattle.journal_model.specs.Text.{text_blocks}
+use Rattle.log_model.specs.OwnText.{own_text}
+use Rattle.journal_model.specs.Disk.{Shape}
+use Rattle.log_model.specs.Superblock.{super_in, with_tail}
+use Rattle.log_model.specs.Text.{text_blocks}
 use Rattle.log_format.specs.Size.{IsBlockSize}
 use Rattle.checkpoint.specs.declared.version.HomeCopy.{HomeCopy}
 use Rattle.checkpoint.specs.Pending.{PendingValue}

@@ -2,13 +2,15 @@
 use Rattle.std.proofs.Common.{arith, refl, sym, ap, subst, ◌∙◌, le_refl}
 use Rattle.std.specs.Prelude.{◌≡◌, ◌≢◌, ℕ, ◌+◌, ◌-◌, ◌*◌, ◌/◌, ◌^◌, ◌<◌, ◌≤◌, false, true, length, Some, slice_get}
 use Rattle.journal_model.specs.declared.entry.Batch.{Batch}
-use Rattle.journal_model.specs.Chain.{Ring}
+use Rattle.log_model.specs.Chain.{Ring}
 use Rattle.journal_model.specs.Layout.{IsTaken, Layout, numbers_of, tags_of}
-use Rattle.journal_model.specs.OwnText.{ceil_div, copied, revoked}
-use Rattle.journal_model.specs.Room.{need}
-use Rattle.journal_model.specs.Superblock.{Shape, super_in}
-use Rattle.journal_model.specs.Text.{text_blocks}
-use Rattle.journal_model.proofs.OwnTextWhole.{length_own_text}
+use Rattle.journal_model.specs.Transaction.{copied, revoked}
+use Rattle.log_model.specs.OwnText.{ceil_div}
+use Rattle.log_model.specs.Room.{need}
+use Rattle.journal_model.specs.Disk.{Shape}
+use Rattle.log_model.specs.Superblock.{super_in}
+use Rattle.log_model.specs.Text.{text_blocks}
+use Rattle.log_model.proofs.OwnTextWhole.{length_own_text}
 use Rattle.log_format.specs.Size.{IsBlockSize}
 use Rattle.journal_world.specs.declared.stage.Stage.{Stage}
 use Rattle.journal_world.specs.declared.stage.Stage.TheVariants.{Idle, SuperblockWrite, SuperblockFlush, Blocks, CommitWrite, CommitFlush}

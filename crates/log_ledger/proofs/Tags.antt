@@ -6,9 +6,9 @@ use Rattle.std.proofs.lemmas.Grind.{take-set_at}
 use Rattle.std.proofs.lemmas.Option.{none-some, same_Some, slice_get_within}
 use Rattle.journal_model.specs.declared.entry.Entry.{Entry}
 use Rattle.journal_model.specs.declared.entry.Entry.TheVariants.{Copy, Revoke}
-use Rattle.journal_model.specs.declared.log.Tag.{Tag}
+use Rattle.log_model.specs.declared.log.Tag.{Tag}
 use Rattle.journal_model.specs.Layout.{begins_with_magic}
-use Rattle.journal_model.specs.OwnText.{is_empty, tags_from}
+use Rattle.log_model.specs.OwnText.{is_empty, tags_from}
 use Rattle.journal_world.proofs.Elements.{take-one_more}
 use Rattle.log_ledger.specs.Text.{IsLong, bytes_in, copy_at, entry_at, is_escaped}
 use Rattle.log_ledger.proofs.Copies.{entry-there}

@@ -5,10 +5,10 @@ use Rattle.std.proofs.lemmas.List.Elements.{All-drop, All-take, All-weaker}
 use Rattle.std.proofs.lemmas.Option.{slice_get-get_or}
 use Rattle.journal_model.specs.declared.entry.Entry.{Entry}
 use Rattle.journal_model.specs.declared.entry.Entry.TheVariants.{Copy, Revoke}
-use Rattle.journal_model.specs.Escape.{escaped}
+use Rattle.log_model.specs.Escape.{escaped}
 use Rattle.journal_model.specs.Layout.{IsTaken, Layout, every_number, header_bytes, numbers_of}
-use Rattle.journal_model.specs.OwnText.{copied, revoked}
-use Rattle.journal_model.proofs.OwnTextEntries.{revoked_below}
+use Rattle.journal_model.specs.Transaction.{copied, revoked}
+use Rattle.log_model.proofs.OwnTextEntries.{revoked_below}
 use Rattle.journal_world.specs.Engine.{block_at}
 use Rattle.log_format.specs.Size.{FitRevokeBlock}
 use Rattle.log_ledger.specs.declared.plan.Plan.{Plan}

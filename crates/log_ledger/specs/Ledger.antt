@@ -2,7 +2,7 @@
 use Rattle.std.specs.Prelude.{◌≡◌, ◌⊎◌, ⊤, ℕ, ◌+◌, ◌<◌, ◌≤◌, nat_le, List, length, drop, filter, Some, slice_get, Contains}
 use Rattle.journal_model.specs.declared.entry.Batch.{Batch}
 use Rattle.journal_model.specs.declared.entry.Entry.TheVariants.{Copy}
-use Rattle.journal_model.specs.Superblock.{Shape}
+use Rattle.journal_model.specs.Disk.{Shape}
 use Rattle.checkpoint.specs.declared.version.Version.{Version}
 use Rattle.checkpoint.specs.Pending.{ArePending, PendingValue, newest_of}
 use Rattle.journal_world.specs.declared.round.Round.{Round}

@@ -1,6 +1,6 @@
 -- The device call of a round that a ledger finds due, and the ledger once it succeeded.
 use Rattle.std.specs.Prelude.{◌≡◌, ℕ, ◌+◌, ◌-◌, ◌≤◌, List, Some, slice_get}
-use Rattle.journal_model.specs.Superblock.{Shape}
+use Rattle.journal_model.specs.Disk.{Shape}
 use Rattle.checkpoint.specs.declared.version.HomeCopy.{HomeCopy}
 use Rattle.checkpoint.specs.Pending.{newest_of}
 use Rattle.journal_world.specs.declared.round.Round.TheVariants.{Copies}

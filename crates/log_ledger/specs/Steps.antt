@@ -1,7 +1,7 @@
 -- What a ledger may be handed, and the progress that its steps make.
 use Rattle.std.specs.Prelude.{◌≡◌, ◌≢◌, ◌+◌, ◌≤◌}
 use Rattle.journal_model.specs.declared.entry.Batch.{Batch}
-use Rattle.journal_model.specs.Opening.{greatest_number}
+use Rattle.log_model.specs.Opening.{greatest_number}
 use Rattle.journal_world.specs.declared.round.Round.TheVariants.{Idle as NoRound}
 use Rattle.journal_world.specs.declared.stage.Stage.TheVariants.{Idle}
 use Rattle.journal_world.specs.Engine.{Engine, IsBatch}

@@ -2,9 +2,9 @@
 use Rattle.std.specs.Prelude.{◌≡◌, ℕ, ◌≤◌, Bool, false, List, [], length, map, unwrap_or, slice_get}
 use Rattle.journal_model.specs.declared.entry.Entry.{Entry}
 use Rattle.journal_model.specs.declared.entry.Entry.TheVariants.{Copy, Revoke}
-use Rattle.journal_model.specs.Escape.{escaped}
+use Rattle.log_model.specs.Escape.{escaped}
 use Rattle.journal_model.specs.Layout.{IsTaken, Layout, begins_with_magic, header_bytes, tags_of}
-use Rattle.journal_model.specs.OwnText.{copied, revoked}
+use Rattle.journal_model.specs.Transaction.{copied, revoked}
 use Rattle.log_format.specs.Size.{IsBlockSize}
 use Rattle.log_ledger.specs.declared.plan.Plan.{Plan}
 

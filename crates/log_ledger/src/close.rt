@@ -1,7 +1,7 @@
 //! The superblock of the clean log that a close leaves, which has the number of the next transaction.
 //! Source: fs/jbd2/journal.c by behaviour (a journal that is destroyed is marked empty); journal.rst (s_start 0).
 ghost use Rattle.std.specs.Prelude.{◌≡◌, ◌+◌, length};
-ghost use Rattle.journal_model.specs.Superblock.{Shape};
+ghost use Rattle.journal_model.specs.Disk.{Shape};
 ghost use Rattle.log_epochs.specs.EngineSteps.{closed_superblock};
 ghost use Rattle.log_ledger.specs.Ledger.{CanRunOn, engine_of};
 

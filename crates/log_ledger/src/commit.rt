@@ -2,7 +2,7 @@
 //! block, each behind the flush of what it relies on.
 //! Source: fs/jbd2/commit.c by behaviour; that each step is one device call is this project's own.
 ghost use Rattle.std.specs.Prelude.{◌≡◌, ◌≢◌, ◌+◌, ◌-◌, ◌<◌, ◌≤◌, if◌then◌else◌, nat_lt, length, slice_get, Some};
-ghost use Rattle.journal_model.specs.Superblock.{Shape};
+ghost use Rattle.journal_model.specs.Disk.{Shape};
 ghost use Rattle.journal_world.specs.declared.stage.Stage.TheVariants.{Idle, Blocks, CommitFlush, CommitWrite, SuperblockWrite};
 ghost use Rattle.journal_world.specs.Engine.{call_due, due_blocks, stepped, stepped_from, write_block};
 ghost use Rattle.journal_world.specs.Sound.{IsPlain};

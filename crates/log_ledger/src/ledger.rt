@@ -1,8 +1,9 @@
 //! What an engine knows beside its device.
 ghost use Rattle.std.specs.Prelude.{◌≡◌, ◌+◌, ◌<◌, ◌≤◌, ◌↔◌, IsTrue, if◌then◌else◌, is_some, length, slice_index_or, IfErr, IfSome, OnErr, OnOk};
-ghost use Rattle.journal_model.specs.OwnText.{copied, revoked};
-ghost use Rattle.journal_model.specs.Room.{need};
-ghost use Rattle.journal_model.specs.Superblock.{Shape, least_ring, super_in};
+ghost use Rattle.journal_model.specs.Transaction.{copied, revoked};
+ghost use Rattle.log_model.specs.Room.{need};
+ghost use Rattle.journal_model.specs.Disk.{Shape};
+ghost use Rattle.log_model.specs.Superblock.{least_ring, super_in};
 ghost use Rattle.journal_world.specs.declared.stage.Stage.TheVariants.{Idle, Blocks, SuperblockWrite};
 ghost use Rattle.journal_world.specs.Engine.{HasRoom, accepting};
 ghost use Rattle.journal_world.specs.Journal.{fresh_engine};

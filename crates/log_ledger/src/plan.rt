@@ -1,6 +1,6 @@
 //! Where the copies of a transaction stand among its entries, and which blocks it revokes.
 ghost use Rattle.std.specs.Prelude.{◌≡◌, ◌≤◌, [], length, OnOk};
-ghost use Rattle.journal_model.specs.OwnText.{copied};
+ghost use Rattle.journal_model.specs.Transaction.{copied};
 ghost use Rattle.log_ledger.specs.Text.{IsPlanOf};
 
 use journal_model::{BlockNo, Entry};

@@ -3,8 +3,8 @@
 //! Source: fs/jbd2/checkpoint.c by behaviour; the order of the copies and that each step is one device call are this
 //! project's own.
 ghost use Rattle.std.specs.Prelude.{◌≡◌, ◌≢◌, ◌+◌, ◌-◌, ◌<◌, ℕ, IsTrue, false, length};
-ghost use Rattle.journal_model.specs.Chain.{ring_place};
-ghost use Rattle.journal_model.specs.Superblock.{Shape};
+ghost use Rattle.log_model.specs.Chain.{ring_place};
+ghost use Rattle.journal_model.specs.Disk.{Shape};
 ghost use Rattle.journal_world.specs.declared.round.Round.TheVariants.{Idle as NoRound, TailWrite, TailFlush};
 ghost use Rattle.journal_world.specs.Checkpoint.{HasRound, begun};
 ghost use Rattle.log_ledger.specs.declared.progress.Progress.TheVariants.{Step, Done};

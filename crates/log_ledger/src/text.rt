@@ -1,18 +1,20 @@
 //! The log blocks of a transaction, built one at a time.
 ghost use Rattle.std.specs.Prelude.{◌≡◌, ◌+◌, ◌^◌, ◌<◌, ◌≤◌, true, length, IfOk, All};
-ghost use Rattle.journal_model.specs.Descriptor.{descriptor_block};
+ghost use Rattle.log_model.specs.Descriptor.{descriptor_block};
 ghost use Rattle.journal_model.specs.Layout.{IsTaken, every_number, header_bytes, tags_of};
-ghost use Rattle.journal_model.specs.OwnText.{copied, own_text, revoked, tags_from};
-ghost use Rattle.journal_model.specs.Superblock.{with_tail};
-ghost use Rattle.journal_model.specs.Text.{text_blocks};
+ghost use Rattle.journal_model.specs.Transaction.{copied, revoked};
+ghost use Rattle.log_model.specs.OwnText.{own_text, tags_from};
+ghost use Rattle.log_model.specs.Superblock.{with_tail};
+ghost use Rattle.log_model.specs.Text.{text_blocks};
 ghost use Rattle.log_format.specs.Size.{IsBlockSize};
 ghost use Rattle.journal_world.specs.Engine.{block_at};
 ghost use Rattle.log_ring.specs.Parts.{FitsPart, part_block};
 ghost use Rattle.log_ledger.specs.Text.{IsLong, IsPlanOf, IsStored, IsWholeCopy, copies_at, is_escaped};
 
 use crate::plan::Plan;
-use journal_model::{Batch, BlockNo, Entry, LogLayout, Tag};
+use journal_model::{Batch, BlockNo, Entry, LogLayout};
 use log_format::{CommitBlock, Descriptor, Header, RevokeBlock, Super, escape};
+use log_model::Tag;
 use log_ring::{Layout, Part};
 use std::alloc::{AllocError, Global};
 use std::marker::Model;

@@ -7,7 +7,7 @@ use Rattle.std.proofs.lemmas.Bool.{cases_lt}
 use Rattle.std.proofs.lemmas.List.{drop-drop, length-map}
 use Rattle.std.proofs.lemmas.Option.{slice_get-map, slice_get_within}
 use Rattle.std.proofs.Math.Nat.{add-div_right, div-lt_iff_lt-mul, div-eq_of_lt}
-use Rattle.journal_model.specs.OwnText.{ceil_div, groups}
+use Rattle.log_model.specs.OwnText.{ceil_div, groups}
 use Rattle.journal_model.proofs.ListElements.{get-behind, get-front}
 
 -- an element of the first of a list

@@ -6,15 +6,16 @@ use Rattle.std.proofs.lemmas.Grind.{flat_map-append}
 use Rattle.std.proofs.lemmas.List.{length-map, map-append}
 use Rattle.journal_model.specs.declared.entry.Entry.{Entry}
 use Rattle.journal_model.specs.declared.entry.Entry.TheVariants.{Copy as CopyEntry, Revoke}
-use Rattle.journal_model.specs.declared.log.Piece.{Piece}
-use Rattle.journal_model.specs.Descriptor.{descriptor_block}
-use Rattle.journal_model.specs.Escape.{escaped}
+use Rattle.log_model.specs.declared.log.Piece.{Piece}
+use Rattle.log_model.specs.Descriptor.{descriptor_block}
+use Rattle.log_model.specs.Escape.{escaped}
 use Rattle.journal_model.specs.Layout.{IsLayout, Layout, numbers_of, tags_of}
-use Rattle.journal_model.specs.OwnText.{ceil_div, commit_block, copied, groups, own_copies, own_revokes, own_text, revoked, tags_from}
-use Rattle.journal_model.specs.RevokeBlock.{revoke_block}
-use Rattle.journal_model.specs.Room.{need}
-use Rattle.journal_model.specs.Text.{piece_blocks, text_blocks}
-use Rattle.journal_model.proofs.OwnTextWhole.{length_own_text}
+use Rattle.journal_model.specs.Transaction.{copied, revoked}
+use Rattle.log_model.specs.OwnText.{ceil_div, commit_block, groups, own_copies, own_revokes, own_text, tags_from}
+use Rattle.log_model.specs.RevokeBlock.{revoke_block}
+use Rattle.log_model.specs.Room.{need}
+use Rattle.log_model.specs.Text.{piece_blocks, text_blocks}
+use Rattle.log_model.proofs.OwnTextWhole.{length_own_text}
 use Rattle.log_ring.specs.declared.layout.Part.{Part}
 use Rattle.log_ring.specs.declared.layout.Part.TheVariants.{Copy, Commit}
 use Rattle.log_ring.specs.Parts.{copy_parts, described, part_block, parts, revoke_part, revoke_parts}

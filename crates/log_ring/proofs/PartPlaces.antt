@@ -9,10 +9,11 @@ use Rattle.std.proofs.lemmas.List.FromFn.{get_or-range_with_len}
 use Rattle.std.proofs.lemmas.Nat.{div-add-mod'}
 use Rattle.journal_model.specs.declared.entry.Entry.{Entry}
 use Rattle.journal_model.specs.Layout.{IsLayout, Layout, numbers_of, tags_of}
-use Rattle.journal_model.specs.OwnText.{ceil_div, copied, groups, own_text, revoked}
-use Rattle.journal_model.specs.Text.{text_blocks}
+use Rattle.journal_model.specs.Transaction.{copied, revoked}
+use Rattle.log_model.specs.OwnText.{ceil_div, groups, own_text}
+use Rattle.log_model.specs.Text.{text_blocks}
 use Rattle.journal_model.proofs.ListElements.{get-behind, get-front}
-use Rattle.journal_model.proofs.OwnTextGroups.{begins_within, length-groups}
+use Rattle.log_model.proofs.OwnTextGroups.{begins_within, length-groups}
 use Rattle.log_ring.specs.declared.layout.Part.{Part}
 use Rattle.log_ring.specs.declared.layout.Part.TheVariants.{Revokes, Descriptor, Copy, Commit}
 use Rattle.log_ring.specs.Parts.{part_block, copy_parts, descriptor_part, parts, revoke_part, revoke_parts}

@@ -3,11 +3,12 @@
 use Rattle.std.specs.Prelude.{⊤, ℕ, ◌+◌, ◌<◌, ◌≤◌, true, List, [], ◌∷◌, ◌++◌, length, map, take, drop, unwrap_or, slice_get, slice_index}
 use Rattle.std.specs.List.{flat_map, range_with_len}
 use Rattle.journal_model.specs.declared.entry.Entry.{Entry}
-use Rattle.journal_model.specs.Descriptor.{descriptor_block}
-use Rattle.journal_model.specs.Escape.{escaped}
+use Rattle.log_model.specs.Descriptor.{descriptor_block}
+use Rattle.log_model.specs.Escape.{escaped}
 use Rattle.journal_model.specs.Layout.{Layout as Measures, numbers_of, tags_of}
-use Rattle.journal_model.specs.OwnText.{commit_block, copied, groups, revoked, tags_from}
-use Rattle.journal_model.specs.RevokeBlock.{revoke_block}
+use Rattle.journal_model.specs.Transaction.{copied, revoked}
+use Rattle.log_model.specs.OwnText.{commit_block, groups, tags_from}
+use Rattle.log_model.specs.RevokeBlock.{revoke_block}
 use Rattle.log_ring.specs.declared.layout.Part.{Part}
 use Rattle.log_ring.specs.declared.layout.Part.TheVariants.{Revokes, Descriptor, Copy, Commit}
 

@@ -1,8 +1,8 @@
 -- What is taken of the ring of a log. A position counts the blocks over all laps: it never falls, and position p stands at
 -- the place `ring_place` of p. Source: fs/jbd2 by behaviour (j_head, j_tail and j_free).
 use Rattle.std.specs.Prelude.{ℕ, ◌+◌, ◌-◌, ◌^◌, ◌<◌, ◌≤◌}
-use Rattle.journal_model.specs.Chain.{Ring}
-use Rattle.journal_model.specs.Superblock.{least_ring}
+use Rattle.log_model.specs.Chain.{Ring}
+use Rattle.log_model.specs.Superblock.{least_ring}
 
 -- a ring, the position of its oldest taken block, and the position behind its newest one
 pub record RingValue : Type 0 where

@@ -1,12 +1,13 @@
 //! The layout of a transaction in the log: how many blocks it takes, and what each of them is.
 ghost use Rattle.std.specs.Prelude.{◌≡◌, ℕ, ◌+◌, ◌<◌, ◌≤◌, ◌^◌, List, length, Some, slice_get};
 ghost use Rattle.journal_model.specs.declared.entry.Entry.{Entry};
-ghost use Rattle.journal_model.specs.Chain.{ring_place};
+ghost use Rattle.log_model.specs.Chain.{ring_place};
 ghost use Rattle.journal_model.specs.Layout.{IsTaken, numbers_of, tags_of};
-ghost use Rattle.journal_model.specs.OwnText.{ceil_div, copied, own_text, revoked};
-ghost use Rattle.journal_model.specs.Room.{IsCapacity, need};
-ghost use Rattle.journal_model.specs.Superblock.{least_ring};
-ghost use Rattle.journal_model.specs.Text.{text_blocks};
+ghost use Rattle.journal_model.specs.Transaction.{copied, revoked};
+ghost use Rattle.log_model.specs.OwnText.{ceil_div, own_text};
+ghost use Rattle.log_model.specs.Room.{IsCapacity, need};
+ghost use Rattle.log_model.specs.Superblock.{least_ring};
+ghost use Rattle.log_model.specs.Text.{text_blocks};
 ghost use Rattle.log_ring.specs.Parts.{FitsPart, copy_parts, part_block, parts, revoke_parts};
 
 use crate::ring::Ring;

@@ -2,9 +2,10 @@
 ghost use Rattle.std.specs.Prelude.{◌≡◌, ℕ, List, length, map};
 ghost use Rattle.journal_model.specs.declared.entry.Entry.{Entry};
 ghost use Rattle.journal_model.specs.Layout.{IsLayout, Layout};
-ghost use Rattle.journal_model.specs.OwnText.{copied, own_text, revoked};
-ghost use Rattle.journal_model.specs.Room.{need};
-ghost use Rattle.journal_model.specs.Text.{text_blocks};
+ghost use Rattle.journal_model.specs.Transaction.{copied, revoked};
+ghost use Rattle.log_model.specs.OwnText.{own_text};
+ghost use Rattle.log_model.specs.Room.{need};
+ghost use Rattle.log_model.specs.Text.{text_blocks};
 ghost use Rattle.log_ring.specs.Parts.{part_block, parts};
 
 /// The log blocks of the own text of a transaction are those that its layout names, in the same order.

@@ -1,10 +1,10 @@
 //! The ring of log blocks behind the superblock, and what is taken of it.
 ghost use Rattle.std.specs.Prelude.{◌≡◌, ◌+◌, ◌-◌, ◌<◌, ◌≤◌, ◌^◌, OnOk, IfOk, IfErr};
 ghost use Rattle.journal_model.specs.declared.refusal.JournalError.TheVariants.{NeedSpace};
-ghost use Rattle.journal_model.specs.Chain.{place_from, ring_place};
+ghost use Rattle.log_model.specs.Chain.{place_from, ring_place};
 ghost use Rattle.journal_model.specs.Layout.{IsTaken};
-ghost use Rattle.journal_model.specs.Room.{need};
-ghost use Rattle.journal_model.specs.Superblock.{least_ring};
+ghost use Rattle.log_model.specs.Room.{need};
+ghost use Rattle.log_model.specs.Superblock.{least_ring};
 ghost use Rattle.log_ring.specs.Ring.{IsRing, free, taken};
 
 use crate::layout::Layout;

@@ -1,6 +1,6 @@
 //! What is true of positions and places. Each function states a law, and has no body to run.
 ghost use Rattle.std.specs.Prelude.{◌≡◌, ◌+◌, ◌<◌, ◌≢◌, ℕ};
-ghost use Rattle.journal_model.specs.Chain.{Ring, place_from, ring_place};
+ghost use Rattle.log_model.specs.Chain.{Ring, place_from, ring_place};
 
 /// So many blocks behind the place of a position stands the position that is higher by so many.
 pub fn places_follow_positions()

@@ -5,10 +5,11 @@ use crate::logs::{Log, log_of};
 use format_rows::RowError;
 use format_rows::telling::{add_bytes, tag_word, text};
 use format_rows::words::values;
-use journal_model::{Block, BlockNo, Items, Piece, Tag, Text};
+use journal_model::{Block, BlockNo, Items};
 use journal_plain::chain::{chain, damage};
 use journal_plain::replay::{covered, newest};
 use log_format::Header;
+use log_model::{Piece, Tag, Text};
 use std::alloc::Global;
 use std::fmt::Write;
 

@@ -1,17 +1,17 @@
 -- What a block says of itself says what stands at the front of the blocks there.
 use Rattle.std.proofs.Common.{◌≡◌, ℕ, suc, ◌+◌, ◌<◌, ◌≤◌, List, [], ◌∷◌, ◌++◌, length, take, drop, refl, sym, ◌∙◌, ap, subst, arith, inl, inr, length-append}
 use Rattle.std.proofs.lemmas.List.{length-take-le, take-append-drop}
-use Rattle.journal_model.specs.declared.log.Tag.{Tag}
-use Rattle.journal_model.specs.declared.log.Piece.{Piece}
-use Rattle.journal_model.specs.declared.log.Piece.TheVariants.{Revokes, Copies}
-use Rattle.journal_model.specs.Chain.{IsMalformed}
-use Rattle.journal_model.specs.Descriptor.{IsDescriptor}
+use Rattle.log_model.specs.declared.log.Tag.{Tag}
+use Rattle.log_model.specs.declared.log.Piece.{Piece}
+use Rattle.log_model.specs.declared.log.Piece.TheVariants.{Revokes, Copies}
+use Rattle.log_model.specs.Chain.{IsMalformed}
+use Rattle.log_model.specs.Descriptor.{IsDescriptor}
 use Rattle.journal_model.specs.Layout.{HasHeader, Layout}
-use Rattle.journal_model.specs.ReadingLog.{NoPieceBegins}
-use Rattle.journal_model.specs.RevokeBlock.{IsRevokeBlock}
-use Rattle.journal_model.specs.Text.{IsPiece, IsCommitBlock, piece_blocks}
-use Rattle.journal_model.proofs.ReadingPieces.{one_type}
-use Rattle.journal_model.proofs.ReadingTags.{one_descriptor}
+use Rattle.log_model.specs.ReadingLog.{NoPieceBegins}
+use Rattle.log_model.specs.RevokeBlock.{IsRevokeBlock}
+use Rattle.log_model.specs.Text.{IsPiece, IsCommitBlock, piece_blocks}
+use Rattle.log_model.proofs.ReadingPieces.{one_type}
+use Rattle.log_model.proofs.ReadingTags.{one_descriptor}
 use Rattle.log_scan.specs.declared.finding.Found.{Found}
 use Rattle.log_scan.specs.declared.finding.Found.TheVariants.{RevokeBlock, Descriptor, CommitBlock, Malformed, Nothing}
 use Rattle.log_scan.specs.Finding.{BlockBegins, DescriptorBegins, FinderValue, IsFound, IsOther, Says}

@@ -4,10 +4,10 @@ use Rattle.std.proofs.lemmas.List.{drop_all, drop-drop, length-drop}
 use Rattle.std.proofs.lemmas.Option.{slice_get-get_or, slice_get_within}
 use Rattle.std.proofs.lemmas.List.FromFn.{get_or-map-range_with_len, length-map-range_with_len}
 use Rattle.journal_model.specs.declared.number.Area.TheVariants.{Log}
-use Rattle.journal_model.specs.Chain.{Ring, lap, place_from}
+use Rattle.log_model.specs.Chain.{Ring, lap, place_from}
 use Rattle.journal_model.specs.Disk.{Image}
-use Rattle.journal_model.specs.Opening.{ring_of}
-use Rattle.journal_model.specs.Superblock.{Super}
+use Rattle.log_model.specs.Opening.{ring_of}
+use Rattle.log_model.specs.Superblock.{Super}
 use Rattle.log_scan.specs.Finding.{blocks_from}
 
 -- a lap has as many blocks as the ring

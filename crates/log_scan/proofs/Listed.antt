@@ -4,8 +4,8 @@ use Rattle.std.specs.Prelude.{◌≡◌, ◌≢◌, ℕ, ◌≤◌, ◌==◌, Bo
 use Rattle.std.specs.List.{AllByRecursion}
 use Rattle.journal_model.specs.declared.refusal.JournalError.{JournalError}
 use Rattle.journal_model.specs.declared.refusal.JournalError.TheVariants.{BadLength, Device, Memory}
-use Rattle.journal_model.specs.Disk.{IsOneOf}
-use Rattle.journal_model.specs.Superblock.{Shape, first_failed, super_refusal, super_tests}
+use Rattle.journal_model.specs.Disk.{IsOneOf, Shape}
+use Rattle.log_model.specs.Superblock.{first_failed, super_refusal, super_tests}
 use Rattle.log_scan.specs.Refusals.{NamesDamage, super_refusals}
 
 -- a refusal among these

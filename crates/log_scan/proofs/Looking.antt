@@ -1,11 +1,11 @@
 -- What a block that was read says of itself says what stands at its position of the lap.
 use Rattle.std.proofs.Common.{◌≡◌, ℕ, suc, ◌-◌, ◌<◌, List, ◌∷◌, length, sym, ◌∙◌, ap, subst, arith}
 use Rattle.journal_model.specs.declared.number.Area.TheVariants.{Log}
-use Rattle.journal_model.specs.Chain.{place_from}
+use Rattle.log_model.specs.Chain.{place_from}
 use Rattle.journal_model.specs.Disk.{Image}
 use Rattle.journal_model.specs.Layout.{Layout}
-use Rattle.journal_model.specs.Opening.{layout_of, ring_of}
-use Rattle.journal_model.specs.Superblock.{Super}
+use Rattle.log_model.specs.Opening.{layout_of, ring_of}
+use Rattle.log_model.specs.Superblock.{Super}
 use Rattle.log_scan.specs.declared.finding.Found.{Found}
 use Rattle.log_scan.specs.declared.finding.Found.TheVariants.{RevokeBlock, Descriptor, CommitBlock, Malformed, Nothing}
 use Rattle.log_scan.specs.Finding.{FinderValue, Fits, IsFound, Says, blocks_from}

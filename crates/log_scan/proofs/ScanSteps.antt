@@ -2,16 +2,16 @@
 use Rattle.std.proofs.Common.{◌≡◌, ℕ, suc, ◌+◌, ◌<◌, List, [], ◌∷◌, ◌++◌, length, take, drop, slice_get, Some, ◌∙◌, ◌⊎◌, inl, inr, subst, sym, ap, refl, arith}
 use Rattle.std.proofs.lemmas.Option.{slice_get_within}
 use Rattle.journal_model.proofs.ListElements.{get-front}
-use Rattle.journal_model.specs.declared.log.Piece.{Piece}
-use Rattle.journal_model.specs.declared.log.Piece.TheVariants.{Copies, Revokes}
-use Rattle.journal_model.specs.declared.log.Text.{Text}
+use Rattle.log_model.specs.declared.log.Piece.{Piece}
+use Rattle.log_model.specs.declared.log.Piece.TheVariants.{Copies, Revokes}
+use Rattle.log_model.specs.declared.log.Text.{Text}
 use Rattle.journal_model.specs.declared.refusal.JournalError.{JournalError}
 use Rattle.journal_model.specs.declared.refusal.JournalError.TheVariants.{Damage}
-use Rattle.journal_model.specs.Chain.{lap, place_from}
-use Rattle.journal_model.specs.Disk.{Disk, Image, reading}
-use Rattle.journal_model.specs.Opening.{layout_of, ring_of}
-use Rattle.journal_model.specs.Superblock.{Shape, Super}
-use Rattle.journal_model.specs.Text.{IsCommitBlock}
+use Rattle.log_model.specs.Chain.{lap, place_from}
+use Rattle.journal_model.specs.Disk.{Disk, Image, Shape, reading}
+use Rattle.log_model.specs.Opening.{layout_of, ring_of}
+use Rattle.log_model.specs.Superblock.{Super}
+use Rattle.log_model.specs.Text.{IsCommitBlock}
 use Rattle.block_device.specs.State.{DeviceState, Stays}
 use Rattle.log_format.specs.Accepted.{IsAccepted}
 use Rattle.log_scan.specs.declared.cursor.Cursor.{Cursor}

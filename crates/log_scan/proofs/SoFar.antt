@@ -3,14 +3,14 @@ use Rattle.std.proofs.Common.{◌≡◌, ℕ, ◌+◌, ◌<◌, List, [], ◌∷
 use Rattle.std.specs.List.{AllByRecursion}
 use Rattle.std.proofs.lemmas.List.{drop-drop}
 use Rattle.std.proofs.lemmas.Grind.{flat_map-append}
-use Rattle.journal_model.specs.declared.log.Piece.{Piece}
-use Rattle.journal_model.specs.declared.log.Text.{Text}
-use Rattle.journal_model.specs.Chain.{IsChain, IsDamaged, IsMalformed}
+use Rattle.log_model.specs.declared.log.Piece.{Piece}
+use Rattle.log_model.specs.declared.log.Text.{Text}
+use Rattle.log_model.specs.Chain.{IsChain, IsDamaged, IsMalformed}
 use Rattle.journal_model.specs.Layout.{Layout, commit_type, descriptor_type, revoke_type}
-use Rattle.journal_model.specs.ReadingLog.{NoTextBegins, PieceBegins, PiecesBegin, TextBegins, TextsBegin}
-use Rattle.journal_model.specs.Text.{IsCommitBlock, IsPiece, piece_blocks, pieces_blocks}
-use Rattle.journal_model.proofs.ReadingFronts.{malformed_is_damaged, no_damage_in_good, no_damage_in_none, no_text_in_none, no_text_without_commit, text_begins, texts_are_chain, texts_more}
-use Rattle.journal_model.proofs.ReadingPieces.{damages, none_at_end, one_type}
+use Rattle.log_model.specs.ReadingLog.{NoTextBegins, PieceBegins, PiecesBegin, TextBegins, TextsBegin}
+use Rattle.log_model.specs.Text.{IsCommitBlock, IsPiece, piece_blocks, pieces_blocks}
+use Rattle.log_model.proofs.ReadingFronts.{malformed_is_damaged, no_damage_in_good, no_damage_in_none, no_text_in_none, no_text_without_commit, text_begins, texts_are_chain, texts_more}
+use Rattle.log_model.proofs.ReadingPieces.{damages, none_at_end, one_type}
 use Rattle.log_scan.specs.Finding.{BlockBegins, NothingBegins}
 use Rattle.log_scan.specs.Passing.{StandBefore}
 

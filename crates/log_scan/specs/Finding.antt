@@ -1,17 +1,17 @@
 -- What stands at one place of a log.
 use Rattle.std.specs.Prelude.{◌≡◌, ℕ, ◌+◌, ◌<◌, ◌≤◌, List, ◌∷◌, length, take, drop, Option, MatchOption, unwrap_or, true, false, All, ⊤}
-use Rattle.journal_model.specs.declared.log.Tag.{Tag}
-use Rattle.journal_model.specs.declared.log.Piece.TheVariants.{Revokes, Copies}
+use Rattle.log_model.specs.declared.log.Tag.{Tag}
+use Rattle.log_model.specs.declared.log.Piece.TheVariants.{Revokes, Copies}
 use Rattle.journal_model.specs.declared.number.Area.TheVariants.{Log}
-use Rattle.journal_model.specs.Chain.{IsMalformed, lap}
-use Rattle.journal_model.specs.Descriptor.{IsDescriptor}
+use Rattle.log_model.specs.Chain.{IsMalformed, lap}
+use Rattle.log_model.specs.Descriptor.{IsDescriptor}
 use Rattle.journal_model.specs.Disk.{Image}
 use Rattle.journal_model.specs.Layout.{Layout, begins_with_magic, every_number, narrow, numbers_of, sequence_in}
-use Rattle.journal_model.specs.Opening.{layout_of, ring_of}
-use Rattle.journal_model.specs.ReadingLog.{NoPieceBegins, PieceBegins}
-use Rattle.journal_model.specs.RevokeBlock.{IsRevokeBlock}
-use Rattle.journal_model.specs.Superblock.{Super}
-use Rattle.journal_model.specs.Text.{IsCommitBlock}
+use Rattle.log_model.specs.Opening.{layout_of, ring_of}
+use Rattle.log_model.specs.ReadingLog.{NoPieceBegins, PieceBegins}
+use Rattle.log_model.specs.RevokeBlock.{IsRevokeBlock}
+use Rattle.log_model.specs.Superblock.{Super}
+use Rattle.log_model.specs.Text.{IsCommitBlock}
 use Rattle.log_format.specs.Size.{most_tags}
 use Rattle.log_scan.specs.declared.finding.Found.{Found}
 use Rattle.log_scan.specs.declared.finding.Found.TheVariants.{RevokeBlock, Descriptor, CommitBlock, Malformed, Nothing}

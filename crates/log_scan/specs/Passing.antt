@@ -1,15 +1,15 @@
 -- The way over a log, one piece after the other: what stands before a position, and where one step leads.
 use Rattle.std.specs.Prelude.{◌≡◌, ℕ, ◌+◌, List, [], ◌∷◌, ◌++◌, length, take, drop, Some, slice_get}
-use Rattle.journal_model.specs.declared.log.Tag.{Tag}
-use Rattle.journal_model.specs.declared.log.Piece.{Piece}
-use Rattle.journal_model.specs.declared.log.Piece.TheVariants.{Revokes, Copies}
-use Rattle.journal_model.specs.declared.log.Text.{Text}
-use Rattle.journal_model.specs.Chain.{IsDamaged, lap, place_from}
+use Rattle.log_model.specs.declared.log.Tag.{Tag}
+use Rattle.log_model.specs.declared.log.Piece.{Piece}
+use Rattle.log_model.specs.declared.log.Piece.TheVariants.{Revokes, Copies}
+use Rattle.log_model.specs.declared.log.Text.{Text}
+use Rattle.log_model.specs.Chain.{IsDamaged, lap, place_from}
 use Rattle.journal_model.specs.Disk.{Image}
 use Rattle.journal_model.specs.Layout.{Layout}
-use Rattle.journal_model.specs.Opening.{layout_of, ring_of}
-use Rattle.journal_model.specs.ReadingLog.{PiecesBegin, TextsBegin}
-use Rattle.journal_model.specs.Superblock.{Super}
+use Rattle.log_model.specs.Opening.{layout_of, ring_of}
+use Rattle.log_model.specs.ReadingLog.{PiecesBegin, TextsBegin}
+use Rattle.log_model.specs.Superblock.{Super}
 use Rattle.log_scan.specs.declared.cursor.Cursor.{Cursor}
 use Rattle.log_scan.specs.declared.finding.Found.{Found}
 use Rattle.log_scan.specs.declared.finding.Found.TheVariants.{RevokeBlock, Descriptor, CommitBlock, Malformed, Nothing}

@@ -1,12 +1,12 @@
 -- What a scan of a log comes to: the texts of its chain, or a damaged block behind them.
 use Rattle.std.specs.Prelude.{◌≡◌, ◌⊎◌, ℕ, List, length}
-use Rattle.journal_model.specs.declared.log.Text.{Text}
+use Rattle.log_model.specs.declared.log.Text.{Text}
 use Rattle.journal_model.specs.declared.refusal.JournalError.{JournalError}
 use Rattle.journal_model.specs.declared.refusal.JournalError.TheVariants.{Damage}
-use Rattle.journal_model.specs.Chain.{IsChain, IsDamaged, lap, place_from}
+use Rattle.log_model.specs.Chain.{IsChain, IsDamaged, lap, place_from}
 use Rattle.journal_model.specs.Disk.{Image, reading}
-use Rattle.journal_model.specs.Opening.{layout_of, ring_of}
-use Rattle.journal_model.specs.Superblock.{Super}
+use Rattle.log_model.specs.Opening.{layout_of, ring_of}
+use Rattle.log_model.specs.Superblock.{Super}
 use Rattle.block_device.specs.State.{DeviceState, IsDeviceFailure}
 use Rattle.log_scan.specs.Refusals.{NamesDamage}
 

@@ -1,7 +1,7 @@
 //! A buffer of one block that takes no memory.
 ghost use Rattle.std.specs.Prelude.{◌≡◌, ◌<◌, ◌≤◌, length, OnOk};
 ghost use Rattle.journal_model.specs.Disk.{reading};
-ghost use Rattle.journal_model.specs.Escape.{unescaped};
+ghost use Rattle.log_model.specs.Escape.{unescaped};
 ghost use Rattle.block_device.specs.State.{CountsFaults, Stays, blocks_in};
 ghost use Rattle.log_format.specs.Size.{IsBlockSize};
 ghost use Rattle.log_scan.specs.Finding.{most_bytes};

@@ -1,9 +1,9 @@
 //! The way over a log, one piece after the other.
 ghost use Rattle.std.specs.Prelude.{◌≡◌, ◌<◌, ◌≤◌, ◌^◌, List, length, IfOk, IfErr, OnErr, MatchResult};
-ghost use Rattle.journal_model.specs.declared.log.Piece.{Piece};
-ghost use Rattle.journal_model.specs.declared.log.Text.{Text};
+ghost use Rattle.log_model.specs.declared.log.Piece.{Piece};
+ghost use Rattle.log_model.specs.declared.log.Text.{Text};
 ghost use Rattle.journal_model.specs.Disk.{reading};
-ghost use Rattle.journal_model.specs.Opening.{layout_of, ring_of};
+ghost use Rattle.log_model.specs.Opening.{layout_of, ring_of};
 ghost use Rattle.block_device.specs.State.{IsDeviceFailure, Stays};
 ghost use Rattle.log_format.specs.Accepted.{IsAccepted};
 ghost use Rattle.log_scan.specs.Finding.{Fits, limit_of};

@@ -1,10 +1,10 @@
 //! What stands at one place of a log.
 ghost use Rattle.std.specs.Prelude.{◌≡◌, ℕ, ◌<◌, ◌≤◌, length, take, slice_get, Some, IfOk, OnOk, MatchResult};
-ghost use Rattle.journal_model.specs.Chain.{place_from};
+ghost use Rattle.log_model.specs.Chain.{place_from};
 ghost use Rattle.journal_model.specs.Disk.{reading};
-ghost use Rattle.journal_model.specs.Escape.{unescaped};
+ghost use Rattle.log_model.specs.Escape.{unescaped};
 ghost use Rattle.journal_model.specs.Layout.{HasHeader, IsTaken, descriptor_type, revoke_type, sequence_in};
-ghost use Rattle.journal_model.specs.Opening.{layout_of, ring_of};
+ghost use Rattle.log_model.specs.Opening.{layout_of, ring_of};
 ghost use Rattle.block_device.specs.State.{IsDeviceFailure, Stays};
 ghost use Rattle.log_format.specs.Accepted.{IsAccepted};
 ghost use Rattle.log_scan.specs.Finding.{Fits, IsFound, IsSequenceOf, Says, blocks_from, limit_of, log_block};
@@ -16,8 +16,9 @@ use journal_model::layout::{
     COMMIT_TYPE, DESCRIPTOR_TYPE, HEADER_BYTES, NUMBER_BYTES, REVOKE_HEADER_BYTES, REVOKE_TYPE,
     TAG_BYTES,
 };
-use journal_model::{Area, BlockNo, JournalError, LogLayout, Tag};
+use journal_model::{Area, BlockNo, JournalError, LogLayout};
 use log_format::{Descriptor, Header, RevokeBlock};
+use log_model::Tag;
 use std::marker::Model;
 
 /// The most tags of the largest descriptor.

@@ -1,8 +1,8 @@
 //! A log whose superblock was accepted.
 ghost use Rattle.std.specs.Prelude.{◌≡◌, ◌<◌, ◌+◌, ◌^◌, ◌≤◌, ◌==◌};
-ghost use Rattle.journal_model.specs.Chain.{place_from};
-ghost use Rattle.journal_model.specs.Opening.{layout_of, ring_of};
-ghost use Rattle.journal_model.specs.Superblock.{least_ring};
+ghost use Rattle.log_model.specs.Chain.{place_from};
+ghost use Rattle.log_model.specs.Opening.{layout_of, ring_of};
+ghost use Rattle.log_model.specs.Superblock.{least_ring};
 
 use journal_model::LogLayout;
 use log_format::Super;
@@ -18,8 +18,8 @@ pub struct Log {
 
 impl Model for Log {
     ghost use Rattle.std.specs.Prelude.{◌≡◌};
-    ghost use Rattle.journal_model.specs.Opening.{ring_of};
-    ghost use Rattle.journal_model.specs.Superblock.{Super as Fields};
+    ghost use Rattle.log_model.specs.Opening.{ring_of};
+    ghost use Rattle.log_model.specs.Superblock.{Super as Fields};
 
     ghost Value = { Fields };
 

@@ -1,7 +1,7 @@
 //! The way over a log from where it begins to the end of its chain.
 ghost use Rattle.std.specs.Prelude.{◌≡◌, ◌≤◌, length, IfOk, IfErr, OnOk};
 ghost use Rattle.journal_model.specs.Disk.{reading};
-ghost use Rattle.journal_model.specs.Opening.{layout_of, ring_of};
+ghost use Rattle.log_model.specs.Opening.{layout_of, ring_of};
 ghost use Rattle.block_device.specs.State.{Stays};
 ghost use Rattle.log_format.specs.Accepted.{IsAccepted};
 ghost use Rattle.log_scan.specs.Finding.{limit_of};

@@ -2,14 +2,14 @@
 use Rattle.std.proofs.Common.{refl, sym, ◌∙◌, ap, subst, arith, append_assoc}
 use Rattle.std.specs.Prelude.{◌≡◌, ℕ, suc, ◌+◌, ◌<◌, List, [], ◌∷◌, ◌++◌, length, drop}
 use Rattle.std.specs.List.{AllByRecursion}
-use Rattle.journal_model.specs.declared.log.Piece.{Piece}
-use Rattle.journal_model.specs.declared.log.Text.{Text}
-use Rattle.journal_model.specs.Chain.{AreTexts, BeginsWithTexts, texts_blocks}
+use Rattle.log_model.specs.declared.log.Piece.{Piece}
+use Rattle.log_model.specs.declared.log.Text.{Text}
+use Rattle.log_model.specs.Chain.{AreTexts, BeginsWithTexts, texts_blocks}
 use Rattle.journal_model.specs.Layout.{Layout}
-use Rattle.journal_model.specs.Text.{IsCommitBlock, IsPiece, IsText, piece_blocks, pieces_blocks, text_blocks}
-use Rattle.journal_model.proofs.ReadingPieces.{no_piece_at_end, one_piece}
-use Rattle.journal_model.proofs.ReadingPieces.Ends.{commits}
-use Rattle.journal_model.proofs.ReadingTexts.{one_list_of_texts, one_text}
+use Rattle.log_model.specs.Text.{IsCommitBlock, IsPiece, IsText, piece_blocks, pieces_blocks, text_blocks}
+use Rattle.log_model.proofs.ReadingPieces.{no_piece_at_end, one_piece}
+use Rattle.log_model.proofs.ReadingPieces.Ends.{commits}
+use Rattle.log_model.proofs.ReadingTexts.{one_list_of_texts, one_text}
 use Rattle.log_scan.specs.Passing.{StandBefore}
 
 -- the blocks of texts, the first apart

@@ -4,9 +4,9 @@ use Rattle.std.specs.Prelude.{◌≡◌, ℕ, suc, ◌≤◌, List, [], ◌∷�
 use Rattle.std.proofs.lemmas.List.Elements.{Contains-append_cases, Contains-append_left, Contains-append_right}
 use Rattle.std.proofs.lemmas.Option.{none-some, same_Some}
 use Rattle.journal_model.proofs.ListElements.{contains-none}
-use Rattle.journal_model.specs.declared.log.Text.{Text}
-use Rattle.journal_model.specs.Replay.{IsCovered}
-use Rattle.journal_model.specs.Text.{text_copies, text_revokes}
+use Rattle.log_model.specs.declared.log.Text.{Text}
+use Rattle.log_model.specs.Replay.{IsCovered}
+use Rattle.log_model.specs.Text.{text_copies, text_revokes}
 use Rattle.revoke_table.specs.Copies.{copies_of}
 use Rattle.recovery.specs.HomeCopies.{Change, chain_changes, text_changes}
 use Rattle.recovery.specs.HomeCopies.Change.{Copied, Revoked}

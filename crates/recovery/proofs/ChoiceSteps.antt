@@ -5,9 +5,9 @@ use Rattle.std.specs.List.{flat_map}
 use Rattle.std.proofs.lemmas.Grind.{flat_map-append}
 use Rattle.std.proofs.lemmas.List.{append-nil, length-append, length-take}
 use Rattle.journal_model.proofs.ListElements.{take-more_read}
-use Rattle.journal_model.specs.declared.log.Piece.{Piece}
-use Rattle.journal_model.specs.declared.log.Text.{Text}
-use Rattle.journal_model.specs.Text.{piece_copies, text_copies}
+use Rattle.log_model.specs.declared.log.Piece.{Piece}
+use Rattle.log_model.specs.declared.log.Text.{Text}
+use Rattle.log_model.specs.Text.{piece_copies, text_copies}
 use Rattle.revoke_table.specs.Copies.{copies_of}
 use Rattle.revoke_table.specs.Revokes.{BlockTable}
 use Rattle.recovery.specs.Choice.{chosen, chosen_all, goes_by}

@@ -9,8 +9,8 @@ use Rattle.std.proofs.lemmas.Grind.{flat_map-append}
 use Rattle.std.proofs.lemmas.List.{append-nil, length-append}
 use Rattle.std.proofs.lemmas.List.Elements.{Contains-append_cases, Contains-append_left, Contains-append_right}
 use Rattle.std.proofs.lemmas.Option.{none-some, same_Some}
-use Rattle.journal_model.specs.declared.log.Text.{Text}
-use Rattle.journal_model.specs.Text.{text_copies, text_revokes}
+use Rattle.log_model.specs.declared.log.Text.{Text}
+use Rattle.log_model.specs.Text.{text_copies, text_revokes}
 use Rattle.revoke_table.specs.Copies.{copies_of, copy_notes, placed_all, places_of}
 use Rattle.revoke_table.specs.Revokes.{BlockTable, Covers, revokes_of}
 use Rattle.recovery.specs.Choice.{chosen, chosen_all, goes_by, is_place, reaches}

@@ -4,10 +4,10 @@ use Rattle.std.specs.Prelude.{◌≡◌, ◌⊎◌, ℕ, ◌==◌, true, false, 
 use Rattle.std.proofs.lemmas.Bool.{cases_eq}
 use Rattle.std.proofs.lemmas.Bool.Decides.{nat_tests}
 use Rattle.journal_model.proofs.ListElements.{contains-behind, contains-cases, contains-first, contains-none}
-use Rattle.journal_model.specs.declared.log.Text.{Text}
+use Rattle.log_model.specs.declared.log.Text.{Text}
 use Rattle.journal_model.specs.declared.number.Area.TheVariants.{Log, Home}
 use Rattle.journal_model.specs.Disk.{Disk, reading, written}
-use Rattle.journal_model.specs.Replay.{IsReplayed}
+use Rattle.log_model.specs.Replay.{IsReplayed}
 use Rattle.recovery.specs.Calls.{disk_after, writes_home}
 use Rattle.recovery.specs.HomeCopies.{home_copies}
 use Rattle.recovery.proofs.LastCopies.{BlockCopies}

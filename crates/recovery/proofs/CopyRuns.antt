@@ -4,13 +4,13 @@ use Rattle.std.specs.Prelude.{◌≡◌, ℕ, suc, ◌+◌, ◌<◌, ◌≤◌, 
 use Rattle.std.specs.List.{zip}
 use Rattle.std.proofs.lemmas.List.{length-take-le, map-append, take-append-drop}
 use Rattle.std.proofs.lemmas.Option.{slice_get-get_or}
-use Rattle.journal_model.specs.declared.log.Tag.{Tag}
+use Rattle.log_model.specs.declared.log.Tag.{Tag}
 use Rattle.journal_model.specs.declared.number.Area.TheVariants.{Log}
-use Rattle.journal_model.specs.Chain.{place_from}
+use Rattle.log_model.specs.Chain.{place_from}
 use Rattle.journal_model.specs.Disk.{Cell, Disk, reading}
-use Rattle.journal_model.specs.Escape.{unescaped}
-use Rattle.journal_model.specs.Opening.{ring_of}
-use Rattle.journal_model.specs.Superblock.{Super}
+use Rattle.log_model.specs.Escape.{unescaped}
+use Rattle.log_model.specs.Opening.{ring_of}
+use Rattle.log_model.specs.Superblock.{Super}
 use Rattle.journal_model.proofs.ListElements.{take-more_read}
 use Rattle.block_device.specs.State.{DeviceState}
 use Rattle.journal_world.specs.Call.{Call}

@@ -3,10 +3,10 @@ use Rattle.std.proofs.Common.{sym, ◌∙◌, ap, subst, arith}
 use Rattle.std.specs.Prelude.{◌≡◌, ℕ, ◌+◌, ◌<◌, ◌≤◌, true, false, List, [], ◌∷◌, length, take, drop, get_or, slice_get, Some}
 use Rattle.std.proofs.lemmas.List.{length-take-le, take-append-drop}
 use Rattle.std.proofs.lemmas.Option.{slice_get-get_or}
-use Rattle.journal_model.specs.declared.log.Tag.{Tag}
+use Rattle.log_model.specs.declared.log.Tag.{Tag}
 use Rattle.journal_model.specs.Disk.{reading}
-use Rattle.journal_model.specs.Escape.{unescaped}
-use Rattle.journal_model.specs.Superblock.{Super}
+use Rattle.log_model.specs.Escape.{unescaped}
+use Rattle.log_model.specs.Superblock.{Super}
 use Rattle.journal_model.proofs.ListElements.{get-front}
 use Rattle.block_device.specs.State.{DeviceState}
 use Rattle.journal_world.specs.Call.{Call}

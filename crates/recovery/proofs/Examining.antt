@@ -3,18 +3,18 @@ use Rattle.std.proofs.Common.{refl, sym, ◌∙◌, ap, subst, arith, inl, inr}
 use Rattle.std.specs.Prelude.{◌≡◌, ◌≢◌, ℕ, ◌+◌, ◌<◌, ◌≤◌, ◌==◌, true, List, [], length, None}
 use Rattle.std.proofs.lemmas.Bool.{cases_eq}
 use Rattle.std.proofs.lemmas.Bool.Decides.{nat_tests}
-use Rattle.journal_model.specs.declared.log.Text.{Text}
+use Rattle.log_model.specs.declared.log.Text.{Text}
 use Rattle.journal_model.specs.declared.number.Area.TheVariants.{Log}
 use Rattle.journal_model.specs.declared.refusal.JournalError.{JournalError}
 use Rattle.journal_model.specs.declared.refusal.JournalError.TheVariants.{BadLength, Device, Memory}
-use Rattle.journal_model.specs.Chain.{IsAhead}
-use Rattle.journal_model.specs.Disk.{Disk, Image, reading}
-use Rattle.journal_model.specs.Opening.{HasChain, HasLimit, IsDamagedImage, IsRefused, greatest_number, layout_of, log_lap, ring_of, super_of}
-use Rattle.journal_model.specs.Opening.HasLimit.{OfChain, OfClean}
-use Rattle.journal_model.specs.Opening.IsRefused.{ByAhead, ByDamage, ByNumber, BySuperblock}
-use Rattle.journal_model.specs.Superblock.{Shape, Super, super_in, super_refusal}
+use Rattle.log_model.specs.Chain.{IsAhead}
+use Rattle.journal_model.specs.Disk.{Disk, Image, Shape, reading}
+use Rattle.log_model.specs.Opening.{HasChain, HasLimit, IsDamagedImage, IsRefused, greatest_number, layout_of, log_lap, ring_of, super_of}
+use Rattle.log_model.specs.Opening.HasLimit.{OfChain, OfClean}
+use Rattle.log_model.specs.Opening.IsRefused.{ByAhead, ByDamage, ByNumber, BySuperblock}
+use Rattle.log_model.specs.Superblock.{Super, super_in, super_refusal}
 use Rattle.block_device.specs.State.{DeviceState, IsDeviceFailure, Stays, one_more_fault}
-use Rattle.journal_model.proofs.ReadingTexts.{one_chain_of}
+use Rattle.log_model.proofs.ReadingTexts.{one_chain_of}
 use Rattle.log_scan.specs.Finding.{most_bytes}
 use Rattle.log_scan.specs.Scanning.{AreTextsOf}
 use Rattle.log_scan.proofs.Listed.{damage-around, damage-device, damage-memory, super-device, super-memory}

@@ -1,17 +1,17 @@
 -- Gathering, one piece after the other.
 use Rattle.std.proofs.Common.{refl, sym, ◌∙◌, ap, ap₂, subst, arith, inl, inr}
 use Rattle.std.specs.Prelude.{◌≡◌, ◌⊎◌, ℕ, suc, ◌+◌, ◌<◌, List, [], ◌∷◌, ◌++◌, length}
-use Rattle.journal_model.specs.declared.log.Piece.{Piece}
-use Rattle.journal_model.specs.declared.log.Piece.TheVariants.{Copies, Revokes}
-use Rattle.journal_model.specs.declared.log.Tag.{Tag}
-use Rattle.journal_model.specs.declared.log.Text.{Text}
-use Rattle.journal_model.specs.Chain.{lap}
+use Rattle.log_model.specs.declared.log.Piece.{Piece}
+use Rattle.log_model.specs.declared.log.Piece.TheVariants.{Copies, Revokes}
+use Rattle.log_model.specs.declared.log.Tag.{Tag}
+use Rattle.log_model.specs.declared.log.Text.{Text}
+use Rattle.log_model.specs.Chain.{lap}
 use Rattle.journal_model.specs.Disk.{Disk, Image, reading}
-use Rattle.journal_model.specs.Opening.{layout_of, ring_of}
-use Rattle.journal_model.specs.Superblock.{Super}
-use Rattle.journal_model.specs.Text.{piece_copies}
+use Rattle.log_model.specs.Opening.{layout_of, ring_of}
+use Rattle.log_model.specs.Superblock.{Super}
+use Rattle.log_model.specs.Text.{piece_copies}
 use Rattle.block_device.specs.State.{DeviceState, Stays}
-use Rattle.journal_model.proofs.ReadingTexts.{one_chain_of}
+use Rattle.log_model.proofs.ReadingTexts.{one_chain_of}
 use Rattle.log_scan.specs.declared.cursor.Cursor.{Cursor}
 use Rattle.log_scan.specs.declared.finding.Found.{Found}
 use Rattle.log_scan.specs.declared.finding.Found.TheVariants.{Malformed, Nothing}

@@ -6,10 +6,10 @@ use Rattle.std.proofs.lemmas.List.Elements.{All-contains_itself}
 use Rattle.std.proofs.lemmas.List.Kept.{AllPairs-cons}
 use Rattle.std.proofs.lemmas.Option.{none-some, same_Some}
 use Rattle.journal_model.proofs.ListElements.{contains-none}
-use Rattle.journal_model.proofs.Newest.{newest-same}
-use Rattle.journal_model.specs.declared.log.Text.{Text}
-use Rattle.journal_model.specs.Replay.{HasNoLive, IsCovered, IsLive, IsNewest}
-use Rattle.journal_model.specs.Text.{text_copies, text_revokes}
+use Rattle.log_model.proofs.Newest.{newest-same}
+use Rattle.log_model.specs.declared.log.Text.{Text}
+use Rattle.log_model.specs.Replay.{HasNoLive, IsCovered, IsLive, IsNewest}
+use Rattle.log_model.specs.Text.{text_copies, text_revokes}
 use Rattle.recovery.specs.HomeCopies.{Change, chain_changes, home_copies, is_of, last_copies, text_changes}
 use Rattle.recovery.specs.HomeCopies.Change.{Copied, Revoked}
 use Rattle.recovery.proofs.ChainChanges.{chain-has, changes-copied, changes-revoked, covered-more, covered-tail, revoked-covered}

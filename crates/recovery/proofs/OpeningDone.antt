@@ -2,7 +2,7 @@
 use Rattle.std.proofs.Common.{refl, sym, ◌∙◌, ap, subst}
 use Rattle.std.specs.Prelude.{◌≡◌, ℕ, List}
 use Rattle.journal_model.specs.declared.number.Area.TheVariants.{Log}
-use Rattle.journal_model.specs.Superblock.{Shape}
+use Rattle.journal_model.specs.Disk.{Shape}
 use Rattle.block_device.specs.State.{DeviceState, EachMoment}
 use Rattle.block_device.proofs.Moments.{each-stays}
 use Rattle.journal_world.specs.Opening.{IsOpenedLog, IsOpening, cleaned}

@@ -4,9 +4,8 @@ use Rattle.std.proofs.Common.{refl, sym, ◌∙◌, subst, append_assoc}
 use Rattle.std.specs.Prelude.{◌≡◌, List, [], ◌∷◌, ◌++◌, ⊤}
 use Rattle.std.specs.List.{AllByRecursion}
 use Rattle.std.proofs.lemmas.List.{append-nil}
-use Rattle.journal_model.specs.Disk.{Disk}
+use Rattle.journal_model.specs.Disk.{Disk, Shape}
 use Rattle.journal_model.specs.declared.number.Area.TheVariants.{Log}
-use Rattle.journal_model.specs.Superblock.{Shape}
 use Rattle.block_device.specs.State.{DeviceState, EachMoment}
 use Rattle.block_device.proofs.Moments.{each-joins, each-moves, each-stays}
 use Rattle.journal_world.specs.Call.{Call, after_success}

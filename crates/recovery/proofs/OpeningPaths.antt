@@ -4,12 +4,11 @@ use Rattle.std.specs.Prelude.{◌≡◌, ◌≢◌, ℕ, ◌==◌, true, false, 
 use Rattle.std.proofs.lemmas.Bool.{cases_eq}
 use Rattle.std.proofs.lemmas.Bool.Decides.{nat_tests}
 use Rattle.journal_model.proofs.ListElements.{contains-behind, contains-first}
-use Rattle.journal_model.specs.declared.log.Text.{Text}
+use Rattle.log_model.specs.declared.log.Text.{Text}
 use Rattle.journal_model.specs.declared.number.Area.TheVariants.{Log, Home}
-use Rattle.journal_model.specs.Disk.{Disk, Image, flushed, reading, written}
-use Rattle.journal_model.specs.Opening.{HasChain, IsClean, super_of}
-use Rattle.journal_model.specs.Replay.{IsNewest, IsReplayed}
-use Rattle.journal_model.specs.Superblock.{Shape}
+use Rattle.journal_model.specs.Disk.{Disk, Image, Shape, flushed, reading, written}
+use Rattle.log_model.specs.Opening.{HasChain, IsClean, super_of}
+use Rattle.log_model.specs.Replay.{IsNewest, IsReplayed}
 use Rattle.journal_world.specs.Call.{Call, after_success}
 use Rattle.journal_world.specs.Call.Call.{Write, Flush}
 use Rattle.log_epochs.specs.OpeningSteps.{Found, HasTexts, OpeningCall, OpeningStage, clean_superblock}

@@ -5,8 +5,8 @@ use Rattle.std.proofs.lemmas.Bool.{cases_eq}
 use Rattle.std.proofs.lemmas.Option.{same_Some}
 use Rattle.std.specs.FinMap.{empty, get, insert}
 use Rattle.journal_model.proofs.ListElements.{contains-behind, contains-cases, contains-first, contains-none, get-behind}
-use Rattle.journal_model.specs.declared.log.Text.{Text}
-use Rattle.journal_model.specs.Replay.{IsCovered}
+use Rattle.log_model.specs.declared.log.Text.{Text}
+use Rattle.log_model.specs.Replay.{IsCovered}
 use Rattle.revoke_table.specs.Copies.{copy_notes, placed_all}
 use Rattle.revoke_table.specs.Revokes.{BlockTable, Covers, revokes_of}
 use Rattle.revoke_table.proofs.Noting.{get-other, get-own, revokes-cover}

@@ -2,7 +2,8 @@
 use Rattle.std.proofs.Common.{◌∙◌, ap₂, subst}
 use Rattle.std.specs.Prelude.{◌≡◌, ℕ, List, length, Option, None}
 use Rattle.journal_model.specs.declared.refusal.JournalError.{JournalError}
-use Rattle.journal_model.specs.Superblock.{Shape, Super, super_in, super_refusal}
+use Rattle.journal_model.specs.Disk.{Shape}
+use Rattle.log_model.specs.Superblock.{Super, super_in, super_refusal}
 use Rattle.log_format.specs.Accepted.{IsAccepted}
 use Rattle.recovery.specs.Opening.{IsWellRead}
 

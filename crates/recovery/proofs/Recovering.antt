@@ -3,13 +3,13 @@ use Rattle.std.proofs.Common.{refl, sym, ◌∙◌, ap, ap₂, subst, arith}
 use Rattle.std.specs.Prelude.{◌≡◌, ◌≢◌, ℕ, ◌+◌, ◌==◌, Bool, true, false, List, [], ◌∷◌, ◌++◌, length}
 use Rattle.std.proofs.lemmas.Bool.{eqb-true}
 use Rattle.std.proofs.lemmas.Bool.Decides.{nat_tests}
-use Rattle.journal_model.specs.declared.log.Text.{Text}
+use Rattle.log_model.specs.declared.log.Text.{Text}
 use Rattle.journal_model.specs.declared.number.Area.TheVariants.{Log}
 use Rattle.journal_model.specs.declared.refusal.JournalError.{JournalError}
-use Rattle.journal_model.specs.Chain.{IsChain, IsDamaged, Ring, lap}
-use Rattle.journal_model.specs.Disk.{Disk, Image, flushed, reading}
-use Rattle.journal_model.specs.Opening.{layout_of, ring_of, super_of}
-use Rattle.journal_model.specs.Superblock.{Shape, Super, super_in, with_tail}
+use Rattle.log_model.specs.Chain.{IsChain, IsDamaged, Ring, lap}
+use Rattle.journal_model.specs.Disk.{Disk, Image, Shape, flushed, reading}
+use Rattle.log_model.specs.Opening.{layout_of, ring_of, super_of}
+use Rattle.log_model.specs.Superblock.{Super, super_in, with_tail}
 use Rattle.block_device.specs.State.{DeviceState, IsDeviceFailure, Moves, Stays, one_more_fault}
 use Rattle.log_scan.specs.Scanning.{AreTextsOf}
 use Rattle.journal_world.specs.Call.{Call}

@@ -3,16 +3,16 @@ use Rattle.std.proofs.Common.{refl, sym, ◌∙◌, ap, ap₂, subst, arith, app
 use Rattle.std.specs.Prelude.{◌≡◌, ◌⊎◌, ℕ, suc, ◌+◌, ◌<◌, ◌≤◌, List, [], ◌∷◌, ◌++◌, length, take}
 use Rattle.std.specs.List.{flat_map}
 use Rattle.std.proofs.lemmas.Grind.{flat_map-append}
-use Rattle.journal_model.proofs.ReadingTexts.{one_chain_of}
-use Rattle.journal_model.specs.declared.log.Piece.{Piece}
-use Rattle.journal_model.specs.declared.log.Piece.TheVariants.{Copies, Revokes}
-use Rattle.journal_model.specs.declared.log.Tag.{Tag}
-use Rattle.journal_model.specs.declared.log.Text.{Text}
-use Rattle.journal_model.specs.Chain.{lap}
+use Rattle.log_model.proofs.ReadingTexts.{one_chain_of}
+use Rattle.log_model.specs.declared.log.Piece.{Piece}
+use Rattle.log_model.specs.declared.log.Piece.TheVariants.{Copies, Revokes}
+use Rattle.log_model.specs.declared.log.Tag.{Tag}
+use Rattle.log_model.specs.declared.log.Text.{Text}
+use Rattle.log_model.specs.Chain.{lap}
 use Rattle.journal_model.specs.Disk.{Disk, Image, reading}
-use Rattle.journal_model.specs.Opening.{layout_of, ring_of}
-use Rattle.journal_model.specs.Superblock.{Super}
-use Rattle.journal_model.specs.Text.{piece_copies, text_copies}
+use Rattle.log_model.specs.Opening.{layout_of, ring_of}
+use Rattle.log_model.specs.Superblock.{Super}
+use Rattle.log_model.specs.Text.{piece_copies, text_copies}
 use Rattle.block_device.specs.State.{DeviceState, Stays}
 use Rattle.journal_world.specs.Call.{Call}
 use Rattle.log_scan.specs.declared.cursor.Cursor.{Cursor}

@@ -2,14 +2,14 @@
 use Rattle.std.proofs.Common.{refl, sym, ◌∙◌, ap, subst}
 use Rattle.std.specs.Prelude.{◌≡◌, ℕ, ◌+◌, List, [], ◌∷◌, ◌++◌, map, take}
 use Rattle.std.specs.List.{range_with_len}
-use Rattle.journal_model.specs.declared.log.Piece.{Piece}
-use Rattle.journal_model.specs.declared.log.Piece.TheVariants.{Copies, Revokes}
-use Rattle.journal_model.specs.declared.log.Text.{Text}
+use Rattle.log_model.specs.declared.log.Piece.{Piece}
+use Rattle.log_model.specs.declared.log.Piece.TheVariants.{Copies, Revokes}
+use Rattle.log_model.specs.declared.log.Text.{Text}
 use Rattle.journal_model.specs.declared.number.Area.TheVariants.{Home, Log}
-use Rattle.journal_model.specs.Chain.{IsChain, IsDamaged, Ring, lap, place_from}
+use Rattle.log_model.specs.Chain.{IsChain, IsDamaged, Ring, lap, place_from}
 use Rattle.journal_model.specs.Disk.{Cell, Disk, Image, reading, written}
-use Rattle.journal_model.specs.Opening.{layout_of, ring_of}
-use Rattle.journal_model.specs.Superblock.{Super}
+use Rattle.log_model.specs.Opening.{layout_of, ring_of}
+use Rattle.log_model.specs.Superblock.{Super}
 use Rattle.block_device.specs.State.{DeviceState}
 use Rattle.log_scan.specs.declared.cursor.Cursor.{Cursor}
 use Rattle.log_scan.specs.declared.finding.Found.{Found}

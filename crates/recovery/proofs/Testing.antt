@@ -5,8 +5,8 @@ use Rattle.std.proofs.lemmas.Bool.Decides.{nat_tests}
 use Rattle.journal_model.specs.declared.refusal.JournalError.{JournalError}
 use Rattle.journal_model.specs.declared.refusal.JournalError.TheVariants.{Ahead, SequenceEnd}
 use Rattle.journal_model.specs.Disk.{Disk, reading}
-use Rattle.journal_model.specs.Opening.{greatest_number}
-use Rattle.journal_model.specs.Superblock.{Super}
+use Rattle.log_model.specs.Opening.{greatest_number}
+use Rattle.log_model.specs.Superblock.{Super}
 use Rattle.block_device.specs.State.{DeviceState, Stays}
 use Rattle.log_scan.specs.Scanning.{IsDamageOf, IsScanRefused}
 use Rattle.recovery.specs.Opening.{HasTransactions, IsLowestAhead, IsTestRefused, NoneAhead}

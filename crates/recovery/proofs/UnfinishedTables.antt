@@ -6,11 +6,11 @@ use Rattle.std.specs.List.{flat_map}
 use Rattle.std.proofs.lemmas.Grind.{flat_map-append}
 use Rattle.std.proofs.lemmas.List.{append-nil, length-append, length-take, map-append}
 use Rattle.journal_model.proofs.ListElements.{take-more_read}
-use Rattle.journal_model.specs.declared.log.Piece.{Piece}
-use Rattle.journal_model.specs.declared.log.Piece.TheVariants.{Copies, Revokes}
-use Rattle.journal_model.specs.declared.log.Tag.{Tag}
-use Rattle.journal_model.specs.declared.log.Text.{Text}
-use Rattle.journal_model.specs.Text.{piece_copies, piece_revokes, text_copies, text_revokes}
+use Rattle.log_model.specs.declared.log.Piece.{Piece}
+use Rattle.log_model.specs.declared.log.Piece.TheVariants.{Copies, Revokes}
+use Rattle.log_model.specs.declared.log.Tag.{Tag}
+use Rattle.log_model.specs.declared.log.Text.{Text}
+use Rattle.log_model.specs.Text.{piece_copies, piece_revokes, text_copies, text_revokes}
 use Rattle.revoke_table.specs.Copies.{copies_of, copy_notes, placed_all, places_of}
 use Rattle.revoke_table.specs.Revokes.{BlockTable, noted, noted_all, notes_of, revoke_notes, revokes_of}
 use Rattle.recovery.specs.Choice.{unfinished}

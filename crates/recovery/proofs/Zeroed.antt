@@ -4,8 +4,8 @@ use Rattle.std.specs.Prelude.{◌≡◌, ℕ, ◌+◌, ◌==◌, ◌<◌, ◌≤
 use Rattle.std.proofs.lemmas.Bool.{cases_eq}
 use Rattle.std.proofs.lemmas.Bool.Decides.{nat_tests}
 use Rattle.journal_model.specs.declared.number.Area.TheVariants.{Log}
-use Rattle.journal_model.specs.Disk.{Cell, Disk, flushed, written}
-use Rattle.journal_model.specs.Superblock.{Shape, formatted_super, greatest_length, least_length}
+use Rattle.journal_model.specs.Disk.{Cell, Disk, Shape, flushed, written}
+use Rattle.log_model.specs.Superblock.{formatted_super, greatest_length, least_length}
 use Rattle.log_format.specs.Size.{IsBlockSize}
 use Rattle.journal_world.specs.Sound.{durable_cell}
 use Rattle.recovery.specs.Opening.{HasZeros, IsFormatted}

@@ -2,7 +2,7 @@
 use Rattle.std.specs.Prelude.{◌≡◌, ◌==◌, ℕ, if◌then◌else◌, List, [], ◌∷◌, ◌++◌, map}
 use Rattle.journal_model.specs.declared.number.Area.TheVariants.{Log, Home}
 use Rattle.journal_model.specs.Disk.{Disk}
-use Rattle.journal_model.specs.Opening.{super_of}
+use Rattle.log_model.specs.Opening.{super_of}
 use Rattle.block_device.specs.State.{DeviceState, Moves, Stays}
 use Rattle.journal_world.specs.Call.{Call, IsAfterFault, after_success}
 use Rattle.journal_world.specs.Call.Call.{Write, Flush}

@@ -2,9 +2,9 @@
 -- fs/jbd2/recovery.c and revoke.c by behaviour; the table of places is this project's own.
 use Rattle.std.specs.Prelude.{ℕ, suc, ◌+◌, ◌==◌, ◌&&◌, not, nat_le, Bool, false, if◌then◌else◌, List, [], ◌∷◌, ◌++◌, length, Option, Some, None}
 use Rattle.std.specs.FinMap.{get}
-use Rattle.journal_model.specs.declared.log.Piece.{Piece}
-use Rattle.journal_model.specs.declared.log.Text.{Text}
-use Rattle.journal_model.specs.Text.{text_copies}
+use Rattle.log_model.specs.declared.log.Piece.{Piece}
+use Rattle.log_model.specs.declared.log.Text.{Text}
+use Rattle.log_model.specs.Text.{text_copies}
 use Rattle.revoke_table.specs.Revokes.{BlockTable}
 
 -- whether what is noted of a block is this place

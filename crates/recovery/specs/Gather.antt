@@ -4,14 +4,14 @@ use Rattle.std.specs.Coded.{Coded, code_by, coded×, coded_ℕ}
 use Rattle.std.specs.FinMap as fin_map
 use Rattle.std.specs.FinMap.{empty}
 use Rattle.std.specs.List.{zip}
-use Rattle.journal_model.specs.declared.log.Tag.{Tag}
-use Rattle.journal_model.specs.declared.log.Text.{Text}
+use Rattle.log_model.specs.declared.log.Tag.{Tag}
+use Rattle.log_model.specs.declared.log.Text.{Text}
 use Rattle.journal_model.specs.declared.refusal.JournalError.{JournalError}
-use Rattle.journal_model.specs.Chain.{place_from}
+use Rattle.log_model.specs.Chain.{place_from}
 use Rattle.journal_model.specs.Disk.{Image, reading}
-use Rattle.journal_model.specs.Escape.{unescaped}
-use Rattle.journal_model.specs.Opening.{ring_of}
-use Rattle.journal_model.specs.Superblock.{Super}
+use Rattle.log_model.specs.Escape.{unescaped}
+use Rattle.log_model.specs.Opening.{ring_of}
+use Rattle.log_model.specs.Superblock.{Super}
 use Rattle.block_device.specs.State.{DeviceState, IsFailure}
 use Rattle.log_scan.specs.Finding.{log_block}
 use Rattle.log_scan.specs.Refusals.{NamesDamage}

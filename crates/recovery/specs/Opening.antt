@@ -1,13 +1,13 @@
 -- What formatting and opening leave, why an opening is refused, and which calls it makes.
 use Rattle.std.specs.Prelude.{◌≡◌, ◌≢◌, ◌⊎◌, ℕ, ◌+◌, ◌<◌, ◌≤◌, Bool, true, false, List, length, replicate, Option, Some, None, MatchOption, ⊤}
-use Rattle.journal_model.specs.declared.log.Text.{Text}
+use Rattle.log_model.specs.declared.log.Text.{Text}
 use Rattle.journal_model.specs.declared.number.Area.TheVariants.{Log, Home}
 use Rattle.journal_model.specs.declared.refusal.JournalError.{JournalError}
 use Rattle.journal_model.specs.declared.refusal.JournalError.TheVariants.{Memory, Device, BadBlockSize, BadLength, Ahead, SequenceEnd}
-use Rattle.journal_model.specs.Chain.{IsAhead}
-use Rattle.journal_model.specs.Disk.{Disk, Image, IsOneOf, flushed, reading}
-use Rattle.journal_model.specs.Opening.{HasChain, IsClean, IsRefused, greatest_number, ring_of, super_of}
-use Rattle.journal_model.specs.Superblock.{Shape, Super, formatted_super, greatest_length, least_length, super_in, super_refusal}
+use Rattle.log_model.specs.Chain.{IsAhead}
+use Rattle.journal_model.specs.Disk.{Disk, Image, IsOneOf, Shape, flushed, reading}
+use Rattle.log_model.specs.Opening.{HasChain, IsClean, IsRefused, greatest_number, ring_of, super_of}
+use Rattle.log_model.specs.Superblock.{Super, formatted_super, greatest_length, least_length, super_in, super_refusal}
 use Rattle.block_device.specs.State.{DeviceState, IsDeviceFailure, Stays, one_more_fault}
 use Rattle.log_format.specs.Accepted.{IsAccepted}
 use Rattle.log_format.specs.Size.{IsBlockSize}

@@ -1,7 +1,8 @@
 -- What contracts see of an opened log.
 use Rattle.std.specs.Prelude.{ℕ, ◌<◌, ◌≤◌, Bool, List}
-use Rattle.journal_model.specs.Opening.{greatest_number, ring_of}
-use Rattle.journal_model.specs.Superblock.{Shape, super_in}
+use Rattle.log_model.specs.Opening.{greatest_number, ring_of}
+use Rattle.journal_model.specs.Disk.{Shape}
+use Rattle.log_model.specs.Superblock.{super_in}
 use Rattle.journal_world.specs.Opening.{NamesNothing}
 
 -- a device with an opened log: block 0 of the log, the number of the next transaction, and what the opening found

@@ -1,7 +1,7 @@
 //! Making an empty log.
 ghost use Rattle.std.specs.Prelude.{◌≡◌, ◌<◌, ◌≤◌, length, OnOk, IfErr, MatchResult};
 ghost use Rattle.journal_model.specs.declared.number.Area.TheVariants.{Log};
-ghost use Rattle.journal_model.specs.Superblock.{greatest_length, least_length};
+ghost use Rattle.log_model.specs.Superblock.{greatest_length, least_length};
 ghost use Rattle.log_format.specs.Size.{IsBlockSize};
 ghost use Rattle.block_device.specs.State.{IsDeviceFailure};
 ghost use Rattle.recovery.specs.Opening.{FormatRefused, HasZeros, IsFormatted};

@@ -1,9 +1,9 @@
 //! Gathering: what replay goes by, noted in one pass over the chain.
 ghost use Rattle.std.specs.Prelude.{◌≡◌, ◌≢◌, ◌⊎◌, ◌+◌, ◌<◌, ◌≤◌, ◌^◌, List, length, IfOk, IfErr, OnOk};
-ghost use Rattle.journal_model.specs.declared.log.Text.{Text};
+ghost use Rattle.log_model.specs.declared.log.Text.{Text};
 ghost use Rattle.journal_model.specs.declared.refusal.JournalError.TheVariants.{Memory};
 ghost use Rattle.journal_model.specs.Disk.{reading};
-ghost use Rattle.journal_model.specs.Opening.{greatest_number, layout_of};
+ghost use Rattle.log_model.specs.Opening.{greatest_number, layout_of};
 ghost use Rattle.block_device.specs.State.{Stays};
 ghost use Rattle.log_format.specs.Accepted.{IsAccepted};
 ghost use Rattle.log_scan.specs.Scanning.{AreTextsOf};
@@ -13,7 +13,8 @@ ghost use Rattle.recovery.specs.Choice.{goes_by};
 ghost use Rattle.recovery.specs.Gather.{IsGatherRefused, empty_tables, tables_of, with_copies, with_revokes};
 
 use block_device::Device;
-use journal_model::{Area, BlockNo, JournalError, Tag, Tid};
+use journal_model::{Area, BlockNo, JournalError, Tid};
+use log_model::Tag;
 use log_scan::{Cursor, Finder, Found, Log};
 use revoke_table::{CopyTable, RevokeTable};
 use std::alloc::Global;

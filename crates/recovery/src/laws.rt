@@ -1,8 +1,8 @@
 //! What the lists say by which a replay goes. Each function states a law of the words in `specs/`, and has no body to run.
 ghost use Rattle.std.specs.Prelude.{◌≡◌, ◌≢◌, ◌↔◌, Contains, List, ℕ};
 ghost use Rattle.std.specs.List.{AllPairs};
-ghost use Rattle.journal_model.specs.declared.log.Text.{Text};
-ghost use Rattle.journal_model.specs.Replay.{IsNewest};
+ghost use Rattle.log_model.specs.declared.log.Text.{Text};
+ghost use Rattle.log_model.specs.Replay.{IsNewest};
 ghost use Rattle.recovery.specs.Choice.{chosen_all};
 ghost use Rattle.recovery.specs.Gather.{tables_of};
 ghost use Rattle.recovery.specs.HomeCopies.{home_copies};

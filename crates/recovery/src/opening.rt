@@ -3,8 +3,8 @@ ghost use Rattle.std.specs.Prelude.{◌<◌, ◌≡◌, ◌+◌, OnOk, IfOk, IfE
 ghost use Rattle.journal_model.specs.declared.refusal.JournalError.TheVariants.{BadLength};
 ghost use Rattle.journal_model.specs.Disk.{reading};
 ghost use Rattle.journal_model.specs.Layout.{IsTaken};
-ghost use Rattle.journal_model.specs.Opening.{greatest_number, layout_of};
-ghost use Rattle.journal_model.specs.Superblock.{super_in};
+ghost use Rattle.log_model.specs.Opening.{greatest_number, layout_of};
+ghost use Rattle.log_model.specs.Superblock.{super_in};
 ghost use Rattle.block_device.specs.State.{EachMoment};
 ghost use Rattle.journal_world.specs.Opening.{IsOpenedLog, IsOpening};
 ghost use Rattle.log_epochs.specs.OpeningRun.{IsMoment};

@@ -1,9 +1,9 @@
 //! Replay: the newest copies go home, and then the log is left clean.
 ghost use Rattle.std.specs.Prelude.{◌≡◌, ℕ, ◌+◌, ◌<◌, ◌≤◌, ◌^◌, [], ◌∷◌, List, All, length, take, OnOk, OnErr, MatchResult};
-ghost use Rattle.journal_model.specs.declared.log.Text.{Text};
+ghost use Rattle.log_model.specs.declared.log.Text.{Text};
 ghost use Rattle.journal_model.specs.Disk.{reading};
-ghost use Rattle.journal_model.specs.Opening.{greatest_number, layout_of, ring_of};
-ghost use Rattle.journal_model.specs.Superblock.{with_tail};
+ghost use Rattle.log_model.specs.Opening.{greatest_number, layout_of, ring_of};
+ghost use Rattle.log_model.specs.Superblock.{with_tail};
 ghost use Rattle.block_device.specs.State.{IsDeviceFailure};
 ghost use Rattle.log_format.specs.Accepted.{IsAccepted};
 ghost use Rattle.log_format.specs.Size.{IsBlockSize};
@@ -15,8 +15,9 @@ ghost use Rattle.recovery.specs.HomeCopies.{home_copies};
 
 use crate::gathering::{Tables, number_of};
 use block_device::Device;
-use journal_model::{Area, JournalError, Tag, Tid};
+use journal_model::{Area, JournalError, Tid};
 use log_format::Super;
+use log_model::Tag;
 use log_scan::{Cursor, Finder, Found, Log};
 
 /// Copies behind a descriptor of the log.

@@ -9,9 +9,9 @@ use Rattle.std.specs.Cmp.{nat_cmp_total}
 use Rattle.std.specs.FinMap.{empty, get, get-empty, get-insert, insert}
 use Rattle.std.specs.Ordering.{eq_by_cmp, nat_cmp}
 use Rattle.journal_model.proofs.ListElements.{contains-behind, contains-cases, contains-first, contains-none}
-use Rattle.journal_model.specs.declared.log.Text.{Text}
-use Rattle.journal_model.specs.Replay.{IsCovered}
-use Rattle.journal_model.specs.Text.{text_revokes}
+use Rattle.log_model.specs.declared.log.Text.{Text}
+use Rattle.log_model.specs.Replay.{IsCovered}
+use Rattle.log_model.specs.Text.{text_revokes}
 use Rattle.revoke_table.specs.Revokes.{revoke_notes, revokes_of}
 use Rattle.revoke_table.specs.Revokes.{BlockTable, Covers, greatest, noted, noted_all}
 

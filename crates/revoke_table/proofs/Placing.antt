@@ -7,9 +7,9 @@ use Rattle.std.proofs.lemmas.Option.{none-some, same_Some, slice_get_within}
 use Rattle.std.specs.FinMap.{empty, get, get-empty, insert}
 use Rattle.std.specs.Ordering.{nat_cmp}
 use Rattle.journal_model.proofs.ListElements.{get-behind, get-front}
-use Rattle.journal_model.specs.declared.log.Text.{Text}
-use Rattle.journal_model.specs.Replay.{HasNoLive, IsLive, IsNewest}
-use Rattle.journal_model.specs.Text.{text_copies}
+use Rattle.log_model.specs.declared.log.Text.{Text}
+use Rattle.log_model.specs.Replay.{HasNoLive, IsLive, IsNewest}
+use Rattle.log_model.specs.Text.{text_copies}
 use Rattle.revoke_table.specs.Copies.{GoesHome, copies_of, copy_notes, copy_place, placed_all}
 use Rattle.revoke_table.specs.Revokes.{BlockTable}
 use Rattle.revoke_table.proofs.Noting.{get-other, get-own, revokes-cover}

@@ -2,8 +2,8 @@
 use Rattle.std.specs.Prelude.{◌≡◌, ℕ, suc, ◌+◌, List, [], ◌∷◌, length, take, Some, slice_get}
 use Rattle.std.specs.FinMap.{empty, get, insert}
 use Rattle.std.specs.List.{flat_map}
-use Rattle.journal_model.specs.declared.log.Text.{Text}
-use Rattle.journal_model.specs.Text.{text_copies}
+use Rattle.log_model.specs.declared.log.Text.{Text}
+use Rattle.log_model.specs.Text.{text_copies}
 use Rattle.revoke_table.specs.Revokes.{BlockTable, Covers, revokes_of}
 
 -- the table, once these are noted, each a block and the place of a copy of it

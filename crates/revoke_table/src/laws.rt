@@ -2,8 +2,8 @@
 //! has no body to run.
 ghost use Rattle.std.specs.Prelude.{◌≡◌, ◌⊎◌, ◌↔◌, ◌+◌, ◌≤◌, Contains, List, ℕ};
 ghost use Rattle.std.specs.FinMap.{empty};
-ghost use Rattle.journal_model.specs.declared.log.Text.{Text};
-ghost use Rattle.journal_model.specs.Replay.{HasNoLive, IsCovered, IsNewest};
+ghost use Rattle.log_model.specs.declared.log.Text.{Text};
+ghost use Rattle.log_model.specs.Replay.{HasNoLive, IsCovered, IsNewest};
 ghost use Rattle.revoke_table.specs.Copies.{GoesHome};
 ghost use Rattle.revoke_table.specs.Revokes.{BlockTable, Covers, noted, noted_all, revokes_of};
 

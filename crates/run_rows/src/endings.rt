@@ -12,8 +12,9 @@ use std::fmt::Write;
 pub struct Given {
     /// What is run.
     pub script: Script,
-    /// The first and the last place at which it is interrupted.
+    /// The first place at which it is interrupted.
     pub first: u64,
+    /// The last one.
     pub last: u64,
     /// How many choices there are of the last writes that are kept.
     pub choices: u64,

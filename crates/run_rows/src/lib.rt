@@ -1,6 +1,5 @@
-//! What is done with rows of runs: of scripts and what they are read as; of runs that stop, or of which calls fail, and of openings
-//! that stop, also of devices that have lost no power; of sweeps, of wrong journals too; of images that are copied; of runs over logs
-//! that were changed by hand; of journals that are closed; and of verdicts on records made by hand.
+//! What is done with rows of runs: of scripts and what they are read as; of runs that stop, and of openings that stop, also of devices
+//! that have lost no power; of images that are copied; of runs over logs that were changed by hand; and of journals that are closed.
 //!
 //! A row gives a text and says what text is wanted. Each kind of rows is a function here. `endings` gathers in which ways runs
 //! end, and `texts` has what rows of words need too.
@@ -9,13 +8,9 @@
 pub mod changed;
 pub mod closes;
 mod closing;
-mod endings;
-pub mod failures;
+pub mod endings;
 pub mod images;
 pub mod reopened;
 pub mod scripts;
 pub mod stops;
-pub mod sweeps;
 pub mod texts;
-pub mod verdicts;
-mod wrong_journals;

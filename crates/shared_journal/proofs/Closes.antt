@@ -1,7 +1,6 @@
 -- A close of a journal that threads shared, by the close of the journal of one thread.
 use Rattle.std.specs.Prelude.{◌≡◌, ℕ, length, Result, Ok, Err, IfOk, MatchResult}
-use Rattle.journal_model.specs.Disk.{Disk}
-use Rattle.journal_model.specs.Superblock.{Shape}
+use Rattle.journal_model.specs.Disk.{Disk, Shape}
 use Rattle.journal_model.specs.Transaction.{History}
 use Rattle.group_commit.specs.Journal.{OpensOver}
 

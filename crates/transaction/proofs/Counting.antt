@@ -2,7 +2,7 @@
 use Rattle.std.proofs.Common.{◌≡◌, ℕ, ◌+◌, ◌-◌, ◌≤◌, List, [], ◌∷◌, length, refl, arith, ap, ◌∙◌}
 use Rattle.journal_model.specs.declared.entry.Entry.{Entry}
 use Rattle.journal_model.specs.declared.entry.Entry.TheVariants.{Copy, Revoke}
-use Rattle.journal_model.specs.OwnText.{copied, revoked}
+use Rattle.journal_model.specs.Transaction.{copied, revoked}
 
 -- each entry is a copy or a revoke
 counted : (es : List (ℕ × Entry)) → length (copied es) + length (revoked es) ≡ length es

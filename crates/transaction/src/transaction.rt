@@ -2,8 +2,7 @@ ghost use Rattle.std.specs.Prelude.{◌≡◌, ◌+◌, ◌-◌, ◌<◌, ◌^�
 ghost use Rattle.std.specs.Option.{option_copied, option_map_or};
 ghost use Rattle.indexmap.specs.IndexMap.{insert_entry, spare};
 ghost use Rattle.journal_model.specs.declared.refusal.JournalError.TheVariants.{Memory};
-ghost use Rattle.journal_model.specs.OwnText.{copied, revoked};
-ghost use Rattle.journal_model.specs.Transaction.{effect, entries, entry_of};
+ghost use Rattle.journal_model.specs.Transaction.{copied, effect, entries, entry_of, revoked};
 ghost use Rattle.transaction.specs.Transaction.{LacksCredit, MayTouch, TouchRefused, Touches, batch_of, begun, cost, joined_by, locking, noting, reserving, revoke_step, touch_of, write_step};
 
 #[cfg(test)]

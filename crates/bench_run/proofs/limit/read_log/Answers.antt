@@ -1,6 +1,5 @@
 use Rattle.std.proofs.Common.{◌∙◌, ap, length}
-use Rattle.journal_model.specs.Disk.{reading}
-use Rattle.journal_model.specs.Superblock.{Shape}
+use Rattle.journal_model.specs.Disk.{Shape, reading}
 use Rattle.bench_run.proofs.Limits.{read-log}
 use Rattle.bench_run.proofs.limit.read_log.Goals as goal
 

@@ -1,6 +1,5 @@
 use Rattle.std.proofs.Common.{◌∙◌, ℕ, ◌+◌, ap, subst, sym, true, false}
-use Rattle.journal_model.specs.Disk.{Disk, reading}
-use Rattle.journal_model.specs.Superblock.{Shape}
+use Rattle.journal_model.specs.Disk.{Disk, Shape, reading}
 use Rattle.log_scan.specs.Scanning.{IsScanned}
 use Rattle.recovery.specs.Opening.{Tells}
 use Rattle.bench_run.proofs.Limits.{tells-chain, tells-clean, test-clean, test-started}

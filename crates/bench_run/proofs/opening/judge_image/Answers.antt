@@ -3,7 +3,7 @@ use Rattle.std.specs.BTreeSet.{keys}
 use Rattle.std.proofs.lemmas.Result.{IfOk-weaker}
 use Rattle.journal_model.specs.declared.number.Area.TheVariants.{Home}
 use Rattle.journal_model.specs.Disk.{reading}
-use Rattle.journal_model.specs.Opening.{numbered_below}
+use Rattle.log_model.specs.Opening.{numbered_below}
 use Rattle.block_device.specs.Memory.{state_of}
 use Rattle.bench_run.specs.Verdict.{IsImageVerdict, IsRight}
 use Rattle.bench_run.proofs.Openings.{image-verdict}

@@ -1,6 +1,6 @@
 use Rattle.std.proofs.Common.{rules, ◌<◌, subst, ℕ}
 use Rattle.std.proofs.lemmas.List.Elements.{All-cons}
-use Rattle.journal_model.specs.Superblock.{Shape}
+use Rattle.journal_model.specs.Disk.{Shape}
 use Rattle.bench_run.proofs.opening.write_home.Goals as goal
 
 -- one more block is there

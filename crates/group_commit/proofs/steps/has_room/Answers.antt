@@ -1,7 +1,6 @@
 use Rattle.std.proofs.Common.{◌+◌, ◌≤◌, ◌↔◌, ℕ, IsTrue, length, subst}
-use Rattle.journal_model.specs.OwnText.{revoked}
-use Rattle.journal_model.specs.Room.{need}
-use Rattle.journal_model.specs.Transaction.{entries}
+use Rattle.log_model.specs.Room.{need}
+use Rattle.journal_model.specs.Transaction.{entries, revoked}
 use Rattle.group_commit.proofs.steps.has_room.Goals as goal
 
 -- the engine is asked for as many copies and revokes as the front has

@@ -1,8 +1,8 @@
 use Rattle.std.proofs.Common.{arith, sym, subst}
 use Rattle.std.proofs.lemmas.Bool.{iff_false}
-use Rattle.journal_model.specs.ReadingLog.{layout_with}
-use Rattle.journal_model.specs.Chain.{IsMalformed}
-use Rattle.journal_model.proofs.ReadingFronts.{malformed_is_damaged, no_damage_in_none, no_damage_in_good}
+use Rattle.log_model.specs.ReadingLog.{layout_with}
+use Rattle.log_model.specs.Chain.{IsMalformed}
+use Rattle.log_model.proofs.ReadingFronts.{malformed_is_damaged, no_damage_in_none, no_damage_in_good}
 use Rattle.journal_plain.proofs.chain.damage.Goals as goal
 
 -- nothing stands behind the chain and the pieces

@@ -1,9 +1,9 @@
 use Rattle.std.proofs.Common.{◌<◌, arith, subst}
 use Rattle.std.specs.List.{All}
 use Rattle.journal_model.specs.Layout.{Layout}
-use Rattle.journal_model.specs.ReadingLog.{layout_with}
+use Rattle.log_model.specs.ReadingLog.{layout_with}
 use Rattle.std.proofs.lemmas.List.Elements.{All-push}
-use Rattle.journal_model.proofs.ReadingNumbers.{number_above, numbers_more}
+use Rattle.log_model.proofs.ReadingNumbers.{number_above, numbers_more}
 use Rattle.journal_plain.proofs.chain.first_numbers.Goals as goal
 
 -- the number that was read names no home block

@@ -1,7 +1,7 @@
 use Rattle.std.proofs.Common.{◌≡◌, ◌<◌}
 use Rattle.std.specs.List.{All}
-use Rattle.journal_model.specs.RevokeBlock.{numbers_in}
-use Rattle.journal_model.specs.ReadingLog.{layout_with}
+use Rattle.log_model.specs.RevokeBlock.{numbers_in}
+use Rattle.log_model.specs.ReadingLog.{layout_with}
 use Rattle.journal_plain.proofs.chain.first_numbers.Given as goal
 
 -- the numbers that were read, each of a home block

@@ -2,9 +2,9 @@ use Rattle.std.proofs.Common.{◌≡◌, ℕ, ◌<◌, List}
 use Rattle.std.proofs.lemmas.Result.{IfOk-weaker}
 use Rattle.std.specs.List.{All}
 use Rattle.journal_model.specs.Layout.{Layout}
-use Rattle.journal_model.specs.ReadingLog.{layout_with, Finds}
-use Rattle.journal_model.specs.RevokeBlock.{IsRevokeBlock, numbers_in}
-use Rattle.journal_model.proofs.ReadingNumbers.{revoke_block_of, numbers_of_block}
+use Rattle.log_model.specs.ReadingLog.{layout_with, Finds}
+use Rattle.log_model.specs.RevokeBlock.{IsRevokeBlock, numbers_in}
+use Rattle.log_model.proofs.ReadingNumbers.{revoke_block_of, numbers_of_block}
 use Rattle.journal_plain.proofs.ReadingFound.{found_same}
 use Rattle.journal_plain.proofs.chain.numbers.Goals as goal
 

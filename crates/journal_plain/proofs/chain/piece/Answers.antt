@@ -1,9 +1,9 @@
 use Rattle.std.proofs.Common.{ℕ, List, ◌∷◌, arith, take, sym, ◌∙◌, ap, subst}
 use Rattle.journal_model.specs.Layout.{Layout}
-use Rattle.journal_model.specs.ReadingLog.{layout_with}
-use Rattle.journal_model.specs.RevokeBlock.{IsRevokeBlock}
-use Rattle.journal_model.specs.Descriptor.{IsDescriptor}
-use Rattle.journal_model.proofs.ReadingFronts.{copies_begin, copies_missing}
+use Rattle.log_model.specs.ReadingLog.{layout_with}
+use Rattle.log_model.specs.RevokeBlock.{IsRevokeBlock}
+use Rattle.log_model.specs.Descriptor.{IsDescriptor}
+use Rattle.log_model.proofs.ReadingFronts.{copies_begin, copies_missing}
 use Rattle.journal_plain.proofs.chain.piece.Goals as goal
 
 -- fewer blocks stand behind the descriptor than it has tags

@@ -1,5 +1,5 @@
 use Rattle.std.proofs.Common.{arith}
-use Rattle.journal_model.proofs.ReadingFronts.{front_within, piece_within, pieces_more}
+use Rattle.log_model.proofs.ReadingFronts.{front_within, piece_within, pieces_more}
 use Rattle.journal_plain.proofs.chain.pieces.Goals as goal
 
 -- one more piece

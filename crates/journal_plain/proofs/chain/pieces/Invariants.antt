@@ -1,5 +1,5 @@
 use Rattle.std.proofs.Common.{◌-◌, length}
-use Rattle.journal_model.specs.ReadingLog.{layout_with, PiecesBegin}
+use Rattle.log_model.specs.ReadingLog.{layout_with, PiecesBegin}
 use Rattle.journal_plain.proofs.chain.pieces.Given as goal
 
 -- the pieces so far

@@ -1,10 +1,10 @@
 use Rattle.std.proofs.Common.{◌≡◌, List, [], drop, arith, subst}
 use Rattle.std.proofs.lemmas.Result.{IfOk-weaker}
-use Rattle.journal_model.specs.declared.log.Tag.{Tag}
+use Rattle.log_model.specs.declared.log.Tag.{Tag}
 use Rattle.journal_model.specs.Layout.{Layout}
-use Rattle.journal_model.specs.ReadingLog.{layout_with, Finds, HasTags}
-use Rattle.journal_model.specs.Descriptor.{IsDescriptor, BeginsWithTags}
-use Rattle.journal_model.proofs.ReadingTags.{no_tags_in_none}
+use Rattle.log_model.specs.ReadingLog.{layout_with, Finds, HasTags}
+use Rattle.log_model.specs.Descriptor.{IsDescriptor, BeginsWithTags}
+use Rattle.log_model.proofs.ReadingTags.{no_tags_in_none}
 use Rattle.journal_plain.proofs.ReadingFound.{found_same}
 use Rattle.std.proofs.lemmas.List.{drop_all}
 use Rattle.journal_plain.proofs.chain.tags.Goals as goal

@@ -1,7 +1,7 @@
 use Rattle.std.proofs.Common.{◌+◌, arith, ap}
 use Rattle.std.proofs.lemmas.Bool.{iff_false}
-use Rattle.journal_model.proofs.ReadingTags.{tags_more, tags_last, tags_stop, tags_above}
-use Rattle.journal_model.proofs.ReadingFronts.{tags_none}
+use Rattle.log_model.proofs.ReadingTags.{tags_more, tags_last, tags_stop, tags_above}
+use Rattle.log_model.proofs.ReadingFronts.{tags_none}
 use Rattle.journal_plain.proofs.chain.tags_in.Goals as goal
 
 -- no tag is read yet

@@ -1,6 +1,6 @@
 use Rattle.std.proofs.Common.{◌+◌, ◌-◌, length}
-use Rattle.journal_model.specs.ReadingLog.{layout_with}
-use Rattle.journal_model.proofs.ReadingTags.{TagsSoFar}
+use Rattle.log_model.specs.ReadingLog.{layout_with}
+use Rattle.log_model.proofs.ReadingTags.{TagsSoFar}
 use Rattle.journal_plain.proofs.chain.tags_in.Given as goal
 
 -- the tags before the place

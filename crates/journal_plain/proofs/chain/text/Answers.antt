@@ -1,7 +1,7 @@
 use Rattle.std.proofs.Common.{◌≡◌, ◌∷◌, sym, ◌∙◌, ap, subst}
 use Rattle.std.proofs.lemmas.Bool.{iff_false}
-use Rattle.journal_model.specs.Text.{IsCommitBlock}
-use Rattle.journal_model.proofs.ReadingFronts.{text_begins, no_text_in_none, no_text_without_commit}
+use Rattle.log_model.specs.Text.{IsCommitBlock}
+use Rattle.log_model.proofs.ReadingFronts.{text_begins, no_text_in_none, no_text_without_commit}
 use Rattle.journal_plain.proofs.chain.text.Goals as goal
 
 -- nothing stands behind the pieces

@@ -1,5 +1,5 @@
 use Rattle.std.proofs.Common.{arith}
-use Rattle.journal_model.proofs.ReadingFronts.{front_within, text_within, texts_more, texts_are_chain}
+use Rattle.log_model.proofs.ReadingFronts.{front_within, text_within, texts_more, texts_are_chain}
 use Rattle.journal_plain.proofs.chain.texts.Goals as goal
 
 -- no further text begins

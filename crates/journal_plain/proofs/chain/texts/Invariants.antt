@@ -1,5 +1,5 @@
 use Rattle.std.proofs.Common.{◌-◌, length}
-use Rattle.journal_model.specs.ReadingLog.{layout_with, TextsBegin}
+use Rattle.log_model.specs.ReadingLog.{layout_with, TextsBegin}
 use Rattle.journal_plain.proofs.chain.texts.Given as goal
 
 -- the texts so far

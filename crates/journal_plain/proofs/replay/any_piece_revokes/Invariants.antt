@@ -1,6 +1,6 @@
 use Rattle.std.proofs.Common.{◌≡◌, ◌==◌, false, take}
 use Rattle.std.specs.List.{list_any}
-use Rattle.journal_model.specs.Text.{piece_revokes}
+use Rattle.log_model.specs.Text.{piece_revokes}
 use Rattle.journal_plain.proofs.replay.any_piece_revokes.Given as goal
 
 abbrev pub invariant-loop-piece : goal.invariant-loop-piece

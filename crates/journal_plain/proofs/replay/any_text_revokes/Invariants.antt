@@ -1,6 +1,6 @@
 use Rattle.std.proofs.Common.{◌≡◌, ◌==◌, false, take}
 use Rattle.std.specs.List.{list_any}
-use Rattle.journal_model.specs.Text.{text_revokes}
+use Rattle.log_model.specs.Text.{text_revokes}
 use Rattle.journal_plain.proofs.replay.any_text_revokes.Given as goal
 
 abbrev pub invariant-loop-text : goal.invariant-loop-text

@@ -1,7 +1,7 @@
 use Rattle.std.proofs.Common.{◌≡◌, ◌<◌, ◌≤◌, ℕ, List, Some, slice_get, get_or, length, arith, sym, ◌∙◌, ap, subst, true≢false}
 use Rattle.std.proofs.lemmas.Option.{slice_get_within}
-use Rattle.journal_model.specs.Text.{text_copies}
-use Rattle.journal_model.proofs.Newest.{live-among, live-last}
+use Rattle.log_model.specs.Text.{text_copies}
+use Rattle.log_model.proofs.Newest.{live-among, live-last}
 use Rattle.journal_plain.proofs.replay.last_live.Goals as goal
 
 -- the copy that was found is one of them

@@ -1,5 +1,5 @@
 use Rattle.std.proofs.Common.{arith}
-use Rattle.journal_model.proofs.Newest.{none-live-from, newest-from-last}
+use Rattle.log_model.proofs.Newest.{none-live-from, newest-from-last}
 use Rattle.journal_plain.proofs.replay.newest.Goals as goal
 
 pub returns-in-Some : goal.returns-in-Some

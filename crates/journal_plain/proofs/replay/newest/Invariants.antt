@@ -1,5 +1,5 @@
 use Rattle.std.proofs.Common.{ℕ, ◌≤◌, List}
-use Rattle.journal_model.specs.Replay.{IsLive}
+use Rattle.log_model.specs.Replay.{IsLive}
 use Rattle.journal_plain.proofs.replay.newest.Given as goal
 
 abbrev pub invariant-loop-i : goal.invariant-loop-i

@@ -1,6 +1,6 @@
 use Rattle.std.proofs.Common.{◌≡◌, take}
 use Rattle.std.specs.List.{flat_map}
-use Rattle.journal_model.specs.Text.{piece_copies}
+use Rattle.log_model.specs.Text.{piece_copies}
 use Rattle.journal_plain.proofs.replay.text_copies.Given as goal
 
 abbrev pub invariant-loop-piece : goal.invariant-loop-piece

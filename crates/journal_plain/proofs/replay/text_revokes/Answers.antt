@@ -1,6 +1,6 @@
 use Rattle.std.proofs.Common.{◌∙◌, ◌==◌, sym, ap}
 use Rattle.std.specs.List.{list_any}
-use Rattle.journal_model.specs.Text.{piece_revokes}
+use Rattle.log_model.specs.Text.{piece_revokes}
 use Rattle.journal_model.proofs.ListElements.{any-flat_map}
 use Rattle.journal_plain.proofs.replay.text_revokes.Goals as goal
 

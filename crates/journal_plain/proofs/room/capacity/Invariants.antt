@@ -1,5 +1,5 @@
 use Rattle.std.proofs.Common.{ℕ, ◌/◌, ◌≤◌}
-use Rattle.journal_model.specs.Room.{FitsQuarter}
+use Rattle.log_model.specs.Room.{FitsQuarter}
 use Rattle.journal_plain.proofs.room.capacity.Given as goal
 
 abbrev pub invariant-loop-copies : goal.invariant-loop-copies

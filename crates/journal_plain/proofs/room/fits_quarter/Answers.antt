@@ -1,6 +1,6 @@
 use Rattle.std.proofs.Common.{◌≡◌, ◌∙◌, arith}
 use Rattle.std.proofs.lemmas.Bool.Decides.{nat_tests}
-use Rattle.journal_model.specs.OwnText.{ceil_div}
+use Rattle.log_model.specs.OwnText.{ceil_div}
 use Rattle.journal_plain.proofs.Rounding.{div_ceil-is}
 use Rattle.journal_plain.proofs.room.fits_quarter.Goals as goal
 

@@ -1,7 +1,7 @@
 use Rattle.std.proofs.Common.{◌≡◌, ◌+◌, arith}
 use Rattle.journal_model.specs.Layout.{Layout, tags_of, numbers_of}
-use Rattle.journal_model.specs.OwnText.{ceil_div}
-use Rattle.journal_model.specs.Room.{need}
+use Rattle.log_model.specs.OwnText.{ceil_div}
+use Rattle.log_model.specs.Room.{need}
 use Rattle.journal_plain.proofs.Rounding.{rounded_up}
 use Rattle.journal_plain.proofs.room.need.Goals as goal
 

@@ -2,9 +2,9 @@ use Rattle.std.proofs.Common.{◌≡◌, [], refl, ap, sym, ◌∙◌, inr, subs
 use Rattle.std.specs.Io.KnownBytes.{Appends}
 use Rattle.std.proofs.lemmas.Result.{IfErr-weaker, err_from_is_err_and, on_ok_weaker}
 use Rattle.journal_model.specs.Disk.{Disk, reading}
-use Rattle.journal_model.specs.Dump.{dump_text}
+use Rattle.log_model.specs.Dump.{dump_text}
 use Rattle.journal_model.specs.Layout.{IsTaken}
-use Rattle.journal_model.specs.Superblock.{Super}
+use Rattle.log_model.specs.Superblock.{Super}
 use Rattle.log_scan.specs.Finding.{every_block}
 use Rattle.log_scan.specs.Scanning.{AreTextsOf, IsScanned}
 use Rattle.log_dump.specs.Dumping.{HasDump, IsReadLog, shape_of}

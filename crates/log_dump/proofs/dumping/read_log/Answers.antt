@@ -2,8 +2,8 @@ use Rattle.std.proofs.Common.{length, ap, ◌∙◌, inr}
 use Rattle.std.specs.Prelude.{None, Some}
 use Rattle.std.proofs.lemmas.Result.{err_from_is_err_and}
 use Rattle.journal_model.specs.Disk.{reading}
-use Rattle.journal_model.specs.Opening.{super_of}
-use Rattle.journal_model.specs.Superblock.{super_in}
+use Rattle.log_model.specs.Opening.{super_of}
+use Rattle.log_model.specs.Superblock.{super_in}
 use Rattle.log_scan.specs.Finding.{every_block}
 use Rattle.log_scan.proofs.Listed.{refused-listed}
 use Rattle.log_dump.proofs.Dumps.{accepted-for, tested-for}

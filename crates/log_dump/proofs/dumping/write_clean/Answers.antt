@@ -2,7 +2,7 @@ use Rattle.std.proofs.Common.{◌++◌, subst}
 use Rattle.std.specs.Prelude.{codes}
 use Rattle.std.specs.Fmt.{decimal}
 use Rattle.std.specs.Io.KnownBytes.{Appends}
-use Rattle.journal_model.specs.Superblock.{Super}
+use Rattle.log_model.specs.Superblock.{Super}
 use Rattle.log_dump.specs.Lines.{ended}
 use Rattle.std.proofs.lemmas.Result.{on_ok_weaker}
 use Rattle.log_dump.proofs.Dumps.{written-clean}

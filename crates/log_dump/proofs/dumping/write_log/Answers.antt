@@ -1,7 +1,7 @@
 use Rattle.std.proofs.Common.{subst}
 use Rattle.std.specs.Io.KnownBytes.{Appends}
-use Rattle.journal_model.specs.Dump.{super_line}
-use Rattle.journal_model.specs.Superblock.{Super}
+use Rattle.log_model.specs.Dump.{super_line}
+use Rattle.log_model.specs.Superblock.{Super}
 use Rattle.log_dump.specs.Lines.{ended}
 use Rattle.log_dump.proofs.Dumps.{written-chain}
 use Rattle.log_dump.proofs.dumping.write_log.Goals as goal

@@ -2,7 +2,7 @@ use Rattle.std.proofs.Common.{map, take}
 use Rattle.std.specs.Fmt.{decimal}
 use Rattle.std.specs.List.{join_with_byte}
 use Rattle.std.specs.Io.KnownBytes.{Appends}
-use Rattle.journal_model.specs.Dump.{comma}
+use Rattle.log_model.specs.Dump.{comma}
 use Rattle.log_dump.proofs.lines.write_numbers.Given as goal
 
 -- the numbers so far are printed

@@ -1,8 +1,8 @@
 use Rattle.std.proofs.Common.{append_assoc, subst}
 use Rattle.std.specs.Prelude.{OnOk}
 use Rattle.std.specs.Io.KnownBytes.{Appends}
-use Rattle.journal_model.specs.Dump.{super_line}
-use Rattle.journal_model.specs.Superblock.{Super}
+use Rattle.log_model.specs.Dump.{super_line}
+use Rattle.log_model.specs.Superblock.{Super}
 use Rattle.log_dump.specs.Lines.{ended}
 use Rattle.log_dump.proofs.lines.write_super.Goals as goal
 

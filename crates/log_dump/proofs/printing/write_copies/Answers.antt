@@ -2,7 +2,7 @@ use Rattle.std.proofs.Common.{◌≡◌, ◌++◌, ℕ, List, length, take, sym,
 use Rattle.std.specs.Prelude.{codes}
 use Rattle.std.specs.Fmt.{decimal}
 use Rattle.std.proofs.lemmas.List.{take_all}
-use Rattle.journal_model.specs.declared.log.Tag.{Tag}
+use Rattle.log_model.specs.declared.log.Tag.{Tag}
 use Rattle.log_dump.specs.Lines.{copies_captions, ended, placed_line, placed_lines}
 use Rattle.log_dump.proofs.Placed.{copies-more, placed-one}
 use Rattle.log_dump.proofs.Written.{appends-joins, appends-same}

@@ -4,10 +4,10 @@ use Rattle.std.specs.Fmt.{decimal}
 use Rattle.std.specs.Io.KnownBytes.{Appends}
 use Rattle.std.specs.List.{join_with_byte}
 use Rattle.std.proofs.lemmas.List.{length-take-le}
-use Rattle.journal_model.specs.declared.log.Tag.{Tag}
-use Rattle.journal_model.specs.declared.log.Piece.TheVariants.{Revokes}
+use Rattle.log_model.specs.declared.log.Tag.{Tag}
+use Rattle.log_model.specs.declared.log.Piece.TheVariants.{Revokes}
 use Rattle.journal_model.specs.Disk.{reading}
-use Rattle.journal_model.specs.Dump.{comma, piece_captions}
+use Rattle.log_model.specs.Dump.{comma, piece_captions}
 use Rattle.log_scan.specs.declared.finding.Found.TheVariants.{CommitBlock, Descriptor, Malformed, Nothing, RevokeBlock}
 use Rattle.log_dump.specs.Lines.{placed_lines, tags_captions}
 use Rattle.log_scan.specs.Finding.{every_block}

@@ -1,8 +1,8 @@
 use Rattle.std.proofs.Common.{ℕ, ◌+◌, refl, ap, ◌∙◌, arith, subst}
 use Rattle.std.proofs.lemmas.Result.{err_from_is_err_and}
 use Rattle.journal_model.specs.Disk.{Disk, reading}
-use Rattle.journal_model.specs.Opening.{layout_of}
-use Rattle.journal_model.specs.ReadingLog.{NoTextBegins}
+use Rattle.log_model.specs.Opening.{layout_of}
+use Rattle.log_model.specs.ReadingLog.{NoTextBegins}
 use Rattle.log_dump.specs.Dumping.{IsPrinted}
 use Rattle.log_scan.specs.Finding.{blocks_from, every_block}
 use Rattle.log_scan.proofs.ScanSteps.{accepted-stays, stays-joins}

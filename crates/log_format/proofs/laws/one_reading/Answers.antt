@@ -1,5 +1,5 @@
-use Rattle.journal_model.proofs.ReadingNumbers.{one_revoke_block}
-use Rattle.journal_model.proofs.ReadingTags.{one_descriptor}
+use Rattle.log_model.proofs.ReadingNumbers.{one_revoke_block}
+use Rattle.log_model.proofs.ReadingTags.{one_descriptor}
 use Rattle.log_format.proofs.laws.one_reading.Goals as goal
 
 pub returns : goal.returns

@@ -1,5 +1,5 @@
 use Rattle.std.proofs.Common.{◌≡◌, ◌+◌, ◌≤◌, drop, length}
-use Rattle.journal_model.specs.OwnText.{copied}
+use Rattle.journal_model.specs.Transaction.{copied}
 use Rattle.log_ledger.proofs.plan.count_copies.Given as goal
 
 -- the copies that were counted, and those that are left, are all; they are no more than the entries that were seen

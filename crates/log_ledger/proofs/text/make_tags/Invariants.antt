@@ -1,5 +1,5 @@
 use Rattle.std.proofs.Common.{◌≡◌, true, length, take}
-use Rattle.journal_model.specs.OwnText.{tags_from}
+use Rattle.log_model.specs.OwnText.{tags_from}
 use Rattle.log_ledger.specs.Text.{copies_at}
 use Rattle.log_ledger.proofs.text.make_tags.Given as goal
 

@@ -1,8 +1,9 @@
 use Rattle.std.proofs.Common.{arith, ap, ap₂, sym, subst, ◌∙◌, ◌<◌, ◌≡◌, length, slice_get, Some, ℕ}
-use Rattle.journal_model.specs.OwnText.{copied, own_text, revoked}
-use Rattle.journal_model.specs.Room.{need}
-use Rattle.journal_model.specs.Text.{text_blocks}
-use Rattle.journal_model.proofs.OwnTextWhole.{length_own_text}
+use Rattle.journal_model.specs.Transaction.{copied, revoked}
+use Rattle.log_model.specs.OwnText.{own_text}
+use Rattle.log_model.specs.Room.{need}
+use Rattle.log_model.specs.Text.{text_blocks}
+use Rattle.log_model.proofs.OwnTextWhole.{length_own_text}
 use Rattle.journal_model.proofs.Taken.{taken-layout}
 use Rattle.log_ring.specs.Parts.{LayoutValue, part_block}
 use Rattle.log_ledger.proofs.Copies.{counted}

@@ -1,9 +1,10 @@
 use Rattle.std.proofs.Common.{rules, refl, sym, ap, subst, true, ◌∙◌, ◌<◌, ℕ, List, length, get_or}
 use Rattle.journal_model.specs.declared.entry.Entry.{Entry}
-use Rattle.journal_model.specs.Descriptor.{descriptor_block}
+use Rattle.log_model.specs.Descriptor.{descriptor_block}
 use Rattle.journal_model.specs.Layout.{every_number}
-use Rattle.journal_model.specs.OwnText.{copied, revoked, tags_from}
-use Rattle.journal_model.proofs.OwnTextEntries.{copied_below}
+use Rattle.journal_model.specs.Transaction.{copied, revoked}
+use Rattle.log_model.specs.OwnText.{tags_from}
+use Rattle.log_model.proofs.OwnTextEntries.{copied_below}
 use Rattle.log_ring.specs.Parts.{FitsPart, part_block}
 use Rattle.log_ledger.specs.Text.{IsWholeCopy}
 use Rattle.log_ledger.proofs.Copies.{entry-there}

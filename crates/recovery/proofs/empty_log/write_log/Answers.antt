@@ -1,7 +1,7 @@
 use Rattle.std.proofs.Common.{sym, ◌∙◌, ap, subst}
 use Rattle.std.specs.Prelude.{List, ℕ, replicate}
-use Rattle.journal_model.specs.Disk.{Disk}
-use Rattle.journal_model.specs.Superblock.{Shape, formatted_super}
+use Rattle.journal_model.specs.Disk.{Disk, Shape}
+use Rattle.log_model.specs.Superblock.{formatted_super}
 use Rattle.log_format.specs.Size.{IsBlockSize}
 use Rattle.recovery.specs.Opening.{HasZeros}
 use Rattle.recovery.proofs.Zeroed.{formatted}

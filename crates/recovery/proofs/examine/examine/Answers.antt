@@ -1,9 +1,8 @@
 use Rattle.std.proofs.Common.{◌≡◌, ◌∙◌, ℕ, List, sym, subst}
 use Rattle.std.specs.Prelude.{length}
 use Rattle.std.proofs.lemmas.Result.{err_from_is_err_and}
-use Rattle.journal_model.specs.declared.log.Text.{Text}
-use Rattle.journal_model.specs.Disk.{Disk, reading}
-use Rattle.journal_model.specs.Superblock.{Shape}
+use Rattle.log_model.specs.declared.log.Text.{Text}
+use Rattle.journal_model.specs.Disk.{Disk, Shape, reading}
 use Rattle.block_device.specs.State.{DeviceState}
 use Rattle.log_scan.specs.Scanning.{AreTextsOf}
 use Rattle.recovery.specs.Gather.{tables_of}

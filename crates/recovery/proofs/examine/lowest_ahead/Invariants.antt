@@ -1,7 +1,7 @@
 use Rattle.std.proofs.Common.{◌≡◌, ℕ, ◌<◌}
-use Rattle.journal_model.specs.Chain.{IsAhead}
+use Rattle.log_model.specs.Chain.{IsAhead}
 use Rattle.journal_model.specs.Disk.{reading}
-use Rattle.journal_model.specs.Opening.{ring_of}
+use Rattle.log_model.specs.Opening.{ring_of}
 use Rattle.block_device.specs.State.{Stays}
 use Rattle.recovery.proofs.examine.lowest_ahead.Given as goal
 

@@ -1,7 +1,8 @@
 use Rattle.std.proofs.Common.{◌≡◌, ℕ, List, ap, sym, subst, ◌∙◌, inr}
 use Rattle.std.specs.Prelude.{length, Some, None}
 use Rattle.std.proofs.lemmas.Result.{err_from_is_err_and}
-use Rattle.journal_model.specs.Superblock.{Shape, super_in, super_refusal}
+use Rattle.journal_model.specs.Disk.{Shape}
+use Rattle.log_model.specs.Superblock.{super_in, super_refusal}
 use Rattle.recovery.specs.Opening.{IsWellRead}
 use Rattle.log_scan.proofs.Listed.{refused-listed}
 use Rattle.recovery.proofs.Reading.{tested-for, well-read}

@@ -1,6 +1,6 @@
 use Rattle.std.proofs.Common.{ap, ◌∙◌, inr}
 use Rattle.std.specs.Prelude.{length, Some}
-use Rattle.journal_model.specs.Superblock.{Shape}
+use Rattle.journal_model.specs.Disk.{Shape}
 use Rattle.log_scan.proofs.Listed.{refused-listed}
 use Rattle.recovery.proofs.Reading.{tested-for}
 use Rattle.recovery.proofs.examine.refusal_of_large.Goals as goal

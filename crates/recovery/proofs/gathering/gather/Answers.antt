@@ -1,9 +1,9 @@
 use Rattle.std.proofs.Common.{ℕ, ◌+◌, List, refl, sym, ◌∙◌, ap, subst, arith, inr}
 use Rattle.std.specs.Prelude.{take}
 use Rattle.std.proofs.lemmas.List.{length-take-le}
-use Rattle.journal_model.specs.declared.log.Tag.{Tag}
+use Rattle.log_model.specs.declared.log.Tag.{Tag}
 use Rattle.journal_model.specs.Disk.{reading}
-use Rattle.journal_model.specs.Superblock.{Super}
+use Rattle.log_model.specs.Superblock.{Super}
 use Rattle.block_device.specs.State.{DeviceState}
 use Rattle.log_scan.specs.declared.cursor.Cursor.{Cursor}
 use Rattle.log_scan.specs.Passing.{LeadsTo}

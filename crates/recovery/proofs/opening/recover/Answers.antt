@@ -1,8 +1,9 @@
 use Rattle.std.proofs.Common.{◌≡◌, ◌≢◌, ◌∙◌, ◌+◌, List, ℕ, ap, sym, subst, length, arith}
 use Rattle.std.proofs.lemmas.List.{with_items_is}
 use Rattle.std.proofs.lemmas.Result.{err_from_is_err_and}
-use Rattle.journal_model.specs.declared.log.Text.{Text}
-use Rattle.journal_model.specs.Superblock.{Shape, Super, with_tail}
+use Rattle.log_model.specs.declared.log.Text.{Text}
+use Rattle.journal_model.specs.Disk.{Shape}
+use Rattle.log_model.specs.Superblock.{Super, with_tail}
 use Rattle.block_device.specs.State.{DeviceState}
 use Rattle.recovery.specs.Calls.{HasBegun, HasMade, cleaning_calls, writes_home}
 use Rattle.recovery.specs.Gather.{TablesValue}

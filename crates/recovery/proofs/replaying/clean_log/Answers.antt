@@ -1,7 +1,7 @@
 use Rattle.std.proofs.Common.{[], ◌∷◌, List, ℕ}
 use Rattle.std.proofs.lemmas.Result.{err_from_is_err_and}
 use Rattle.journal_model.specs.declared.number.Area.TheVariants.{Home, Log}
-use Rattle.journal_model.specs.Superblock.{with_tail}
+use Rattle.log_model.specs.Superblock.{with_tail}
 use Rattle.block_device.specs.State.{DeviceState}
 use Rattle.journal_world.specs.Call.Call.{Flush, Write}
 use Rattle.recovery.specs.Calls.{cleaning_calls}

@@ -1,11 +1,11 @@
 use Rattle.std.proofs.Common.{[], List, ℕ, ◌∙◌, subst}
 use Rattle.std.proofs.lemmas.Result.{err_from_is_err_and}
-use Rattle.journal_model.specs.declared.log.Tag.{Tag}
+use Rattle.log_model.specs.declared.log.Tag.{Tag}
 use Rattle.journal_model.specs.declared.number.Area.TheVariants.{Home}
 use Rattle.journal_model.specs.Disk.{reading}
-use Rattle.journal_model.specs.Chain.{place_from}
-use Rattle.journal_model.specs.Escape.{unescaped}
-use Rattle.journal_model.specs.Opening.{ring_of}
+use Rattle.log_model.specs.Chain.{place_from}
+use Rattle.log_model.specs.Escape.{unescaped}
+use Rattle.log_model.specs.Opening.{ring_of}
 use Rattle.block_device.specs.State.{DeviceState, Writes}
 use Rattle.journal_world.specs.Call.{Call}
 use Rattle.log_scan.specs.Finding.{log_block}

@@ -3,7 +3,7 @@ use Rattle.std.specs.Prelude.{take}
 use Rattle.std.proofs.lemmas.List.{length-take-le}
 use Rattle.std.proofs.lemmas.Result.{err_from_is_err_and}
 use Rattle.journal_model.specs.Disk.{reading}
-use Rattle.journal_model.specs.Superblock.{Super}
+use Rattle.log_model.specs.Superblock.{Super}
 use Rattle.block_device.specs.State.{DeviceState}
 use Rattle.log_scan.specs.declared.cursor.Cursor.{Cursor}
 use Rattle.log_scan.specs.Passing.{LeadsTo}

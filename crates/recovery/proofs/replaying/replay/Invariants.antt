@@ -1,6 +1,6 @@
 use Rattle.std.proofs.Common.{◌≡◌, ◌≤◌, ◌-◌}
 use Rattle.journal_model.specs.Disk.{reading}
-use Rattle.journal_model.specs.Opening.{ring_of}
+use Rattle.log_model.specs.Opening.{ring_of}
 use Rattle.log_scan.specs.Finding.{limit_of}
 use Rattle.recovery.proofs.ReplayRuns.{Replays}
 use Rattle.recovery.proofs.replaying.replay.Given as goal

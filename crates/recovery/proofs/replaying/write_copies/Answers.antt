@@ -1,7 +1,7 @@
 use Rattle.std.proofs.Common.{◌+◌, List, refl, sym, ◌∙◌, ap}
 use Rattle.std.proofs.lemmas.Result.{err_from_is_err_and}
 use Rattle.std.specs.Prelude.{slice_get}
-use Rattle.journal_model.specs.declared.log.Tag.{Tag}
+use Rattle.log_model.specs.declared.log.Tag.{Tag}
 use Rattle.recovery.proofs.CopySteps.{step-begun, step-made, step-stays}
 use Rattle.recovery.proofs.replaying.write_copies.Goals as goal
 use Rattle.recovery.proofs.replaying.write_copies.Goals.{then-goes_home+in_ok-copy_home, else-goes_home}

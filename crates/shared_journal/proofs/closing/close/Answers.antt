@@ -1,6 +1,6 @@
 use Rattle.std.proofs.Common.{◌∙◌, ap, length, sym, subst}
 use Rattle.block_device.specs.State.{DeviceState}
-use Rattle.journal_model.specs.Superblock.{Shape}
+use Rattle.journal_model.specs.Disk.{Shape}
 use Rattle.log_epochs.specs.JournalPromise.{IsClosed}
 use Rattle.group_commit.specs.Journal.{OpensOver}
 use Rattle.shared_journal.proofs.Closes.{both-by, ok-by, opens-same}

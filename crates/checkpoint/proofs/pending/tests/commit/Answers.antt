@@ -6,7 +6,7 @@ use Rattle.std.proofs.lemmas.List.{length-map, map_push}
 use Rattle.std.proofs.lemmas.Map.Keys.{IsDistinct-push}
 use Rattle.journal_model.specs.declared.entry.Entry.{Entry}
 use Rattle.journal_model.specs.declared.entry.Entry.TheVariants.{Copy, Revoke}
-use Rattle.journal_model.specs.OwnText.{copied}
+use Rattle.journal_model.specs.Transaction.{copied}
 use Rattle.checkpoint.specs.Pending.{PendingValue}
 use Rattle.checkpoint.specs.PendingView.{key_of}
 use Rattle.checkpoint.proofs.pending.tests.commit.Goals as goal

@@ -1,7 +1,6 @@
 use Rattle.std.proofs.Common.{subst, ◌≡◌, length, IfOk, MatchResult}
 use Rattle.journal_model.specs.declared.refusal.JournalError.TheVariants.{Device}
-use Rattle.journal_model.specs.Disk.{Image, Leaves}
-use Rattle.journal_model.specs.Superblock.{Shape}
+use Rattle.journal_model.specs.Disk.{Image, Leaves, Shape}
 use Rattle.block_device.specs.State.{one_more_fault}
 use Rattle.log_epochs.specs.JournalPromise.{IsClosed}
 use Rattle.log_epochs.specs.EngineWorld.Phase.{Shut}

@@ -1,13 +1,12 @@
 use Rattle.std.proofs.Common.{refl, sym, ap, ap₂, ◌∙◌, subst, ◌<◌, ℕ}
 use Rattle.std.specs.Prelude.{Some, None, []}
 use Rattle.journal_model.specs.Layout.{Layout}
-use Rattle.journal_model.specs.Room.{IsCapacity}
-use Rattle.journal_model.specs.Superblock.{Shape}
+use Rattle.log_model.specs.Room.{IsCapacity}
 use Rattle.journal_world.specs.Engine.{Engine}
 use Rattle.journal_world.specs.Front.{fresh_front}
 use Rattle.journal_world.specs.Journal.{fresh_engine}
 use Rattle.journal_world.specs.Opening.{IsOpenedLog}
-use Rattle.journal_model.specs.Disk.{Disk}
+use Rattle.journal_model.specs.Disk.{Disk, Shape}
 use Rattle.log_epochs.specs.EngineWorld.Begins.{Made}
 use Rattle.group_commit.proofs.Turning.{fresh-agrees, fresh-itself, fresh-journal}
 use Rattle.group_commit.proofs.journal.Journal.new.Goals as goal

@@ -6,7 +6,7 @@ use Rattle.journal_world.proofs.Credits.{event-held}
 use Rattle.journal_front.specs.Front.{IsFront, IsOpenHandle, JoinRefused}
 use Rattle.std.proofs.lemmas.Result.{err_from_is_err_and}
 use Rattle.journal_model.specs.declared.transaction.Sealed.{Sealed}
-use Rattle.journal_model.specs.Opening.{greatest_number}
+use Rattle.log_model.specs.Opening.{greatest_number}
 use Rattle.journal_world.specs.Front.{Front, Joins, MayJoin, next_handle}
 use Rattle.transaction.specs.Transaction.{OpenTransaction}
 use Rattle.journal_world.specs.Front.FrontEvent.{Join}

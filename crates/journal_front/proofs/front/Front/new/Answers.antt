@@ -1,7 +1,7 @@
 use Rattle.std.proofs.Common.{ℕ, List, ◌≡◌, ◌≤◌, ◌<◌, arith, sym, ap, subst, ◌∙◌, length}
 use Rattle.std.specs.List.{AllByRecursion}
 use Rattle.std.proofs.lemmas.Bool.{true≢false}
-use Rattle.journal_model.specs.Opening.{greatest_number}
+use Rattle.log_model.specs.Opening.{greatest_number}
 use Rattle.journal_model.specs.Transaction.{entries}
 use Rattle.journal_world.specs.Front.{left_in}
 use Rattle.transaction.specs.Transaction.{OpenTransaction}

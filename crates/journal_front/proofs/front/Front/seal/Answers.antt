@@ -1,6 +1,6 @@
 use Rattle.std.proofs.Common.{◌≡◌, ◌+◌, ◌≤◌, [], ◌∷◌, ◌++◌, arith, sym, ap, ◌∙◌, length}
 use Rattle.std.proofs.lemmas.Bool.{true≢false}
-use Rattle.journal_model.specs.Opening.{greatest_number}
+use Rattle.log_model.specs.Opening.{greatest_number}
 use Rattle.journal_model.specs.Transaction.{Transaction, entries}
 use Rattle.transaction.specs.Transaction.{OpenTransaction}
 use Rattle.journal_front.proofs.Unfinished.{committing-sealed}

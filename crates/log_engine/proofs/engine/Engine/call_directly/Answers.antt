@@ -1,6 +1,6 @@
 use Rattle.std.proofs.Common.{sym, ap, subst, ◌∙◌, ◌≡◌, true, false}
 use Rattle.std.proofs.lemmas.Option.{same_Some}
-use Rattle.journal_model.specs.Superblock.{Shape}
+use Rattle.journal_model.specs.Disk.{Shape}
 use Rattle.journal_world.specs.Call.{Call}
 use Rattle.journal_world.specs.Direct.{DirectCall, DirectFaults, DirectSteps}
 use Rattle.journal_world.proofs.DirectCalls.{direct-fault-sound, direct-sound}

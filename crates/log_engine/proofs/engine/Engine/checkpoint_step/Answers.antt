@@ -1,5 +1,5 @@
 use Rattle.std.proofs.Common.{refl, sym, ap, subst, ◌∙◌, ◌≡◌, Some, true}
-use Rattle.journal_model.specs.Superblock.{Shape}
+use Rattle.journal_model.specs.Disk.{Shape}
 use Rattle.journal_world.specs.Checkpoint.{RoundFaults, RoundSteps}
 use Rattle.journal_world.proofs.RoundFaults.{round-fault-sound}
 use Rattle.journal_world.proofs.RoundSteps.{round-sound}

@@ -1,6 +1,6 @@
 use Rattle.std.proofs.Common.{arith, sym, ap, ap₂, subst, ◌∙◌, ◌≡◌, List, ℕ}
-use Rattle.journal_model.specs.Opening.{ring_of}
-use Rattle.journal_model.specs.Superblock.{super_in}
+use Rattle.log_model.specs.Opening.{ring_of}
+use Rattle.log_model.specs.Superblock.{super_in}
 use Rattle.checkpoint.specs.Pending.{PendingValue}
 use Rattle.journal_world.specs.Engine.{Engine}
 use Rattle.journal_world.specs.Journal.{fresh_engine}

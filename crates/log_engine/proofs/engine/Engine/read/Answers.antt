@@ -1,7 +1,7 @@
 use Rattle.std.proofs.Common.{refl, sym, ap, subst, ◌∙◌, ◌≡◌, ◌<◌, ℕ, Bool, true, false, List, length}
 use Rattle.journal_model.specs.declared.number.Area.TheVariants.{Home}
 use Rattle.journal_model.specs.Block.{IsAllowedBlock}
-use Rattle.journal_model.specs.Superblock.{Shape}
+use Rattle.journal_model.specs.Disk.{Shape}
 use Rattle.journal_world.specs.Checkpoint.{IsPending}
 use Rattle.log_ledger.specs.Ledger.{engine_of}
 use Rattle.log_ledger.proofs.Rounds.{placed-size}

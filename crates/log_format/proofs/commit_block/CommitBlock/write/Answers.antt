@@ -1,7 +1,7 @@
 -- The header stands in front, and zeros behind it.
 use Rattle.std.proofs.Common.{◌≡◌, ℕ, length, arith, refl, ap, sym, ◌∙◌}
 use Rattle.journal_model.specs.Layout.{header, commit_type, padded}
-use Rattle.journal_model.specs.OwnText.{commit_block}
+use Rattle.log_model.specs.OwnText.{commit_block}
 use Rattle.log_format.proofs.Writing.{filled}
 use Rattle.log_format.proofs.commit_block.CommitBlock.write.Goals as goal
 

@@ -2,9 +2,9 @@
 use Rattle.std.proofs.Common.{◌≡◌, ◌<◌, ◌≤◌, ◌+◌, ◌-◌, ◌/◌, ℕ, List, true, false, length, take, drop, subst, sym, ap, ◌∙◌, arith, drop-drop, get_or-set_same, length-set, length-drop}
 use Rattle.std.proofs.lemmas.List.{take_more_set, take_rest}
 use Rattle.std.proofs.lemmas.Result.{err_from_is_err_and}
-use Rattle.journal_model.specs.declared.log.Tag.{Tag}
+use Rattle.log_model.specs.declared.log.Tag.{Tag}
 use Rattle.journal_model.specs.Layout.{Layout, header_bytes, tag_bytes}
-use Rattle.journal_model.specs.Descriptor.{BeginsWithTag, uuid_behind}
+use Rattle.log_model.specs.Descriptor.{BeginsWithTag, uuid_behind}
 use Rattle.log_format.proofs.Reading.{reads_last, reads_next, reads_short, reads_stuck}
 use Rattle.log_format.proofs.descriptor.Descriptor.read.Goals as goal
 

@@ -2,10 +2,10 @@
 use Rattle.std.proofs.Common.{◌≡◌, ◌<◌, ◌≤◌, ◌++◌, [], ℕ, List, length, take, arith, ap, ap₂, ◌∙◌, length-drop, length-append, length-take}
 use Rattle.std.specs.List.{flat_map}
 use Rattle.std.proofs.lemmas.List.{take_rest, take_all}
-use Rattle.journal_model.specs.declared.log.Tag.{Tag}
+use Rattle.log_model.specs.declared.log.Tag.{Tag}
 use Rattle.journal_model.specs.Layout.{header, descriptor_type, padded}
-use Rattle.journal_model.specs.Descriptor.{descriptor_block, tag_spelling}
-use Rattle.journal_model.proofs.OwnTextTags.{length-tag_spelling}
+use Rattle.log_model.specs.Descriptor.{descriptor_block, tag_spelling}
+use Rattle.log_model.proofs.OwnTextTags.{length-tag_spelling}
 use Rattle.log_format.proofs.Writing.{filled, spelled_more, tag_fits, written_more}
 use Rattle.log_format.proofs.descriptor.Descriptor.write.Goals as goal
 

@@ -2,7 +2,7 @@
 use Rattle.std.proofs.Common.{◌≡◌, ◌+◌, ◌++◌, length, take}
 use Rattle.std.specs.List.{flat_map}
 use Rattle.journal_model.specs.Layout.{descriptor_type, header}
-use Rattle.journal_model.specs.Descriptor.{tag_spelling}
+use Rattle.log_model.specs.Descriptor.{tag_spelling}
 use Rattle.log_format.proofs.descriptor.Descriptor.write.Given as goal
 
 abbrev pub invariant-loop-tag : goal.invariant-loop-tag

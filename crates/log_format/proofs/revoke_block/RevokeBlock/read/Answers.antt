@@ -3,7 +3,7 @@ use Rattle.std.proofs.Common.{◌≡◌, ◌<◌, ◌≤◌, ◌-◌, ◌+◌, �
 use Rattle.std.proofs.lemmas.List.{length-take-le, take_more_set}
 use Rattle.std.proofs.lemmas.List.Elements.{All-get_or, All-push}
 use Rattle.journal_model.specs.Layout.{IsTaken, Layout, number_at}
-use Rattle.journal_model.specs.RevokeBlock.{numbers_in}
+use Rattle.log_model.specs.RevokeBlock.{numbers_in}
 use Rattle.log_format.proofs.Numbers.{number_from}
 use Rattle.log_format.proofs.Revokes.{number_is, numbers_more}
 use Rattle.log_format.proofs.revoke_block.RevokeBlock.read.Goals as goal

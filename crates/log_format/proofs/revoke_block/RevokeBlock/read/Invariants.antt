@@ -1,6 +1,6 @@
 -- The numbers so far are the block's, and below the home count.
 use Rattle.std.proofs.Common.{◌≡◌, ◌<◌, length, take, All}
-use Rattle.journal_model.specs.RevokeBlock.{numbers_in}
+use Rattle.log_model.specs.RevokeBlock.{numbers_in}
 use Rattle.log_format.proofs.revoke_block.RevokeBlock.read.Given as goal
 
 abbrev pub invariant-loop-i : goal.invariant-loop-i

@@ -3,7 +3,7 @@ use Rattle.std.proofs.Common.{◌≡◌, ◌<◌, ◌≤◌, ◌+◌, ◌-◌, �
 use Rattle.std.specs.List.{flat_map}
 use Rattle.std.proofs.lemmas.List.{take_all}
 use Rattle.journal_model.specs.Layout.{IsTaken, Layout, big_endian, header, padded, revoke_header_bytes, revoke_type}
-use Rattle.journal_model.specs.RevokeBlock.{revoke_block}
+use Rattle.log_model.specs.RevokeBlock.{revoke_block}
 use Rattle.log_format.specs.Size.{FitRevokeBlock}
 use Rattle.log_format.proofs.Writing.{filled, spelled_more, written_more}
 use Rattle.log_format.proofs.revoke_block.RevokeBlock.write.Goals as goal

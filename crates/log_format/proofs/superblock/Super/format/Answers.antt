@@ -1,6 +1,6 @@
 -- The header, the fields and the UUID stand one behind the other, and zeros behind them.
 use Rattle.std.proofs.Common.{◌≡◌, ℕ, List, length, arith, refl, ap₂, ◌∙◌}
-use Rattle.journal_model.specs.Superblock.{formatted_super}
+use Rattle.log_model.specs.Superblock.{formatted_super}
 use Rattle.log_format.proofs.Formatting.{formatted}
 use Rattle.log_format.proofs.superblock.Super.format.Goals as goal
 

@@ -2,7 +2,7 @@
 use Rattle.std.proofs.Common.{◌-◌, ℕ, List, length, arith, refl, ◌∙◌}
 use borrow.Rule.Slice.PartMut.{put_mid}
 use Rattle.journal_model.specs.Layout.{big_endian}
-use Rattle.journal_model.specs.Superblock.{with_tail}
+use Rattle.log_model.specs.Superblock.{with_tail}
 use Rattle.log_format.proofs.Writing.{written_over, written_twice}
 use Rattle.log_format.proofs.superblock.Super.write.Goals as goal
 

@@ -1,5 +1,5 @@
 use Rattle.std.proofs.Common.{arith, sym, ap, ◌∙◌, ℕ, List}
-use Rattle.journal_model.specs.Superblock.{with_tail}
+use Rattle.log_model.specs.Superblock.{with_tail}
 use Rattle.log_ledger.specs.Ledger.{engine_of}
 use Rattle.log_ledger.proofs.Ledgers.{call-block, call-commit, call-superblock, on-next, on-some, on-superblock}
 use Rattle.log_ledger.proofs.ledger.Ledger.due.Goals as goal

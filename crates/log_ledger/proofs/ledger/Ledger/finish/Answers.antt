@@ -2,7 +2,7 @@ use Rattle.std.proofs.Common.{ap, refl, sym, subst, ◌∙◌, ◌+◌, ◌<◌,
 use Rattle.std.specs.List.{AllByRecursion, IsDistinct}
 use Rattle.checkpoint.specs.Pending.{IsCommitted}
 use Rattle.journal_model.specs.declared.entry.Entry.{Entry}
-use Rattle.journal_model.specs.OwnText.{copied}
+use Rattle.journal_model.specs.Transaction.{copied}
 use Rattle.journal_world.specs.declared.stage.Stage.TheVariants.{CommitFlush}
 use Rattle.journal_world.specs.Engine.{due_blocks, stepped_from}
 use Rattle.log_ledger.specs.Ledger.{engine_of}

@@ -1,5 +1,5 @@
 use Rattle.std.proofs.Common.{sym, ap, subst, ◌∙◌, ◌≡◌, ◌+◌, ◌<◌, ℕ, length}
-use Rattle.journal_model.specs.Superblock.{Shape}
+use Rattle.journal_model.specs.Disk.{Shape}
 use Rattle.checkpoint.specs.declared.version.HomeCopy.{HomeCopy}
 use Rattle.log_ledger.specs.Ledger.{IsPlaced, engine_of}
 use Rattle.log_ledger.proofs.Rounds.{due-copy, next-home, placed-allowed, placed-size}

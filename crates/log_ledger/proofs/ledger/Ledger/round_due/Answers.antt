@@ -1,6 +1,6 @@
 use Rattle.std.proofs.Common.{ap, subst, ◌∙◌, ◌≡◌, ◌<◌, ℕ, List, Some}
 use Rattle.std.specs.List.{slice_get}
-use Rattle.journal_model.specs.Superblock.{with_tail}
+use Rattle.log_model.specs.Superblock.{with_tail}
 use Rattle.log_ledger.specs.Ledger.{engine_of}
 use Rattle.log_ledger.proofs.Pendings.{none-left}
 use Rattle.log_ledger.proofs.Rounds.{due-flush, due-release, due-tail, round-log, round-same}

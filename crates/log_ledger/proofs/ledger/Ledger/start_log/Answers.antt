@@ -1,6 +1,6 @@
 use Rattle.std.proofs.Common.{ap₂, ap, sym, ◌∙◌, ◌≡◌, ℕ, List, true, length}
 use Rattle.std.proofs.lemmas.List.{with_items_is}
-use Rattle.journal_model.specs.Superblock.{with_tail}
+use Rattle.log_model.specs.Superblock.{with_tail}
 use Rattle.journal_world.specs.declared.stage.Stage.TheVariants.{SuperblockFlush}
 use Rattle.journal_world.proofs.Tails.{length-tail}
 use Rattle.log_ledger.specs.Ledger.{engine_of}

@@ -1,6 +1,6 @@
 use Rattle.std.proofs.Common.{sym, ap, ap₂, subst, ◌∙◌, ◌≡◌, ℕ, List, length}
 use Rattle.std.proofs.lemmas.List.{with_items_is}
-use Rattle.journal_model.specs.Superblock.{with_tail}
+use Rattle.log_model.specs.Superblock.{with_tail}
 use Rattle.log_format.specs.Size.{IsBlockSize}
 use Rattle.journal_world.specs.declared.round.Round.TheVariants.{TailFlush, TailWrite}
 use Rattle.journal_world.specs.Checkpoint.{tail_superblock}

@@ -1,5 +1,5 @@
 use Rattle.std.proofs.Common.{ap, ◌∙◌, ◌+◌, ◌++◌, List, ℕ, drop}
-use Rattle.journal_model.specs.OwnText.{copied, revoked}
+use Rattle.journal_model.specs.Transaction.{copied, revoked}
 use Rattle.log_ledger.specs.declared.plan.Plan.{Plan}
 use Rattle.log_ledger.specs.Text.{copies_at}
 use Rattle.log_ledger.proofs.Copies.{notes-copy, notes-revoke}

@@ -1,5 +1,5 @@
 use Rattle.std.proofs.Common.{◌≡◌, ◌++◌, drop}
-use Rattle.journal_model.specs.OwnText.{copied, revoked}
+use Rattle.journal_model.specs.Transaction.{copied, revoked}
 use Rattle.log_ledger.specs.Text.{copies_at}
 use Rattle.log_ledger.proofs.plan.Plan.make.Given as goal
 

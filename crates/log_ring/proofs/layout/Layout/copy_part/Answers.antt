@@ -1,6 +1,6 @@
 use Rattle.std.proofs.Common.{arith, refl, sym, subst, ap, ◌∙◌, ◌+◌, ◌*◌, ◌/◌, ◌<◌, Some, ℕ}
 use Rattle.journal_model.specs.Layout.{tags_of}
-use Rattle.journal_model.specs.OwnText.{ceil_div}
+use Rattle.log_model.specs.OwnText.{ceil_div}
 use Rattle.log_ring.specs.declared.layout.Part.TheVariants.{Descriptor}
 use Rattle.log_ring.specs.Parts.{LayoutValue}
 use Rattle.journal_model.proofs.Taken.{taken-layout}

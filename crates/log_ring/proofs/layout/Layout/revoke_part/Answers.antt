@@ -1,6 +1,6 @@
 use Rattle.std.proofs.Common.{arith, refl, sym, subst, ap, ◌∙◌, ◌*◌, ◌<◌, Some, ℕ}
 use Rattle.journal_model.specs.Layout.{numbers_of}
-use Rattle.journal_model.specs.OwnText.{ceil_div}
+use Rattle.log_model.specs.OwnText.{ceil_div}
 use Rattle.log_ring.specs.declared.layout.Part.TheVariants.{Revokes}
 use Rattle.log_ring.specs.Parts.{LayoutValue}
 use Rattle.log_ring.proofs.PartPlaces.{revoke-within, revokes-at}

@@ -1,6 +1,6 @@
 use Rattle.std.proofs.Common.{ℕ, ◌+◌, sym, subst}
 use Rattle.journal_model.specs.Disk.{reading}
-use Rattle.journal_model.specs.Opening.{layout_of}
+use Rattle.log_model.specs.Opening.{layout_of}
 use Rattle.log_scan.specs.declared.cursor.Cursor.{Cursor}
 use Rattle.log_scan.specs.Finding.{IsFound, blocks_from, limit_of}
 use Rattle.log_scan.specs.Passing.{LeadsTo}

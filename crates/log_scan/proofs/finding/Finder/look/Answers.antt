@@ -2,9 +2,9 @@ use Rattle.std.specs.Prelude.{unwrap_or}
 use Rattle.std.proofs.Common.{◌≡◌, refl, ℕ, ◌-◌, ap, ◌∙◌, arith}
 use Rattle.journal_model.specs.declared.number.Area.TheVariants.{Log}
 use Rattle.journal_model.specs.Layout.{every_number}
-use Rattle.journal_model.specs.Superblock.{Super}
+use Rattle.log_model.specs.Superblock.{Super}
 use Rattle.journal_model.specs.Disk.{reading}
-use Rattle.journal_model.specs.Opening.{layout_of}
+use Rattle.log_model.specs.Opening.{layout_of}
 use Rattle.log_scan.specs.Finding.{FinderValue, Says, limit_of}
 use Rattle.log_scan.proofs.Fronts.{found-none}
 use Rattle.log_scan.proofs.Laps.{from-end}

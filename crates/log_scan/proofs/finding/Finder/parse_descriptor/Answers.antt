@@ -1,5 +1,5 @@
 use Rattle.std.proofs.Common.{◌≡◌, refl, List, ℕ, ap, sym, ◌∙◌, subst, arith, inl}
-use Rattle.journal_model.specs.declared.log.Tag.{Tag}
+use Rattle.log_model.specs.declared.log.Tag.{Tag}
 use Rattle.journal_model.specs.Layout.{HasHeader, descriptor_type, sequence_in}
 use Rattle.log_scan.specs.declared.finding.Found.{Found}
 use Rattle.log_scan.specs.declared.finding.Found.TheVariants.{Descriptor, Malformed, Nothing}

@@ -1,7 +1,7 @@
 use Rattle.std.proofs.Common.{◌≤◌, ℕ, List, ap, sym, subst, arith, ◌∙◌, length}
 use Rattle.journal_model.specs.Layout.{IsTaken, Layout}
-use Rattle.journal_model.specs.Opening.{layout_of}
-use Rattle.journal_model.specs.Superblock.{super_in}
+use Rattle.log_model.specs.Opening.{layout_of}
+use Rattle.log_model.specs.Superblock.{super_in}
 use Rattle.journal_world.proofs.Superblocks.{accepted-layout, accepted-size}
 use Rattle.recovery.specs.Values.{OpenedValue}
 use Rattle.recovery.proofs.opening.Opened.layout.Goals as goal

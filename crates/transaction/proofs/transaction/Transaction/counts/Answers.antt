@@ -1,7 +1,6 @@
 use Rattle.std.proofs.Common.{ℕ, List, ◌≡◌, ◌+◌, ◌≤◌, length, arith, ap, sym, ◌∙◌}
 use Rattle.journal_model.specs.declared.entry.Entry.{Entry}
-use Rattle.journal_model.specs.OwnText.{copied, revoked}
-use Rattle.journal_model.specs.Transaction.{entries}
+use Rattle.journal_model.specs.Transaction.{copied, entries, revoked}
 use Rattle.transaction.specs.Transaction.{OpenTransaction}
 use Rattle.transaction.proofs.Counting.{all-copies, counts-copy, counts-revoke, few-copies, none-yet, other-revokes}
 use Rattle.transaction.proofs.transaction.Transaction.counts.Goals as goal

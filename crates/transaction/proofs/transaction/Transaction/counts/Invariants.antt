@@ -1,6 +1,5 @@
 use Rattle.std.proofs.Common.{◌≡◌, ◌+◌, length}
-use Rattle.journal_model.specs.OwnText.{copied}
-use Rattle.journal_model.specs.Transaction.{entries}
+use Rattle.journal_model.specs.Transaction.{copied, entries}
 use Rattle.transaction.proofs.transaction.Transaction.counts.Given as goal
 
 -- the copies that were counted, and those that are left, are all

@@ -1,6 +1,0 @@
-use Rattle.journal_model.proofs.ReadingTexts.{one_damage_of}
-use Rattle.journal_model.proofs.log_laws.one_damage.Goals as goal
-
--- two damaged blocks behind one chain are one
-pub returns : goal.returns
-returns c l count sequence some blocks j k p q = one_damage_of l count some sequence blocks j k p q

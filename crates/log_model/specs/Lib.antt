@@ -1,0 +1,13 @@
+pub mod Escape
+pub mod Superblock
+pub mod Descriptor
+pub mod RevokeBlock
+pub mod Text
+pub mod OwnText
+pub mod Room
+pub mod Chain
+pub mod Replay
+pub mod Opening
+pub mod HomeChange
+pub mod Dump
+pub mod ReadingLog

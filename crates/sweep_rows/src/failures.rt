@@ -1,0 +1,85 @@
+//! Rows of runs of which one device call fails.
+use bench_run::{Stop, Stops, run, run_operations};
+use bench_script::Script;
+use format_rows::RowError;
+use format_rows::words::cut;
+use run_rows::endings::{Ending, Given, endings_text, given_of, in_one_line, kept, note};
+use run_rows::texts::written;
+use std::alloc::Global;
+use std::io;
+
+/// Runs of which each call fails in turn. Given: a line as `calls 1 to 13, any of the last 4 writes kept`, and a script. Found:
+/// each way in which runs end, with what an opening finds, the named blocks and the verdict, and the calls of which some kept writes
+/// make a run end so.
+pub fn failures(alloc: Global, given: &str) -> Result<String, RowError> {
+    let given = given_of(alloc, given)?;
+    let mut endings = Vec::new(alloc);
+    for call in given.first..=given.last {
+        add_failure(alloc, &given, call, &mut endings)?;
+    }
+    Ok(endings_text(alloc, &endings, "calls")?)
+}
+
+/// Adds how runs end of which this call fails, and which keep any of the last writes.
+fn add_failure(
+    alloc: Global,
+    given: &Given,
+    call: u64,
+    endings: &mut Vec<Ending>,
+) -> Result<(), RowError> {
+    let writes = writes_of(alloc, &given.script, call)?;
+    for bits in 0..given.choices {
+        let kept = kept(alloc, writes, bits)?;
+        add_run(alloc, &given.script, call, &kept, endings)?;
+    }
+    Ok(())
+}
+
+/// How many writes a run makes of which this call fails.
+fn writes_of(alloc: Global, script: &Script, call: u64) -> Result<u64, RowError> {
+    match run_operations(alloc, script, None, Some(call), &mut io::sink()) {
+        Ok(stopped) => Ok(stopped.device.writes()),
+        Err(_) => Err(RowError::Memory),
+    }
+}
+
+/// Adds how a run ends of which this call fails, and which keeps these writes.
+fn add_run(
+    alloc: Global,
+    script: &Script,
+    call: u64,
+    kept: &[u64],
+    endings: &mut Vec<Ending>,
+) -> Result<(), RowError> {
+    let mut out = Vec::new(alloc);
+    let stops = Stops {
+        failing_call: Some(call),
+        run: Stop {
+            at_write: None,
+            keep: kept,
+        },
+        opening: Stop {
+            at_write: None,
+            keep: &[],
+        },
+    };
+    match run(alloc, script, &stops, &mut out) {
+        Ok(right) => add_lines(alloc, written(&out)?, right, call, endings),
+        Err(_) => Err(RowError::Memory),
+    }
+}
+
+/// Adds how a run ends that printed these lines, where this call was to fail: it did where an operation was refused for that.
+fn add_lines(
+    alloc: Global,
+    lines: &str,
+    right: bool,
+    call: u64,
+    endings: &mut Vec<Ending>,
+) -> Result<(), RowError> {
+    let (operations, behind) = cut(lines, "\nstopped ")?;
+    let (_, ending) = cut(behind, " n=")?;
+    let text = format!(in alloc; "n={}, right {right}", in_one_line(alloc, ending)?)?;
+    let failed = operations.contains(" = refused 2 Device");
+    Ok(note(alloc, endings, text, failed.then_some(call))?)
+}

@@ -1,0 +1,155 @@
+//! Rows of sweeps.
+use crate::wrong_journals::{Order, WrongJournal};
+use bench_sweep::{
+    Counts, FailureCounts, NotRight, Swept, ThisJournal, Unwatched, sweep, sweep_failures,
+};
+use format_rows::RowError;
+use format_rows::words::cut;
+use run_rows::scripts::given_script;
+use run_rows::texts::written;
+use std::alloc::{AllocError, Global};
+use std::fmt::Write;
+
+/// Sweeps of this project's journal. Given: a script. Found: how many writes, images and openings of images that stopped there were,
+/// and how many of all these openings did not come to a verdict that is ok; and what named itself.
+pub fn sweeps(alloc: Global, given: &str) -> Result<String, RowError> {
+    let mut err = Vec::new(alloc);
+    let counts = counts_of(alloc, &ThisJournal, given, &mut err)?;
+    let mut told = String::new(alloc);
+    writeln!(
+        told,
+        "writes={} images={} again={} false={}",
+        counts.writes,
+        counts.images,
+        counts.again,
+        counts.not_right.count()
+    )?;
+    told.push_str(written(&err)?)?;
+    Ok(told)
+}
+
+/// Sweeps of the failing calls of this project's journal. Given: a script. Found: how many calls it makes, and how many openings behind
+/// runs of which one failed did not come to a verdict that is ok; and what named itself.
+pub fn failure_sweeps(alloc: Global, given: &str) -> Result<String, RowError> {
+    let mut err = Vec::new(alloc);
+    let counts = failure_counts_of(alloc, &ThisJournal, given, &mut err)?;
+    let mut told = String::new(alloc);
+    writeln!(
+        told,
+        "calls={} false={}",
+        counts.calls,
+        counts.not_right.count()
+    )?;
+    told.push_str(written(&err)?)?;
+    Ok(told)
+}
+
+/// Sweeps of wrong journals. Given: on a line what overtakes a flush, as `a commit block`, `a superblock`, `a transaction`, or in
+/// openings `a superblock of an opening`; and behind it a script. Found: whether a verdict is false.
+pub fn wrong_journals(alloc: Global, given: &str) -> Result<String, RowError> {
+    let (name, script) = cut(given, "\n")?;
+    let mut err = Vec::new(alloc);
+    let counts = counts_of(alloc, &wrong_journal(name)?, script, &mut err)?;
+    found_text(alloc, counts.not_right)
+}
+
+/// Sweeps of the failing calls of a journal. Given: on a line `heeded`, or `ignored` where the journal goes on as if no call had
+/// failed; and behind it a script. Found: of each call behind whose failure a verdict is false the line that names the first one.
+pub fn ignored_failures(alloc: Global, given: &str) -> Result<String, RowError> {
+    let (word, script) = cut(given, "\n")?;
+    let mut err = Vec::new(alloc);
+    let counts = failure_counts_of(alloc, &failing_journal(word)?, script, &mut err)?;
+    if counts.not_right.count() == 0 {
+        return found_text(alloc, counts.not_right);
+    }
+    Ok(first_of_each_call(alloc, written(&err)?)?)
+}
+
+/// Of the lines that name what is not right the first one of each call.
+fn first_of_each_call(alloc: Global, named: &str) -> Result<String, AllocError> {
+    let mut firsts = String::new(alloc);
+    let mut last = None;
+    for line in named.lines() {
+        let call = call_named(line);
+        if call.is_some() && call != last {
+            writeln!(firsts, "{line}")?;
+            last = call;
+        }
+    }
+    Ok(firsts)
+}
+
+/// The number of the call that a line names, if it names what is not right.
+fn call_named(line: &str) -> Option<u64> {
+    let (options, _) = line.strip_prefix("not right: --fail ")?.split_once(',')?;
+    options.split(' ').next()?.parse().ok()
+}
+
+/// Whether a verdict is false.
+fn found_text(alloc: Global, not_right: NotRight) -> Result<String, RowError> {
+    let told = if not_right.count() > 0 {
+        "a verdict is false"
+    } else {
+        "no verdict is false"
+    };
+    Ok(String::from_str(alloc, told)?)
+}
+
+/// The wrong journal of a name.
+fn wrong_journal(name: &str) -> Result<WrongJournal, RowError> {
+    let (runs, openings) = match name {
+        "nothing" => (Order::AsMade, Order::AsMade),
+        "a commit block" => (Order::CommitBlockFirst, Order::AsMade),
+        "a superblock" => (Order::SuperblockFirst, Order::AsMade),
+        "a transaction" => (Order::TransactionFirst, Order::AsMade),
+        "a superblock of an opening" => (Order::AsMade, Order::SuperblockFirst),
+        _ => return Err(RowError::Unread),
+    };
+    Ok(WrongJournal {
+        runs,
+        openings,
+        ignores_failures: false,
+    })
+}
+
+/// The journal whose failed calls are heeded, or ignored.
+fn failing_journal(word: &str) -> Result<WrongJournal, RowError> {
+    let ignores_failures = match word {
+        "heeded" => false,
+        "ignored" => true,
+        _ => return Err(RowError::Unread),
+    };
+    Ok(WrongJournal {
+        runs: Order::AsMade,
+        openings: Order::AsMade,
+        ignores_failures,
+    })
+}
+
+/// What a sweep of the stops of a journal counts.
+fn counts_of<J: Swept>(
+    alloc: Global,
+    journal: &J,
+    script: &str,
+    err: &mut Vec<u8>,
+) -> Result<Counts, RowError> {
+    let script = given_script(alloc, script)?;
+    match sweep(alloc, journal, &script, &mut Unwatched, err) {
+        Ok(counts) => Ok(counts),
+        Err(_) => Err(RowError::Memory),
+    }
+}
+
+/// What a sweep of the failing calls of a journal counts.
+fn failure_counts_of<J: Swept>(
+    alloc: Global,
+    journal: &J,
+    script: &str,
+    err: &mut Vec<u8>,
+) -> Result<FailureCounts, RowError> {
+    let script = given_script(alloc, script)?;
+    match sweep_failures(alloc, journal, &script, &mut Unwatched, err) {
+        Ok(counts) => Ok(counts),
+        Err(_) => Err(RowError::Memory),
+    }
+}
