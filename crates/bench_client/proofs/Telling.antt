@@ -16,21 +16,21 @@ use Rattle.journal_world.proofs.Onward.{fault-on, round-fault-on, round-on, step
 use Rattle.log_epochs.specs.JournalWorld.{JournalWorld, Leads, with_directs}
 use Rattle.log_epochs.specs.JournalWorld.Move.{Answer, Step}
 use Rattle.log_epochs.proofs.Leading.{leads-more}
-use Rattle.group_commit.specs.declared.journal.CheckTurn.{CheckTurn}
-use Rattle.group_commit.specs.declared.journal.CheckTurn.TheVariants.{Idle as IdleCheck, Step as StepCheck, Released}
-use Rattle.group_commit.specs.declared.journal.Turn.{Turn}
-use Rattle.group_commit.specs.declared.journal.Turn.TheVariants.{Idle as IdleTurn, Waiting, Step as StepTurn, Sealed, Committed}
-use Rattle.group_commit.specs.Direct.{DirectSyncRefused, DirectWriteRefused}
-use Rattle.group_commit.specs.Direct.DirectSyncRefused.{SyncAborted, SyncFailed}
-use Rattle.group_commit.specs.Direct.DirectWriteRefused.{WriteAborted, WriteFailed, WriteNotDirect, WriteOutside}
+use Rattle.journal_steps.specs.declared.turn.CheckTurn.{CheckTurn}
+use Rattle.journal_steps.specs.declared.turn.CheckTurn.TheVariants.{Idle as IdleCheck, Step as StepCheck, Released}
+use Rattle.journal_steps.specs.declared.turn.Turn.{Turn}
+use Rattle.journal_steps.specs.declared.turn.Turn.TheVariants.{Idle as IdleTurn, Waiting, Step as StepTurn, Sealed, Committed}
+use Rattle.journal_steps.specs.Direct.{DirectSyncRefused, DirectWriteRefused}
+use Rattle.journal_steps.specs.Direct.DirectSyncRefused.{SyncAborted, SyncFailed}
+use Rattle.journal_steps.specs.Direct.DirectWriteRefused.{WriteAborted, WriteFailed, WriteNotDirect, WriteOutside}
 use Rattle.group_commit.specs.Extension.{Extends, RestartRefused, Restarts, Starts}
 use Rattle.journal_front.specs.Front.{IsOpenHandle}
-use Rattle.group_commit.specs.Journal.{CheckTurnDid, CheckTurnRefused, Does, ReadRefused, Requests, TurnDid, TurnRefused}
-use Rattle.group_commit.specs.Journal.CheckTurnRefused.{CheckAborted, CheckFailed}
-use Rattle.group_commit.specs.Journal.ReadRefused.{ReadAborted, ReadFailed, ReadOutside, ReadRevoked}
-use Rattle.group_commit.specs.Journal.TurnRefused.{DeviceFailed, MemoryIsShort, RingIsShort, WasAborted}
+use Rattle.journal_steps.specs.Journal.{CheckTurnDid, CheckTurnRefused, Does, ReadRefused, Requests, TurnDid, TurnRefused}
+use Rattle.journal_steps.specs.Journal.CheckTurnRefused.{CheckAborted, CheckFailed}
+use Rattle.journal_steps.specs.Journal.ReadRefused.{ReadAborted, ReadFailed, ReadOutside, ReadRevoked}
+use Rattle.journal_steps.specs.Journal.TurnRefused.{DeviceFailed, MemoryIsShort, RingIsShort, WasAborted}
 use Rattle.journal_front.specs.Values.{HandleValue}
-use Rattle.group_commit.specs.Values.{JournalValue}
+use Rattle.journal_steps.specs.Values.{JournalValue}
 use Rattle.bench_script.specs.declared.script.Operation.{Operation}
 use Rattle.bench_script.specs.Named.{IsDirectOf}
 use Rattle.bench_client.specs.Told.{AreDirectsOf, HasLedTo, running_world, with_told}

@@ -6,9 +6,9 @@ use Rattle.bench_script.specs.declared.script.Operation.TheVariants.{Start, Writ
 use Rattle.journal_world.specs.Front.FrontEvent.{RevokeBlock, WriteBlock}
 use Rattle.journal_world.specs.Journal.Event.{DirectSync, DirectWrite, FrontStep}
 use Rattle.group_commit.specs.Extension.{Extends, Restarts}
-use Rattle.group_commit.specs.Journal.{Does}
+use Rattle.journal_steps.specs.Journal.{Does}
 use Rattle.journal_front.specs.Values.{HandleValue}
-use Rattle.group_commit.specs.Values.{JournalValue}
+use Rattle.journal_steps.specs.Values.{JournalValue}
 use Rattle.bench_client.specs.declared.outcome.Outcome.{Outcome}
 use Rattle.bench_client.specs.declared.outcome.Outcome.TheVariants.{Committed, Done, Transaction}
 use Rattle.bench_client.specs.Told.{ClientValue, with_told}

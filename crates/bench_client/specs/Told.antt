@@ -10,7 +10,7 @@ use Rattle.log_epochs.specs.EngineWorld.Phase.{Running}
 use Rattle.log_epochs.specs.JournalWorld.{Begins, JournalWorld, Leads, Move}
 use Rattle.bench_script.specs.declared.script.Operation.{Operation}
 use Rattle.bench_script.specs.Named.{IsDirectOf}
-use Rattle.group_commit.specs.Values.{JournalValue}
+use Rattle.journal_steps.specs.Values.{JournalValue}
 
 -- a client as contracts see it: the journal that it calls, on its device, the operations that it performs, and the greatest
 -- transaction that it was shown committed, if there is one

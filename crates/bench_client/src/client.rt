@@ -5,7 +5,7 @@ ghost use Rattle.journal_world.specs.Front.FrontEvent.{RevokeBlock, WriteBlock};
 ghost use Rattle.journal_world.specs.Journal.Event.{DirectSync, DirectWrite, FrontStep};
 ghost use Rattle.bench_script.specs.Named.{IsDirectOf};
 ghost use Rattle.group_commit.specs.Extension.{Extends, Restarts};
-ghost use Rattle.group_commit.specs.Journal.{Does};
+ghost use Rattle.journal_steps.specs.Journal.{Does};
 
 use bench_script::Operation;
 use block_device::Device;

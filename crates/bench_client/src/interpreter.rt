@@ -53,7 +53,7 @@ fn block_of(alloc: Global, size: usize, bytes: &[u8]) -> Result<Vec<u8>, AllocEr
 impl<'a, D: Device + Drop, H: HomeFact> Interpreter<'a, D, H> {
     ghost use Rattle.journal_world.specs.Journal.Event.{DirectSync};
     ghost use Rattle.bench_script.specs.Named.{IsDirectOf};
-    ghost use Rattle.group_commit.specs.Journal.{Does};
+    ghost use Rattle.journal_steps.specs.Journal.{Does};
     ghost use Rattle.bench_client.specs.Ended.{IsEnded, IsLeftClosed};
     ghost use Rattle.bench_client.specs.Performed.{ExtendsHandle, HasDone, IfCommitted, IfTransaction, RestartsHandle, RevokesBlock, WritesBlock, WritesDirectly};
     ghost use Rattle.bench_client.specs.Told.{IsLedTo, with_told};

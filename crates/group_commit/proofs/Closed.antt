@@ -23,11 +23,11 @@ use Rattle.log_engine.specs.Close.CloseRefused.{CloseAborted, CloseFailed}
 use Rattle.log_engine.specs.Engine.{EngineValue}
 use Rattle.group_commit.specs.Close.{CloseDid, CloseRefused, ComesTo, EndsWith, IsFinished}
 use Rattle.group_commit.specs.Close.CloseDid.{ClosesLog, StaysClean}
-use Rattle.group_commit.specs.Journal.{Agrees, OpensOver}
-use Rattle.group_commit.specs.Values.{JournalValue}
+use Rattle.journal_steps.specs.Journal.{Agrees, OpensOver}
+use Rattle.journal_steps.specs.Values.{JournalValue}
 use Rattle.group_commit.proofs.Finishing.{all-sealed}
 use Rattle.group_commit.proofs.Leading.{comes-behind, comes-closed, comes-failed, comes-out}
-use Rattle.group_commit.proofs.Turning.{opens-over}
+use Rattle.journal_steps.proofs.Turning.{opens-over}
 
 -- a closed log opens to all that was sealed
 pub closed-over : (f : Front) (e : Engine) (disk : Disk) → Agrees (record { front = f; engine = e }) → IsClosedLog e disk → (image : Image) →

@@ -24,19 +24,19 @@ use Rattle.journal_world.specs.Journal.Event.{CheckpointFault, CheckpointStep, C
 use Rattle.journal_world.specs.Sound.{IsPlain, StageAgrees, position}
 use Rattle.journal_model.specs.Disk.{Disk}
 use Rattle.journal_world.proofs.Batches.{same-length}
-use Rattle.group_commit.specs.declared.journal.CheckTurn.{CheckTurn}
-use Rattle.group_commit.specs.declared.journal.CheckTurn.TheVariants.{Idle as IdleCheck, Step as StepCheck, Released}
-use Rattle.group_commit.specs.declared.journal.Turn.{Turn}
-use Rattle.group_commit.specs.declared.journal.Turn.TheVariants.{Idle as IdleTurn, Waiting, Step, Sealed, Committed}
+use Rattle.journal_steps.specs.declared.turn.CheckTurn.{CheckTurn}
+use Rattle.journal_steps.specs.declared.turn.CheckTurn.TheVariants.{Idle as IdleCheck, Step as StepCheck, Released}
+use Rattle.journal_steps.specs.declared.turn.Turn.{Turn}
+use Rattle.journal_steps.specs.declared.turn.Turn.TheVariants.{Idle as IdleTurn, Waiting, Step, Sealed, Committed}
 use Rattle.log_epochs.specs.EngineWorld.Phase.{Running}
 use Rattle.log_epochs.specs.JournalWorld.{with_directs}
 use Rattle.group_commit.specs.Close.{CloseRefused, ComesTo, FitsRing, GoesOn, HasSealed, IsFinished, SealRefused, StaysUnsealed, Went, WentWrong, closing, locked_journal, with_running}
 use Rattle.group_commit.specs.Close.CloseRefused.{CloseAborted, CloseFailed, NoMemory, RingTooShort}
 use Rattle.group_commit.specs.Close.SealRefused.{NoMemoryForIt, NoRoomForIt}
-use Rattle.group_commit.specs.Journal.{Agrees, CheckTurnDid, CheckTurnRefused, Does, HasRoomFor, NothingToRelease, TurnDid, TurnRefused, need_of}
-use Rattle.group_commit.specs.Journal.CheckTurnRefused.{CheckAborted, CheckFailed}
-use Rattle.group_commit.specs.Journal.TurnRefused.{DeviceFailed, MemoryIsShort, RingIsShort, WasAborted}
-use Rattle.group_commit.specs.Values.{JournalValue}
+use Rattle.journal_steps.specs.Journal.{Agrees, CheckTurnDid, CheckTurnRefused, Does, HasRoomFor, NothingToRelease, TurnDid, TurnRefused, need_of}
+use Rattle.journal_steps.specs.Journal.CheckTurnRefused.{CheckAborted, CheckFailed}
+use Rattle.journal_steps.specs.Journal.TurnRefused.{DeviceFailed, MemoryIsShort, RingIsShort, WasAborted}
+use Rattle.journal_steps.specs.Values.{JournalValue}
 use Rattle.group_commit.proofs.Leading.{comes-behind, comes-nowhere, comes-same, comes-step}
 
 -- what a step of a commit or of a round leaves of the log

@@ -1,11 +1,10 @@
 -- The close of a journal: the moves of the machine that it makes, what it seals, how far it came, and why it is refused.
-use Rattle.std.specs.Prelude.{◌≡◌, ◌⊎◌, ⊤, ℕ, ◌<◌, ◌≤◌, true, false, List, [], ◌∷◌, ◌++◌, length, Some}
+use Rattle.std.specs.Prelude.{◌≡◌, ◌⊎◌, ℕ, ◌<◌, ◌≤◌, true, false, List, [], ◌∷◌, ◌++◌, length, Some}
 use Rattle.journal_model.specs.declared.refusal.JournalError.{JournalError}
 use Rattle.journal_model.specs.declared.refusal.JournalError.TheVariants.{Aborted, Device, Memory, NeedSpace}
 use Rattle.journal_model.specs.Disk.{Disk}
 use Rattle.journal_model.specs.Transaction.{History, Transaction}
 use Rattle.block_device.specs.State.{DeviceState, one_more_fault}
-use Rattle.journal_world.specs.Engine.{Engine}
 use Rattle.journal_world.specs.Front.{Front, locking}
 use Rattle.journal_world.specs.Journal.{Journal}
 use Rattle.log_epochs.specs.EngineWorld.{Phase}
@@ -13,11 +12,8 @@ use Rattle.log_epochs.specs.EngineWorld.Phase.{Closed, Running, Shut}
 use Rattle.log_epochs.specs.Epoch.{Epoch}
 use Rattle.log_epochs.specs.JournalWorld.{JournalWorld, Leads, Move}
 use Rattle.log_engine.specs.Close.{IsAllReleased}
-use Rattle.log_engine.specs.Left.{round_calls}
-use Rattle.group_commit.specs.declared.journal.CheckTurn.{CheckTurn}
-use Rattle.group_commit.specs.declared.journal.CheckTurn.TheVariants.{Idle as IdleCheck, Step as StepCheck, Released}
-use Rattle.group_commit.specs.Journal.{HasRoomFor, need_of}
-use Rattle.group_commit.specs.Values.{JournalValue}
+use Rattle.journal_steps.specs.Journal.{HasRoomFor, need_of}
+use Rattle.journal_steps.specs.Values.{JournalValue}
 
 -- the sealed transactions, with the running one where these handles have joined it
 abbrev pub with_running : History → Transaction → List ℕ → History
@@ -132,9 +128,3 @@ locked_journal old = record old { journal = record old.journal { front = locking
 pub data SealRefused (j : Journal) : JournalError → Type 0 where
   NoRoomForIt : (HasRoomFor j → ⊥) → SealRefused j NeedSpace
   NoMemoryForIt : HasRoomFor j → SealRefused j Memory
-
--- a checkpoint turn that made a call leaves fewer of them
-abbrev pub LeavesFewerRounds : CheckTurn → Engine → Engine → Type 0
-LeavesFewerRounds IdleCheck old new = ⊤
-LeavesFewerRounds StepCheck old new = round_calls new < round_calls old
-LeavesFewerRounds (Released tid) old new = round_calls new < round_calls old

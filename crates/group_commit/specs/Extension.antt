@@ -7,9 +7,9 @@ use Rattle.journal_world.specs.Front.{Front, credits_left, reserving}
 use Rattle.journal_world.specs.Front.FrontEvent.{ExtendHandle, Join, Reserve, StopHandle}
 use Rattle.journal_world.specs.Journal.Event.{FrontStep}
 use Rattle.journal_front.specs.Front.{ExtendRefused, IsOpenHandle, JoinRefused, ReserveRefused}
-use Rattle.group_commit.specs.Journal.{Does}
+use Rattle.journal_steps.specs.Journal.{Does}
 use Rattle.journal_front.specs.Values.{HandleValue}
-use Rattle.group_commit.specs.Values.{JournalValue}
+use Rattle.journal_steps.specs.Values.{JournalValue}
 
 -- credits are granted, and an open handle gets them
 pub record Extends {D : Type 0} (state : D → DeviceState) (h n : ℕ) (old new : JournalValue D) : Type 0 where

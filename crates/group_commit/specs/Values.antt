@@ -1,19 +1,15 @@
--- What contracts see of the journal's values.
-use Rattle.std.specs.Prelude.{ℕ}
+-- What contracts see of tickets and receipts.
+use Rattle.std.specs.Prelude.{ℕ, ◌<◌, ◌≤◌}
 use Rattle.journal_world.specs.Front.{Front}
-use Rattle.journal_world.specs.Journal.{Journal}
-use Rattle.log_engine.specs.Engine.{EngineValue}
+use Rattle.group_commit.specs.declared.ticket.Status.{Status}
+use Rattle.group_commit.specs.declared.ticket.Status.TheVariants.{Committed as IsCommitted, Open}
 
 -- a ticket or a receipt
 pub record TicketValue : Type 0 where
   pub handle : ℕ
   pub tid : ℕ
 
--- a journal and its device
-pub record JournalValue (D : Type 0) : Type 0 where
-  pub device : D
-  pub journal : Journal
-
--- a front and an engine, with its device, together are a journal
-abbrev pub together : {D : Type 0} → Front → EngineValue D → JournalValue D
-together f e = record { device = e.device; journal = record { front = f; engine = e.engine } }
+-- the status of a ticket of this transaction
+abbrev pub StatusIs : Status → ℕ → Front → Type 0
+StatusIs IsCommitted tid f = tid ≤ f.mark
+StatusIs Open tid f = f.mark < tid

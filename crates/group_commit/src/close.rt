@@ -5,12 +5,13 @@ ghost use Rattle.journal_model.specs.declared.refusal.JournalError.TheVariants.{
 ghost use Rattle.journal_world.specs.declared.stage.Stage.TheVariants.{Idle};
 ghost use Rattle.log_epochs.specs.EngineWorld.Phase.{Running};
 ghost use Rattle.group_commit.specs.Close.{CloseRefused, ComesTo, FitsRing, HasSealed, IsFinished, Went, WentWrong};
-ghost use Rattle.group_commit.specs.Journal.{HasRoomFor, NothingToRelease};
+ghost use Rattle.journal_steps.specs.Journal.{HasRoomFor, NothingToRelease};
 
-use crate::journal::{CheckTurn, Journal};
+use crate::journal::Journal;
 use block_device::Device;
 use journal_front::Record;
 use journal_model::JournalError;
+use journal_steps::CheckTurn;
 
 /// Seals the running transaction where a handle has joined it, and commits and releases everything. Where it is refused,
 /// what was sealed and committed so far stays so.

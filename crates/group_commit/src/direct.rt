@@ -6,14 +6,14 @@ ghost use Rattle.std.specs.Prelude.{◌≡◌, length, IfErr, OnOk};
 ghost use Rattle.block_device.specs.State.{EachMoment, MakesAtMostOneCall};
 ghost use Rattle.journal_world.specs.Journal.Event.{DirectSync, DirectWrite};
 ghost use Rattle.log_engine.specs.Call.{IsOneMoment};
-ghost use Rattle.group_commit.specs.Direct.{DirectSyncRefused, DirectWriteRefused, IsDuringDirectSync, IsDuringDirectWrite, MayWriteDirectly};
-ghost use Rattle.group_commit.specs.Journal.{Does};
+ghost use Rattle.journal_steps.specs.Direct.{DirectSyncRefused, DirectWriteRefused, IsDuringDirectSync, IsDuringDirectWrite, MayWriteDirectly};
+ghost use Rattle.journal_steps.specs.Journal.{Does};
 
 use crate::journal::Journal;
-use crate::steps;
 use block_device::Device;
 use journal_front::Record;
 use journal_model::{BlockNo, JournalError};
+use journal_steps::steps;
 
 impl<D: Device, R: Record> Journal<D, R> {
     /// Writes a block of the home area directly, of one block of bytes, past the log: its last entry in the transactions that

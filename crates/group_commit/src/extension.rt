@@ -5,7 +5,7 @@ ghost use Rattle.journal_world.specs.Front.FrontEvent.{ExtendHandle, GiveBack, J
 ghost use Rattle.journal_world.specs.Journal.Event.{FrontStep};
 ghost use Rattle.group_commit.specs.Extension.{Extends, ExtensionRefused, RestartRefused, Restarts, StartRefused, Starts};
 ghost use Rattle.journal_front.specs.Front.{ExtendRefused, IsOpenHandle, JoinRefused};
-ghost use Rattle.group_commit.specs.Journal.{Does};
+ghost use Rattle.journal_steps.specs.Journal.{Does};
 
 use crate::journal::Journal;
 use crate::ticket::{Seat, Ticket};

@@ -16,17 +16,18 @@ ghost use Rattle.log_epochs.specs.JournalWorld.{Begins};
 ghost use Rattle.log_engine.specs.Call.{IsOneMoment};
 ghost use Rattle.log_engine.specs.Close.{IsAllReleased};
 ghost use Rattle.log_engine.specs.Left.{commit_calls};
-ghost use Rattle.group_commit.specs.Close.{CloseDid, CloseRefused, EndsWith, LeavesFewerRounds, SealRefused, closing, locked_journal};
+ghost use Rattle.journal_steps.specs.Journal.{Agrees, CheckTurnDid, CheckTurnRefused, Does, HasCopyKept, HasRoomFor, IsDuringCheckTurn, IsDuringTurn, IsSeen, LeavesFewerRounds, OpensNow, OpensOver, ReadRefused, Requests, SealIsDue, TurnDid, TurnRefused};
+ghost use Rattle.group_commit.specs.Close.{CloseDid, CloseRefused, EndsWith, SealRefused, closing, locked_journal};
 ghost use Rattle.journal_front.specs.Front.{IsOpenHandle, JoinRefused, MayTouch, ReserveRefused, Spends, TouchRefused};
-ghost use Rattle.group_commit.specs.Journal.{Agrees, CheckTurnDid, CheckTurnRefused, Does, HasCopyKept, HasRoomFor, IsDuringCheckTurn, IsDuringTurn, IsSeen, OpensNow, OpensOver, ReadRefused, Requests, SealIsDue, StatusIs, TurnDid, TurnRefused};
+ghost use Rattle.group_commit.specs.Values.{StatusIs};
 
 use crate::close::finish;
-use crate::steps;
 use crate::ticket::{Receipt, Seat, Status, Ticket};
 use block_device::Device;
 use history::History;
 use journal_front::{Credits, Front, Handle, Record};
 use journal_model::{BlockNo, JournalError, Sealed, Tid};
+use journal_steps::{CheckTurn, Turn, steps};
 use log_engine::Engine;
 use log_ring::Layout;
 use recovery::Opened;
@@ -38,32 +39,6 @@ use std::marker::Model;
 pub struct Journal<D: Device, R: Record = History<Sealed>> {
     pub(crate) front: Front<R>,
     pub(crate) engine: Engine<D>,
-}
-
-/// What a commit turn did.
-#[derive(Clone, Copy, Debug, PartialEq, Eq)]
-pub enum Turn {
-    /// Nothing: the transaction is running.
-    Idle,
-    /// Nothing: the transaction is locked, and has a handle that has not stopped.
-    Waiting,
-    /// One step of a commit.
-    Step,
-    /// This transaction was sealed, and is to be committed.
-    Sealed(Tid),
-    /// The last step of a commit: this transaction is committed, and told to be so.
-    Committed(Tid),
-}
-
-/// What a checkpoint turn did.
-#[derive(Clone, Copy, Debug, PartialEq, Eq)]
-pub enum CheckTurn {
-    /// Nothing: every committed transaction is released.
-    Idle,
-    /// One step of a checkpoint round.
-    Step,
-    /// The last step of a round: the transactions up to this one are released.
-    Released(Tid),
 }
 
 /// What is left of a journal at its end.
@@ -78,8 +53,8 @@ pub struct Parts<D, R = History<Sealed>> {
 }
 
 impl<D: Device, R: Record> Model for Journal<D, R> {
-    ghost use Rattle.group_commit.specs.Values.{JournalValue};
-    ghost use Rattle.group_commit.specs.Journal.{Agrees};
+    ghost use Rattle.journal_steps.specs.Values.{JournalValue};
+    ghost use Rattle.journal_steps.specs.Journal.{Agrees};
 
     ghost Value = { JournalValue D };
 

@@ -3,10 +3,10 @@
 //! a stop at any moment leaves.
 //!
 //! It is one plain value: its calls take `&mut self`, and there is no lock or thread. Two parts know each other by one
-//! contract each: the engine (`log_engine`) commits batches to the log and writes them home, and the front (`journal_front`), with
-//! the `journal` around both, turns handles and their writes into batches. `extension` is for handles that need more, `direct`
-//! writes blocks past both, and `close` takes the turns that are left before a log is closed. How a journal keeps what it sealed is
-//! its caller's to choose (`Record`).
+//! contract each: the engine (`log_engine`) commits batches to the log and writes them home, and the front (`journal_front`) turns
+//! handles and their writes into batches. What needs both is a step of `journal_steps`, and the `journal` lends them to it.
+//! `extension` is for handles that need more, `direct` writes blocks past both, and `close` takes the turns that are left before a
+//! log is closed. How a journal keeps what it sealed is its caller's to choose (`Record`).
 //!
 //! Nobody but a journal has its front: so its credits and handles come of its own calls alone, and no transaction of it is sealed
 //! but by a turn or a close. Seats, tickets and receipts (`ticket`) are made by journals alone.
@@ -16,9 +16,9 @@ mod close;
 mod direct;
 mod extension;
 mod journal;
-pub mod steps;
 mod ticket;
 
-pub use journal::{CheckTurn, Journal, Parts, Turn};
+pub use journal::{Journal, Parts};
 pub use journal_front::{Credits, Front, Handle, Record};
+pub use journal_steps::{CheckTurn, Turn};
 pub use ticket::{Receipt, Seat, Status, Ticket};

@@ -2,7 +2,7 @@
 use Rattle.std.specs.Prelude.{◌≡◌, ℕ, length, Result, Ok, Err, IfOk, MatchResult}
 use Rattle.journal_model.specs.Disk.{Disk, Shape}
 use Rattle.journal_model.specs.Transaction.{History}
-use Rattle.group_commit.specs.Journal.{OpensOver}
+use Rattle.journal_steps.specs.Journal.{OpensOver}
 
 -- a fact of each answer that is Ok follows from two
 pub ok-by : {A B : Type 0} (P Q R : A → Type 0) (S : B → Type 0) (r : Result A B) → IfOk r P → MatchResult r Q S → ((a : A) → P a → Q a → R a) → IfOk r R

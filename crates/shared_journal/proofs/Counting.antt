@@ -6,16 +6,16 @@ use Rattle.journal_world.specs.Front.{Front, FrontHappens, aborting, held}
 use Rattle.journal_world.specs.Front.FrontEvent.{RevokeBlock, WriteBlock}
 use Rattle.journal_world.specs.Journal.Event.{DirectSync, DirectWrite, FrontStep}
 use Rattle.journal_world.proofs.Credits.{event-held}
-use Rattle.group_commit.specs.declared.journal.CheckTurn.{CheckTurn}
-use Rattle.group_commit.specs.declared.journal.CheckTurn.TheVariants.{Idle as IdleCheck, Step as StepCheck, Released}
-use Rattle.group_commit.specs.Direct.{DirectSyncRefused, DirectWriteRefused}
-use Rattle.group_commit.specs.Direct.DirectSyncRefused.{SyncAborted, SyncFailed}
-use Rattle.group_commit.specs.Direct.DirectWriteRefused.{WriteAborted, WriteFailed, WriteNotDirect, WriteOutside}
-use Rattle.group_commit.specs.Journal.{CheckTurnDid, CheckTurnRefused, Does, ReadRefused, TurnRefused}
-use Rattle.group_commit.specs.Journal.CheckTurnRefused.{CheckAborted, CheckFailed}
-use Rattle.group_commit.specs.Journal.ReadRefused.{ReadAborted, ReadFailed, ReadOutside, ReadRevoked}
-use Rattle.group_commit.specs.Journal.TurnRefused.{DeviceFailed, MemoryIsShort, RingIsShort, WasAborted}
-use Rattle.group_commit.specs.Values.{JournalValue}
+use Rattle.journal_steps.specs.declared.turn.CheckTurn.{CheckTurn}
+use Rattle.journal_steps.specs.declared.turn.CheckTurn.TheVariants.{Idle as IdleCheck, Step as StepCheck, Released}
+use Rattle.journal_steps.specs.Direct.{DirectSyncRefused, DirectWriteRefused}
+use Rattle.journal_steps.specs.Direct.DirectSyncRefused.{SyncAborted, SyncFailed}
+use Rattle.journal_steps.specs.Direct.DirectWriteRefused.{WriteAborted, WriteFailed, WriteNotDirect, WriteOutside}
+use Rattle.journal_steps.specs.Journal.{CheckTurnDid, CheckTurnRefused, Does, ReadRefused, TurnRefused}
+use Rattle.journal_steps.specs.Journal.CheckTurnRefused.{CheckAborted, CheckFailed}
+use Rattle.journal_steps.specs.Journal.ReadRefused.{ReadAborted, ReadFailed, ReadOutside, ReadRevoked}
+use Rattle.journal_steps.specs.Journal.TurnRefused.{DeviceFailed, MemoryIsShort, RingIsShort, WasAborted}
+use Rattle.journal_steps.specs.Values.{JournalValue}
 use Rattle.shared_journal.specs.Locked.{IsHeld}
 
 module _ {D : Type 0} (state : D → DeviceState) (most size count raised : ℕ) (old new : JournalValue D)

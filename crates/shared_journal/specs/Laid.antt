@@ -4,7 +4,7 @@ use Rattle.atomic_table.specs.Seated.{TableId}
 use Rattle.block_device.specs.State.{DeviceState}
 use Rattle.handle.specs.Values.{Laid}
 use Rattle.shared_journal.specs.Locked.{IsHeld}
-use Rattle.group_commit.specs.Values.{JournalValue}
+use Rattle.journal_steps.specs.Values.{JournalValue}
 
 -- its words, how many credits they are for, and how many bytes a block of its device has
 pub record LaidValue (D : Type 0) : Type 0 where

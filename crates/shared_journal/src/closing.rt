@@ -2,7 +2,7 @@
 ghost use Rattle.std.specs.Prelude.{◌≡◌, length, IfOk, MatchResult};
 ghost use Rattle.journal_model.specs.Disk.{Image, Leaves};
 ghost use Rattle.log_epochs.specs.JournalPromise.{IsClosed};
-ghost use Rattle.group_commit.specs.Journal.{OpensOver};
+ghost use Rattle.journal_steps.specs.Journal.{OpensOver};
 
 use block_device::Device;
 use group_commit::{Journal as OneJournal, Parts};

@@ -2,7 +2,7 @@ ghost use Rattle.std.specs.Prelude.{◌≡◌, ◌+◌, ◌<◌, ◌≤◌, leng
 ghost use Rattle.journal_model.specs.Disk.{Image, Leaves};
 ghost use Rattle.log_epochs.specs.JournalPromise.{IsClosed};
 ghost use Rattle.handle.specs.Values.{Grants, Looks, LooksAgain, ReserveRefused, StatusIs, fresh_ticket, loading_credits, loading_mark};
-ghost use Rattle.group_commit.specs.Journal.{OpensOver};
+ghost use Rattle.journal_steps.specs.Journal.{OpensOver};
 ghost use Rattle.shared_journal.specs.Refusals.{IsExtendRefusal, IsJoinRefusal, IsTouchRefusal, MayHavePaid, StartRefused};
 
 use crate::closing::close;

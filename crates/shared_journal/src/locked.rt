@@ -8,10 +8,10 @@ ghost use Rattle.journal_world.specs.Front.FrontEvent.{RevokeBlock, StopHandle, 
 ghost use Rattle.journal_world.specs.Journal.Event.{DirectSync, DirectWrite, FrontStep};
 ghost use Rattle.log_engine.specs.Call.{IsOneMoment};
 ghost use Rattle.handle.specs.Values.{fresh_ticket, loading_credits};
-ghost use Rattle.group_commit.specs.Direct.{DirectSyncRefused, DirectWriteRefused, IsDuringDirectSync, IsDuringDirectWrite, MayWriteDirectly};
+ghost use Rattle.journal_steps.specs.Direct.{DirectSyncRefused, DirectWriteRefused, IsDuringDirectSync, IsDuringDirectWrite, MayWriteDirectly};
 ghost use Rattle.group_commit.specs.Extension.{Extends, Starts};
 ghost use Rattle.journal_front.specs.Front.{ExtendRefused, IsOpenHandle, JoinRefused, MayTouch, Spends, TouchRefused};
-ghost use Rattle.group_commit.specs.Journal.{CheckTurnDid, CheckTurnRefused, Does, IsDuringCheckTurn, IsDuringTurn, IsSeen, ReadRefused, Requests, TurnDid, TurnRefused};
+ghost use Rattle.journal_steps.specs.Journal.{CheckTurnDid, CheckTurnRefused, Does, IsDuringCheckTurn, IsDuringTurn, IsSeen, ReadRefused, Requests, TurnDid, TurnRefused};
 
 use crate::open_handle::Handle;
 use block_device::Device;
@@ -49,7 +49,7 @@ pub struct Locked<J: JournalName, D: Device> {
 }
 
 impl<J: JournalName, D: Device> Model for Locked<J, D> {
-    ghost use Rattle.group_commit.specs.Values.{JournalValue};
+    ghost use Rattle.journal_steps.specs.Values.{JournalValue};
     ghost use Rattle.shared_journal.specs.Locked.{IsHeld};
 
     ghost Value = { JournalValue D };

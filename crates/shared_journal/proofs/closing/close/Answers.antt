@@ -2,7 +2,7 @@ use Rattle.std.proofs.Common.{◌∙◌, ap, length, sym, subst}
 use Rattle.block_device.specs.State.{DeviceState}
 use Rattle.journal_model.specs.Disk.{Shape}
 use Rattle.log_epochs.specs.JournalPromise.{IsClosed}
-use Rattle.group_commit.specs.Journal.{OpensOver}
+use Rattle.journal_steps.specs.Journal.{OpensOver}
 use Rattle.shared_journal.proofs.Closes.{both-by, ok-by, opens-same}
 use Rattle.shared_journal.proofs.closing.close.Goals as goal
 

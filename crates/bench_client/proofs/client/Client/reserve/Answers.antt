@@ -2,7 +2,7 @@ use Rattle.std.specs.Prelude.{◌≡◌}
 use Rattle.std.proofs.lemmas.Result.{IfErr-weaker, IfOk-weaker}
 use Rattle.journal_world.specs.Front.FrontEvent.{Reserve}
 use Rattle.journal_world.specs.Journal.Event.{FrontStep}
-use Rattle.group_commit.specs.Journal.{Does}
+use Rattle.journal_steps.specs.Journal.{Does}
 use Rattle.std.proofs.Common.{subst}
 use Rattle.bench_client.proofs.Telling.{front-comes}
 use Rattle.bench_client.proofs.client.Client.reserve.Goals as goal

@@ -5,7 +5,7 @@ use Rattle.block_device.specs.State.{one_more_fault}
 use Rattle.log_epochs.specs.JournalPromise.{IsClosed}
 use Rattle.log_epochs.specs.EngineWorld.Phase.{Shut}
 use Rattle.group_commit.specs.Close.{CloseDid, CloseRefused, EndsWith}
-use Rattle.group_commit.specs.Journal.{OpensOver}
+use Rattle.journal_steps.specs.Journal.{OpensOver}
 use Rattle.group_commit.proofs.Closed.{both-weaker, did-behind, ends-behind, err-weaker, log-refused, parts-end}
 use Rattle.group_commit.proofs.journal.Journal.close.Goals as goal
 

@@ -2,8 +2,8 @@ use Rattle.std.proofs.Common.{sym, ap, subst, arith, ◌≡◌, false, length, �
 use Rattle.journal_model.specs.Transaction.{History}
 use Rattle.log_epochs.specs.JournalPromise.{IsClosed}
 use Rattle.log_engine.specs.Close.{IsAllReleased}
-use Rattle.group_commit.specs.Journal.{OpensOver}
-use Rattle.group_commit.specs.Values.{JournalValue}
+use Rattle.journal_steps.specs.Journal.{OpensOver}
+use Rattle.journal_steps.specs.Values.{JournalValue}
 use Rattle.group_commit.proofs.Closed.{close-wrong, closed-over, log-closed, log-failed, opens-closed}
 use Rattle.group_commit.proofs.Finishing.{all-sealed}
 use Rattle.group_commit.proofs.journal.Journal.close_log.Goals as goal

@@ -6,7 +6,7 @@ use Rattle.journal_world.specs.Journal.Event.{FrontStep}
 use Rattle.group_commit.specs.Extension.{ExtensionRefused}
 use Rattle.group_commit.specs.Extension.ExtensionRefused.{NotExtended, NotGranted}
 use Rattle.journal_front.specs.Front.{ExtendRefused}
-use Rattle.group_commit.specs.Journal.{Does}
+use Rattle.journal_steps.specs.Journal.{Does}
 use Rattle.group_commit.proofs.Extending.{on-ok, undone}
 use Rattle.group_commit.proofs.journal.Journal.extend.Goals as goal
 

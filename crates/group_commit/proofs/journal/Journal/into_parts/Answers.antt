@@ -1,4 +1,4 @@
-use Rattle.group_commit.proofs.Turning.{opens-now}
+use Rattle.journal_steps.proofs.Turning.{opens-now}
 use Rattle.group_commit.proofs.journal.Journal.into_parts.Goals as goal
 
 -- the count is the engine's

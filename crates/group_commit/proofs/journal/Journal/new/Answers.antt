@@ -8,7 +8,7 @@ use Rattle.journal_world.specs.Journal.{fresh_engine}
 use Rattle.journal_world.specs.Opening.{IsOpenedLog}
 use Rattle.journal_model.specs.Disk.{Disk, Shape}
 use Rattle.log_epochs.specs.EngineWorld.Begins.{Made}
-use Rattle.group_commit.proofs.Turning.{fresh-agrees, fresh-itself, fresh-journal}
+use Rattle.journal_steps.proofs.Turning.{fresh-agrees, fresh-itself, fresh-journal}
 use Rattle.group_commit.proofs.journal.Journal.new.Goals as goal
 
 -- front and engine agree

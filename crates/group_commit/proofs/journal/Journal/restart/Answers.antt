@@ -2,7 +2,7 @@ use Rattle.std.proofs.Common.{◌+◌, ℕ, sym, ap₂, subst, ◌∙◌}
 use Rattle.journal_model.specs.Transaction.{Transaction}
 use Rattle.group_commit.specs.Extension.{RestartRefused}
 use Rattle.journal_front.specs.Values.{HandleValue}
-use Rattle.group_commit.specs.Values.{JournalValue}
+use Rattle.journal_steps.specs.Values.{JournalValue}
 use Rattle.group_commit.proofs.journal.Journal.restart.Goals as goal
 
 -- the handle is stopped, and another one joins

@@ -2,7 +2,7 @@ use Rattle.std.proofs.Common.{sym, ap, subst, ◌≡◌, ◌<◌, false, length}
 use Rattle.std.proofs.lemmas.Result.{err_from_is_err_and}
 use Rattle.journal_world.specs.declared.stage.Stage.TheVariants.{Idle}
 use Rattle.journal_world.specs.Front.{Front}
-use Rattle.group_commit.specs.Values.{JournalValue}
+use Rattle.journal_steps.specs.Values.{JournalValue}
 use Rattle.group_commit.proofs.Finishing.{all-sealed, seal-wrong}
 use Rattle.group_commit.proofs.journal.Journal.seal_running.Goals as goal
 

@@ -6,7 +6,7 @@ use Rattle.journal_world.specs.Journal.Event.{FrontStep}
 use Rattle.group_commit.specs.Extension.{StartRefused, Starts}
 use Rattle.group_commit.specs.Extension.StartRefused.{NotJoined, Ungranted}
 use Rattle.journal_front.specs.Front.{JoinRefused}
-use Rattle.group_commit.specs.Journal.{Does}
+use Rattle.journal_steps.specs.Journal.{Does}
 use Rattle.group_commit.proofs.Extending.{undone}
 use Rattle.group_commit.proofs.journal.Journal.try_start.Goals as goal
 

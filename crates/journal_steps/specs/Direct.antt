@@ -12,8 +12,8 @@ use Rattle.journal_world.specs.Journal.{Journal}
 use Rattle.journal_world.specs.Journal.Event.{DirectSyncFault, DirectWriteFault}
 use Rattle.log_engine.specs.Direct.{NoAddition}
 use Rattle.journal_front.specs.Front.{MayTouch}
-use Rattle.group_commit.specs.Journal.{Does, OpensNow}
-use Rattle.group_commit.specs.Values.{JournalValue}
+use Rattle.journal_steps.specs.Journal.{Does, OpensNow}
+use Rattle.journal_steps.specs.Values.{JournalValue}
 
 -- the block may be written directly, by all transactions since the opening
 abbrev pub MayWriteDirectly : Journal → ℕ → Type 0

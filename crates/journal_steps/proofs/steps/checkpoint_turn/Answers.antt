@@ -1,9 +1,9 @@
 use Rattle.std.proofs.Common.{subst}
 use Rattle.log_ledger.specs.declared.progress.Progress.{Progress}
 use Rattle.log_engine.specs.Engine.{RoundDid}
-use Rattle.group_commit.proofs.Rounding.{agrees-round, agrees-round_refused, done-check, idle-check, refused-check, step-check}
-use Rattle.group_commit.proofs.Turning.{each-check}
-use Rattle.group_commit.proofs.steps.checkpoint_turn.Goals as goal
+use Rattle.journal_steps.proofs.Rounding.{agrees-round, agrees-round_refused, done-check, idle-check, refused-check, step-check}
+use Rattle.journal_steps.proofs.Turning.{each-check}
+use Rattle.journal_steps.proofs.steps.checkpoint_turn.Goals as goal
 
 -- where the device failed, front and engine agree once the front is told
 pub returns-in-Err-clause-agrees : goal.returns-in-Err-clause-agrees

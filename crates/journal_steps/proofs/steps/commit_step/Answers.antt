@@ -1,9 +1,9 @@
 use Rattle.std.proofs.Common.{subst}
 use Rattle.log_ledger.specs.declared.progress.Progress.{Progress}
 use Rattle.log_engine.specs.Engine.{StepDid}
-use Rattle.group_commit.proofs.Sealing.{agrees-last, agrees-refused, finishes-commit, may-raise, refused-turn}
-use Rattle.group_commit.proofs.Turning.{each-turn}
-use Rattle.group_commit.proofs.steps.commit_step.Goals as goal
+use Rattle.journal_steps.proofs.Sealing.{agrees-last, agrees-refused, finishes-commit, may-raise, refused-turn}
+use Rattle.journal_steps.proofs.Turning.{each-turn}
+use Rattle.journal_steps.proofs.steps.commit_step.Goals as goal
 
 -- where the device failed, front and engine agree once the front is told
 pub returns-in-Err-clause-agrees : goal.returns-in-Err-clause-agrees

@@ -22,7 +22,7 @@ use Rattle.journal_world.specs.Sound.{OpensBetween}
 use Rattle.journal_world.proofs.Batches.{same-length}
 use Rattle.log_engine.specs.Call.{IsOneMoment}
 use Rattle.log_engine.specs.Engine.{IsDuringCommit, IsDuringRound}
-use Rattle.group_commit.specs.Journal.{Agrees, IsDuringCheckTurn, IsDuringTurn, OpensNow, OpensOver}
+use Rattle.journal_steps.specs.Journal.{Agrees, IsDuringCheckTurn, IsDuringTurn, OpensNow, OpensOver}
 
 -- what opens over the batches opens over the transactions that they are of
 pub opens-over : (shape : Shape) (ts : History) (accepted : List Batch) (low : ℕ) (disk : Disk) → AreBatchesOf ts accepted →

@@ -8,13 +8,12 @@ ghost use Rattle.journal_world.specs.declared.stage.Stage.TheVariants.{Idle};
 ghost use Rattle.journal_world.specs.Journal.Event.{DirectSync, DirectWrite};
 ghost use Rattle.log_engine.specs.Call.{IsOneMoment};
 ghost use Rattle.log_engine.specs.Left.{commit_calls};
-ghost use Rattle.group_commit.specs.Close.{LeavesFewerRounds};
-ghost use Rattle.group_commit.specs.Direct.{DirectSyncRefused, DirectWriteRefused, IsDuringDirectSync, IsDuringDirectWrite, MayWriteDirectly};
+ghost use Rattle.journal_steps.specs.Journal.{Agrees, CheckTurnDid, CheckTurnRefused, Does, HasCopyKept, HasRoomFor, IsDuringCheckTurn, IsDuringTurn, IsSeen, LeavesFewerRounds, OpensNow, ReadRefused, SealIsDue, TurnDid, TurnRefused};
+ghost use Rattle.journal_steps.specs.Direct.{DirectSyncRefused, DirectWriteRefused, IsDuringDirectSync, IsDuringDirectWrite, MayWriteDirectly};
 ghost use Rattle.journal_front.specs.Front.{MayTouch};
-ghost use Rattle.group_commit.specs.Journal.{Agrees, CheckTurnDid, CheckTurnRefused, Does, HasCopyKept, HasRoomFor, IsDuringCheckTurn, IsDuringTurn, IsSeen, OpensNow, ReadRefused, SealIsDue, TurnDid, TurnRefused};
-ghost use Rattle.group_commit.specs.Values.{together};
+ghost use Rattle.journal_steps.specs.Values.{together};
 
-use crate::journal::{CheckTurn, Turn};
+use crate::turn::{CheckTurn, Turn};
 use block_device::Device;
 use journal_front::{Front, Record};
 use journal_model::{BlockNo, Entry, JournalError};

@@ -15,15 +15,15 @@ use Rattle.log_ledger.specs.declared.progress.Progress.TheVariants.{Idle as NoPr
 use Rattle.log_engine.specs.Engine.{EngineValue, ReadRefused, RoundDid, RoundRefused}
 use Rattle.log_engine.specs.Engine.ReadRefused.{ReadAborted, ReadFailed, ReadOutside}
 use Rattle.log_engine.specs.Engine.RoundRefused.{RoundAborted, RoundFailed}
-use Rattle.group_commit.specs.declared.journal.CheckTurn.TheVariants.{Idle as IdleTurn, Step as StepTurn, Released}
-use Rattle.group_commit.specs.Journal.{Agrees, CheckTurnDid, CheckTurnRefused, OpensNow, OpensOver, ReadRefused as JournalReadRefused}
-use Rattle.group_commit.specs.Journal.CheckTurnRefused.{CheckAborted, CheckFailed}
-use Rattle.group_commit.specs.Journal.ReadRefused.{ReadFailed as FailedRead}
+use Rattle.journal_steps.specs.declared.turn.CheckTurn.TheVariants.{Idle as IdleTurn, Step as StepTurn, Released}
+use Rattle.journal_steps.specs.Journal.{Agrees, CheckTurnDid, CheckTurnRefused, OpensNow, OpensOver, ReadRefused as JournalReadRefused}
+use Rattle.journal_steps.specs.Journal.CheckTurnRefused.{CheckAborted, CheckFailed}
+use Rattle.journal_steps.specs.Journal.ReadRefused.{ReadFailed as FailedRead}
 use Rattle.journal_world.specs.Front.{unfinished}
 use Rattle.journal_front.specs.Front.{MayTouch}
-use Rattle.group_commit.proofs.Reading.{kept-pending}
-use Rattle.group_commit.proofs.Sealing.{agrees-moved, agrees-told, allowed-here}
-use Rattle.group_commit.proofs.Turning.{round-fault-keeps, round-keeps}
+use Rattle.journal_steps.proofs.Reading.{kept-pending}
+use Rattle.journal_steps.proofs.Sealing.{agrees-moved, agrees-told, allowed-here}
+use Rattle.journal_steps.proofs.Turning.{round-fault-keeps, round-keeps}
 
 -- front and engine agree after a step of a round, whatever it did
 pub agrees-round : (f : Front) (old new : Engine) (disk after : Disk) (p : Progress) → Agrees (record { front = f; engine = old }) →

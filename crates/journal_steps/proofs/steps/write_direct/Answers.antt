@@ -1,11 +1,11 @@
 use Rattle.std.proofs.Common.{Bool, refl, sym, ap, ◌∙◌}
 use Rattle.std.proofs.lemmas.Bool.{true≢false}
 use Rattle.journal_world.specs.Journal.{Journal}
-use Rattle.group_commit.specs.Direct.{DirectWriteRefused, MayWriteDirectly}
+use Rattle.journal_steps.specs.Direct.{DirectWriteRefused, MayWriteDirectly}
 use Rattle.journal_front.specs.Front.{MayTouch}
-use Rattle.group_commit.proofs.Directs.{agrees-direct, agrees-unwritten, each-direct, each-unwritten, refused-direct, right-from, right-gives}
-use Rattle.group_commit.proofs.Turning.{opens-now}
-use Rattle.group_commit.proofs.steps.write_direct.Goals as goal
+use Rattle.journal_steps.proofs.Directs.{agrees-direct, agrees-unwritten, each-direct, each-unwritten, refused-direct, right-from, right-gives}
+use Rattle.journal_steps.proofs.Turning.{opens-now}
+use Rattle.journal_steps.proofs.steps.write_direct.Goals as goal
 
 -- an aborted journal refuses
 pub returns-then-is_aborted-clause-err : goal.returns-then-is_aborted-clause-err

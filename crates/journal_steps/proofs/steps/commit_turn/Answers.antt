@@ -1,10 +1,10 @@
 use Rattle.std.proofs.Common.{refl, sym, subst, ◌∙◌}
 use Rattle.block_device.specs.State.{EachMoment}
 use Rattle.log_engine.specs.Call.{IsOneMoment}
-use Rattle.group_commit.specs.Journal.{IsDuringTurn, TurnRefused}
+use Rattle.journal_steps.specs.Journal.{IsDuringTurn, TurnRefused}
 use Rattle.journal_world.specs.Journal.{Journal}
-use Rattle.group_commit.proofs.Turning.{each-stay, opens-now, same-moment}
-use Rattle.group_commit.proofs.steps.commit_turn.Goals as goal
+use Rattle.journal_steps.proofs.Turning.{each-stay, opens-now, same-moment}
+use Rattle.journal_steps.proofs.steps.commit_turn.Goals as goal
 
 -- an aborted journal refuses
 pub returns-then-is_aborted-clause-err : goal.returns-then-is_aborted-clause-err

@@ -1,5 +1,5 @@
-use Rattle.group_commit.proofs.Directs.{agrees-direct, agrees-unsynced, each-sync, refused-sync}
-use Rattle.group_commit.proofs.steps.sync_direct.Goals as goal
+use Rattle.journal_steps.proofs.Directs.{agrees-direct, agrees-unsynced, each-sync, refused-sync}
+use Rattle.journal_steps.proofs.steps.sync_direct.Goals as goal
 
 -- front and engine agree behind the flush
 pub returns-in-Ok-clause-agrees : goal.returns-in-Ok-clause-agrees

@@ -6,9 +6,9 @@ use Rattle.journal_world.specs.Engine.{Accepts}
 use Rattle.journal_world.specs.Front.{Front}
 use Rattle.log_ledger.specs.Steps.{MayHandOver}
 use Rattle.log_engine.specs.Engine.{AcceptRefused, EngineValue}
-use Rattle.group_commit.specs.Journal.{Agrees, HasRoomFor, TurnRefused}
-use Rattle.group_commit.proofs.Sealing.{agrees-sealed, may-hand_over, refused-seal}
-use Rattle.group_commit.proofs.steps.seal.Goals as goal
+use Rattle.journal_steps.specs.Journal.{Agrees, HasRoomFor, TurnRefused}
+use Rattle.journal_steps.proofs.Sealing.{agrees-sealed, may-hand_over, refused-seal}
+use Rattle.journal_steps.proofs.steps.seal.Goals as goal
 
 -- the ring is too short
 pub returns-then-not-has_room-clause-err : goal.returns-then-not-has_room-clause-err

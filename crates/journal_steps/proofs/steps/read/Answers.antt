@@ -4,13 +4,13 @@ use Rattle.journal_model.specs.Disk.{Shape}
 use Rattle.journal_world.specs.Engine.{Engine}
 use Rattle.journal_world.specs.Journal.{Journal}
 use Rattle.log_engine.specs.Engine.{EngineValue}
-use Rattle.group_commit.specs.Journal.{Agrees, IsSeen, ReadRefused}
+use Rattle.journal_steps.specs.Journal.{Agrees, IsSeen, ReadRefused}
 use Rattle.journal_front.specs.Front.{MayTouch}
-use Rattle.group_commit.proofs.Reading.{kept-pending, kept-whole, seen-kept, seen-read}
-use Rattle.group_commit.proofs.Rounding.{agrees-read_refused, opens-read, opens-unread, refused-read}
-use Rattle.group_commit.proofs.Turning.{opens-now}
-use Rattle.group_commit.proofs.Sealing.{allowed-here}
-use Rattle.group_commit.proofs.steps.read.Goals as goal
+use Rattle.journal_steps.proofs.Reading.{kept-pending, kept-whole, seen-kept, seen-read}
+use Rattle.journal_steps.proofs.Rounding.{agrees-read_refused, opens-read, opens-unread, refused-read}
+use Rattle.journal_steps.proofs.Turning.{opens-now}
+use Rattle.journal_steps.proofs.Sealing.{allowed-here}
+use Rattle.journal_steps.proofs.steps.read.Goals as goal
 
 -- an aborted journal refuses
 pub returns-then-is_aborted-clause-err : goal.returns-then-is_aborted-clause-err

@@ -23,15 +23,15 @@ use Rattle.log_engine.specs.Direct.{DirectSyncRefused as EngineSyncRefused, Dire
 use Rattle.log_engine.specs.Direct.DirectWriteRefused.{WriteAborted as AbortedEngine, WriteOutside as OutsideEngine, WriteNotDirect as EngineHasEntries, WriteFailed as FailedEngine}
 use Rattle.log_engine.specs.Direct.DirectSyncRefused.{SyncAborted as AbortedSync, SyncFailed as FailedSync}
 use Rattle.log_engine.specs.Engine.{EngineValue}
-use Rattle.group_commit.specs.Direct.{DirectSyncRefused, DirectWriteRefused, IsDuringDirectSync, IsDuringDirectWrite, MayWriteDirectly}
-use Rattle.group_commit.specs.Direct.DirectSyncRefused.{SyncAborted, SyncFailed}
-use Rattle.group_commit.specs.Direct.DirectWriteRefused.{WriteFailed, WriteNotDirect}
+use Rattle.journal_steps.specs.Direct.{DirectSyncRefused, DirectWriteRefused, IsDuringDirectSync, IsDuringDirectWrite, MayWriteDirectly}
+use Rattle.journal_steps.specs.Direct.DirectSyncRefused.{SyncAborted, SyncFailed}
+use Rattle.journal_steps.specs.Direct.DirectWriteRefused.{WriteFailed, WriteNotDirect}
 use Rattle.journal_front.specs.Front.{MayTouch}
-use Rattle.group_commit.specs.Journal.{Agrees, OpensNow}
-use Rattle.group_commit.proofs.Reading.{all, few, finished-is, last-from, unfinished-is}
-use Rattle.group_commit.proofs.Rounding.{told-again}
-use Rattle.group_commit.proofs.Sealing.{agrees-told, allowed-here}
-use Rattle.group_commit.proofs.Turning.{opens-now}
+use Rattle.journal_steps.specs.Journal.{Agrees, OpensNow}
+use Rattle.journal_steps.proofs.Reading.{all, few, finished-is, last-from, unfinished-is}
+use Rattle.journal_steps.proofs.Rounding.{told-again}
+use Rattle.journal_steps.proofs.Sealing.{agrees-told, allowed-here}
+use Rattle.journal_steps.proofs.Turning.{opens-now}
 
 -- where transactions and one more have no effect, the first have none
 first-none : (x y : Option Entry) → later x y ≡ None → x ≡ None

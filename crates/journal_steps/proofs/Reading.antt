@@ -28,9 +28,9 @@ use Rattle.journal_world.proofs.Pending.{contains-map}
 use Rattle.journal_world.proofs.Positions.{committed-few}
 use Rattle.journal_world.proofs.Suffixes.{get-take}
 use Rattle.journal_world.specs.Front.{unfinished}
-use Rattle.group_commit.specs.Journal.{Agrees, HasCopyKept, IsSeen, finished}
-use Rattle.group_commit.specs.Journal.HasCopyKept.{OfPending, OfUnfinished}
-use Rattle.group_commit.proofs.Sealing.{copy-good}
+use Rattle.journal_steps.specs.Journal.{Agrees, HasCopyKept, IsSeen, finished}
+use Rattle.journal_steps.specs.Journal.HasCopyKept.{OfPending, OfUnfinished}
+use Rattle.journal_steps.proofs.Sealing.{copy-good}
 
 -- the last effect of transactions is that of the first, and then of those behind
 pub last-from : (b r : ℕ) (ts : History) → last_effect b ts ≡ later (last_effect b (take r ts)) (last_effect b (drop r ts))

@@ -39,10 +39,10 @@ use Rattle.log_ledger.specs.Steps.{MayHandOver}
 use Rattle.log_engine.specs.Engine.{AcceptRefused, StepRefused}
 use Rattle.log_engine.specs.Engine.AcceptRefused.{AfterFailure, MemoryIsShort, RingIsShort}
 use Rattle.log_engine.specs.Engine.StepRefused.{WasAborted, DeviceFailed}
-use Rattle.group_commit.specs.Journal.TurnRefused.{DeviceFailed as FailedTurn, MemoryIsShort as NoMemory}
-use Rattle.group_commit.specs.Journal.{Agrees, FinishesCommit, HasRoomFor, IsGoodStep, IsWholeTouch, SealIsDue, TurnRefused, need_of}
-use Rattle.group_commit.specs.Values.{JournalValue}
-use Rattle.group_commit.proofs.Turning.{Keeps, fault-keeps, step-keeps}
+use Rattle.journal_steps.specs.Journal.TurnRefused.{DeviceFailed as FailedTurn, MemoryIsShort as NoMemory}
+use Rattle.journal_steps.specs.Journal.{Agrees, FinishesCommit, HasRoomFor, IsGoodStep, IsWholeTouch, SealIsDue, TurnRefused, need_of}
+use Rattle.journal_steps.specs.Values.{JournalValue}
+use Rattle.journal_steps.proofs.Turning.{Keeps, fault-keeps, step-keeps}
 
 -- a block that may be touched may be, by the same layout and count
 pub allowed-here : {l m : Layout} {count n b : ℕ} → l ≡ m → count ≡ n → IsAllowedBlock l count b → IsAllowedBlock m n b

@@ -20,19 +20,18 @@ use Rattle.journal_world.specs.declared.round.Round.TheVariants.{Idle as NoRound
 use Rattle.journal_world.specs.declared.stage.Stage.TheVariants.{Idle}
 use Rattle.journal_world.specs.Checkpoint.{IsPending}
 use Rattle.journal_world.specs.Engine.{AreBatchesOf, Engine}
-use Rattle.journal_world.specs.Front.{Front, unfinished}
+use Rattle.journal_world.specs.Front.{unfinished}
 use Rattle.journal_world.specs.Front.FrontEvent.{Lock, Raise}
 use Rattle.journal_world.specs.Journal.{Event, Happens, Journal}
 use Rattle.journal_world.specs.Journal.Event.{CheckpointFault, CheckpointStep, CommitFault, CommitStep, Finish, FrontStep, ReadFault, Seal}
 use Rattle.journal_world.specs.Sound.{CopiesHome, KeepsHome}
-use Rattle.group_commit.specs.declared.ticket.Status.{Status}
-use Rattle.group_commit.specs.declared.ticket.Status.TheVariants.{Committed as IsCommitted, Open}
-use Rattle.group_commit.specs.declared.journal.CheckTurn.{CheckTurn}
-use Rattle.group_commit.specs.declared.journal.CheckTurn.TheVariants.{Idle as IdleCheck, Step as StepCheck, Released}
-use Rattle.group_commit.specs.declared.journal.Turn.{Turn}
-use Rattle.group_commit.specs.declared.journal.Turn.TheVariants.{Idle as IdleTurn, Waiting, Step, Sealed, Committed}
+use Rattle.journal_steps.specs.declared.turn.CheckTurn.{CheckTurn}
+use Rattle.journal_steps.specs.declared.turn.CheckTurn.TheVariants.{Idle as IdleCheck, Step as StepCheck, Released}
+use Rattle.journal_steps.specs.declared.turn.Turn.{Turn}
+use Rattle.journal_steps.specs.declared.turn.Turn.TheVariants.{Idle as IdleTurn, Waiting, Step, Sealed, Committed}
+use Rattle.log_engine.specs.Left.{round_calls}
 use Rattle.journal_front.specs.Front.{MayTouch}
-use Rattle.group_commit.specs.Values.{JournalValue}
+use Rattle.journal_steps.specs.Values.{JournalValue}
 
 -- the journal and the disk of its device go from old to new by this one step
 abbrev pub Does : {D : Type 0} → (D → DeviceState) → JournalValue D → Event → JournalValue D → Type 0
@@ -92,11 +91,6 @@ pub record Requests {D : Type 0} (state : D → DeviceState) (tid : ℕ) (old ne
   pub same : tid ≡ old.journal.front.running.tid → 0 < length old.journal.front.running.handles → Does state old (FrontStep Lock) new
   pub other : (tid ≢ old.journal.front.running.tid) → new ≡ old
   pub empty : length old.journal.front.running.handles ≡ 0 → new ≡ old
-
--- the status of a ticket of this transaction
-abbrev pub StatusIs : Status → ℕ → Front → Type 0
-StatusIs IsCommitted tid f = tid ≤ f.mark
-StatusIs Open tid f = f.mark < tid
 
 -- the log blocks that a transaction needs
 abbrev pub need_of : Layout → Transaction → ℕ
@@ -198,3 +192,9 @@ pub record IsDuringTurn (j : Journal) (old disk : Disk) : Type 0 where
 pub record IsDuringCheckTurn (j : Journal) (old disk : Disk) : Type 0 where
   pub home : CopiesHome j.engine old disk
   pub opens : OpensNow j disk
+
+-- a checkpoint turn that made a call leaves fewer of those that are left
+abbrev pub LeavesFewerRounds : CheckTurn → Engine → Engine → Type 0
+LeavesFewerRounds IdleCheck old new = ⊤
+LeavesFewerRounds StepCheck old new = round_calls new < round_calls old
+LeavesFewerRounds (Released tid) old new = round_calls new < round_calls old

@@ -1,7 +1,7 @@
 use Rattle.std.proofs.Common.{◌+◌, ◌≤◌, ◌↔◌, ℕ, IsTrue, length, subst}
 use Rattle.log_model.specs.Room.{need}
 use Rattle.journal_model.specs.Transaction.{entries, revoked}
-use Rattle.group_commit.proofs.steps.has_room.Goals as goal
+use Rattle.journal_steps.proofs.steps.has_room.Goals as goal
 
 -- the engine is asked for as many copies and revokes as the front has
 pub returns : goal.returns

@@ -1,0 +1,3 @@
+pub mod Direct
+pub mod Journal
+pub mod Values
