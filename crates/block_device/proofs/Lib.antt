@@ -1,6 +1,7 @@
--- The lemmas of this crate.
-pub mod Calls
+-- The lemmas of this crate that crates above it cite.
 pub mod Crash
 pub mod Moments
-pub mod WholeBlocks
 pub mod WholeCells
+-- The others.
+mod Calls
+mod WholeBlocks

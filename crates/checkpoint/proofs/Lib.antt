@@ -1,9 +1,10 @@
-pub mod Chaining
-pub mod Committing
-pub mod Kept
-pub mod Listed
-pub mod Newest
-pub mod Ordered
-pub mod Released
-pub mod Releasing
-pub mod Withdrawn
+-- The lemmas of this crate: none above it cites them.
+mod Chaining
+mod Committing
+mod Kept
+mod Listed
+mod Newest
+mod Ordered
+mod Released
+mod Releasing
+mod Withdrawn

@@ -1,16 +1,11 @@
 //! `jbench`: runs a script of journal operations over a device in memory that stops at one of its writes, or at each in turn, opens
-//! what the stop left, and judges it; makes logs in files, prints and recovers them. The commands are those of `bench_commands` and
-//! `file_commands`: here they are given the program's words, the files that these name, and standard output and error.
+//! what the stop left, and judges it; makes logs in files, prints and recovers them. The commands are those of `jbench_commands`:
+//! here they are given the program's words, and standard output and error.
 #![tactic(auto)]
 
-#[cfg(test)]
-mod commands;
-mod obeying;
-mod progress;
-
-use bench_words::fault::{Status, refuse_file, refuse_rest};
-use bench_words::{arguments, words};
-use obeying::obey;
+use jbench_commands::obeying::obey;
+use jbench_words::fault::{Status, refuse_file, refuse_rest};
+use jbench_words::{arguments, words};
 use std::fs::File;
 use std::io::ErrorKind;
 use std::process::ExitCode;

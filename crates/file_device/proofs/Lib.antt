@@ -1,5 +1,5 @@
--- The lemmas of this crate.
-pub mod FileBlocks
-pub mod GatheredBlocks
-pub mod KeptAhead
-pub mod Walks
+-- The lemmas of this crate: none above it cites them.
+mod FileBlocks
+mod GatheredBlocks
+mod KeptAhead
+mod Walks

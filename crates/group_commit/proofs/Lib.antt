@@ -1,5 +1,5 @@
--- The lemmas of this crate.
-pub mod Closed
-pub mod Extending
-pub mod Finishing
-pub mod Leading
+-- The lemmas of this crate: none above it cites them.
+mod Closed
+mod Extending
+mod Finishing
+mod Leading

@@ -24,9 +24,8 @@ ghost use Rattle.group_commit.specs.Values.{StatusIs};
 use crate::close::finish;
 use crate::ticket::{Receipt, Seat, Status, Ticket};
 use block_device::Device;
-use history::History;
 use journal_front::{Credits, Front, Handle, Record};
-use journal_model::{BlockNo, JournalError, Sealed, Tid};
+use journal_model::{BlockNo, History, JournalError, Sealed, Tid};
 use journal_steps::{CheckTurn, Turn, steps};
 use log_engine::Engine;
 use log_ring::Layout;
@@ -447,7 +446,7 @@ impl<D: Device, R: Record> Journal<D, R> {
         requires { self.now.journal.engine.stage ≡ Idle }
         ensures { IsTrue result ↔ HasRoomFor self.now.journal }
     {
-        steps::has_room(&self.front, &self.engine)
+        steps::room_for(&self.front, &self.engine).is_some()
     }
 
     /// States what every journal keeps, for the proofs of callers: its engine knows what agrees, and front and engine agree.

@@ -1,3 +1,4 @@
+//! Credits that one caller holds: they are split, joined and given back, and none is lost.
 ghost use Rattle.std.specs.Prelude.{◌≡◌, ◌+◌, ◌≤◌};
 
 use crate::holding::Holding;

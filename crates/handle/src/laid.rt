@@ -1,3 +1,4 @@
+//! Lays the credit word and the commit mark, and gives them the name of their journal.
 ghost use Rattle.std.specs.Prelude.{◌≡◌, ◌≤◌, [], IfErr, IfOk};
 ghost use Rattle.std.specs.Arc.{arc_value};
 ghost use Rattle.journal_model.specs.declared.refusal.JournalError.TheVariants.{Memory};

@@ -14,8 +14,6 @@ mod mark;
 mod place;
 mod pool;
 mod seat;
-#[cfg(test)]
-mod tests;
 mod ticket;
 mod words;
 

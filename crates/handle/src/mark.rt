@@ -1,3 +1,4 @@
+//! The commit mark, and its one raiser.
 ghost use Rattle.std.specs.Prelude.{◌≡◌, ◌≤◌, [], max, true};
 ghost use Rattle.handle.specs.Place.{IsIdle};
 ghost use Rattle.handle.specs.Values.{Looks, StatusIs, fresh_ticket, loading_mark};

@@ -1,3 +1,4 @@
+//! The pool of credits of a journal: reserves, and loads of the credit word.
 ghost use Rattle.std.specs.Prelude.{◌≡◌, ◌≤◌, IfErr, IfOk};
 ghost use Rattle.handle.specs.Rule.{greatest_capacity};
 ghost use Rattle.handle.specs.Values.{Grants, ReserveRefused, loading_credits};

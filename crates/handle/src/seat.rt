@@ -1,3 +1,4 @@
+//! A caller's seat: what it has seen of the words of its journal.
 ghost use Rattle.std.specs.Prelude.{◌≡◌, ◌<◌, [], MatchOption};
 ghost use Rattle.handle.specs.Place.{IsSeat};
 ghost use Rattle.handle.specs.Values.{Halves, seat_of};

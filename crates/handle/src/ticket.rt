@@ -1,3 +1,4 @@
+//! Tickets of handles that have stopped, the receipts for those that are committed, and what a status tells.
 ghost use Rattle.std.specs.Prelude.{◌≡◌, ◌<◌, ◌≤◌, [], IfErr, IfOk};
 ghost use Rattle.handle.specs.Place.{IsIdle};
 ghost use Rattle.handle.specs.Values.{LooksAgain, ticket_of};

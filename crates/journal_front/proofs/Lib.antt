@@ -1,5 +1,6 @@
--- The lemmas of this crate.
-pub mod Holding
-pub mod Touches
-pub mod Touching
-pub mod Unfinished
+-- The lemmas of this crate: none above it cites them.
+mod Counting
+mod EntriesOfSteps
+mod Holding
+mod Touching
+mod Unfinished

@@ -8,9 +8,9 @@ use Rattle.journal_model.specs.declared.transaction.Op.{Op}
 use Rattle.journal_model.specs.declared.transaction.Op.TheVariants.{Write, Revoke}
 use Rattle.journal_model.specs.Transaction.{effect}
 use Rattle.journal_world.specs.Front.{Front, IsFirstTouch, RevokesBlock, WritesBlock, left_after}
-use Rattle.transaction.specs.declared.transaction.Touch.{Touch}
-use Rattle.transaction.specs.Transaction.{OpenTransaction, TouchRefused as StepRefused, Touches, cost, touch_of}
-use Rattle.transaction.specs.Transaction.TouchRefused.{WithoutCredit as NoCreditLeft, WithoutMemory as NoMemoryLeft}
+use Rattle.journal_front.specs.declared.transaction.Touch.{Touch}
+use Rattle.journal_front.specs.Transaction.{OpenTransaction, TouchRefused as StepRefused, Touches, cost, touch_of}
+use Rattle.journal_front.specs.Transaction.TouchRefused.{WithoutCredit as NoCreditLeft, WithoutMemory as NoMemoryLeft}
 use Rattle.journal_front.specs.Front.{IsOpenHandle, MayStep, Spends, TouchRefused}
 use Rattle.journal_front.specs.Front.TouchRefused.{WithoutCredit, WithoutMemory}
 use Rattle.journal_front.specs.Values.{HandleValue}

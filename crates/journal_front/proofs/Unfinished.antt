@@ -8,7 +8,7 @@ use Rattle.journal_model.proofs.Effects.{later-none}
 use Rattle.journal_world.specs.Front.{Front, unfinished}
 use Rattle.journal_front.specs.FrontView.{AreCommitting}
 use Rattle.journal_front.specs.FrontView.AreCommitting.{AllFinished, LastUnfinished}
-use Rattle.journal_front.proofs.Touches.{lookup-effect}
+use Rattle.journal_front.proofs.EntriesOfSteps.{lookup-effect}
 
 -- where all sealed transactions are finished, the running one is left
 left-one : (f : Front) → f.finished + 1 ≡ f.running.tid → unfinished f ≡ f.running ∷ []
@@ -31,7 +31,7 @@ unfinished-effect : (f : Front) (es : List (ℕ × Entry)) (b : ℕ) → AreComm
 unfinished-effect f es b (AllFinished told) = ap (last_effect b) (left-one f told) ∙ sym (later-none (effect b f.running.steps))
 unfinished-effect f es b (LastUnfinished before last are told) =
     ap (last_effect b) (left-two f before last are told)
-    ∙ ap (λ (o : Option Entry). later o (effect b f.running.steps)) (sym (lookup-effect b last.steps))
+    ∙ ap (λ (o : Option Entry). later o (effect b f.running.steps)) (sym (lookup-effect last.steps b))
 
 module _ (f : Front) (cs : List (ℕ × Entry)) (b : ℕ) (committing : AreCommitting f.sealed f.finished f.running.tid cs) where
   -- an entry of the running transaction is the last

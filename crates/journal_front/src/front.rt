@@ -14,12 +14,12 @@ ghost use Rattle.journal_front.specs.Front.{ExtendRefused, IsKeptOut, IsOpenHand
 
 use crate::handle::{Credits, Handle};
 use crate::record::Record;
+use crate::{Entries, Transaction};
 use indexmap::IndexMap;
 use journal_model::layout::GREATEST_NUMBER;
 use journal_model::{Batch, BlockNo, Entry, HandleNo, JournalError, LogLayout, Tid};
 use std::alloc::Global;
 use std::marker::Model;
-use transaction::{Entries, Transaction};
 
 /// The front of a journal. It alone makes credits and handles, and it takes none that it does not hold; who has it can seal its
 /// transaction, and say what is committed.

@@ -1,7 +1,7 @@
 //! What callers hold of a front: credits and handles. A front alone makes them: `Front::reserve` and `Front::join`.
+use crate::Touch;
 use journal_model::{HandleNo, Tid};
 use std::marker::Model;
-use transaction::Touch;
 
 /// Credits that were granted: the right of one handle to touch so many further blocks. Make a handle of them, or give
 /// them back to the journal that granted them: while they are held, others can have the fewer.
@@ -56,7 +56,7 @@ impl Model for Handle {
 
 impl Handle {
     ghost use Rattle.std.specs.Prelude.{◌≡◌, ◌+◌, ◌-◌, ◌^◌, ◌<◌, ◌≤◌};
-    ghost use Rattle.transaction.specs.Transaction.{cost};
+    ghost use Rattle.journal_front.specs.Transaction.{cost};
 
     pub(crate) fn new(number: HandleNo, tid: Tid, left: u64) -> Self
         ensures { result ≡ record { number = number; tid = tid; left = left } }

@@ -4,12 +4,21 @@
 //! Credits and handles are made, changed and ended by a front alone, and no other call makes one. So only who has the front can
 //! do so, or seal its transaction: it is to be kept where callers can't reach it, as `group_commit::Journal` keeps its own.
 //! How a front keeps what it sealed is its owner's to choose (`record`).
+//!
+//! A transaction (`transaction`) takes handles while it is running, and none once it is locked; the steps of those that it has may
+//! go on until it is sealed. Of each block that these touch it has what the last write or revoke leaves, in the order of the
+//! first touches.
 #![tactic(auto)]
 
+mod entries;
 mod front;
 mod handle;
+pub mod laws;
 mod record;
+mod transaction;
 
+pub use entries::Entries;
 pub use front::Front;
 pub use handle::{Credits, Handle};
 pub use record::Record;
+pub use transaction::{Touch, Transaction};

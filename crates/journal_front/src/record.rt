@@ -3,8 +3,7 @@ ghost use Rattle.std.specs.Prelude.{◌≡◌, [], ◌∷◌, ◌++◌, IfErr, O
 ghost use Rattle.journal_model.specs.declared.refusal.JournalError.TheVariants.{Memory};
 ghost use Rattle.journal_model.specs.Transaction.{History as Transactions};
 
-use history::History;
-use journal_model::{JournalError, Sealed};
+use journal_model::{History, JournalError, Sealed};
 use std::alloc::Global;
 
 /// How a journal keeps the transactions that it has sealed since the opening: as data for its caller, or for contracts alone.

@@ -1,4 +1,4 @@
--- The lemmas of this crate.
+-- The lemmas of this crate that crates above it cite.
 pub mod Buffers
 pub mod Effects
 pub mod ListElements

@@ -6,6 +6,7 @@
 mod block;
 pub mod disk_laws;
 mod entry;
+mod history;
 pub mod layout;
 mod list;
 mod log_layout;
@@ -16,6 +17,7 @@ pub mod transaction_laws;
 
 pub use block::Block;
 pub use entry::{Batch, Content, Entry};
+pub use history::History;
 pub use list::Items;
 pub use log_layout::LogLayout;
 pub use number::{Area, BlockNo, HandleNo, Tid};

@@ -1,7 +1,7 @@
--- The lemmas of this crate.
-pub mod Copies
-pub mod Covered
-pub mod EffectLoops
-pub mod ReadingBytes
-pub mod ReadingFound
-pub mod Rounding
+-- The lemmas of this crate: none above it cites them.
+mod Copies
+mod Covered
+mod EffectLoops
+mod ReadingBytes
+mod ReadingFound
+mod Rounding

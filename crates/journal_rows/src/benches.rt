@@ -1,10 +1,11 @@
 //! Rows of the command `bench`, over a device in memory and a clock that goes on by itself.
 use crate::commands::{text_of, words_in};
-use bench_words::words::{BenchWords, Words, parse};
 use block_device::MemDevice;
-use file_bench::bench::{self, Watch};
+use commit_times::bench;
 use format_rows::RowError;
 use format_rows::words::cut;
+use jbench_words::watch::{Step, Watch};
+use jbench_words::words::{BenchWords, Words, parse};
 use run_rows::texts::numbers_in;
 use std::alloc::Global;
 use std::cell::Cell;
@@ -43,9 +44,17 @@ struct Seconds<'a> {
 }
 
 impl Watch for Seconds<'_> {
-    fn second(&mut self, second: u64, transactions: u64) {
-        let _written = writeln!(self.text, "second {second}: {transactions} transactions");
+    fn goes_on(&mut self, step: Step) {
+        if let Step::Second {
+            second,
+            transactions,
+        } = step
+        {
+            let _written = writeln!(self.text, "second {second}: {transactions} transactions");
+        }
     }
+
+    fn ends(&mut self) {}
 }
 
 /// Transactions on an empty log. Given: the words of the program on a line, and as `1024 33 64 1000` the bytes of the device's blocks,

@@ -1,15 +1,14 @@
 //! Rows of the commands of `jbench`, over readers, writers and devices in memory.
-use bench_commands::{check, run, sweep};
-use bench_words::fault::Status;
-use bench_words::words::{
+use block_device::MemDevice;
+use format_rows::RowError;
+use format_rows::words::cut;
+use jbench_commands::{check, logs, run, sweep};
+use jbench_words::fault::Status;
+use jbench_words::watch::Unwatched;
+use jbench_words::words::{
     ApplyWords, BenchWords, FormatWords, LogPaths, RunWords, StopWords, SweepWords, Words, answer,
     parse,
 };
-use block_device::MemDevice;
-use file_commands::logs;
-use file_commands::watched::Unwatched;
-use format_rows::RowError;
-use format_rows::words::cut;
 use run_rows::scripts::measures_text;
 use run_rows::texts::{numbers_in, written};
 use std::alloc::{AllocError, Global};
@@ -51,7 +50,7 @@ fn sweep_script(alloc: Global, words: &SweepWords<'_>, script: &str) -> Result<S
     let mut out = Vec::new(alloc);
     let mut err = Vec::new(alloc);
     let script = script.as_bytes();
-    match sweep::sweep(alloc, words, script, sweep::Unwatched, &mut out, &mut err) {
+    match sweep::sweep(alloc, words, script, Unwatched, &mut out, &mut err) {
         Ok(status) => text_of(alloc, &out, &err, status),
         Err(_) => Err(RowError::Memory),
     }

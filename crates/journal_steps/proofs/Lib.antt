@@ -1,6 +1,7 @@
--- The lemmas of this crate.
-pub mod Directs
-pub mod Reading
-pub mod Rounding
-pub mod Sealing
+-- The lemmas of this crate that crates above it cite.
 pub mod Turning
+-- The others.
+mod Directs
+mod Reading
+mod Rounding
+mod Sealing

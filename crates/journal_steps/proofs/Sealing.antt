@@ -37,7 +37,7 @@ use Rattle.journal_world.specs.Sound.{IsPlain, StageAgrees}
 use Rattle.journal_model.proofs.Taken.{taken-layout}
 use Rattle.log_ledger.specs.Steps.{MayHandOver}
 use Rattle.log_engine.specs.Engine.{AcceptRefused, StepRefused}
-use Rattle.log_engine.specs.Engine.AcceptRefused.{AfterFailure, MemoryIsShort, RingIsShort}
+use Rattle.log_engine.specs.Engine.AcceptRefused.{AfterFailure, MemoryIsShort}
 use Rattle.log_engine.specs.Engine.StepRefused.{WasAborted, DeviceFailed}
 use Rattle.journal_steps.specs.Journal.TurnRefused.{DeviceFailed as FailedTurn, MemoryIsShort as NoMemory}
 use Rattle.journal_steps.specs.Journal.{Agrees, FinishesCommit, HasRoomFor, IsGoodStep, IsWholeTouch, SealIsDue, TurnRefused, need_of}
@@ -274,12 +274,11 @@ all-told f e agrees plain idle =
 
 -- the engine refuses it where memory runs out
 pub refused-seal : {D : Type 0} (state : D → DeviceState) (f : Front) (d : D) (e : Engine) (new : JournalValue D) (r : JournalError) →
-    Agrees (record { front = f; engine = e }) → IsPlain e → SealIsDue (record { front = f; engine = e }) → HasRoomFor (record { front = f; engine = e }) →
-    AcceptRefused e (batch_of f.running) r → new ≡ record { device = d; journal = record { front = f; engine = e } } →
+    SealIsDue (record { front = f; engine = e }) → HasRoomFor (record { front = f; engine = e }) → AcceptRefused e r →
+    new ≡ record { device = d; journal = record { front = f; engine = e } } →
     TurnRefused state (record { device = d; journal = record { front = f; engine = e } }) new r
-refused-seal state f d e new r agrees plain due room (AfterFailure is) same = absurd (true≢false (sym is ∙ due.running))
-refused-seal state f d e new r agrees plain due room (RingIsShort running none) same = absurd (none (room-good e f.running plain room))
-refused-seal state f d e new r agrees plain due room (MemoryIsShort running has) same = NoMemory due room same
+refused-seal state f d e new r due room (AfterFailure is) same = absurd (true≢false (sym is ∙ due.running))
+refused-seal state f d e new r due room (MemoryIsShort running) same = NoMemory due room same
 
 -- front and engine agree after a step that was refused, once the front is told
 pub agrees-refused : (f front : Front) (old new : Engine) (before after : DeviceState) (e : JournalError) → Agrees (record { front = f; engine = old }) →

@@ -1,14 +1,14 @@
 //! The steps that need both the front and the engine: each is lent both, and is one step of the machine, or several in a row
 //! that nobody else sees between. The steps of the front alone are its own, and so are those of the engine (`log_engine`).
 //! Front and engine agree before a step and behind it.
-ghost use Rattle.std.specs.Prelude.{◌≡◌, ◌<◌, ◌≢◌, ◌↔◌, false, length, IfOk, IfErr, OnOk, IsTrue};
+ghost use Rattle.std.specs.Prelude.{◌≡◌, ◌<◌, ◌≢◌, ◌↔◌, false, length, is_some, IfOk, IfErr, IfSome, OnOk, IsTrue};
 ghost use Rattle.journal_model.specs.declared.refusal.JournalError.TheVariants.{Device as DeviceFailed};
 ghost use Rattle.block_device.specs.State.{EachMoment, MakesAtMostOneCall, Stays};
 ghost use Rattle.journal_world.specs.declared.stage.Stage.TheVariants.{Idle};
 ghost use Rattle.journal_world.specs.Journal.Event.{DirectSync, DirectWrite};
 ghost use Rattle.log_engine.specs.Call.{IsOneMoment};
 ghost use Rattle.log_engine.specs.Left.{commit_calls};
-ghost use Rattle.journal_steps.specs.Journal.{Agrees, CheckTurnDid, CheckTurnRefused, Does, HasCopyKept, HasRoomFor, IsDuringCheckTurn, IsDuringTurn, IsSeen, LeavesFewerRounds, OpensNow, ReadRefused, SealIsDue, TurnDid, TurnRefused};
+ghost use Rattle.journal_steps.specs.Journal.{Agrees, CheckTurnDid, CheckTurnRefused, Does, HasCopyKept, HasRoomFor, IsDuringCheckTurn, IsDuringTurn, IsSeen, LeavesFewerRounds, OpensNow, ReadRefused, SealIsDue, TurnDid, TurnRefused, need_of};
 ghost use Rattle.journal_steps.specs.Direct.{DirectSyncRefused, DirectWriteRefused, IsDuringDirectSync, IsDuringDirectWrite, MayWriteDirectly};
 ghost use Rattle.journal_front.specs.Front.{MayTouch};
 ghost use Rattle.journal_steps.specs.Values.{together};
@@ -174,25 +174,26 @@ pub fn seal<D: Device, R: Record>(
     ensures device { engine.new.device ≡ engine.old.device }
 {
     engine.recall_invariant();
-    if !has_room(front, engine) {
+    let Some(blocks) = room_for(front, engine) else {
         return Err(JournalError::NeedSpace);
-    }
+    };
     let tid = front.tid();
     let batch = front.batch()?;
-    if let Err(refused) = engine.accept(batch) {
+    if let Err(refused) = engine.accept(batch, blocks) {
         return Err(refused.1);
     }
     front.seal();
     Ok(Turn::Sealed(tid))
 }
 
-/// Whether the ring has as many free blocks as the running transaction needs.
-pub fn has_room<D: Device, R: Record>(front: &Front<R>, engine: &Engine<D>) -> bool
+/// How many log blocks the running transaction needs, where the ring has as many free ones.
+pub fn room_for<D: Device, R: Record>(front: &Front<R>, engine: &Engine<D>) -> Option<u64>
     requires { engine.now.engine.stage ≡ Idle }
-    ensures { IsTrue result ↔ HasRoomFor (together front.now engine.now).journal }
+    ensures blocks { IfSome result (λ n. n ≡ need_of engine.now.engine.layout front.now.running) }
+    ensures room { IsTrue (is_some result) ↔ HasRoomFor (together front.now engine.now).journal }
 {
     let (copies, revokes) = front.counts();
-    engine.has_room(copies, revokes)
+    engine.room_for(copies, revokes)
 }
 
 /// Takes the next step of a checkpoint round: at most one device call.

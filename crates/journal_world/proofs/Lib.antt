@@ -1,50 +1,51 @@
--- The lemmas of this crate.
+-- The lemmas of this crate that crates above it cite.
 pub mod Accepted
 pub mod Around
 pub mod Batches
-pub mod Blocks
-pub mod Chains
 pub mod Changes
-pub mod Committing
 pub mod Copying
 pub mod Credits
 pub mod DirectCalls
 pub mod DirectRights
-pub mod Due
 pub mod Elements
 pub mod Faults
 pub mod Fresh
 pub mod Fronts
-pub mod Handles
 pub mod Histories
 pub mod HomeCopies
 pub mod HomeRights
 pub mod Homes
 pub mod Images
 pub mod Kept
-pub mod Laps
 pub mod Lasts
 pub mod Left
 pub mod LeftToHome
 pub mod Onward
 pub mod OpenHandles
 pub mod Openings
-pub mod OwnBlocks
 pub mod Pending
 pub mod Places
 pub mod Plain
 pub mod Positions
 pub mod Promises
-pub mod Releasing
-pub mod Replayed
 pub mod RoundFaults
 pub mod RoundPlain
 pub mod RoundSteps
-pub mod Rounded
 pub mod Rounds
-pub mod Starting
 pub mod Steps
 pub mod Suffixes
 pub mod Superblocks
 pub mod Tails
 pub mod Texts
+-- The others.
+mod Blocks
+mod Chains
+mod Committing
+mod Due
+mod Handles
+mod Laps
+mod OwnBlocks
+mod Releasing
+mod Replayed
+mod Rounded
+mod Starting

@@ -1,5 +1,5 @@
--- The lemmas of this crate.
-pub mod Dumps
-pub mod Placed
-pub mod PrintingSteps
-pub mod Written
+-- The lemmas of this crate: none above it cites them.
+mod Dumps
+mod Placed
+mod PrintingSteps
+mod Written

@@ -3,9 +3,9 @@ use Rattle.std.proofs.Common.{refl, sym, ap, ◌∙◌}
 use Rattle.std.specs.Prelude.{◌≡◌, ℕ, List, [], None}
 use Rattle.journal_model.specs.declared.entry.Batch.{Batch}
 use Rattle.journal_model.specs.Disk.{Disk}
-use Rattle.last_effects.specs.declared.effects.LastEffect.{LastEffect}
-use Rattle.last_effects.specs.Effects.{EffectsValue, effect_on, last_among, last_effect}
-use Rattle.last_effects.proofs.Lasts.{last-more}
+use Rattle.block_tables.specs.declared.effects.LastEffect.{LastEffect}
+use Rattle.block_tables.specs.Effects.{EffectsValue, effect_on, last_among, last_effect}
+use Rattle.block_tables.proofs.Lasts.{last-more}
 use Rattle.journal_world.specs.declared.stage.Stage.{Stage}
 use Rattle.journal_world.specs.declared.stage.Stage.TheVariants.{Idle, SuperblockWrite, SuperblockFlush, Blocks, CommitWrite, CommitFlush}
 use Rattle.journal_world.specs.Checkpoint.{RoundFaults, RoundSteps, begun}

@@ -9,10 +9,10 @@ use Rattle.std.proofs.lemmas.Option.{same_Some}
 use Rattle.journal_model.specs.declared.entry.Batch.{Batch}
 use Rattle.journal_model.specs.declared.entry.Entry.{Entry}
 use Rattle.journal_model.specs.declared.entry.Entry.TheVariants.{Copy, Revoke}
-use Rattle.last_effects.specs.declared.effects.LastEffect.{LastEffect}
-use Rattle.last_effects.specs.declared.effects.LastEffect.TheVariants.{Copied, Revoked}
-use Rattle.last_effects.specs.Effects.{EffectsValue, HasLast, HasNoEntry, IsLeft, effect_of, effect_on, last_effect}
-use Rattle.last_effects.proofs.Lasts.{none-entered, some-last}
+use Rattle.block_tables.specs.declared.effects.LastEffect.{LastEffect}
+use Rattle.block_tables.specs.declared.effects.LastEffect.TheVariants.{Copied, Revoked}
+use Rattle.block_tables.specs.Effects.{EffectsValue, HasLast, HasNoEntry, IsLeft, effect_of, effect_on, last_effect}
+use Rattle.block_tables.proofs.Lasts.{none-entered, some-last}
 use Rattle.journal_world.specs.Direct.{IsLeftToHome}
 use Rattle.journal_world.specs.Engine.{Engine, IsBatch}
 use Rattle.journal_world.specs.Sound.{IsPlain}

@@ -1,13 +1,13 @@
--- The lemmas of this crate.
-pub mod Calls
-pub mod Closing
-pub mod Directs
-pub mod Effects
-pub mod FewerCalls
-pub mod Fresh
-pub mod KeptClean
-pub mod LeftBlocks
-pub mod Plans
-pub mod Reading
-pub mod Rounding
-pub mod Stepping
+-- The lemmas of this crate: none above it cites them.
+mod Calls
+mod Closing
+mod Directs
+mod Effects
+mod FewerCalls
+mod Fresh
+mod KeptClean
+mod LeftBlocks
+mod Plans
+mod Reading
+mod Rounding
+mod Stepping

@@ -1,16 +1,15 @@
 -- What the calls of an engine do, each as one step of the pure machine, and why they are refused.
 use Rattle.std.specs.Prelude.{◌≡◌, ◌≢◌, ℕ, ◌+◌, false, true, List, None, length}
-use Rattle.journal_model.specs.declared.entry.Batch.{Batch}
 use Rattle.journal_model.specs.declared.refusal.JournalError.{JournalError}
-use Rattle.journal_model.specs.declared.refusal.JournalError.TheVariants.{Aborted, BadBlock, Device, Memory, NeedSpace}
+use Rattle.journal_model.specs.declared.refusal.JournalError.TheVariants.{Aborted, BadBlock, Device, Memory}
 use Rattle.journal_model.specs.Block.{IsAllowedBlock}
 use Rattle.journal_model.specs.Disk.{Disk}
 use Rattle.block_device.specs.State.{DeviceState, Stays, one_more_fault}
-use Rattle.last_effects.specs.Effects.{EffectsValue, effect_on, last_effect}
+use Rattle.block_tables.specs.Effects.{EffectsValue, effect_on, last_effect}
 use Rattle.journal_world.specs.declared.round.Round.TheVariants.{Idle as NoRound}
 use Rattle.journal_world.specs.declared.stage.Stage.TheVariants.{Idle}
 use Rattle.journal_world.specs.Checkpoint.{IsPending, RoundFaults, RoundSteps}
-use Rattle.journal_world.specs.Engine.{Engine, CommitFaults, CommitSteps, HasRoom}
+use Rattle.journal_world.specs.Engine.{Engine, CommitFaults, CommitSteps}
 use Rattle.journal_world.specs.Sound.{CopiesHome, KeepsHome, OpensBetween}
 use Rattle.log_ledger.specs.declared.progress.Progress.{Progress}
 use Rattle.log_ledger.specs.declared.progress.Progress.TheVariants.{Idle as NoProgress, Step, Done}
@@ -24,11 +23,10 @@ pub record EngineValue (D : Type 0) : Type 0 where
 abbrev pub HasEffects : Engine → EffectsValue → Type 0
 HasEffects e table = (b : ℕ) → effect_on table b ≡ last_effect e.accepted b None
 
--- why a batch is refused: the device failed before, the ring is too short, or memory runs out
-pub data AcceptRefused (e : Engine) (b : Batch) : JournalError → Type 0 where
-  AfterFailure : e.aborted ≡ true → AcceptRefused e b Aborted
-  RingIsShort : e.aborted ≡ false → (HasRoom e b → ⊥) → AcceptRefused e b NeedSpace
-  MemoryIsShort : e.aborted ≡ false → HasRoom e b → AcceptRefused e b Memory
+-- why a batch that there is room for is refused: the device failed before, or memory runs out
+pub data AcceptRefused (e : Engine) : JournalError → Type 0 where
+  AfterFailure : e.aborted ≡ true → AcceptRefused e Aborted
+  MemoryIsShort : e.aborted ≡ false → AcceptRefused e Memory
 
 -- what a commit step did
 abbrev pub StepDid : Progress → Engine → Disk → Engine → Disk → Type 0

@@ -1,14 +1,15 @@
 //! The engine that a journal stands on: one contract for each step, of the machine's own steps.
-ghost use Rattle.std.specs.Prelude.{◌≡◌, ◌≢◌, ◌+◌, ◌≤◌, ◌↔◌, ℕ, List, IsTrue, false, length, IfOk, IfErr, MatchResult, OnOk};
+ghost use Rattle.std.specs.Prelude.{◌≡◌, ◌≢◌, ◌+◌, ◌≤◌, ◌↔◌, ℕ, List, IsTrue, false, length, is_some, IfOk, IfErr, IfSome, MatchResult, OnOk};
 ghost use Rattle.journal_model.specs.declared.refusal.JournalError.TheVariants.{Device as DeviceFailed, Memory};
 ghost use Rattle.journal_model.specs.Layout.{IsTaken};
+ghost use Rattle.journal_model.specs.Transaction.{copied, revoked};
 ghost use Rattle.log_model.specs.Opening.{ring_of};
 ghost use Rattle.log_model.specs.Room.{need};
 ghost use Rattle.log_model.specs.Superblock.{super_in};
 ghost use Rattle.block_device.specs.State.{EachMoment, MakesAtMostOneCall, Stays};
 ghost use Rattle.journal_world.specs.declared.stage.Stage.TheVariants.{Idle};
 ghost use Rattle.journal_world.specs.Checkpoint.{IsPending, IsRead};
-ghost use Rattle.journal_world.specs.Engine.{Accepts};
+ghost use Rattle.journal_world.specs.Engine.{Accepts, HasRoom};
 ghost use Rattle.journal_world.specs.Journal.{fresh_engine};
 ghost use Rattle.journal_world.specs.Opening.{IsOpenedLog};
 ghost use Rattle.journal_world.specs.Sound.{IsPlain, OpensBetween};
@@ -21,12 +22,12 @@ ghost use Rattle.log_engine.specs.Left.{LeavesFewer, commit_calls, round_calls};
 use crate::call::make_call;
 use crate::close::write_first;
 use block_device::Device;
+use block_tables::LastEffects;
 use checkpoint::Pending;
 use journal_model::{Area, Batch, BlockNo, JournalError, LogLayout};
 use journal_world::Stage;
-use last_effects::LastEffects;
 use log_format::Super;
-use log_ledger::{Due, Ledger, Plan, Progress, TextWriter, count_copies};
+use log_ledger::{Due, Ledger, Plan, Progress, TextWriter};
 use recovery::Opened;
 use std::alloc::Global;
 use std::marker::Model;
@@ -153,38 +154,36 @@ impl<D: Device> Engine<D> {
         self.ledger.ring.blocks()
     }
 
-    /// Whether the ring has as many free blocks as a transaction of so many copies and revokes needs. The blocks of
-    /// committed transactions are free from the end of the checkpoint round on that releases them.
-    pub fn has_room(&self, copies: usize, revokes: usize) -> bool
+    /// How many log blocks a transaction of so many copies and revokes needs, where the ring has as many free ones. The
+    /// blocks of committed transactions are free from the end of the checkpoint round on that releases them.
+    pub fn room_for(&self, copies: usize, revokes: usize) -> Option<u64>
         requires { self.now.engine.stage ≡ Idle }
-        ensures { IsTrue result ↔
+        ensures blocks { IfSome result (λ n. n ≡ need self.now.engine.layout copies revokes) }
+        ensures room { IsTrue (is_some result) ↔
             (self.now.engine.start + need self.now.engine.layout copies revokes ≤ self.now.engine.tail + self.now.engine.ring.blocks) }
     {
-        self.ledger.room_for(copies, revokes).is_some()
+        self.ledger.room_for(copies, revokes)
     }
 
     /// Takes the entries of a transaction, which is then to be committed: copies of one block each and revokes, in any mix,
-    /// of different blocks that may be touched, with the next number, while nothing is being committed. It makes every
-    /// growth that the commit will need, so that a commit takes time in proportion to its log blocks and its entries.
+    /// of different blocks that may be touched, with the next number, while nothing is being committed. They need so many
+    /// log blocks, and the ring has as many free ones (`room_for`). It makes every growth that the commit will need, so that
+    /// a commit takes time in proportion to its log blocks and its entries.
     ///
     /// # Errors
     ///
-    /// The batch comes back, and nothing changes. `Aborted` after a device failure; `NeedSpace` where the ring has fewer
-    /// free blocks than the transaction needs; `Memory`.
-    pub fn accept(&mut self, batch: Batch) -> Result<(), (Batch, JournalError)>
-        requires { MayHandOver self.old.engine batch }
+    /// The batch comes back, and nothing changes. `Aborted` after a device failure; `Memory`.
+    pub fn accept(&mut self, batch: Batch, blocks: u64) -> Result<(), (Batch, JournalError)>
+        requires may { MayHandOver self.old.engine batch }
+        requires room { HasRoom self.old.engine batch }
+        requires blocks { blocks ≡ need self.old.engine.layout (length (copied batch.entries)) (length (revoked batch.entries)) }
         ensures ok { OnOk result (Accepts self.old.engine batch self.new.engine) }
-        ensures err { IfErr result (λ e. (e.0 ≡ batch) × AcceptRefused self.old.engine batch e.1 × (self.new ≡ self.old)) }
+        ensures err { IfErr result (λ e. (e.0 ≡ batch) × AcceptRefused self.old.engine e.1 × (self.new ≡ self.old)) }
         ensures device { self.new.device ≡ self.old.device }
     {
         if self.ledger.aborted {
             return Err((batch, JournalError::Aborted));
         }
-        let copies = count_copies(batch.entries.as_slice());
-        let revokes = batch.entries.len() - copies;
-        let Some(blocks) = self.ledger.room_for(copies, revokes) else {
-            return Err((batch, JournalError::NeedSpace));
-        };
         if self.plan.make(batch.entries.as_slice()).is_err() {
             return Err((batch, JournalError::Memory));
         }

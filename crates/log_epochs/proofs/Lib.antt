@@ -1,21 +1,22 @@
--- The lemmas of this crate.
+-- The lemmas of this crate that crates above it cite.
 pub mod CleanLogs
-pub mod CleanRuns
 pub mod Closing
-pub mod EngineRuns
-pub mod Following
-pub mod HomeRule
-pub mod Homes
-pub mod JournalSteps
-pub mod JournalSynced
 pub mod Journals
 pub mod Keeping
 pub mod Leading
 pub mod Lives
 pub mod Moments
-pub mod ReplayMoments
 pub mod Replaying
 pub mod Running
-pub mod Stages
-pub mod Synced
 pub mod Whole
+-- The others.
+mod CleanRuns
+mod EngineRuns
+mod Following
+mod HomeRule
+mod Homes
+mod JournalSteps
+mod JournalSynced
+mod ReplayMoments
+mod Stages
+mod Synced

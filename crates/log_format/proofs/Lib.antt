@@ -1,12 +1,13 @@
--- The lemmas of this crate.
+-- The lemmas of this crate that crates above it cite.
 pub mod Accepting
-pub mod Flags
 pub mod Formatted
-pub mod Formatting
 pub mod Layouts
-pub mod Numbers
-pub mod Reading
-pub mod Revokes
 pub mod Superblocks
-pub mod Writing
 pub mod Written
+-- The others.
+mod Flags
+mod Formatting
+mod Numbers
+mod Reading
+mod Revokes
+mod Writing

@@ -1,10 +1,9 @@
 -- A ledger that can run can run after each step of a commit, and with a batch that it took.
-use Rattle.std.proofs.Common.{arith, refl, sym, ap, ap₂, subst, ◌∙◌}
-use Rattle.std.specs.Prelude.{◌≡◌, ◌≢◌, ◌↔◌, ℕ, ◌+◌, ◌-◌, ◌^◌, ◌≤◌, false, true, length, Some, slice_get}
+use Rattle.std.proofs.Common.{arith, refl, sym, ap, subst, ◌∙◌}
+use Rattle.std.specs.Prelude.{◌≡◌, ◌≢◌, ℕ, ◌+◌, ◌^◌, ◌≤◌, false, true, Some, slice_get}
 use Rattle.journal_model.specs.declared.entry.Batch.{Batch}
 use Rattle.journal_model.specs.declared.number.Area.TheVariants.{Log}
 use Rattle.journal_model.specs.Layout.{Layout}
-use Rattle.journal_model.specs.Transaction.{copied, revoked}
 use Rattle.log_model.specs.Room.{need}
 use Rattle.journal_model.specs.Disk.{Shape}
 use Rattle.checkpoint.specs.Pending.{ArePending, IsCommitted, PendingValue}
@@ -18,10 +17,9 @@ use Rattle.journal_world.proofs.Positions.{tail-start}
 use Rattle.log_ledger.specs.declared.ledger.Ledger.{Ledger}
 use Rattle.log_ledger.specs.Steps.{MayHandOver}
 use Rattle.log_ledger.specs.Ledger.{HasKept, KeepsPending, Runs, engine_of}
-use Rattle.log_ledger.proofs.Copies.{counted}
 use Rattle.log_ledger.proofs.Ledgers.{batch-taken, batch-there, done-taken, fault-taken, idle-head, kept-alike, taken-alike}
 use Rattle.log_ledger.proofs.Pendings.{aborted-keeps, done-keeps, steps-keeps, takes-keeps}
-use Rattle.log_ledger.proofs.Running.{fault-runs, few-needed, need-of, needed_by, ring-few, room-of, step-runs, takes, takes-runs}
+use Rattle.log_ledger.proofs.Running.{fault-runs, few-needed, needed_by, ring-few, step-runs, takes, takes-runs}
 
 -- a call is due at each stage of a commit
 call-at : (e : Engine) (stage : Stage) → stage ≢ Idle → (call : Call) × (call_in e stage ≡ Some call)
@@ -129,24 +127,6 @@ room-few shape l c r runs room =
     let few = few-needed e.layout c r e.ring.blocks runs.plain.layout.0 fits (ring-few e runs.plain) in
     let sum : c + r ≤ 2 ^ 32 = few.1 in
     (omega arith, omega arith)
-
--- what a batch needs, by the counts of its copies and its entries
-pub needed-told : (l : Layout) (b : Batch) (copies entries : ℕ) → copies ≡ length (copied b.entries) → entries ≡ length b.entries →
-    need l copies (entries - copies) ≡ needed_by l b
-needed-told l b copies entries of-copies all =
-    let revokes : entries - copies ≡ length (revoked b.entries) = omega (arith, counted b.entries) in
-    ap₂ (need l) of-copies revokes
-
--- the test of the room is one of what the batch needs
-pub room-told : (shape : Shape) (l : Ledger) (b : Batch) (copies entries : ℕ) (A : Type 0) → Runs shape l →
-    copies ≡ length (copied b.entries) → entries ≡ length b.entries →
-    A ↔ (l.start + need l.layout copies (entries - copies) ≤ l.ring.tail + l.ring.ring.blocks) → A ↔ HasRoom (engine_of shape l) b
-room-told shape l b copies entries A runs of-copies all told =
-    let e = engine_of shape l in
-    let same = needed-told l.layout b copies entries of-copies all in (
-      λ a. room-of e b runs.plain (subst (λ (n : ℕ). l.start + n ≤ l.ring.tail + l.ring.ring.blocks) same (told.0 a)),
-      λ room. told.1 (subst (λ (n : ℕ). l.start + n ≤ l.ring.tail + l.ring.ring.blocks) (sym same) (need-of e b runs.plain room)),
-    )
 
 -- after a failure it can be asked, on a device whose shape stays
 pub faults-on : (shape after : Shape) (l : Ledger) → after ≡ shape → Runs shape l → Runs after (record l { aborted = true })

@@ -1,14 +1,15 @@
--- The lemmas of this crate.
+-- The lemmas of this crate that crates above it cite.
 pub mod Advancing
-pub mod Copies
 pub mod Ledgers
 pub mod Outcomes
-pub mod PendingCommits
-pub mod PendingLists
-pub mod PendingRounds
-pub mod PendingSame
 pub mod Pendings
 pub mod Rounds
 pub mod Running
-pub mod Tags
-pub mod TextBlocks
+-- The others.
+mod Copies
+mod PendingCommits
+mod PendingLists
+mod PendingRounds
+mod PendingSame
+mod Tags
+mod TextBlocks

@@ -119,10 +119,6 @@ runs-few e b plain stands =
 pub runs-number : (e : Engine) (b : Batch) → IsPlain e → slice_get e.accepted e.committed ≡ Some b → b.tid ≡ e.first + e.committed
 runs-number e b plain stands = number-at e.first e.committed e.accepted b plain.numbered stands
 
--- what it needs is what its text takes
-pub room-of : (e : Engine) (b : Batch) → IsPlain e → e.start + needed_by e.layout b ≤ e.tail + e.ring.blocks → HasRoom e b
-room-of e b plain room = subst (λ (n : ℕ). e.start + n ≤ e.tail + e.ring.blocks) (sym (length-text e b plain)) room
-
 -- what its text takes is what it needs
 pub need-of : (e : Engine) (b : Batch) → IsPlain e → HasRoom e b → e.start + needed_by e.layout b ≤ e.tail + e.ring.blocks
 need-of e b plain room = subst (λ (n : ℕ). e.start + n ≤ e.tail + e.ring.blocks) (length-text e b plain) room

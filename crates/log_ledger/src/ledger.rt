@@ -11,8 +11,7 @@ ghost use Rattle.log_ledger.specs.Steps.{MayHandOver};
 ghost use Rattle.log_ledger.specs.Ledger.{CanRunOn, HasKept, Runs, engine_of};
 
 use checkpoint::Pending;
-use history::History;
-use journal_model::{Batch, LogLayout};
+use journal_model::{Batch, History, LogLayout};
 use journal_world::{Round, Stage};
 use log_format::Super;
 use log_ring::Ring;

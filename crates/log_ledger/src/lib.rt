@@ -14,6 +14,6 @@ mod text;
 
 pub use due::Due;
 pub use ledger::Ledger;
-pub use plan::{Plan, count_copies};
+pub use plan::Plan;
 pub use progress::Progress;
 pub use text::TextWriter;

@@ -1,6 +1,5 @@
 //! Where the copies of a transaction stand among its entries, and which blocks it revokes.
-ghost use Rattle.std.specs.Prelude.{◌≡◌, ◌≤◌, [], length, OnOk};
-ghost use Rattle.journal_model.specs.Transaction.{copied};
+ghost use Rattle.std.specs.Prelude.{[], OnOk};
 ghost use Rattle.log_ledger.specs.Text.{IsPlanOf};
 
 use journal_model::{BlockNo, Entry};
@@ -42,18 +41,4 @@ impl Plan {
         }
         Ok(())
     }
-}
-
-/// How many of the entries are copies.
-pub fn count_copies(entries: &[(BlockNo, Entry)]) -> usize
-    ensures count { result ≡ length (copied entries.now) }
-    ensures most { result ≤ length entries.now }
-{
-    let mut copies = 0;
-    for (_, entry) in entries {
-        if let Entry::Copy(_) = entry {
-            copies += 1;
-        }
-    }
-    copies
 }

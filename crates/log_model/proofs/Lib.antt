@@ -1,13 +1,11 @@
--- The lemmas of this crate.
+-- The lemmas of this crate that crates above it cite.
 pub mod HomeCounts
 pub mod Newest
 pub mod OwnTextBlocks
 pub mod OwnTextEntries
-pub mod OwnTextEscapes
 pub mod OwnTextGroups
 pub mod OwnTextHeader
 pub mod OwnTextNumbers
-pub mod OwnTextPieces
 pub mod OwnTextRevokes
 pub mod OwnTextTags
 pub mod OwnTextWhole
@@ -16,3 +14,6 @@ pub mod ReadingNumbers
 pub mod ReadingPieces
 pub mod ReadingTags
 pub mod ReadingTexts
+-- The others.
+mod OwnTextEscapes
+mod OwnTextPieces

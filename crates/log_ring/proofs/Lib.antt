@@ -1,5 +1,5 @@
--- The lemmas of this crate.
-pub mod Grouped
-pub mod OwnParts
-pub mod PartPlaces
-pub mod Rows
+-- The lemmas of this crate: none above it cites them.
+mod Grouped
+mod OwnParts
+mod PartPlaces
+mod Rows

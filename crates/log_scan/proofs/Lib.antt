@@ -1,7 +1,8 @@
--- The lemmas of this crate.
-pub mod Fronts
+-- The lemmas of this crate that crates above it cite.
 pub mod Laps
 pub mod Listed
-pub mod Looking
 pub mod ScanSteps
 pub mod SoFar
+-- The others.
+mod Fronts
+mod Looking

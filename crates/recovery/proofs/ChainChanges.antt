@@ -7,7 +7,7 @@ use Rattle.journal_model.proofs.ListElements.{contains-none}
 use Rattle.log_model.specs.declared.log.Text.{Text}
 use Rattle.log_model.specs.Replay.{IsCovered}
 use Rattle.log_model.specs.Text.{text_copies, text_revokes}
-use Rattle.revoke_table.specs.Copies.{copies_of}
+use Rattle.block_tables.specs.Copies.{copies_of}
 use Rattle.recovery.specs.HomeCopies.{Change, chain_changes, text_changes}
 use Rattle.recovery.specs.HomeCopies.Change.{Copied, Revoked}
 use Rattle.recovery.proofs.LastCopies.{BlockCopies, copied, mapped-from, mapped-has}

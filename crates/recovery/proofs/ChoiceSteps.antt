@@ -8,8 +8,8 @@ use Rattle.journal_model.proofs.ListElements.{take-more_read}
 use Rattle.log_model.specs.declared.log.Piece.{Piece}
 use Rattle.log_model.specs.declared.log.Text.{Text}
 use Rattle.log_model.specs.Text.{piece_copies, text_copies}
-use Rattle.revoke_table.specs.Copies.{copies_of}
-use Rattle.revoke_table.specs.Revokes.{BlockTable}
+use Rattle.block_tables.specs.Copies.{copies_of}
+use Rattle.block_tables.specs.Revokes.{BlockTable}
 use Rattle.recovery.specs.Choice.{chosen, chosen_all, goes_by}
 use Rattle.recovery.proofs.LastCopies.{BlockCopies}
 

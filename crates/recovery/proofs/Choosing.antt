@@ -11,8 +11,8 @@ use Rattle.std.proofs.lemmas.List.Elements.{Contains-append_cases, Contains-appe
 use Rattle.std.proofs.lemmas.Option.{none-some, same_Some}
 use Rattle.log_model.specs.declared.log.Text.{Text}
 use Rattle.log_model.specs.Text.{text_copies, text_revokes}
-use Rattle.revoke_table.specs.Copies.{copies_of, copy_notes, placed_all, places_of}
-use Rattle.revoke_table.specs.Revokes.{BlockTable, Covers, revokes_of}
+use Rattle.block_tables.specs.Copies.{copies_of, copy_notes, placed_all, places_of}
+use Rattle.block_tables.specs.Revokes.{BlockTable, Covers, revokes_of}
 use Rattle.recovery.specs.Choice.{chosen, chosen_all, goes_by, is_place, reaches}
 use Rattle.recovery.specs.HomeCopies.{Change, chain_changes, home_copies, is_of, last_copies}
 use Rattle.recovery.specs.HomeCopies.Change.{Copied, Revoked}

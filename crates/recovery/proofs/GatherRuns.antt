@@ -19,8 +19,8 @@ use Rattle.log_scan.specs.Finding.{FinderValue}
 use Rattle.log_scan.specs.Passing.{CommitPassed, CopiesPassed, IsPassed, LeadsTo, RevokesPassed}
 use Rattle.log_scan.specs.Scanning.{AreTextsOf}
 use Rattle.log_scan.proofs.ScanSteps.{passed-count, passed-none}
-use Rattle.revoke_table.specs.Copies.{copies_of, copy_notes, placed_all}
-use Rattle.revoke_table.specs.Revokes.{noted_all, notes_of}
+use Rattle.block_tables.specs.Copies.{copies_of, copy_notes, placed_all}
+use Rattle.block_tables.specs.Revokes.{noted_all, notes_of}
 use Rattle.recovery.specs.Choice.{unfinished}
 use Rattle.recovery.specs.Gather.{TablesValue, empty_tables, tables_of, tag_notes, with_copies, with_revokes}
 use Rattle.recovery.proofs.Beginnings.{is-chain}

@@ -1,25 +1,25 @@
--- The lemmas of this crate.
-pub mod Beginnings
-pub mod ChainChanges
-pub mod ChoiceSteps
-pub mod Choosing
-pub mod CopiesReplayed
-pub mod CopyRuns
-pub mod CopySteps
-pub mod Examining
-pub mod GatherRuns
-pub mod LastCopies
-pub mod MadeCalls
-pub mod NewestHome
-pub mod Noting
-pub mod OpeningDone
-pub mod OpeningMoments
-pub mod OpeningPaths
-pub mod PlaceNotes
-pub mod Reading
-pub mod Recovering
-pub mod ReplayRuns
-pub mod SameLogs
-pub mod Testing
-pub mod UnfinishedTables
-pub mod Zeroed
+-- The lemmas of this crate: none above it cites them.
+mod Beginnings
+mod ChainChanges
+mod ChoiceSteps
+mod Choosing
+mod CopiesReplayed
+mod CopyRuns
+mod CopySteps
+mod Examining
+mod GatherRuns
+mod LastCopies
+mod MadeCalls
+mod NewestHome
+mod Noting
+mod OpeningDone
+mod OpeningMoments
+mod OpeningPaths
+mod PlaceNotes
+mod Reading
+mod Recovering
+mod ReplayRuns
+mod SameLogs
+mod Testing
+mod UnfinishedTables
+mod Zeroed

@@ -5,8 +5,8 @@ use Rattle.std.specs.FinMap.{insert}
 use Rattle.std.proofs.lemmas.List.{length-take-le, map-append}
 use Rattle.log_model.specs.declared.log.Tag.{Tag}
 use Rattle.journal_model.proofs.ListElements.{take-more_read}
-use Rattle.revoke_table.specs.Copies.{placed_all}
-use Rattle.revoke_table.specs.Revokes.{BlockTable, noted, noted_all, notes_of}
+use Rattle.block_tables.specs.Copies.{placed_all}
+use Rattle.block_tables.specs.Revokes.{BlockTable, noted, noted_all, notes_of}
 use Rattle.recovery.specs.Gather.{tag_notes}
 
 -- notes of revokes, and one more

@@ -7,9 +7,9 @@ use Rattle.std.specs.FinMap.{empty, get, insert}
 use Rattle.journal_model.proofs.ListElements.{contains-behind, contains-cases, contains-first, contains-none, get-behind}
 use Rattle.log_model.specs.declared.log.Text.{Text}
 use Rattle.log_model.specs.Replay.{IsCovered}
-use Rattle.revoke_table.specs.Copies.{copy_notes, placed_all}
-use Rattle.revoke_table.specs.Revokes.{BlockTable, Covers, revokes_of}
-use Rattle.revoke_table.proofs.Noting.{get-other, get-own, revokes-cover}
+use Rattle.block_tables.specs.Copies.{copy_notes, placed_all}
+use Rattle.block_tables.specs.Revokes.{BlockTable, Covers, revokes_of}
+use Rattle.block_tables.proofs.Noting.{get-other, get-own, revokes-cover}
 use Rattle.recovery.specs.HomeCopies.{chain_changes}
 use Rattle.recovery.specs.HomeCopies.Change.{Revoked}
 use Rattle.recovery.proofs.ChainChanges.{covered-revoked, revoked-covered}

@@ -22,7 +22,7 @@ use Rattle.log_scan.specs.Finding.{FinderValue}
 use Rattle.log_scan.specs.Passing.{CommitPassed, CopiesPassed, IsPassed, LeadsTo, RevokesPassed, StandAt, cursor_behind}
 use Rattle.log_scan.specs.Scanning.{AreTextsOf}
 use Rattle.log_scan.proofs.ScanSteps.{passed-count, passed-none}
-use Rattle.revoke_table.specs.Copies.{copies_of}
+use Rattle.block_tables.specs.Copies.{copies_of}
 use Rattle.recovery.specs.Calls.{HasBegun, HasMade, writes_home}
 use Rattle.recovery.specs.Choice.{chosen, chosen_all, unfinished}
 use Rattle.recovery.specs.Gather.{TablesValue, chosen_behind, tables_of}

@@ -11,8 +11,8 @@ use Rattle.log_model.specs.declared.log.Piece.TheVariants.{Copies, Revokes}
 use Rattle.log_model.specs.declared.log.Tag.{Tag}
 use Rattle.log_model.specs.declared.log.Text.{Text}
 use Rattle.log_model.specs.Text.{piece_copies, piece_revokes, text_copies, text_revokes}
-use Rattle.revoke_table.specs.Copies.{copies_of, copy_notes, placed_all, places_of}
-use Rattle.revoke_table.specs.Revokes.{BlockTable, noted, noted_all, notes_of, revoke_notes, revokes_of}
+use Rattle.block_tables.specs.Copies.{copies_of, copy_notes, placed_all, places_of}
+use Rattle.block_tables.specs.Revokes.{BlockTable, noted, noted_all, notes_of, revoke_notes, revokes_of}
 use Rattle.recovery.specs.Choice.{unfinished}
 use Rattle.recovery.proofs.ChoiceSteps.{pieces-push}
 use Rattle.recovery.proofs.Choosing.{copies-more}

@@ -5,7 +5,7 @@ use Rattle.std.specs.FinMap.{get}
 use Rattle.log_model.specs.declared.log.Piece.{Piece}
 use Rattle.log_model.specs.declared.log.Text.{Text}
 use Rattle.log_model.specs.Text.{text_copies}
-use Rattle.revoke_table.specs.Revokes.{BlockTable}
+use Rattle.block_tables.specs.Revokes.{BlockTable}
 
 -- whether what is noted of a block is this place
 abbrev pub is_place : ℕ → Option ℕ → Bool

@@ -19,8 +19,8 @@ use Rattle.log_scan.specs.Scanning.{AreTextsOf}
 use Rattle.journal_world.specs.Call.{Call}
 use Rattle.recovery.specs.Calls.{write_home}
 use Rattle.recovery.specs.Choice.{chosen}
-use Rattle.revoke_table.specs.Copies.{placed_all, places_of}
-use Rattle.revoke_table.specs.Revokes.{BlockTable, noted_all, notes_of, revokes_of}
+use Rattle.block_tables.specs.Copies.{placed_all, places_of}
+use Rattle.block_tables.specs.Revokes.{BlockTable, noted_all, notes_of, revokes_of}
 
 -- the greatest transaction that revokes each block, and the place of each block's newest copy
 pub record TablesValue : Type 0 where

@@ -7,16 +7,16 @@ ghost use Rattle.log_model.specs.Opening.{greatest_number, layout_of};
 ghost use Rattle.block_device.specs.State.{Stays};
 ghost use Rattle.log_format.specs.Accepted.{IsAccepted};
 ghost use Rattle.log_scan.specs.Scanning.{AreTextsOf};
-ghost use Rattle.revoke_table.specs.Revokes.{noted_all, notes_of};
-ghost use Rattle.revoke_table.specs.Copies.{placed_all};
+ghost use Rattle.block_tables.specs.Revokes.{noted_all, notes_of};
+ghost use Rattle.block_tables.specs.Copies.{placed_all};
 ghost use Rattle.recovery.specs.Choice.{goes_by};
 ghost use Rattle.recovery.specs.Gather.{IsGatherRefused, empty_tables, tables_of, with_copies, with_revokes};
 
 use block_device::Device;
+use block_tables::{CopyTable, RevokeTable};
 use journal_model::{Area, BlockNo, JournalError, Tid};
 use log_model::Tag;
 use log_scan::{Cursor, Finder, Found, Log};
-use revoke_table::{CopyTable, RevokeTable};
 use std::alloc::Global;
 use std::marker::Model;
 

@@ -3,16 +3,16 @@
 //! Bytes are spelled as in `log 3 from 8: 00000002`: these, from place 8 of block 3 of the log on. `home` names the home area.
 use crate::scripts::given_script;
 use crate::texts::{write_hex, written};
-use bench_run::{
-    AfterFailure, AnyHome, Fault, RunDevice, Stopped, empty_disk, judge, run_device,
-    run_operations, run_operations_over,
-};
-use bench_script::{Operation, Script};
 use block_device::{Device, MemDevice};
 use format_rows::RowError;
 use format_rows::words::{cut, hex_bytes, number};
 use journal_model::{Area, JournalError};
+use journal_script::{Operation, Script};
 use recovery::open;
+use script_run::{
+    AfterFailure, AnyHome, Fault, RunDevice, Stopped, empty_disk, judge, run_device,
+    run_operations, run_operations_over,
+};
 use std::alloc::{AllocError, Global};
 use std::fmt::Write;
 use std::io;

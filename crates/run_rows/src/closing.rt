@@ -1,13 +1,13 @@
 //! A journal over a device that stops or fails, and its close.
 ghost use Rattle.std.specs.Prelude.{◌≡◌, length, IfOk};
 
-use bench_script::NamedBlocks;
 use block_device::{FailOnce, MemDevice, StopAt};
 use format_rows::RowError;
 use format_rows::telling::refusal_text;
 use format_rows::words::{cut, hex_byte, number};
 use group_commit::{Handle, Journal, Parts, Seat};
 use journal_model::{BlockNo, JournalError, Sealed};
+use journal_script::NamedBlocks;
 use recovery::{Opened, format, open};
 use std::alloc::{AllocError, Global};
 

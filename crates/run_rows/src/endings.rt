@@ -1,9 +1,9 @@
 //! In which ways runs end that are interrupted at one place after another.
 use crate::scripts::given_script;
 use crate::texts::numbers_in;
-use bench_script::Script;
 use format_rows::RowError;
 use format_rows::words::cut;
+use journal_script::Script;
 use std::alloc::{AllocError, Global};
 use std::fmt::Write;
 

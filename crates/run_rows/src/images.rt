@@ -2,13 +2,13 @@
 use crate::endings::{endings_text, note};
 use crate::scripts::given_script;
 use crate::texts::{numbers_in, written};
-use bench_run::{Fault, Stop, Stops, run_copied};
-use bench_script::Script;
 use block_device::{Device, FailOnce, MemDevice};
 use format_rows::RowError;
 use format_rows::words::cut;
 use journal_model::JournalError;
+use journal_script::Script;
 use recovery::open;
+use script_run::{Fault, Stop, Stops, run_copied};
 use std::alloc::{AllocError, Global};
 use std::fmt::Write;
 

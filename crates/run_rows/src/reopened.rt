@@ -1,14 +1,14 @@
 //! Rows of devices that are opened again behind a failed call, without having lost power.
 use crate::endings::{Ending, Given, endings_text, given_of, in_one_line, kept, note};
 use crate::texts::{numbers_in, written};
-use bench_run::{Fault, OpenedImage, Stopped, judge_opened, judge_reopened, open_image};
-use bench_script::NamedBlocks;
-use bench_sweep::{Swept, ThisJournal};
 use block_device::{MemDevice, StopAt};
 use format_rows::RowError;
 use format_rows::words::cut;
 use journal_model::JournalError;
+use journal_script::NamedBlocks;
 use recovery::{Opened, Report, open};
+use script_run::{Fault, OpenedImage, Stopped, judge_opened, judge_reopened, open_image};
+use script_sweep::{Swept, ThisJournal};
 use std::alloc::Global;
 
 /// Runs of which a call fails, and whose device is then opened as it is: it has lost no power, and reads all that was written. That

@@ -1,7 +1,7 @@
 //! Rows of texts that are scripts, and of texts that are none.
 use crate::texts::write_hex;
-use bench_script::{Measures, Operation, Script, ScriptError, read};
 use format_rows::RowError;
+use journal_script::{Measures, Operation, Script, ScriptError, read};
 use std::alloc::{AllocError, Global};
 use std::fmt::Write;
 

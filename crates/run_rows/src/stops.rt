@@ -1,10 +1,10 @@
 //! Rows of runs that stop at each of their writes, and of runs whose openings do.
 use crate::endings::{Ending, Given, endings_text, given_of, in_one_line, kept, note};
 use crate::texts::written;
-use bench_run::{Stop, Stops, run};
-use bench_script::Script;
 use format_rows::RowError;
 use format_rows::words::cut;
+use journal_script::Script;
+use script_run::{Stop, Stops, run};
 use std::alloc::Global;
 
 /// Runs that stop at each write. Given: a line as `stops 1 to 13, any of the last 4 writes kept`, and a script. Found: each way

@@ -1,4 +1,4 @@
--- The lemmas of this crate.
-pub mod Closes
-pub mod Counting
-pub mod Refused
+-- The lemmas of this crate: none above it cites them.
+mod Closes
+mod Counting
+mod Refused

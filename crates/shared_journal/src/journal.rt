@@ -1,3 +1,4 @@
+//! The journal that threads share: its calls take `&self`, and those that are steps take the lock.
 ghost use Rattle.std.specs.Prelude.{◌≡◌, ◌+◌, ◌<◌, ◌≤◌, length, IfErr, IfOk, MatchResult, OnOk};
 ghost use Rattle.journal_model.specs.Disk.{Image, Leaves};
 ghost use Rattle.log_epochs.specs.JournalPromise.{IsClosed};

@@ -1,3 +1,4 @@
+//! Makes a journal of an opened log, and gives it its name.
 ghost use Rattle.std.specs.Prelude.{◌≡◌, IfErr, IfOk};
 ghost use Rattle.handle.specs.Rule.{greatest_allotment};
 ghost use Rattle.handle.specs.Values.{fresh_seat};

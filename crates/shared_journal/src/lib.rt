@@ -10,8 +10,6 @@ mod journal;
 mod laid;
 mod locked;
 mod open_handle;
-#[cfg(test)]
-mod tests;
 
 pub use journal::Journal;
 pub use laid::{LaidJournal, lay};

@@ -1,3 +1,4 @@
+//! The handle that callers hold: its place at the words, and the handle of the journal under the lock.
 ghost use Rattle.std.specs.Prelude.{◌≡◌};
 ghost use Rattle.handle.specs.Values.{fresh_ticket};
 

@@ -1,10 +1,10 @@
 //! Rows of runs of which one device call fails.
-use bench_run::{Stop, Stops, run, run_operations};
-use bench_script::Script;
 use format_rows::RowError;
 use format_rows::words::cut;
+use journal_script::Script;
 use run_rows::endings::{Ending, Given, endings_text, given_of, in_one_line, kept, note};
 use run_rows::texts::written;
+use script_run::{Stop, Stops, run, run_operations};
 use std::alloc::Global;
 use std::io;
 

@@ -1,12 +1,10 @@
 //! Rows of sweeps.
 use crate::wrong_journals::{Order, WrongJournal};
-use bench_sweep::{
-    Counts, FailureCounts, NotRight, Swept, ThisJournal, Unwatched, sweep, sweep_failures,
-};
 use format_rows::RowError;
 use format_rows::words::cut;
 use run_rows::scripts::given_script;
 use run_rows::texts::written;
+use script_sweep::{Counts, FailureCounts, NotRight, Swept, ThisJournal, sweep, sweep_failures};
 use std::alloc::{AllocError, Global};
 use std::fmt::Write;
 
@@ -153,3 +151,5 @@ fn failure_counts_of<J: Swept>(
         Err(_) => Err(RowError::Memory),
     }
 }
+
+use jbench_words::watch::Unwatched;

@@ -3,12 +3,12 @@
 //! A row has parts with `; ` between two: `2 writes 3 07` is a sealed transaction 2 in which block 3 becomes bytes 07,
 //! `acknowledged 2` the greatest transaction that was shown committed, `end 3` the end that an opening found, and `home 3 07` a
 //! block of home that is named, and reads so. A block has 16 bytes.
-use bench_run::Record;
-use bench_script::NamedBlocks;
 use block_device::{Device, MemDevice};
 use format_rows::RowError;
 use format_rows::words::{cut, hex_bytes, number, number32};
 use journal_model::{Area, Block, BlockNo, HandleNo, Items, Op, Sealed, Step, Tid};
+use journal_script::NamedBlocks;
+use script_run::Record;
 use std::alloc::{AllocError, Global};
 
 /// Bytes of a block.

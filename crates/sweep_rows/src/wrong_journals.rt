@@ -3,13 +3,13 @@
 //! that order, or goes on as if no call had failed.
 ghost use Rattle.std.specs.Prelude.{◌≡◌};
 
-use bench_client::{Performed, perform};
-use bench_run::{AfterFailure, AnyHome, Record, empty_disk};
-use bench_script::{Measures, Script};
-use bench_sweep::{Attempt, Fault, OpenedImage, Stopped, Swept, calls_of_opening, calls_of_run};
 use block_device::{Device, DeviceFault, FailOnce, MemDevice, StopAt};
 use journal_model::{Area, JournalError};
+use journal_script::{Measures, Script};
 use recovery::{Opened, open};
+use script_client::{Performed, perform};
+use script_run::{AfterFailure, AnyHome, Record, empty_disk};
+use script_sweep::{Attempt, Fault, OpenedImage, Stopped, Swept, calls_of_opening, calls_of_run};
 use std::alloc::Global;
 use std::io;
 

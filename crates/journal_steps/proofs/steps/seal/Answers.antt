@@ -1,50 +1,70 @@
-use Rattle.std.proofs.Common.{refl, sym, ap, subst, ◌∙◌}
+use Rattle.std.proofs.Common.{refl, sym, ap, subst, ◌∙◌, ◌≡◌, ℕ, Option, Some, IsTrue, is_some, length}
 use Rattle.std.proofs.lemmas.Bool.{true≢false}
 use Rattle.std.proofs.lemmas.Result.{err_from_is_err_and}
 use Rattle.journal_model.specs.declared.entry.Batch.{Batch}
-use Rattle.journal_world.specs.Engine.{Accepts}
+use Rattle.journal_model.specs.Transaction.{copied, revoked}
+use Rattle.log_model.specs.Room.{need}
+use Rattle.journal_world.specs.Engine.{Accepts, HasRoom}
 use Rattle.journal_world.specs.Front.{Front}
 use Rattle.log_ledger.specs.Steps.{MayHandOver}
-use Rattle.log_engine.specs.Engine.{AcceptRefused, EngineValue}
+use Rattle.log_engine.specs.Engine.{EngineValue}
 use Rattle.journal_steps.specs.Journal.{Agrees, HasRoomFor, TurnRefused}
-use Rattle.journal_steps.proofs.Sealing.{agrees-sealed, may-hand_over, refused-seal}
+use Rattle.journal_steps.proofs.Sealing.{agrees-sealed, may-hand_over, refused-seal, room-good}
 use Rattle.journal_steps.proofs.steps.seal.Goals as goal
 
+-- an answer of some number says that there is one
+there : (r : Option ℕ) (n : ℕ) → r ≡ Some n → IsTrue (is_some r)
+there r n is = ap is_some is
+
 -- the ring is too short
-pub returns-then-not-has_room-clause-err : goal.returns-then-not-has_room-clause-err
-returns-then-not-has_room-clause-err g c =
-    TurnRefused.RingIsShort c.requires.due (λ (room : HasRoomFor (record { front = c.args.front.now; engine = c.args.engine.now.engine })). true≢false (sym (c.has_room.ensures.1 room) ∙ c.if-not-has_room.true)) refl
+pub returns-in_default-clause-err : goal.returns-in_default-clause-err
+returns-in_default-clause-err g c =
+    let short : HasRoomFor (record { front = c.args.front.now; engine = c.args.engine.now.engine }) → ⊥ =
+    λ room. true≢false (sym (c.room_for.ensures.room.1 room) ∙ ap is_some c.in_default.is) in
+    TurnRefused.RingIsShort c.requires.due short refl
 
 -- memory ran out for the batch
 pub returns-in_err-batch-clause-err : goal.returns-in_err-batch-clause-err
 returns-in_err-batch-clause-err g c =
     let p = err_from_is_err_and c.from_residual.result c.from_residual.ensures.1 in
-    rw (p.1, p.2, c.in_err-batch.ensures.err) (TurnRefused.MemoryIsShort c.requires.due (c.has_room.ensures.0 c.if-not-has_room.false) refl)
+    rw (p.1, p.2, c.in_err-batch.ensures.err) (TurnRefused.MemoryIsShort c.requires.due (c.room_for.ensures.room.0 (there c.room_for.result _ c.in-Some.is)) refl)
 
 -- the engine may take it
-pub accept-requires : goal.accept-requires
-accept-requires g c =
-    let due = c.requires.due in
+pub accept-requires-clause-may : goal.accept-requires-clause-may
+accept-requires-clause-may g c =
     let e = c.args.engine.now.engine in
     let plain = c.recall_invariant.ensures.plain in
-    subst (MayHandOver e) (sym c.in_ok-batch.ensures.ok) (may-hand_over c.args.front.now e c.requires.agrees plain due)
+    subst (MayHandOver e) (sym c.in_ok-batch.ensures.ok) (may-hand_over c.args.front.now e c.requires.agrees plain c.requires.due)
+
+-- the ring has room for it
+pub accept-requires-clause-room : goal.accept-requires-clause-room
+accept-requires-clause-room g c =
+    let e = c.args.engine.now.engine in
+    let plain = c.recall_invariant.ensures.plain in
+    let room = c.room_for.ensures.room.0 (there c.room_for.result _ c.in-Some.is) in
+    subst (HasRoom e) (sym c.in_ok-batch.ensures.ok) (room-good e c.args.front.now.running plain room)
+
+-- in as many blocks
+pub accept-requires-clause-blocks : goal.accept-requires-clause-blocks
+accept-requires-clause-blocks g c =
+    let e = c.args.engine.now.engine in
+    subst (λ (b : Batch). c.in-Some.blocks ≡ need e.layout (length (copied b.entries)) (length (revoked b.entries))) (sym c.in_ok-batch.ensures.ok)
+    c.in-Some.ensures.blocks
 
 -- memory ran out for the engine
 pub returns-in-Err-clause-err : goal.returns-in-Err-clause-err
 returns-in-Err-clause-err g c =
     let due = c.requires.due in
-    let plain = c.recall_invariant.ensures.plain in
     let f = c.args.front.now in
     let e = c.args.engine.now.engine in
-    let room = c.has_room.ensures.0 c.if-not-has_room.false in
+    let room = c.room_for.ensures.room.0 (there c.room_for.result _ c.in-Some.is) in
     let refused = c.in-Err.ensures.err in
-    let why = subst (λ (b : Batch). AcceptRefused e b c.in-Err.refused.1) c.in_ok-batch.ensures.ok refused.1 in
     let same = ap (λ (v : EngineValue g.row.D.Denot). record { device = v.device; journal = record { front = f; engine = v.engine } }) refused.2 in
-    (refused-seal g.D.Device.state f c.args.engine.now.device e _ c.in-Err.refused.1 c.requires.agrees plain due room why same)
+    (refused-seal g.D.Device.state f c.args.engine.now.device e _ c.in-Err.refused.1 due room refused.1 same)
 
 -- front and engine agree
 pub returns-clause-agrees : goal.returns-clause-agrees
 returns-clause-agrees g c =
-    let taken = subst (λ (b : Batch). Accepts c.args.engine.now.engine b c.accept.new.self.engine) c.in_ok-batch.ensures.ok c.in_default.ensures.ok in
+    let taken = subst (λ (b : Batch). Accepts c.args.engine.now.engine b c.accept.new.self.engine) c.in_ok-batch.ensures.ok c.in_default-accept.ensures.ok in
     subst (λ (f : Front). Agrees (record { front = f; engine = c.accept.new.self.engine })) (sym c.seal.ensures)
     (agrees-sealed c.args.front.now c.args.engine.now.engine c.accept.new.self.engine c.requires.agrees taken.after)

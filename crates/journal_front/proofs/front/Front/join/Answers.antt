@@ -8,7 +8,7 @@ use Rattle.std.proofs.lemmas.Result.{err_from_is_err_and}
 use Rattle.journal_model.specs.declared.transaction.Sealed.{Sealed}
 use Rattle.log_model.specs.Opening.{greatest_number}
 use Rattle.journal_world.specs.Front.{Front, Joins, MayJoin, next_handle}
-use Rattle.transaction.specs.Transaction.{OpenTransaction}
+use Rattle.journal_front.specs.Transaction.{OpenTransaction}
 use Rattle.journal_world.specs.Front.FrontEvent.{Join}
 use Rattle.journal_front.specs.Front.JoinRefused.{IsAborted, IsLocked, NoHandle, NoMemory, NoNumber, NotGranted}
 use Rattle.journal_front.specs.FrontView.{AreCommitting, front_of}

@@ -4,7 +4,7 @@ use Rattle.std.proofs.lemmas.Bool.{true≢false}
 use Rattle.log_model.specs.Opening.{greatest_number}
 use Rattle.journal_model.specs.Transaction.{entries}
 use Rattle.journal_world.specs.Front.{left_in}
-use Rattle.transaction.specs.Transaction.{OpenTransaction}
+use Rattle.journal_front.specs.Transaction.{OpenTransaction}
 use Rattle.journal_front.proofs.Unfinished.{committing-none}
 use Rattle.journal_front.proofs.front.Front.new.Goals as goal
 

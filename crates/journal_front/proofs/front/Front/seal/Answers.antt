@@ -2,7 +2,7 @@ use Rattle.std.proofs.Common.{◌≡◌, ◌+◌, ◌≤◌, [], ◌∷◌, ◌+
 use Rattle.std.proofs.lemmas.Bool.{true≢false}
 use Rattle.log_model.specs.Opening.{greatest_number}
 use Rattle.journal_model.specs.Transaction.{Transaction, entries}
-use Rattle.transaction.specs.Transaction.{OpenTransaction}
+use Rattle.journal_front.specs.Transaction.{OpenTransaction}
 use Rattle.journal_front.proofs.Unfinished.{committing-sealed}
 use Rattle.journal_front.proofs.front.Front.seal.Goals as goal
 

@@ -1,18 +1,17 @@
-use Rattle.std.proofs.Common.{arith, refl, sym, ap, subst, ◌∙◌, ◌≡◌, ◌+◌, ◌≤◌, List, ℕ, length, Option, Some, None, IsTrue, is_some, slice_get}
+use Rattle.std.proofs.Common.{arith, refl, sym, ap, subst, ◌∙◌, ◌≡◌, ◌+◌, ◌≤◌, List, ℕ, length, slice_get}
 use Rattle.std.proofs.lemmas.Option.{same_Some, slice_get_within}
 use Rattle.journal_model.specs.declared.entry.Batch.{Batch}
 use Rattle.journal_model.specs.declared.entry.Entry.{Entry}
-use Rattle.journal_model.specs.Transaction.{copied}
 use Rattle.journal_world.proofs.Accepted.{accepts-sound}
 use Rattle.journal_world.specs.Engine.{Engine, HasRoom}
 use Rattle.journal_world.specs.Sound.{Sound}
-use Rattle.last_effects.specs.Effects.{effect_on, last_among}
+use Rattle.block_tables.specs.Effects.{effect_on, last_among}
 use Rattle.log_ledger.specs.Steps.{MayHandOver}
 use Rattle.log_ledger.specs.Ledger.{engine_of}
 use Rattle.log_ledger.specs.Text.{IsPlanOf}
-use Rattle.log_ledger.proofs.Advancing.{needed-told, room-told, same-runs, takes-on}
+use Rattle.log_ledger.proofs.Advancing.{same-runs, takes-on}
 use Rattle.log_ledger.proofs.Ledgers.{batch-there}
-use Rattle.log_ledger.proofs.Running.{takes}
+use Rattle.log_ledger.proofs.Running.{needed_by, takes}
 use Rattle.log_ledger.proofs.Outcomes.{at-ok}
 use Rattle.log_engine.specs.Close.{KeepsClean}
 use Rattle.log_engine.specs.Engine.{AcceptRefused, EngineValue}
@@ -21,28 +20,9 @@ use Rattle.log_engine.proofs.KeptClean.{taken-clean}
 use Rattle.log_engine.proofs.Plans.{idle-planned, taken-planned}
 use Rattle.log_engine.proofs.engine.Engine.accept.Goals as goal
 
--- an answer of none is not one of some
-not-none : (r : Option ℕ) → r ≡ None → IsTrue (is_some r) → ⊥
-not-none None is some = cc
-not-none (Some n) is some = cc
-
-is-there : (r : Option ℕ) (n : ℕ) → r ≡ Some n → IsTrue (is_some r)
-is-there None n is = absurd cc
-is-there (Some m) n is = refl
-
 -- after a failure it refuses
 pub returns-then-self-clause-err : goal.returns-then-self-clause-err
 returns-then-self-clause-err g c = rw (← c.self.view_is) (refl, AcceptRefused.AfterFailure c.if-self.true, refl)
-
--- the ring is too short
-pub returns-in_default-clause-err : goal.returns-in_default-clause-err
-returns-in_default-clause-err g c =
-    let shape = (g.D.Device.state c.self.inside.device).shape in
-    let l = c.self.inside.ledger in
-    let copies = c.count_copies-copies.ensures.count ∙ ap (λ (es : List (ℕ × Entry)). length (copied es)) c.as_slice.ensures in
-    let told = room-told shape l c.args.batch c.count_copies-copies.result c.len.result _ c.self.invariant.0 copies c.len.ensures c.room_for.ensures.room in
-    let short : HasRoom (engine_of shape l) c.args.batch → ⊥ = λ room. not-none c.room_for.result c.in_default.is (told.1 room) in
-    rw (← c.self.view_is) (refl, AcceptRefused.RingIsShort c.if-self.false short, refl)
 
 -- where memory runs out for the plan the engine is as before
 pub invariant_of-self : goal.invariant_of-self
@@ -50,7 +30,7 @@ invariant_of-self g c =
     let shape = (g.D.Device.state c.self.inside.device).shape in
     let l = c.self.inside.ledger in
     let may : MayHandOver (engine_of shape l) c.args.batch =
-    subst (λ (v : EngineValue g.row.D.Denot). MayHandOver v.engine c.args.batch) (sym c.self.view_is) c.requires in (
+    subst (λ (v : EngineValue g.row.D.Denot). MayHandOver v.engine c.args.batch) (sym c.self.view_is) c.requires.may in (
       c.self.invariant.0,
       c.self.invariant.1,
       c.self.invariant.2,
@@ -61,21 +41,11 @@ invariant_of-self g c =
 
 -- that is what the answer says
 pub returns-then-is_err-clause-err : goal.returns-then-is_err-clause-err
-returns-then-is_err-clause-err g c =
-    let shape = (g.D.Device.state c.self.inside.device).shape in
-    let l = c.self.inside.ledger in
-    let copies = c.count_copies-copies.ensures.count ∙ ap (λ (es : List (ℕ × Entry)). length (copied es)) c.as_slice.ensures in
-    let told = room-told shape l c.args.batch c.count_copies-copies.result c.len.result _ c.self.invariant.0 copies c.len.ensures c.room_for.ensures.room in
-    rw (← c.self.view_is) (refl, AcceptRefused.MemoryIsShort c.if-self.false (told.0 (is-there c.room_for.result _ c.in-Some.is)), refl)
+returns-then-is_err-clause-err g c = rw (← c.self.view_is) (refl, AcceptRefused.MemoryIsShort c.if-self.false, refl)
 
 -- or for its blocks in the table of effects
 pub returns-then-is_err-2-clause-err : goal.returns-then-is_err-2-clause-err
-returns-then-is_err-2-clause-err g c =
-    let shape = (g.D.Device.state c.self.inside.device).shape in
-    let l = c.self.inside.ledger in
-    let copies = c.count_copies-copies.ensures.count ∙ ap (λ (es : List (ℕ × Entry)). length (copied es)) c.as_slice.ensures in
-    let told = room-told shape l c.args.batch c.count_copies-copies.result c.len.result _ c.self.invariant.0 copies c.len.ensures c.room_for.ensures.room in
-    rw (← c.self.view_is) (refl, AcceptRefused.MemoryIsShort c.if-self.false (told.0 (is-there c.room_for.result _ c.in-Some.is)), refl)
+returns-then-is_err-2-clause-err g c = rw (← c.self.view_is) (refl, AcceptRefused.MemoryIsShort c.if-self.false, refl)
 
 -- there is room
 pub take-requires-clause-room : goal.take-requires-clause-room
@@ -83,16 +53,15 @@ take-requires-clause-room g c =
     let shape = (g.D.Device.state c.self.inside.device).shape in
     let l = c.self.inside.ledger in
     let may : MayHandOver (engine_of shape l) c.args.batch =
-    subst (λ (v : EngineValue g.row.D.Denot). MayHandOver v.engine c.args.batch) (sym c.self.view_is) c.requires in
-    let copies = c.count_copies-copies.ensures.count ∙ ap (λ (es : List (ℕ × Entry)). length (copied es)) c.as_slice.ensures in
-    let told = room-told shape l c.args.batch c.count_copies-copies.result c.len.result _ c.self.invariant.0 copies c.len.ensures c.room_for.ensures.room in
-    (shape, c.self.invariant.0, may, told.0 (is-there c.room_for.result _ c.in-Some.is))
+    subst (λ (v : EngineValue g.row.D.Denot). MayHandOver v.engine c.args.batch) (sym c.self.view_is) c.requires.may in
+    let room : HasRoom (engine_of shape l) c.args.batch =
+    subst (λ (v : EngineValue g.row.D.Denot). HasRoom v.engine c.args.batch) (sym c.self.view_is) c.requires.room in
+    (shape, c.self.invariant.0, may, room)
 
 -- for so many blocks
 pub take-requires-clause-blocks : goal.take-requires-clause-blocks
 take-requires-clause-blocks g c =
-    let copies = c.count_copies-copies.ensures.count ∙ ap (λ (es : List (ℕ × Entry)). length (copied es)) c.as_slice.ensures in
-    c.in-Some.ensures.blocks ∙ needed-told c.self.inside.ledger.layout c.args.batch c.count_copies-copies.result c.len.result copies c.len.ensures
+    subst (λ (v : EngineValue g.row.D.Denot). c.args.blocks ≡ needed_by v.engine.layout c.args.batch) (sym c.self.view_is) c.requires.blocks
 
 -- where memory runs out for the batch the engine is as before
 pub invariant_of-self-in-Err : goal.invariant_of-self-in-Err
@@ -100,7 +69,7 @@ invariant_of-self-in-Err g c =
     let state = g.D.Device.state c.self.inside.device in
     let l = c.self.inside.ledger in
     let e = engine_of state.shape l in
-    let may : MayHandOver e c.args.batch = subst (λ (v : EngineValue g.row.D.Denot). MayHandOver v.engine c.args.batch) (sym c.self.view_is) c.requires in
+    let may : MayHandOver e c.args.batch = subst (λ (v : EngineValue g.row.D.Denot). MayHandOver v.engine c.args.batch) (sym c.self.view_is) c.requires.may in
     let same = c.in-Err.ensures.same in
     let runs = same-runs state.shape l c.take.new.self (same.0 state.shape) same.1 c.take.ensures.pending c.take.ensures.kept c.self.invariant.0 in (
       runs,
@@ -117,12 +86,10 @@ pub returns-in-Err-clause-err : goal.returns-in-Err-clause-err
 returns-in-Err-clause-err g c =
     let shape = (g.D.Device.state c.self.inside.device).shape in
     let l = c.self.inside.ledger in
-    let copies = c.count_copies-copies.ensures.count ∙ ap (λ (es : List (ℕ × Entry)). length (copied es)) c.as_slice.ensures in
-    let told = room-told shape l c.args.batch c.count_copies-copies.result c.len.result _ c.self.invariant.0 copies c.len.ensures c.room_for.ensures.room in
     let same = c.in-Err.ensures.same in
     rw (← c.self.view_is) (
       c.in-Err.ensures.err,
-      AcceptRefused.MemoryIsShort c.if-self.false (told.0 (is-there c.room_for.result _ c.in-Some.is)),
+      AcceptRefused.MemoryIsShort c.if-self.false,
       ap (λ (e : Engine). record { device = c.self.inside.device; engine = e }) (same.0 shape),
     )
 
@@ -132,8 +99,8 @@ batch_due-requires-clause-due g c =
     let shape = (g.D.Device.state c.self.inside.device).shape in
     let l = c.self.inside.ledger in
     let may : MayHandOver (engine_of shape l) c.args.batch =
-    subst (λ (v : EngineValue g.row.D.Denot). MayHandOver v.engine c.args.batch) (sym c.self.view_is) c.requires in
-    let is = c.in_default-take.ensures.ok shape in
+    subst (λ (v : EngineValue g.row.D.Denot). MayHandOver v.engine c.args.batch) (sym c.self.view_is) c.requires.may in
+    let is = c.in_default.ensures.ok shape in
     let accepted = ap (λ (x : Engine). x.accepted) is in
     let committed = ap (λ (x : Engine). x.committed) is in
     slice_get_within c.take.new.self.accepted.items c.take.new.self.committed c.args.batch
@@ -148,7 +115,7 @@ batch_due-requires-clause-unreleased g c =
     let low : l.released ≤ l.bound = c.self.invariant.0.plain.order.0 in
     let high : l.bound ≤ l.committed = c.self.invariant.0.plain.order.1 in
     let between : l.released ≤ l.committed = omega arith in
-    subst (λ (e : Engine). e.released ≤ e.committed) (sym (c.in_default-take.ensures.ok shape)) between
+    subst (λ (e : Engine). e.released ≤ e.committed) (sym (c.in_default.ensures.ok shape)) between
 
 -- and the table has room for its blocks
 pub note-requires : goal.note-requires
@@ -156,8 +123,8 @@ note-requires g c =
     let shape = (g.D.Device.state c.self.inside.device).shape in
     let l = c.self.inside.ledger in
     let may : MayHandOver (engine_of shape l) c.args.batch =
-    subst (λ (v : EngineValue g.row.D.Denot). MayHandOver v.engine c.args.batch) (sym c.self.view_is) c.requires in
-    let is = c.in_default-take.ensures.ok shape in
+    subst (λ (v : EngineValue g.row.D.Denot). MayHandOver v.engine c.args.batch) (sym c.self.view_is) c.requires.may in
+    let is = c.in_default.ensures.ok shape in
     let accepted = ap (λ (x : Engine). x.accepted) is in
     let committed = ap (λ (x : Engine). x.committed) is in
     let there : c.args.batch ≡ c.batch_due.result.now =
@@ -165,9 +132,9 @@ note-requires g c =
     (sym (batch-there shape l c.args.batch c.take.new.self.accepted.items c.self.invariant.0 may accepted)
     ∙ ap (slice_get c.take.new.self.accepted.items) (sym committed) ∙ c.batch_due.ensures) in
     let made = sym c.is_err-2.ensures.value ∙ c.if-is_err-2.false in
-    let room : c.len-2.result ≤ c.reserve.new.self.room = at-ok c.reserve.result made c.reserve.ensures.ok in
+    let room : c.len.result ≤ c.reserve.new.self.room = at-ok c.reserve.result made c.reserve.ensures.ok in
     subst (λ (x : Batch). length x.entries ≤ c.reserve.new.self.room) there
-    (subst (λ (n : ℕ). n ≤ c.reserve.new.self.room) c.len-2.ensures room)
+    (subst (λ (n : ℕ). n ≤ c.reserve.new.self.room) c.len.ensures room)
 
 -- the engine can run with the batch, has its plan, and its effects are noted
 pub invariant_of-self-2 : goal.invariant_of-self-2
@@ -175,16 +142,15 @@ invariant_of-self-2 g c =
     let state = g.D.Device.state c.self.inside.device in
     let l = c.self.inside.ledger in
     let e = engine_of state.shape l in
-    let may : MayHandOver e c.args.batch = subst (λ (v : EngineValue g.row.D.Denot). MayHandOver v.engine c.args.batch) (sym c.self.view_is) c.requires in
-    let copies = c.count_copies-copies.ensures.count ∙ ap (λ (es : List (ℕ × Entry)). length (copied es)) c.as_slice.ensures in
-    let told = room-told state.shape l c.args.batch c.count_copies-copies.result c.len.result _ c.self.invariant.0 copies c.len.ensures c.room_for.ensures.room in
-    let room : HasRoom e c.args.batch = told.0 (is-there c.room_for.result _ c.in-Some.is) in
-    let needed = c.in-Some.ensures.blocks ∙ needed-told l.layout c.args.batch c.count_copies-copies.result c.len.result copies c.len.ensures in
-    let head = c.in_default-take.ensures.head ∙ ap (λ (n : ℕ). l.ring.head + n) needed in
-    let is = c.in_default-take.ensures.ok state.shape in
+    let may : MayHandOver e c.args.batch = subst (λ (v : EngineValue g.row.D.Denot). MayHandOver v.engine c.args.batch) (sym c.self.view_is) c.requires.may in
+    let room : HasRoom e c.args.batch = subst (λ (v : EngineValue g.row.D.Denot). HasRoom v.engine c.args.batch) (sym c.self.view_is) c.requires.room in
+    let needed : c.args.blocks ≡ needed_by l.layout c.args.batch =
+    subst (λ (v : EngineValue g.row.D.Denot). c.args.blocks ≡ needed_by v.engine.layout c.args.batch) (sym c.self.view_is) c.requires.blocks in
+    let head = c.in_default.ensures.head ∙ ap (λ (n : ℕ). l.ring.head + n) needed in
+    let is = c.in_default.ensures.ok state.shape in
     let made = sym c.is_err.ensures.value ∙ c.if-is_err.false in
     let plan : IsPlanOf c.args.batch.entries c.make.new.self =
-    subst (λ (es : List (ℕ × Entry)). IsPlanOf es c.make.new.self) c.as_slice-2.ensures (at-ok c.make.result made c.make.ensures) in
+    subst (λ (es : List (ℕ × Entry)). IsPlanOf es c.make.new.self) c.as_slice.ensures (at-ok c.make.result made c.make.ensures) in
     let accepted = ap (λ (x : Engine). x.accepted) is in
     let committed = ap (λ (x : Engine). x.committed) is in
     let there : c.args.batch ≡ c.batch_due.result.now =
@@ -207,8 +173,6 @@ returns-clause-ok g c =
     let shape = (g.D.Device.state c.self.inside.device).shape in
     let l = c.self.inside.ledger in
     let e = engine_of shape l in
-    let may : MayHandOver e c.args.batch = subst (λ (v : EngineValue g.row.D.Denot). MayHandOver v.engine c.args.batch) (sym c.self.view_is) c.requires in
-    let copies = c.count_copies-copies.ensures.count ∙ ap (λ (es : List (ℕ × Entry)). length (copied es)) c.as_slice.ensures in
-    let told = room-told shape l c.args.batch c.count_copies-copies.result c.len.result _ c.self.invariant.0 copies c.len.ensures c.room_for.ensures.room in
-    rw (← c.self.view_is)
-    (takes e _ c.args.batch c.if-self.false may (told.0 (is-there c.room_for.result _ c.in-Some.is)) (c.in_default-take.ensures.ok shape))
+    let may : MayHandOver e c.args.batch = subst (λ (v : EngineValue g.row.D.Denot). MayHandOver v.engine c.args.batch) (sym c.self.view_is) c.requires.may in
+    let room : HasRoom e c.args.batch = subst (λ (v : EngineValue g.row.D.Denot). HasRoom v.engine c.args.batch) (sym c.self.view_is) c.requires.room in
+    rw (← c.self.view_is) (takes e _ c.args.batch c.if-self.false may room (c.in_default.ensures.ok shape))

@@ -2,7 +2,7 @@ use Rattle.std.proofs.Common.{◌≡◌, ℕ, Bool, true, false, Option, Some, N
 use Rattle.std.specs.Prelude.{IsTrue, ◌↔◌, not, ◌==◌}
 use Rattle.std.specs.FinMap.{get}
 use Rattle.std.specs.Option.{option_eq}
-use Rattle.revoke_table.specs.Revokes.{BlockTable, Covers}
+use Rattle.block_tables.specs.Revokes.{BlockTable, Covers}
 use Rattle.recovery.specs.Choice.{is_place, reaches}
 use Rattle.recovery.specs.Gather.{TablesValue}
 use Rattle.recovery.proofs.Choosing.{covers-reaches}

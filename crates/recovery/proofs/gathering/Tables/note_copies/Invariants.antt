@@ -1,5 +1,5 @@
 use Rattle.std.proofs.Common.{◌≡◌, take}
-use Rattle.revoke_table.specs.Copies.{placed_all}
+use Rattle.block_tables.specs.Copies.{placed_all}
 use Rattle.recovery.specs.Gather.{tag_notes}
 use Rattle.recovery.proofs.gathering.Tables.note_copies.Given as goal
 

@@ -1,5 +1,5 @@
 use Rattle.std.proofs.Common.{◌≡◌, take}
-use Rattle.revoke_table.specs.Revokes.{noted_all, notes_of}
+use Rattle.block_tables.specs.Revokes.{noted_all, notes_of}
 use Rattle.recovery.proofs.gathering.Tables.note_revokes.Given as goal
 
 -- the revokes of the blocks so far are noted

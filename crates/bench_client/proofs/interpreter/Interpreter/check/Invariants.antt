@@ -1,6 +1,0 @@
-use Rattle.std.proofs.Common.{◌≡◌}
-use Rattle.bench_client.proofs.interpreter.Interpreter.check.Given as goal
-
--- the operations are the same
-abbrev pub invariant-loop : goal.invariant-loop
-invariant-loop g l = l.self.client.operations ≡ l.fn.self.client.operations

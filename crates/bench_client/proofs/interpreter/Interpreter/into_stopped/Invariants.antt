@@ -1,6 +1,0 @@
-use Rattle.std.proofs.Common.{◌≡◌}
-use Rattle.bench_client.proofs.interpreter.Interpreter.into_stopped.Given as goal
-
--- the operations are the same
-abbrev pub invariant-loop-slot : goal.invariant-loop-slot
-invariant-loop-slot g l = l.client.operations ≡ l.fn.self.client.operations

@@ -1,9 +1,0 @@
-pub mod Disks
-pub mod Ends
-pub mod Judging
-pub mod LastEntries
-pub mod Limits
-pub mod OpeningMoves
-pub mod Openings
-pub mod Reopened
-pub mod Verdicts

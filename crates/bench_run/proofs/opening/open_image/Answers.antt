@@ -1,8 +1,0 @@
-use Rattle.std.proofs.Common.{refl}
-use Rattle.bench_run.proofs.Openings.{opened-image}
-use Rattle.bench_run.proofs.opening.open_image.Goals as goal
-
-pub returns-in-Ok : goal.returns-in-Ok
-returns-in-Ok c =
-    opened-image c.args.image c.args.image c.in-Ok.opened.device _ _ refl c.into_device.ensures c.report.ensures
-    (c.in-Ok.ensures.report tt) (c.in-Ok.ensures.opened tt).home c.in-Ok.ensures.shape

@@ -1,0 +1,7 @@
+-- The lemmas of this crate that crates above it cite.
+pub mod Lasts
+pub mod Noting
+-- The others.
+mod Covering
+mod Maps
+mod Placing

@@ -1,5 +1,0 @@
-use Rattle.handle.proofs.tests.credits_and_mark_are_kept.Given as goal
-
--- the name is that of the board
-abbrev pub ghosts-on_board : goal.ghosts-on_board
-ghosts-on_board g a = record { board = a.laid.board; capacity = a.laid.capacity; block_size = 0 }

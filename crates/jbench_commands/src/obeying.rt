@@ -1,0 +1,199 @@
+//! Opens the files that the words name, and does what the words tell.
+use crate::files::LogPair;
+use crate::image::ImageFiles;
+use crate::progress::Progress;
+use crate::{apply, check, files, logs, run, sweep};
+use commit_times::bench;
+use file_device::UnknownContents;
+use jbench_words::fault::{Status, refuse_file};
+use jbench_words::words::{
+    ApplyWords, BenchWords, FormatWords, LogPaths, RunWords, SweepWords, Words,
+};
+use std::fs::File;
+use std::io;
+use std::io::Write;
+
+/// Does what the words tell.
+pub fn obey<W: Write + Drop, E: Write + Drop>(
+    rt: &HostRuntime,
+    words: &Words<'_>,
+    out: W,
+    err: E,
+) -> io::Result<Status> {
+    match words {
+        Words::Run(words) => run_file(rt, words, out, err),
+        Words::Sweep(words) => sweep_file(rt, words, out, err),
+        Words::Check(path) => check_file(rt, path, out, err),
+        Words::Format(words) => format_files(rt, words, out, err),
+        Words::Dump(path) => dump_file(rt, path, out, err),
+        Words::Recover(paths) => recover_files(rt, *paths, out, err),
+        Words::Apply(words) => apply_files(rt, words, out, err),
+        Words::Bench(words) => bench_files(rt, words, out, err),
+    }
+}
+
+/// Runs the script in a file.
+fn run_file<W: Write + Drop, E: Write + Drop>(
+    rt: &HostRuntime,
+    words: &RunWords<'_>,
+    out: W,
+    err: E,
+) -> io::Result<Status> {
+    let mut err = err;
+    match files::open_to_read(rt, words.script) {
+        Ok(file) => run_opened(rt, words, file, out, err),
+        Err(e) => refuse_file(&mut err, words.script, e),
+    }
+}
+
+/// Runs the script in this file. The files of an image are opened before it is read.
+fn run_opened<W: Write + Drop, E: Write + Drop>(
+    rt: &HostRuntime,
+    words: &RunWords<'_>,
+    script: File,
+    out: W,
+    err: E,
+) -> io::Result<Status> {
+    let mut err = err;
+    let Some(image) = words.image else {
+        return run::run(rt.alloc(), words, script, out, err);
+    };
+    match files::open_or_make_pair(rt, image, Some(&script)) {
+        Ok(files) => {
+            let alloc = rt.alloc();
+            let image = ImageFiles { alloc, files };
+            run::run_with_image(alloc, words, script, image, out, err)
+        }
+        Err(unopened) => refuse_file(&mut err, unopened.path, unopened.error),
+    }
+}
+
+/// Sweeps the script in a file.
+fn sweep_file<W: Write + Drop, E: Write + Drop>(
+    rt: &HostRuntime,
+    words: &SweepWords<'_>,
+    out: W,
+    err: E,
+) -> io::Result<Status> {
+    let mut err = err;
+    match files::open_to_read(rt, words.script) {
+        Ok(file) => sweep::sweep(rt.alloc(), words, file, Progress::new(rt), out, err),
+        Err(e) => refuse_file(&mut err, words.script, e),
+    }
+}
+
+/// Says whether the script in a file is good.
+fn check_file<W: Write + Drop, E: Write + Drop>(
+    rt: &HostRuntime,
+    path: &str,
+    out: W,
+    err: E,
+) -> io::Result<Status> {
+    let mut err = err;
+    match files::open_to_read(rt, path) {
+        Ok(file) => check::check(rt.alloc(), path, file, out, err),
+        Err(e) => refuse_file(&mut err, path, e),
+    }
+}
+
+/// Makes an empty log of two files, both of which are opened before either is changed.
+fn format_files<W: Write + Drop, E: Write + Drop>(
+    rt: &HostRuntime,
+    words: &FormatWords<'_>,
+    out: W,
+    err: E,
+) -> io::Result<Status> {
+    let mut err = err;
+    let files = match files::open_or_make_pair(rt, words.paths, None) {
+        Ok(files) => files,
+        Err(unopened) => return refuse_file(&mut err, unopened.path, unopened.error),
+    };
+    match files::make_device(rt.alloc(), &words.measures, files) {
+        Ok(device) => logs::format(words.paths.log, &words.measures, device, out, err),
+        Err(e) => refuse_file(&mut err, words.paths.log, e),
+    }
+}
+
+/// Opens a log in two files, both of which are opened before either is read.
+fn recover_files<W: Write + Drop, E: Write + Drop>(
+    rt: &HostRuntime,
+    paths: LogPaths<'_>,
+    out: W,
+    err: E,
+) -> io::Result<Status> {
+    let mut err = err;
+    let files = match files::open_pair(rt, paths) {
+        Ok(files) => files,
+        Err(unopened) => return refuse_file(&mut err, unopened.path, unopened.error),
+    };
+    match files::device_of(rt.alloc(), UnknownContents, files) {
+        Ok(device) => logs::recover(rt.alloc(), paths.log, device, Progress::new(rt), out, err),
+        Err(e) => refuse_file(&mut err, paths.log, e),
+    }
+}
+
+/// Does the operations of a script over a log in two files. All three files are opened before any is read.
+fn apply_files<W: Write + Drop, E: Write + Drop>(
+    rt: &HostRuntime,
+    words: &ApplyWords<'_>,
+    out: W,
+    err: E,
+) -> io::Result<Status> {
+    let mut err = err;
+    let files = match files::open_pair(rt, words.paths) {
+        Ok(files) => files,
+        Err(unopened) => return refuse_file(&mut err, unopened.path, unopened.error),
+    };
+    match files::open_script(rt, words.script, &files) {
+        Ok(script) => apply_opened(rt, words, files, script, out, err),
+        Err(e) => refuse_file(&mut err, words.script, e),
+    }
+}
+
+/// Does the operations of the script in this file over a log in these.
+fn apply_opened<W: Write + Drop, E: Write + Drop>(
+    rt: &HostRuntime,
+    words: &ApplyWords<'_>,
+    files: LogPair,
+    script: File,
+    out: W,
+    err: E,
+) -> io::Result<Status> {
+    let mut err = err;
+    match files::device_of(rt.alloc(), UnknownContents, files) {
+        Ok(device) => apply::apply(rt.alloc(), words, device, script, out, err),
+        Err(e) => refuse_file(&mut err, words.paths.log, e),
+    }
+}
+
+/// Commits transactions to a log in two files, both of which are opened before either is read.
+fn bench_files<W: Write + Drop, E: Write + Drop>(
+    rt: &HostRuntime,
+    words: &BenchWords<'_>,
+    out: W,
+    err: E,
+) -> io::Result<Status> {
+    let mut err = err;
+    let files = match files::open_pair(rt, words.paths) {
+        Ok(files) => files,
+        Err(unopened) => return refuse_file(&mut err, unopened.path, unopened.error),
+    };
+    match files::device_of(rt.alloc(), UnknownContents, files) {
+        Ok(device) => bench::bench(rt.alloc(), words, device, rt, Progress::new(rt), out, err),
+        Err(e) => refuse_file(&mut err, words.paths.log, e),
+    }
+}
+
+/// Prints the log in a file.
+fn dump_file<W: Write + Drop, E: Write + Drop>(
+    rt: &HostRuntime,
+    path: &str,
+    out: W,
+    err: E,
+) -> io::Result<Status> {
+    let mut err = err;
+    match files::open_log(rt.alloc(), rt, path) {
+        Ok(device) => logs::dump(rt.alloc(), path, device, out, err),
+        Err(e) => refuse_file(&mut err, path, e),
+    }
+}

@@ -1,0 +1,180 @@
+//! The command `run`: reads a script, and runs it.
+ghost use Rattle.std.specs.Prelude.{◌≡◌, IfErr};
+ghost use Rattle.jbench_words.specs.Images.{IsUnmade};
+
+use crate::faults::of_run;
+use block_device::Device;
+use jbench_words::fault::{self, Fault, Status};
+use jbench_words::words::{RunWords, StopWords};
+use journal_script::{Measures, Script};
+use script_run::{Stop, Stops};
+use std::alloc::Global;
+use std::io;
+use std::io::{BufWriter, Read, Write};
+
+/// Runs a script, and prints its lines, the dump of what the stop left, and the verdict on what openings of it give back.
+/// Where it can't go on, one line on `err` says why.
+///
+/// # Errors
+///
+/// The output can't be written.
+pub fn run<R: Read + Drop, W: Write + Drop, E: Write + Drop>(
+    alloc: Global,
+    words: &RunWords<'_>,
+    script: R,
+    out: W,
+    err: E,
+) -> io::Result<Status> {
+    end(words, verdict_of(alloc, words, script, out), err)
+}
+
+/// Runs a script as `run` does, and also leaves an image: what the stop left is written to the device that `image` makes, durably,
+/// before that is opened. Where that device can't be made one line on `err` says so, and nothing else is printed.
+///
+/// # Errors
+///
+/// The output can't be written.
+pub fn run_with_image<R: Read + Drop, M: MakeImage + Drop, W: Write + Drop, E: Write + Drop>(
+    alloc: Global,
+    words: &RunWords<'_>,
+    script: R,
+    image: M,
+    out: W,
+    err: E,
+) -> io::Result<Status> {
+    let verdict = match read_script(alloc, script) {
+        Ok(script) => run_buffered(alloc, words, &script, image, out),
+        Err(fault) => Err(fault),
+    };
+    end(words, verdict, err)
+}
+
+/// Makes the device that takes an image.
+pub trait MakeImage {
+    /// The device.
+    type Device: Device + Drop;
+
+    /// Makes a device of these measures.
+    ///
+    /// # Errors
+    ///
+    /// It can't be made.
+    fn make(self, measures: &Measures) -> io::Result<Self::Device>;
+}
+
+/// How a run ends, and the line that says why it couldn't go on.
+fn end<E: Write + Drop>(
+    words: &RunWords<'_>,
+    verdict: Result<bool, Fault>,
+    mut err: E,
+) -> io::Result<Status> {
+    match verdict {
+        Ok(true) => Ok(Status::Fine),
+        Ok(false) => Ok(Status::VerdictFalse),
+        Err(Fault::Output(e)) => Err(e),
+        Err(fault) => fault::refuse(&mut err, path_of(words, &fault), &fault),
+    }
+}
+
+/// The file that a fault is of.
+fn path_of<'a>(words: &RunWords<'a>, fault: &Fault) -> &'a str {
+    match (&words.image, fault) {
+        (Some(image), Fault::ImageFile) => image.log,
+        _ => words.script,
+    }
+}
+
+/// Where a device stops, as words tell.
+fn stop_of(words: &StopWords) -> Stop<'_> {
+    Stop {
+        at_write: words.at_write,
+        keep: &words.keep,
+    }
+}
+
+/// Where the run and the opening stop, and which call of the run fails.
+fn stops_of<'a>(words: &'a RunWords<'_>) -> Stops<'a> {
+    Stops {
+        failing_call: words.failing_call,
+        run: stop_of(&words.run),
+        opening: stop_of(&words.opening),
+    }
+}
+
+/// Runs a script that leaves an image, by way of a buffer. The answer is the verdict.
+fn run_buffered<M: MakeImage + Drop, W: Write + Drop>(
+    alloc: Global,
+    words: &RunWords<'_>,
+    script: &Script,
+    image: M,
+    out: W,
+) -> Result<bool, Fault> {
+    let mut out = BufWriter::new(alloc, out)?;
+    let verdict = run_on(alloc, script, &stops_of(words), image, &mut out)?;
+    out.flush()?;
+    Ok(verdict)
+}
+
+/// Makes the device that takes the image, and then runs a script. The answer is the verdict.
+///
+/// # Errors
+///
+/// `Fault::ImageFile`: the device can't be made, and nothing was printed. Else those of a run, and of the copy of its image.
+pub fn run_on<M: MakeImage, W: Write>(
+    alloc: Global,
+    script: &Script,
+    stops: &Stops<'_>,
+    image: M,
+    out: &mut W,
+) -> Result<bool, Fault>
+    ensures { IfErr result (λ fault. IsUnmade fault → out.new ≡ out.old) }
+{
+    match image.make(&script.measures) {
+        Ok(mut device) => match script_run::run_copied(alloc, script, stops, &mut device, out) {
+            Ok(verdict) => Ok(verdict),
+            Err(fault) => Err(of_run(fault)),
+        },
+        Err(e) => Err(Fault::of_image(e)),
+    }
+}
+
+/// Reads a script, and runs it. The answer is the verdict.
+fn verdict_of<R: Read + Drop, W: Write + Drop>(
+    alloc: Global,
+    words: &RunWords<'_>,
+    script: R,
+    out: W,
+) -> Result<bool, Fault> {
+    match read_script(alloc, script) {
+        Ok(script) => run_script(alloc, words, &script, out),
+        Err(fault) => Err(fault),
+    }
+}
+
+/// Runs a script. The answer is the verdict.
+fn run_script<W: Write + Drop>(
+    alloc: Global,
+    words: &RunWords<'_>,
+    script: &Script,
+    out: W,
+) -> Result<bool, Fault> {
+    let mut out = BufWriter::new(alloc, out)?;
+    let verdict = script_run::run(alloc, script, &stops_of(words), &mut out).map_err(of_run)?;
+    out.flush()?;
+    Ok(verdict)
+}
+
+/// Reads a script to its end, and tests it.
+pub(crate) fn read_script<R: Read + Drop>(alloc: Global, reader: R) -> Result<Script, Fault> {
+    let text = read_text(alloc, reader)?;
+    Ok(journal_script::read(alloc, &text)?)
+}
+
+/// Reads the bytes of a script to their end.
+pub(crate) fn read_text<R: Read + Drop>(alloc: Global, mut reader: R) -> Result<Vec<u8>, Fault> {
+    let mut text = Vec::new(alloc);
+    match reader.read_to_end(&mut text) {
+        Ok(_) => Ok(text),
+        Err(e) => Err(Fault::of_file(e)),
+    }
+}

@@ -1,0 +1,79 @@
+//! The command `sweep`: reads a script, and sweeps it.
+use crate::faults::of_run;
+use crate::run::read_script;
+use jbench_words::fault::{self, Fault, Status};
+use jbench_words::watch::Watch;
+use jbench_words::words::SweepWords;
+use script_sweep::{Counts, FailureCounts, ThisJournal};
+use std::alloc::Global;
+use std::io;
+use std::io::{Read, Write};
+
+/// Runs a script with a stop at each of its writes, opens and judges all that each stop may have left, and prints what was counted.
+/// Where the words say so, each device call of the script then fails in turn: what that leaves is opened and judged too, and a second
+/// line says what was counted. What is false is named on `err`. Where it can't go on, one line on `err` says why.
+///
+/// # Errors
+///
+/// The output can't be written.
+pub fn sweep<R: Read + Drop, P: Watch + Drop, W: Write + Drop, E: Write + Drop>(
+    alloc: Global,
+    words: &SweepWords<'_>,
+    script: R,
+    watch: P,
+    out: W,
+    err: E,
+) -> io::Result<Status> {
+    let (mut watch, mut out, mut err) = (watch, out, err);
+    match sweep_script(alloc, words, script, &mut watch, &mut out, &mut err) {
+        Ok(0) => Ok(Status::Fine),
+        Ok(_) => Ok(Status::VerdictFalse),
+        Err(Fault::Output(e)) => Err(e),
+        Err(fault) => fault::refuse(&mut err, words.script, &fault),
+    }
+}
+
+/// Reads a script, and sweeps it. The answer is how many openings were not right.
+fn sweep_script<R: Read + Drop, W: Write>(
+    alloc: Global,
+    words: &SweepWords<'_>,
+    script: R,
+    watch: &mut impl Watch,
+    out: &mut W,
+    err: &mut impl Write,
+) -> Result<u64, Fault> {
+    let script = read_script(alloc, script)?;
+    let counts = script_sweep::sweep(alloc, &ThisJournal, &script, watch, err).map_err(of_run)?;
+    tell(counts, out)?;
+    let of_stops = counts.not_right.count();
+    if !words.fails {
+        return Ok(of_stops);
+    }
+    let counts = script_sweep::sweep_failures(alloc, &ThisJournal, &script, watch, err).map_err(
+        of_run,
+    )?;
+    tell_failures(counts, out)?;
+    Ok(of_stops.saturating_add(counts.not_right.count()))
+}
+
+/// Prints what a sweep of stops counted.
+fn tell<W: Write>(counts: Counts, out: &mut W) -> io::Result<()> {
+    writeln!(
+        out,
+        "sweep writes={} images={} again={} false={}",
+        counts.writes,
+        counts.images,
+        counts.again,
+        counts.not_right.count()
+    )
+}
+
+/// Prints what a sweep of failing calls counted.
+fn tell_failures<W: Write>(counts: FailureCounts, out: &mut W) -> io::Result<()> {
+    writeln!(
+        out,
+        "fail calls={} false={}",
+        counts.calls,
+        counts.not_right.count()
+    )
+}

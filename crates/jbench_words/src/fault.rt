@@ -1,0 +1,162 @@
+//! How a command ends, and what it says where it can't go on.
+use journal_model::JournalError;
+use journal_script::ScriptError;
+use std::alloc::AllocFailed;
+use std::io;
+use std::io::{ErrorKind, Write};
+use std::process::ExitCode;
+
+/// How a command ended.
+#[derive(Clone, Copy, Debug, PartialEq, Eq)]
+pub enum Status {
+    /// It did what was asked: exit status 0.
+    Fine,
+    /// The words, a file, the script or the log was refused: exit status 1.
+    Refused,
+    /// What an opening gave back is not what the run had promised: exit status 2.
+    VerdictFalse,
+}
+
+impl From<Status> for ExitCode {
+    fn from(status: Status) -> ExitCode {
+        ExitCode::from(match status {
+            Status::Fine => 0,
+            Status::Refused => 1,
+            Status::VerdictFalse => 2,
+        })
+    }
+}
+
+/// Why a command can't go on.
+#[derive(Drop)]
+pub enum Fault {
+    /// A file can't be opened or read.
+    File,
+    /// The script is no script.
+    BadScript,
+    /// The files of an image can't be made.
+    ImageFile,
+    /// The clock can't be read.
+    Clock,
+    /// The journal refused, or memory ran out.
+    Refused(JournalError),
+    /// The output can't be written.
+    Output(io::Error),
+}
+
+impl Fault {
+    /// Why a file can't be opened or read.
+    pub fn of_file(e: io::Error) -> Fault {
+        match e.kind() {
+            ErrorKind::OutOfMemory => Fault::Refused(JournalError::Memory),
+            _ => Fault::File,
+        }
+    }
+
+    /// Why the clock can't be read.
+    pub fn of_clock(e: io::Error) -> Fault {
+        match e.kind() {
+            ErrorKind::OutOfMemory => Fault::Refused(JournalError::Memory),
+            _ => Fault::Clock,
+        }
+    }
+
+    /// Why the files of an image can't be made.
+    pub fn of_image(e: io::Error) -> Fault {
+        match e.kind() {
+            ErrorKind::OutOfMemory => Fault::Refused(JournalError::Memory),
+            _ => Fault::ImageFile,
+        }
+    }
+}
+
+impl From<io::Error> for Fault {
+    ghost use Rattle.jbench_words.specs.Images.{IsUnmade};
+
+    ghost from_gives = { λ _ fault. ¬ IsUnmade fault };
+
+    fn from(e: io::Error) -> Fault {
+        match e.kind() {
+            ErrorKind::OutOfMemory => Fault::Refused(JournalError::Memory),
+            _ => Fault::Output(e),
+        }
+    }
+}
+
+impl From<JournalError> for Fault {
+    fn from(e: JournalError) -> Fault {
+        Fault::Refused(e)
+    }
+}
+
+impl<T: Drop> From<AllocFailed<T>> for Fault {
+    fn from(_e: AllocFailed<T>) -> Fault {
+        Fault::Refused(JournalError::Memory)
+    }
+}
+
+impl From<ScriptError> for Fault {
+    fn from(e: ScriptError) -> Fault {
+        match e {
+            ScriptError::BadScript(_) => Fault::BadScript,
+            ScriptError::Memory => Fault::Refused(JournalError::Memory),
+        }
+    }
+}
+
+impl From<log_dump::Fault> for Fault {
+    ghost use Rattle.jbench_words.specs.Images.{IsUnmade};
+
+    ghost from_gives = { λ _ fault. ¬ IsUnmade fault };
+
+    fn from(fault: log_dump::Fault) -> Fault {
+        match fault {
+            log_dump::Fault::Refused(e) => Fault::Refused(e),
+            log_dump::Fault::Output(e) => Fault::from(e),
+        }
+    }
+}
+
+/// Writes the line that says why a command can't go on. `path` names its file. Of output that can't be written there is
+/// nothing to say.
+///
+/// # Errors
+///
+/// The line can't be written.
+fn report(err: &mut impl Write, path: &str, fault: &Fault) -> io::Result<()> {
+    match fault {
+        Fault::File | Fault::ImageFile => writeln!(err, "jbench: file {path}"),
+        Fault::BadScript => writeln!(err, "jbench: bad script"),
+        Fault::Clock => writeln!(err, "jbench: clock"),
+        Fault::Refused(e) => writeln!(err, "jbench: refusal {} {e}", e.number()),
+        Fault::Output(_) => Ok(()),
+    }
+}
+
+/// Writes the line that says why a command can't go on: `path` names its file. The command is then refused.
+///
+/// # Errors
+///
+/// The line can't be written.
+pub fn refuse(err: &mut impl Write, path: &str, fault: &Fault) -> io::Result<Status> {
+    match report(err, path, fault) {
+        Ok(()) => Ok(Status::Refused),
+        Err(e) => Err(e),
+    }
+}
+
+/// Says that the file of this path can't be opened, or that memory ran out. The command is then refused.
+///
+/// # Errors
+///
+/// The line can't be written.
+pub fn refuse_file(err: &mut impl Write, path: &str, e: io::Error) -> io::Result<Status> {
+    refuse(err, path, &Fault::of_file(e))
+}
+
+/// Says why the program can't go on that failed so, where it is for want of memory. Where its own output can't be written,
+/// there is nobody to tell.
+pub fn refuse_rest(err: &mut impl Write, e: io::Error) -> Status {
+    let _ = report(err, "", &Fault::from(e));
+    Status::Refused
+}

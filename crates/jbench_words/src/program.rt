@@ -1,0 +1,95 @@
+//! The program and its commands as `clap` has them.
+use crate::usage::{COMMANDS, PROGRAM, Usage, Word, usage_named};
+use clap::{Arg, ArgAction, Command};
+use std::alloc::{AllocError, Global};
+
+/// The version that the program tells.
+const VERSION: &str = "0.1.0";
+
+/// A value that may stand behind a command.
+fn bare_arg<'a>(alloc: Global, word: &Word) -> Arg<'a> {
+    Arg::new(alloc, word.name)
+        .value_name(word.value)
+        .help(word.help)
+}
+
+/// A flag, which takes no value.
+fn flag<'a>(alloc: Global, word: &Word) -> Arg<'a> {
+    Arg::new(alloc, word.name)
+        .long(word.name)
+        .help(word.help)
+        .action(ArgAction::SetTrue)
+}
+
+/// A word as `clap` has it.
+fn arg_of<'a>(alloc: Global, word: &Word) -> Arg<'a> {
+    if word.value.is_empty() {
+        flag(alloc, word)
+    } else if word.is_option {
+        bare_arg(alloc, word).long(word.name)
+    } else {
+        bare_arg(alloc, word).required(true)
+    }
+}
+
+/// A command with no words behind it.
+fn bare_command<'a>(alloc: Global, usage: &Usage) -> Command<'a> {
+    Command::new(alloc, usage.name)
+        .about(usage.about)
+        .after_help(usage.after_help)
+}
+
+/// A command with these words behind it.
+fn with_words<'a>(
+    alloc: Global,
+    mut command: Command<'a>,
+    words: &[Word],
+) -> Result<Command<'a>, AllocError> {
+    for word in words {
+        command = command.arg(arg_of(alloc, word))?;
+    }
+    Ok(command)
+}
+
+/// A command as `clap` has it.
+fn command_of<'a>(alloc: Global, usage: &Usage) -> Result<Command<'a>, AllocError> {
+    with_words(alloc, bare_command(alloc, usage), usage.words)
+}
+
+/// The commands of the program.
+fn commands<'a>(alloc: Global) -> Result<Vec<Command<'a>>, AllocError> {
+    let mut commands = Vec::new(alloc);
+    for usage in COMMANDS {
+        commands.push(command_of(alloc, usage)?)?;
+    }
+    Ok(commands)
+}
+
+/// The program with these commands.
+fn program_with<'a>(alloc: Global, commands: Vec<Command<'a>>) -> Result<Command<'a>, AllocError> {
+    bare_command(alloc, &PROGRAM)
+        .version(VERSION)
+        .disable_help_subcommand(true)
+        .subcommand_required(true)
+        .bin_name("jbench")?
+        .subcommands(commands)
+}
+
+/// The program.
+pub(crate) fn program<'a>(alloc: Global) -> Result<Command<'a>, AllocError> {
+    program_with(alloc, commands(alloc)?)
+}
+
+/// A command as a program of its own.
+fn alone<'a>(alloc: Global, usage: &Usage) -> Result<Command<'a>, AllocError> {
+    let called = format!(in alloc; "jbench {}", usage.name)?;
+    command_of(alloc, usage)?.bin_name(&called)
+}
+
+/// The command of this name as a program of its own, or the whole program where there is none.
+pub(crate) fn command_named<'a>(alloc: Global, name: &str) -> Result<Command<'a>, AllocError> {
+    match usage_named(name) {
+        Some(usage) => alone(alloc, usage),
+        None => program(alloc),
+    }
+}

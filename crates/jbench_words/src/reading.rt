@@ -1,0 +1,221 @@
+//! What the words of a command tell, within their limits.
+ghost use Rattle.std.specs.Prelude.{◌≡◌, ◌≤◌, IfOk, IfSome};
+ghost use Rattle.journal_script.specs.Measures.{AreLimited};
+ghost use Rattle.log_format.specs.Size.{IsBlockSize};
+
+use crate::wanted::Wanted;
+use crate::words::{
+    ApplyWords, BenchWords, FormatWords, LogPaths, RunWords, StopWords, SweepWords, Words,
+};
+use clap::ArgMatches;
+use journal_script::{DEFAULTS, HOMES, LENGTHS, Measures, is_block_size, limited, uuid_of};
+use std::alloc::{AllocError, Global};
+
+/// How many blocks a transaction of `bench` has where it is told nothing else.
+const COPIES: u64 = 4;
+
+/// The numbers of a list with commas, or `None` where it is no such list. An empty text is an empty list.
+fn list_of(alloc: Global, text: &str) -> Result<Option<Vec<u64>>, AllocError> {
+    if text.is_empty() {
+        return Ok(Some(Vec::new(alloc)));
+    }
+    let mut numbers = Vec::new(alloc);
+    for word in text.split(',') {
+        match word.parse::<u64>() {
+            Ok(number) => numbers.push(number)?,
+            Err(_) => return Ok(None),
+        }
+    }
+    Ok(Some(numbers))
+}
+
+/// The number behind a word, which has to be within limits that both count, or `None` where the word is not there.
+fn number_of(
+    matches: &ArgMatches<'_>,
+    name: &str,
+    limits: (u64, u64),
+    wanted: Wanted,
+) -> Result<Option<u64>, Wanted>
+    ensures least { IfOk result (λ told. IfSome told (λ number. limits.0 ≤ number)) }
+    ensures most { IfOk result (λ told. IfSome told (λ number. number ≤ limits.1)) }
+{
+    match matches.get_str(name) {
+        Some(word) => match limited(word, limits) {
+            Some(number) => Ok(Some(number)),
+            None => Err(wanted),
+        },
+        None => Ok(None),
+    }
+}
+
+/// The numbers of a list behind a word, none where the word is not there.
+fn numbers_of(
+    alloc: Global,
+    matches: &ArgMatches<'_>,
+    name: &str,
+    wanted: Wanted,
+) -> Result<Vec<u64>, Wanted> {
+    list_of(alloc, matches.get_str(name).unwrap_or(""))?.ok_or(wanted)
+}
+
+/// The stop of a run that `run` is told.
+fn run_stop(alloc: Global, matches: &ArgMatches<'_>) -> Result<StopWords, Wanted> {
+    Ok(StopWords {
+        at_write: number_of(matches, "stop", (1, u64::MAX), Wanted::WriteNumber)?,
+        keep: numbers_of(alloc, matches, "keep", Wanted::WriteNumbers)?,
+    })
+}
+
+/// The stop of an opening that `run` is told.
+fn opening_stop(alloc: Global, matches: &ArgMatches<'_>) -> Result<StopWords, Wanted> {
+    Ok(StopWords {
+        at_write: number_of(matches, "stop2", (1, u64::MAX), Wanted::OpeningNumber)?,
+        keep: numbers_of(alloc, matches, "keep2", Wanted::OpeningNumbers)?,
+    })
+}
+
+/// The files of an image that `run` is told.
+fn image_paths<'a>(matches: &ArgMatches<'a>) -> Result<Option<LogPaths<'a>>, Wanted> {
+    match (matches.get_str("image-log"), matches.get_str("image-home")) {
+        (Some(log), Some(home)) => Ok(Some(LogPaths { log, home })),
+        (None, None) => Ok(None),
+        _ => Err(Wanted::ImageFiles),
+    }
+}
+
+/// The call that `run` is told to let fail, where it is told no stop.
+fn failing_call(matches: &ArgMatches<'_>) -> Result<Option<u64>, Wanted> {
+    let call = number_of(matches, "fail", (1, u64::MAX), Wanted::CallNumber)?;
+    if call.is_some() && matches.get_str("stop").is_some() {
+        return Err(Wanted::StopOrFail);
+    }
+    Ok(call)
+}
+
+/// What `run` is told.
+fn run_words<'a>(alloc: Global, matches: &ArgMatches<'a>) -> Result<RunWords<'a>, Wanted> {
+    let run = run_stop(alloc, matches)?;
+    Ok(RunWords {
+        script: matches.get_str("script").unwrap_or(""),
+        failing_call: failing_call(matches)?,
+        run,
+        opening: opening_stop(alloc, matches)?,
+        image: image_paths(matches)?,
+    })
+}
+
+/// The limits of a number of blocks.
+fn wide(limits: (u32, u32)) -> (u64, u64)
+    ensures { result ≡ limits }
+{
+    (u64::from(limits.0), u64::from(limits.1))
+}
+
+/// The bytes of a block that `format` is told.
+fn block_size_told(matches: &ArgMatches<'_>) -> Result<usize, Wanted>
+    ensures { IfOk result IsBlockSize }
+{
+    let told = number_of(matches, "block", (1024, 4096), Wanted::BlockSize)?;
+    let bytes = told.unwrap_or(DEFAULTS.block_size as u64);
+    if is_block_size(bytes) {
+        Ok(bytes as usize)
+    } else {
+        Err(Wanted::BlockSize)
+    }
+}
+
+/// The UUID that `format` is told.
+fn uuid_told(alloc: Global, matches: &ArgMatches<'_>) -> Result<[u8; 16], Wanted> {
+    match matches.get_str("uuid") {
+        Some(digits) => uuid_of(alloc, digits)?.ok_or(Wanted::HexDigits),
+        None => Ok(DEFAULTS.uuid),
+    }
+}
+
+/// The measures that `format` is told.
+fn measures_of(alloc: Global, matches: &ArgMatches<'_>) -> Result<Measures, Wanted>
+    ensures { IfOk result AreLimited }
+{
+    let block_size = block_size_told(matches)?;
+    let log_blocks = number_of(matches, "length", wide(LENGTHS), Wanted::LogBlocks)?;
+    let home_blocks = number_of(matches, "home", wide(HOMES), Wanted::HomeBlocks)?;
+    Ok(Measures {
+        block_size,
+        log_blocks: log_blocks.unwrap_or(u64::from(DEFAULTS.log_blocks)) as u32,
+        home_blocks: home_blocks.unwrap_or(DEFAULTS.home_blocks),
+        uuid: uuid_told(alloc, matches)?,
+    })
+}
+
+/// What `format` is told.
+fn format_words<'a>(alloc: Global, matches: &ArgMatches<'a>) -> Result<FormatWords<'a>, Wanted> {
+    Ok(FormatWords {
+        paths: log_paths(matches),
+        measures: measures_of(alloc, matches)?,
+    })
+}
+
+/// What `sweep` is told.
+fn sweep_words<'a>(matches: &ArgMatches<'a>) -> SweepWords<'a> {
+    SweepWords {
+        script: matches.get_str("script").unwrap_or(""),
+        fails: matches.get_flag("fail"),
+    }
+}
+
+/// The files of the log that a command is told.
+fn log_paths<'a>(matches: &ArgMatches<'a>) -> LogPaths<'a> {
+    LogPaths {
+        log: matches.get_str("log").unwrap_or(""),
+        home: matches.get_str("home_file").unwrap_or(""),
+    }
+}
+
+/// What `apply` is told.
+fn apply_words<'a>(matches: &ArgMatches<'a>) -> ApplyWords<'a> {
+    ApplyWords {
+        paths: log_paths(matches),
+        script: matches.get_str("script").unwrap_or(""),
+        stay: matches.get_flag("stay"),
+    }
+}
+
+/// What `bench` is told.
+fn bench_words<'a>(matches: &ArgMatches<'a>) -> Result<BenchWords<'a>, Wanted> {
+    let copies = number_of(matches, "copies", (1, u64::MAX), Wanted::Copies)?;
+    Ok(BenchWords {
+        paths: log_paths(matches),
+        seconds: number_of(matches, "seconds", (1, 86_400), Wanted::Seconds)?,
+        transactions: number_of(matches, "transactions", (1, u64::MAX), Wanted::Transactions)?,
+        copies: copies.unwrap_or(COPIES),
+    })
+}
+
+/// What a command is told.
+pub(crate) fn words_of<'a>(alloc: Global, matches: &ArgMatches<'a>) -> Result<Words<'a>, Wanted> {
+    if let Some(run) = matches.subcommand_matches("run") {
+        return run_words(alloc, run).map(Words::Run);
+    }
+    if let Some(sweep) = matches.subcommand_matches("sweep") {
+        return Ok(Words::Sweep(sweep_words(sweep)));
+    }
+    if let Some(check) = matches.subcommand_matches("check") {
+        return Ok(Words::Check(check.get_str("script").unwrap_or("")));
+    }
+    if let Some(format) = matches.subcommand_matches("format") {
+        return format_words(alloc, format).map(Words::Format);
+    }
+    if let Some(recover) = matches.subcommand_matches("recover") {
+        return Ok(Words::Recover(log_paths(recover)));
+    }
+    if let Some(apply) = matches.subcommand_matches("apply") {
+        return Ok(Words::Apply(apply_words(apply)));
+    }
+    if let Some(bench) = matches.subcommand_matches("bench") {
+        return bench_words(bench).map(Words::Bench);
+    }
+    match matches.subcommand_matches("dump") {
+        Some(dump) => Ok(Words::Dump(dump.get_str("log").unwrap_or(""))),
+        None => Err(Wanted::Command),
+    }
+}

@@ -1,0 +1,410 @@
+//! What the help tells: the program and its commands, and the words that stand behind each.
+
+/// A command as its help tells of it.
+pub(crate) struct Usage {
+    pub(crate) name: &'static str,
+    /// What it does, in a line.
+    pub(crate) about: &'static str,
+    /// What stands at the end of its help.
+    pub(crate) after_help: &'static str,
+    /// What stands behind it.
+    pub(crate) words: &'static [Word],
+}
+
+/// A value that has to stand behind a command, or one that may, behind `--NAME`; or `--NAME` alone, which takes none.
+pub(crate) struct Word {
+    pub(crate) name: &'static str,
+    /// What its help calls the value, empty where it takes none.
+    pub(crate) value: &'static str,
+    pub(crate) is_option: bool,
+    pub(crate) help: &'static str,
+}
+
+/// The program itself.
+pub(crate) const PROGRAM: Usage = Usage {
+    name: "jbench",
+    about: "Runs scripts of journal operations over a disk in memory that loses power and judges what is left; makes, prints and recovers logs",
+    after_help: "\
+run SCRIPT [--stop K | --fail K] [--keep LIST] [--stop2 K] [--keep2 LIST] [--image-log PATH --image-home PATH]: SCRIPT is a file, K
+a write number from 1 on (default: the device stops at the end, and the opening does not stop), or with --fail the number of a call
+that fails, LIST write numbers with commas (default: none), PATH a file that gets what the stop left. jbench run --help says what a
+script is.
+sweep SCRIPT [--fail]: runs a script with a stop at each of its writes and judges what each leaves; with --fail also once for each
+device call, which fails.
+check SCRIPT: says whether a script is good, and why it is not.
+format LOG HOME [--block B] [--length M] [--home N] [--uuid DIGITS]: two files become an empty log of M blocks (default: 33) and
+a home area of N zero blocks (default: 64), of B bytes each (default: 1024).
+dump LOG: prints the log in a file.
+recover LOG HOME: opens the log in a file, and brings home what its complete transactions copied.
+apply LOG HOME SCRIPT [--stay]: opens the log in a file, and does the operations of a script over it and its home area.
+bench LOG HOME [--seconds N] [--transactions N] [--copies K]: opens the log in a file, and tells how long transactions take.
+
+Exit status: 0 done, 1 refused (words, file, script, refusal), 2 a verdict is false.
+
+Example: jbench run examples/one_write.json --stop 4 --keep 4",
+    words: &[],
+};
+
+/// The command `run`.
+pub(crate) const RUN: Usage = Usage {
+    name: "run",
+    about: "Runs a script, stops the device, opens what the stop left, and judges it",
+    after_help: "\
+The device is formatted and opened before the first operation; its writes and its calls are numbered from 1 after that. The
+image has of each block the greatest unflushed write that --keep names, else what was flushed last. A refused operation prints
+its refusal, and counts as done. The script ends with the first operation that is refused because the device failed, but with
+--fail it goes on: call K fails and does nothing, and from then on the journal refuses operations with 'refused 3 Aborted'.
+
+With --stop2 the opening of the image is stopped at its own write K, counted from 1, and keeps of its unflushed writes those of
+--keep2. That is opened once more, and judged by what the image had. An opening that makes fewer writes is not stopped.
+
+With --image-log and --image-home the image is also written to two files before it is opened, byte for byte, so that other
+programs can judge it: jbench recover of them ends as the run's line 'open' says. Both files are made where there are none, and
+lose what they held once the script is taken. They are made before the script runs.
+
+A script is a JSON object with these keys, of which \"ops\" alone has to be there:
+  \"block\"   bytes of a block: 1024, 2048 or 4096 [default: 1024]
+  \"length\"  blocks of the log, 17 to 1048576 [default: 33]
+  \"home\"    blocks of the home area, 1 to 1048576 [default: 64]
+  \"uuid\"    the journal's UUID, 32 hex digits [default: aa 16 times]
+  \"ops\"     a list of at most 100,000 operations, where H names a handle, 0 to 9999:
+  [\"start\", H, n]       a handle with n credits
+  [\"write\", H, b, hex]  home block b becomes these bytes, at most a block, and zeros behind them
+  [\"revoke\", H, b]      home block b is revoked: no copy of it so far is to come back
+  [\"read\", H, b]        how home block b begins, as the handle's transaction sees it
+  [\"extend\", H, n]      the handle gets n further credits
+  [\"restart\", H, n]     the handle ends, and another one with n credits takes its name
+  [\"stop\", H]           the handle ends
+  [\"request\", H]        asks for the commit of its transaction
+  [\"turn\"]              takes one commit turn
+  [\"commit\"]            takes commit turns until one has nothing to do, or waits for a handle that has not stopped
+  [\"ckturn\"]            takes one checkpoint turn
+  [\"check\"]             takes checkpoint turns until one has nothing to do
+  [\"status\", H]         whether its transaction is committed
+  [\"wait\", H]           its receipt, where its transaction is committed
+  [\"direct\", b, hex]    home block b becomes these bytes, past the log, where the journal leaves it to home
+  [\"sync\"]              makes direct writes durable
+
+Exit status: 0 done, verdict ok; 1 refused: the words, the file, the script, or the log; 2 verdict false.
+
+Example: jbench run examples/one_write.json --stop 4 --keep 4",
+    words: &[
+        Word {
+            name: "script",
+            value: "SCRIPT",
+            is_option: false,
+            help: "The file that holds the script",
+        },
+        Word {
+            name: "stop",
+            value: "K",
+            is_option: true,
+            help: "Stop the device at write K, at least 1 [default: at the end]",
+        },
+        Word {
+            name: "fail",
+            value: "K",
+            is_option: true,
+            help: "Let call K of the device fail, at least 1: reads, writes and flushes count; not with --stop",
+        },
+        Word {
+            name: "keep",
+            value: "LIST",
+            is_option: true,
+            help: "Unflushed writes that the image keeps: numbers with commas [default: none]",
+        },
+        Word {
+            name: "stop2",
+            value: "K",
+            is_option: true,
+            help: "Stop the opening of the image at its write K, at least 1 [default: it does not stop]",
+        },
+        Word {
+            name: "keep2",
+            value: "LIST",
+            is_option: true,
+            help: "Unflushed writes that the stop of --stop2 keeps: numbers with commas [default: none]",
+        },
+        Word {
+            name: "image-log",
+            value: "PATH",
+            is_option: true,
+            help: "The file that gets the log of the image; with --image-home [default: none]",
+        },
+        Word {
+            name: "image-home",
+            value: "PATH",
+            is_option: true,
+            help: "The file that gets the home area of the image; with --image-log [default: none]",
+        },
+    ],
+};
+
+/// The command `sweep`.
+pub(crate) const SWEEP: Usage = Usage {
+    name: "sweep",
+    about: "Runs a script with a stop at each of its writes, opens all that each stop may have left, and judges it",
+    after_help: "\
+The script is one of run: jbench run --help says what that is. It is stopped at each of its writes, and of each stop each choice
+of the last four writes up to it is kept: that makes an image, which is opened and judged. The opening of each image is stopped at
+each of its own writes in the same way, and what that left is opened once more and judged by what the image had. It prints
+'sweep writes=W images=I again=A false=F': W writes of the run, I images, A openings behind a stopped one, and F openings of both
+kinds that are refused or whose verdict is false. Each of these is named on standard error, with the options that show it.
+
+With --fail the script is also run once for each of its C device calls (reads, writes and flushes behind the first opening), which
+fails and does nothing: the script goes on, and the device stops at the end. Each choice of that run's last four writes is kept,
+opened and judged. A second line is 'fail calls=C false=F'.
+
+Exit status: 0 done, all verdicts ok; 1 refused: the words, the file, or the script; 2 an F is not 0.
+
+Example: jbench sweep examples/two_blocks.json --fail",
+    words: &[
+        Word {
+            name: "script",
+            value: "SCRIPT",
+            is_option: false,
+            help: "The file that holds the script",
+        },
+        Word {
+            name: "fail",
+            value: "",
+            is_option: true,
+            help: "Let each device call of the script fail in turn, too",
+        },
+    ],
+};
+
+/// The command `check`.
+pub(crate) const CHECK: Usage = Usage {
+    name: "check",
+    about: "Says whether a script is good, and where it is not, which key or operation is bad, and why",
+    after_help: "\
+The script is one of run: jbench run --help says what that is. Nothing is run. It prints 'good operations=N', or on standard
+error 'jbench: bad script: ' with the key, or the number of the operation from 1 on and its text, and what is wrong with it.
+
+Exit status: 0 the script is good; 1 it is not, or the words or the file were refused.
+
+Example: jbench check examples/two_blocks.json",
+    words: &[Word {
+        name: "script",
+        value: "SCRIPT",
+        is_option: false,
+        help: "The file that holds the script",
+    }],
+};
+
+/// The command `format`.
+pub(crate) const FORMAT: Usage = Usage {
+    name: "format",
+    about: "Makes two files an empty log and a home area of zeros",
+    after_help: "\
+Both files are made where there are none, and lose what they held. LOG gets M blocks of B bytes: the superblock, and zeros.
+HOME gets N blocks of zeros. No file is changed before both could be opened; one that was made is taken away again where the
+other can't be opened. Linux takes logs of 1024 blocks and more alone: give --length 1024 to a log that it is to read.
+
+Exit status: 0 done; 1 refused: the words, a file, or the device.
+
+Example: jbench format log home --block 4096 --length 1024",
+    words: &[
+        Word {
+            name: "log",
+            value: "LOG",
+            is_option: false,
+            help: "The file of the log",
+        },
+        Word {
+            name: "home_file",
+            value: "HOME",
+            is_option: false,
+            help: "The file of the home area",
+        },
+        Word {
+            name: "block",
+            value: "B",
+            is_option: true,
+            help: "Bytes of a block: 1024, 2048 or 4096 [default: 1024]",
+        },
+        Word {
+            name: "length",
+            value: "M",
+            is_option: true,
+            help: "Blocks of the log, 17 to 1048576 [default: 33]",
+        },
+        Word {
+            name: "home",
+            value: "N",
+            is_option: true,
+            help: "Blocks of the home area, 1 to 1048576 [default: 64]",
+        },
+        Word {
+            name: "uuid",
+            value: "DIGITS",
+            is_option: true,
+            help: "The journal's UUID, 32 hex digits [default: aa 16 times]",
+        },
+    ],
+};
+
+/// The command `dump`.
+pub(crate) const DUMP: Usage = Usage {
+    name: "dump",
+    about: "Prints the log in a file: its superblock, and each block of its complete transactions",
+    after_help: "\
+The bytes of a block are what stands at 0x0c of LOG where that is 1024, 2048 or 4096, else 1024. Nothing is printed where the
+log is refused. LOG is not written.
+
+Exit status: 0 done; 1 refused: the words, the file, or the log.
+
+Example: jbench dump log",
+    words: &[Word {
+        name: "log",
+        value: "LOG",
+        is_option: false,
+        help: "The file of the log",
+    }],
+};
+
+/// The command `recover`.
+pub(crate) const RECOVER: Usage = Usage {
+    name: "recover",
+    about: "Opens the log in a file: brings home what its complete transactions copied, and leaves it clean",
+    after_help: "\
+The bytes of a block are what stands at 0x0c of LOG where that is 1024, 2048 or 4096, else 1024. Of each block of HOME the newest
+copy is written that no revoke covers; a clean log is opened without a write. Where the log is refused nothing is written,
+but for want of memory or a failing file: then call it again. It prints 'clean next=N', or
+'recovered end=E next=N transactions=C': N is the number of the next transaction, E the number behind the last complete
+one, C how many complete ones there were.
+
+Exit status: 0 done; 1 refused: the words, a file, or the log.
+
+Example: jbench recover log home",
+    words: &[
+        Word {
+            name: "log",
+            value: "LOG",
+            is_option: false,
+            help: "The file of the log",
+        },
+        Word {
+            name: "home_file",
+            value: "HOME",
+            is_option: false,
+            help: "The file of the home area",
+        },
+    ],
+};
+
+/// The command `apply`.
+pub(crate) const APPLY: Usage = Usage {
+    name: "apply",
+    about: "Opens the log in a file, and does the operations of a script over it and its home area",
+    after_help: "\
+The log is opened as by recover, and the line of that is printed; then the operations of the script are done, with the lines of
+run; then the journal is closed: the log is clean, home has all that was committed, and 'closed next=N' is printed, where N is
+the number of the next transaction. With --stay it is not closed: what was committed stays in the log for the next opening. Handles
+that are open at the end are stopped.
+
+The script is one of run: jbench run --help says what that is. Its keys that speak of the device have to agree with the files, where
+they stand. What one handle writes is there whole or not at all, whenever the power goes away; what a 'wait' or a 'status' line shows
+committed is there. An operation that is refused because a file failed ends the work, and so does a refusal to close; one that is
+refused for another cause is printed with that, and the work goes on.
+
+Exit status: 0 done; 1 refused: the words, a file, the script, the log, or the end of the work.
+
+Example: blocks 9 and 10 of the home area change together:
+  jbench format log home
+  jbench apply log home examples/two_blocks.json",
+    words: &[
+        Word {
+            name: "log",
+            value: "LOG",
+            is_option: false,
+            help: "The file of the log",
+        },
+        Word {
+            name: "home_file",
+            value: "HOME",
+            is_option: false,
+            help: "The file of the home area",
+        },
+        Word {
+            name: "script",
+            value: "SCRIPT",
+            is_option: false,
+            help: "The file that holds the script",
+        },
+        Word {
+            name: "stay",
+            value: "",
+            is_option: true,
+            help: "Do not close the journal: leave what was committed in the log",
+        },
+    ],
+};
+
+/// The command `bench`.
+pub(crate) const BENCH: Usage = Usage {
+    name: "bench",
+    about: "Opens the log in a file, overwrites blocks all over its home area in transactions of one handle each, and tells how many a second were durable",
+    after_help: "\
+The log is opened as by recover. Then transactions are committed one after the other, each by one handle that writes K blocks of
+HOME: of K parts of HOME of the same length a block each, at places that the generator xoshiro256++ draws from the seed 1. So what
+these blocks held is lost. Where the ring has no room for a transaction a checkpoint round comes first. The journal is closed at the
+end.
+
+It prints how many transactions and blocks were durable, in which time from the opened log to the last commit, and how many a second;
+the nanoseconds that a commit took, from its request until it was durable with the rounds that it needed: the median, what 99 of 100
+did not exceed, and the most; and how many reads, writes and flushes of one block each area got, those of the opening and of the close too. On
+a terminal it says on standard error each second how many transactions are durable.
+
+Exit status: 0 done; 1 refused: the words, a file, the log, or the device.
+
+Example: jbench bench log home --seconds 10 --copies 4",
+    words: &[
+        Word {
+            name: "log",
+            value: "LOG",
+            is_option: false,
+            help: "The file of the log",
+        },
+        Word {
+            name: "home_file",
+            value: "HOME",
+            is_option: false,
+            help: "The file of the home area",
+        },
+        Word {
+            name: "seconds",
+            value: "N",
+            is_option: true,
+            help: "Begin no transaction once so many seconds are over, 1 to 86400 [default: 10, or with --transactions no end]",
+        },
+        Word {
+            name: "transactions",
+            value: "N",
+            is_option: true,
+            help: "Commit at most so many transactions, at least 1 [default: no end]",
+        },
+        Word {
+            name: "copies",
+            value: "K",
+            is_option: true,
+            help: "Blocks of a transaction, at least 1 [default: 4]",
+        },
+    ],
+};
+
+/// The commands, as the help names them.
+pub(crate) const COMMANDS: [&Usage; 8] = [
+    &RUN, &SWEEP, &CHECK, &FORMAT, &DUMP, &RECOVER, &APPLY, &BENCH,
+];
+
+/// What the command of this name is, if there is one.
+pub(crate) fn usage_named(name: &str) -> Option<&'static Usage> {
+    for usage in COMMANDS {
+        if usage.name == name {
+            return Some(usage);
+        }
+    }
+    None
+}

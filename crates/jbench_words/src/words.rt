@@ -1,0 +1,183 @@
+//! What the program is told by the words that it is called with, and what they are answered where they tell nothing to do.
+use crate::fault::{self, Fault, Status};
+use crate::program::program;
+use crate::reading::words_of;
+use crate::wanted::fault_of;
+use clap::error::ErrorKind;
+use clap::{ArgMatches, Command, Error};
+use journal_model::JournalError;
+use journal_script::Measures;
+use std::alloc::Global;
+use std::convert::AsStr;
+use std::io;
+use std::io::Write;
+use std::time::Duration;
+
+/// What the program is told to do.
+#[derive(Debug, Drop)]
+pub enum Words<'a> {
+    /// To run a script.
+    Run(RunWords<'a>),
+    /// To sweep a script.
+    Sweep(SweepWords<'a>),
+    /// To say whether the script in this file is good.
+    Check(&'a str),
+    /// To make an empty log.
+    Format(FormatWords<'a>),
+    /// To print the log in this file.
+    Dump(&'a str),
+    /// To open the log in these files.
+    Recover(LogPaths<'a>),
+    /// To do the operations of a script over a log.
+    Apply(ApplyWords<'a>),
+    /// To tell how long transactions on a log take.
+    Bench(BenchWords<'a>),
+}
+
+/// The words of `sweep`.
+#[derive(Debug, Drop)]
+pub struct SweepWords<'a> {
+    /// The script's file.
+    pub script: &'a str,
+    /// Whether each call of the run is to fail in turn, too.
+    pub fails: bool,
+}
+
+/// How many seconds `bench` takes where it is told no end.
+const SECONDS: u64 = 10;
+
+/// The words of `bench`.
+#[derive(Clone, Copy, Debug)]
+pub struct BenchWords<'a> {
+    /// The files of the log.
+    pub paths: LogPaths<'a>,
+    /// How many seconds it takes at most, if that is told.
+    pub seconds: Option<u64>,
+    /// How many transactions it commits at most, if that is told.
+    pub transactions: Option<u64>,
+    /// How many blocks each transaction writes.
+    pub copies: u64,
+}
+
+impl BenchWords<'_> {
+    /// The most transactions that it commits.
+    pub fn most_transactions(&self) -> u64 {
+        self.transactions.unwrap_or(u64::MAX)
+    }
+
+    /// The time behind which it begins no further transaction, where it has one.
+    pub fn most_time(&self) -> Option<Duration> {
+        match (self.seconds, self.transactions) {
+            (Some(seconds), _) => Some(Duration::from_secs(seconds)),
+            (None, Some(_)) => None,
+            (None, None) => Some(Duration::from_secs(SECONDS)),
+        }
+    }
+}
+
+/// The words of `apply`.
+#[derive(Clone, Copy, Debug)]
+pub struct ApplyWords<'a> {
+    /// The files of the log.
+    pub paths: LogPaths<'a>,
+    /// The script's file.
+    pub script: &'a str,
+    /// The journal is not to be closed.
+    pub stay: bool,
+}
+
+/// The files of a log.
+#[derive(Clone, Copy, Debug)]
+pub struct LogPaths<'a> {
+    /// The file of the log.
+    pub log: &'a str,
+    /// The file of the home area.
+    pub home: &'a str,
+}
+
+/// The words of `format`.
+#[derive(Debug, Drop)]
+pub struct FormatWords<'a> {
+    /// The files that are made.
+    pub paths: LogPaths<'a>,
+    /// What is made, within its limits.
+    pub measures: Measures,
+}
+
+/// The words of `run`.
+#[derive(Debug, Drop)]
+pub struct RunWords<'a> {
+    /// The script's file.
+    pub script: &'a str,
+    /// The call of the run that fails, if one is told.
+    pub failing_call: Option<u64>,
+    /// The stop of the run.
+    pub run: StopWords,
+    /// The stop of the opening of what the run left.
+    pub opening: StopWords,
+    /// The files that get what the run left, if any do.
+    pub image: Option<LogPaths<'a>>,
+}
+
+/// Where a device is to stop.
+#[derive(Debug, Drop)]
+pub struct StopWords {
+    /// The write at which it stops, if one is told.
+    pub at_write: Option<u64>,
+    /// The unflushed writes that are kept.
+    pub keep: Vec<u64>,
+}
+
+/// What the program is told, or the fault of it.
+fn told<'a>(alloc: Global, matches: &ArgMatches<'a>) -> Result<Words<'a>, Error> {
+    match words_of(alloc, matches) {
+        Ok(words) => Ok(words),
+        Err(wanted) => Err(fault_of(alloc, matches.subcommand_name().unwrap_or(""), wanted)),
+    }
+}
+
+/// Reads the words of this program.
+fn parse_as<'a, S: AsStr>(
+    alloc: Global,
+    program: &mut Command<'a>,
+    words: &'a [S],
+) -> Result<Words<'a>, Error> {
+    match program.try_get_matches_from_mut(words) {
+        Ok(matches) => told(alloc, &matches),
+        Err(e) => Err(e),
+    }
+}
+
+/// Reads the words, the first of which is the program's own name.
+///
+/// # Errors
+///
+/// The fault of the words as `clap` words it; a request for help or for the version; memory ran out.
+pub fn parse<'a, S: AsStr>(alloc: Global, words: &'a [S]) -> Result<Words<'a>, Error> {
+    match program(alloc) {
+        Ok(mut program) => parse_as(alloc, &mut program, words),
+        Err(e) => Err(Error::from(e)),
+    }
+}
+
+/// Writes what the words are answered where they tell nothing to do: help or the version to `out`, which is no refusal, or else what
+/// is wrong with them to `err`.
+///
+/// # Errors
+///
+/// The answer can't be written.
+pub fn answer(e: &Error, out: &mut impl Write, err: &mut impl Write) -> io::Result<Status> {
+    if e.kind() == ErrorKind::OutOfMemory {
+        fault::refuse(err, "", &Fault::Refused(JournalError::Memory))
+    } else if e.use_stderr() {
+        say(err, e, Status::Refused)
+    } else {
+        say(out, e, Status::Fine)
+    }
+}
+
+/// Writes an answer, and tells how the command then ended.
+fn say(to: &mut impl Write, e: &Error, status: Status) -> io::Result<Status> {
+    write!(to, "{e}")?;
+    Ok(status)
+}

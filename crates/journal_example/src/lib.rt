@@ -1,0 +1,186 @@
+//! An example: a journal over two files, and two blocks that change together. `docs/USING.md` says what each call costs, what must
+//! be called when, and what is promised. In a program of your own the log is made once, and opened from then on.
+//!
+//! `device` makes a device of two files, and `work` does all the rest over any device: a program calls `work(rt.alloc(),
+//! device(&rt)?)`, and a test a device in memory.
+#![tactic(auto)]
+
+use anyhow::{Result, bail};
+use block_device::Device;
+use file_device::{FileDevice, UnknownContents};
+use group_commit::{Handle, Journal, Receipt, Seat, Status, Ticket};
+use journal_model::{BlockNo, JournalError, Tid};
+use recovery::Opened;
+use std::alloc::Global;
+use std::fs::{File, OpenOptions};
+
+/// Bytes of a block: 1024, 2048 or 4096. It is the device's, and the log's superblock tells it.
+const BLOCK_SIZE: usize = 1024;
+
+/// Blocks of the log, at least 17. A transaction takes at most a quarter of them.
+const LOG_BLOCKS: u32 = 33;
+
+/// Blocks of the home area, which is the volume that the journal protects.
+const HOME_BLOCKS: u64 = 64;
+
+/// What the example has done.
+#[derive(Clone, Copy, Debug)]
+pub struct Done {
+    /// The transaction of the two blocks.
+    pub tid: Tid,
+    /// The first byte of one of them.
+    pub first: u8,
+    /// How many transactions were committed and written home.
+    pub home: u64,
+}
+
+/// Changes two blocks, commits them, reads one, and closes the journal. All that needs the journal works over any device.
+///
+/// # Errors
+///
+/// The first refusal that a call gave. What was committed by then comes back at the next opening.
+pub fn work<D: Device + Drop>(alloc: Global, device: D) -> Result<Done> {
+    let (mut journal, mut seat) = new_journal(alloc, format_and_open(alloc, device)?)?;
+    let ticket = change_two_blocks(alloc, &mut journal, &mut seat)?;
+    let tid = commit(&mut journal, &mut seat, ticket)?.tid();
+    let first = read_first(alloc, &mut journal, &mut seat, BlockNo(9))?;
+    let home = close(journal)?;
+    Ok(Done { tid, first, home })
+}
+
+/// Opens a file of so many bytes, makes it where there is none, and makes its length durable: a device changes no length.
+fn file_of(rt: &HostRuntime, path: &str, bytes: u64) -> Result<File> {
+    let file = OpenOptions::new()
+        .read(true)
+        .write(true)
+        .create(true)
+        .open(rt, path)?;
+    file.set_len(bytes)?;
+    file.sync_all()?;
+    Ok(file)
+}
+
+/// A device over the files of the log and of the home area. The type parameter says what its files are supposed to hold: nothing.
+///
+/// # Errors
+///
+/// A file can't be opened, made or measured, or memory ran out.
+pub fn device(rt: &HostRuntime) -> Result<FileDevice<UnknownContents>> {
+    let log = file_of(rt, "example_log", u64::from(LOG_BLOCKS) * BLOCK_SIZE as u64)?;
+    let home = file_of(rt, "example_home", HOME_BLOCKS * BLOCK_SIZE as u64)?;
+    device_over(rt.alloc(), log, home)
+}
+
+/// The device over these files.
+fn device_over(alloc: Global, log: File, home: File) -> Result<FileDevice<UnknownContents>> {
+    Ok(FileDevice::new(alloc, UnknownContents, BLOCK_SIZE, log, Some(home))?)
+}
+
+/// Makes an empty log on a device, and opens it. Opening is where recovery happens: what complete transactions of the log copied goes
+/// home first. It writes nothing where the log is clean, or is refused for what stands in it.
+fn format_and_open<D: Device + Drop>(alloc: Global, device: D) -> Result<Opened<D>> {
+    let mut device = device;
+    recovery::format(&mut device, LOG_BLOCKS, &[0xaa; 16])?;
+    match recovery::open(alloc, device) {
+        Ok(opened) => Ok(opened),
+        Err((_, e)) => bail!("{e}"),
+    }
+}
+
+/// A journal on an opened log, and its caller's seat.
+fn new_journal<D: Device + Drop>(alloc: Global, opened: Opened<D>) -> Result<(Journal<D>, Seat)> {
+    match Journal::new(alloc, opened) {
+        Ok(made) => Ok(made),
+        Err((_, e)) => bail!("{e}"),
+    }
+}
+
+/// Joins the running transaction with this many credits: one for each block that the handle will touch first. Where the journal
+/// has fewer left, commit and try again; where the transaction takes no further handles, commit it first.
+fn start<D: Device + Drop>(
+    journal: &mut Journal<D>,
+    seat: &mut Seat,
+    credits: u64,
+) -> Result<Handle, JournalError> {
+    let credits = journal.reserve(seat, credits)?;
+    match journal.try_join(credits) {
+        Ok(handle) => Ok(handle),
+        Err((credits, e)) => {
+            journal.give_back(credits);
+            Err(e)
+        }
+    }
+}
+
+/// Changes blocks 9 and 10 through one handle: after any stop both changes are there, or neither is. Nothing is written to the
+/// device yet: both blocks lie in memory, as a part of the running transaction.
+fn change_two_blocks<D: Device + Drop>(
+    alloc: Global,
+    journal: &mut Journal<D>,
+    seat: &mut Seat,
+) -> Result<Ticket, JournalError> {
+    let mut handle = start(journal, seat, 2)?;
+    let ones = vec![in alloc; 0x11; journal.block_size()]?;
+    journal.write(&mut handle, BlockNo(9), &ones)?;
+    let twos = vec![in alloc; 0x22; journal.block_size()]?;
+    journal.write(&mut handle, BlockNo(10), &twos)?;
+    Ok(journal.stop(handle))
+}
+
+/// Asks for the commit of a ticket's transaction, and takes the commit turns that bring it: the seal, and one device call each. With
+/// the last one, a flush of the log, the transaction survives every stop. A turn may be refused `NeedSpace`, where the ring is too
+/// full: take checkpoint turns until one has released a transaction, and go on. This log is empty, so that can't be here.
+fn commit<D: Device + Drop>(
+    journal: &mut Journal<D>,
+    seat: &mut Seat,
+    ticket: Ticket,
+) -> Result<Receipt> {
+    journal.request(&ticket)?;
+    // The seal, then for two blocks: superblock, flush, descriptor, two copies, flush, commit block, flush.
+    for _ in 0..9 {
+        let _turn = journal.commit_turn()?;
+    }
+    wait(journal, seat, ticket)
+}
+
+/// The receipt for a transaction that is committed. It is what a caller who is told that its blocks are durable may rely on.
+fn wait<D: Device + Drop>(
+    journal: &mut Journal<D>,
+    seat: &mut Seat,
+    ticket: Ticket,
+) -> Result<Receipt> {
+    if let Status::Open = journal.status(&ticket, seat) {
+        bail!("not committed");
+    }
+    match journal.wait(ticket, seat) {
+        Ok(receipt) => Ok(receipt),
+        Err((_, e)) => bail!("{e}"),
+    }
+}
+
+/// The first byte of a block, as the running transaction sees it: the newest copy, which for block 9 is in memory still, and takes
+/// no device call. A read costs no credit, but needs a handle.
+fn read_first<D: Device + Drop>(
+    alloc: Global,
+    journal: &mut Journal<D>,
+    seat: &mut Seat,
+    block: BlockNo,
+) -> Result<u8, JournalError> {
+    let mut handle = start(journal, seat, 0)?;
+    let mut bytes = vec![in alloc; 0; journal.block_size()]?;
+    journal.read(&mut handle, block, &mut bytes)?;
+    let _ticket = journal.stop(handle);
+    Ok(bytes.first().copied().unwrap_or(0))
+}
+
+/// Closes the journal: what is left is committed and written home, and the log is left clean. Here that is a second transaction,
+/// which the handle of the read has joined. Without a close nothing is lost: the next opening brings home what was committed.
+fn close<D: Device + Drop>(journal: Journal<D>) -> Result<u64> {
+    if journal.has_open_handles() {
+        bail!("a handle has not stopped");
+    }
+    match journal.close() {
+        Ok(parts) => Ok(parts.committed),
+        Err((_, e)) => bail!("{e}"),
+    }
+}

@@ -1,0 +1,54 @@
+use Rattle.std.proofs.Common.{ℕ, List, ◌≡◌, ◌+◌, ◌≤◌, length, arith, ap, sym, ◌∙◌}
+use Rattle.journal_model.specs.declared.entry.Entry.{Entry}
+use Rattle.journal_model.specs.Transaction.{copied, entries, revoked}
+use Rattle.journal_front.specs.Transaction.{OpenTransaction}
+use Rattle.journal_front.proofs.Counting.{all-copies, counts-copy, counts-revoke, few-copies, none-yet, other-revokes}
+use Rattle.journal_front.proofs.transaction.Transaction.counts.Goals as goal
+
+-- at first none is counted
+pub loop-entry-init : goal.loop-entry-init
+loop-entry-init c =
+    none-yet _ _
+    (ap (λ (es : List (ℕ × Entry)). length (copied es))
+    (c.into_iter-entry-iterator.ensures.into_iter_gives ∙ c.iter-entry-items.ensures.rest ∙ c.self.invariant.entries_are)
+    ∙ ap (λ (t : OpenTransaction). length (copied (entries t.transaction.steps))) c.self.view_is)
+
+-- a copy is
+pub loop-entry-preserved-in-Copy : goal.loop-entry-preserved-in-Copy
+loop-entry-preserved-in-Copy c = counts-copy _ _ _ _ _ _ _ c.in-Some.ensures.steps c.in-Copy.is c.loop-entry.invariant
+
+-- a revoke is not
+pub loop-entry-preserved : goal.loop-entry-preserved
+loop-entry-preserved c = counts-revoke _ _ _ _ _ _ c.in-Some.ensures.steps c.in_default.is c.loop-entry.invariant
+
+-- there are no more than entries
+pub overflow_add-copies : goal.overflow_add-copies
+overflow_add-copies c =
+    let es = entries c.args.self.now.transaction.steps in
+    let few : c.loop-entry.copies + 1 ≤ length es =
+    let count = counts-copy _ _ _ _ _ _ _ c.in-Some.ensures.steps c.in-Copy.is c.loop-entry.invariant in
+    let all = few-copies es (c.loop-entry.copies + 1) _ count in omega arith in
+    let len : length es ≡ c.len-all.result =
+    ap (λ (t : OpenTransaction). length (entries t.transaction.steps)) (sym c.self.view_is) ∙ ap length (sym c.self.invariant.entries_are) ∙ sym c.len-all.ensures.len in
+    omega arith
+
+pub overflow_sub-result : goal.overflow_sub-result
+overflow_sub-result c =
+    let es = entries c.args.self.now.transaction.steps in
+    let few = few-copies es c.loop-entry.copies _ c.loop-entry.invariant in
+    let len : length es ≡ c.len-all.result =
+    ap (λ (t : OpenTransaction). length (entries t.transaction.steps)) (sym c.self.view_is) ∙ ap length (sym c.self.invariant.entries_are) ∙ sym c.len-all.ensures.len in
+    omega arith
+
+-- at the end all are counted
+pub returns-clause-copies : goal.returns-clause-copies
+returns-clause-copies c = all-copies _ _ _ c.in-None.ensures.steps.0 c.loop-entry.invariant
+
+-- and all others are revokes
+pub returns-clause-revokes : goal.returns-clause-revokes
+returns-clause-revokes c =
+    let es = entries c.args.self.now.transaction.steps in
+    let others = other-revokes es c.loop-entry.copies (all-copies _ _ _ c.in-None.ensures.steps.0 c.loop-entry.invariant) in
+    let len : length es ≡ c.len-all.result =
+    ap (λ (t : OpenTransaction). length (entries t.transaction.steps)) (sym c.self.view_is) ∙ ap length (sym c.self.invariant.entries_are) ∙ sym c.len-all.ensures.len in
+    omega arith

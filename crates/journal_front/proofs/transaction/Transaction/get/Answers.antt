@@ -1,0 +1,10 @@
+use Rattle.std.proofs.Common.{◌∙◌, ap, nat_eq}
+use Rattle.std.specs.Map.{lookup}
+use Rattle.journal_front.proofs.EntriesOfSteps.{lookup-effect}
+use Rattle.journal_front.proofs.transaction.Transaction.get.Goals as goal
+
+-- a look-up of a block finds the effect on it
+pub returns : goal.returns
+returns c =
+    rw (← c.self.view_is)
+    (c.get.ensures.value ∙ ap (lookup (nat_eq c.args.block)) c.self.invariant.entries_are ∙ lookup-effect c.self.inside.steps.items c.args.block)

@@ -1,0 +1,315 @@
+//! A transaction until its seal: its number, the handles that joined it, their steps, and the entries of these.
+ghost use Rattle.std.specs.Prelude.{◌≡◌, ◌+◌, ◌-◌, ◌<◌, ◌^◌, ◌↔◌, true, false, IsTrue, length, nat_eq, IfErr, IfOk, OnOk};
+ghost use Rattle.std.specs.Option.{option_copied, option_map_or};
+ghost use Rattle.indexmap.specs.IndexMap.{insert_entry, spare};
+ghost use Rattle.journal_model.specs.declared.refusal.JournalError.TheVariants.{Memory};
+ghost use Rattle.journal_model.specs.Transaction.{copied, effect, entries, entry_of, revoked};
+ghost use Rattle.journal_front.specs.Transaction.{LacksCredit, MayTouch, TouchRefused, Touches, batch_of, begun, cost, joined_by, locking, noting, reserving, revoke_step, touch_of, write_step};
+
+use crate::Entries;
+use indexmap::IndexMap;
+use journal_model::{
+    Batch, Block, BlockNo, Entry, HandleNo, Items, JournalError, Op, Sealed, Step, Tid,
+};
+use std::alloc::Global;
+use std::marker::Model;
+
+/// What a touch of a block, which is a write or a revoke of it, is to its transaction.
+/// Source: journalling.rst (the credits of `journal_start`).
+#[derive(Clone, Copy, Debug, PartialEq, Eq)]
+pub enum Touch {
+    /// The first touch of the block: it adds an entry, and costs the handle that makes it a credit.
+    First,
+    /// A later one: it changes the block's entry in its place, and costs nothing, whichever handle makes it.
+    Later,
+}
+
+impl Touch {
+    /// The credits that it costs: 1 or 0.
+    pub fn cost(self) -> u64
+        ensures { result ≡ cost self }
+    {
+        match self {
+            Touch::First => 1,
+            Touch::Later => 0,
+        }
+    }
+}
+
+/// A transaction that is not sealed. It is running, until it is locked.
+///
+/// A call that is refused changes nothing. Where a step has to be ready together with something else, make room first: after
+/// `reserve` one `note` takes no memory.
+#[derive(Drop)]
+pub struct Transaction {
+    alloc: Global,
+    tid: Tid,
+    /// In the order in which they joined.
+    handles: Items<HandleNo>,
+    /// In the order in which they were made.
+    steps: Vec<Step>,
+    /// What the steps leave of each block that they touch, in the order of the first touches.
+    entries: IndexMap<BlockNo, Entry>,
+    /// It takes no further handles.
+    locked: bool,
+    /// There is room for one more step and its entry.
+    reserved: bool,
+}
+
+impl Model for Transaction {
+    ghost use Rattle.journal_front.specs.Transaction.{OpenTransaction};
+
+    ghost Value = { OpenTransaction };
+
+    ghost use Rattle.journal_front.specs.TransactionView.{KeepsTransaction, transaction_of};
+
+    ghost view = { transaction_of };
+
+    ghost invariant = { KeepsTransaction };
+}
+
+/// Puts in what a step leaves of a block, if anything, where there is room for it.
+fn put_entry(entries: &mut IndexMap<BlockNo, Entry>, block: BlockNo, entry: Option<Entry>)
+    requires { 0 < spare entries.old }
+    ensures { entries.new.entries ≡ option_map_or (λ e. insert_entry nat_eq entries.old.entries block e) entry entries.old.entries }
+{
+    if let Some(entry) = entry {
+        let _old = entries.insert(block, entry);
+    }
+}
+
+impl Transaction {
+    /// A running transaction of this number, which no handle has joined. It takes no memory.
+    pub fn new(alloc: Global, tid: Tid) -> Self
+        ensures { result ≡ begun tid }
+    {
+        Transaction {
+            alloc,
+            tid,
+            handles: Items::new(alloc),
+            steps: Vec::new(alloc),
+            entries: IndexMap::new(alloc),
+            locked: false,
+            reserved: false,
+        }
+    }
+
+    /// Its number.
+    pub fn tid(&self) -> Tid
+        ensures { result ≡ self.now.transaction.tid }
+    {
+        self.tid
+    }
+
+    /// Whether a handle has joined it.
+    pub fn is_joined(&self) -> bool
+        ensures { IsTrue result ↔ (0 < length self.now.transaction.handles) }
+    {
+        self.handles.len() > 0
+    }
+
+    /// Whether it takes no further handles.
+    pub fn is_locked(&self) -> bool
+        ensures { result ≡ self.now.locked }
+    {
+        self.locked
+    }
+
+    /// How many blocks its steps touch: the credits that were paid for them.
+    pub fn len(&self) -> usize
+        ensures { result ≡ length (entries self.now.transaction.steps) }
+    {
+        self.entries.len()
+    }
+
+    /// How many of its entries are copies, and how many are revokes. It looks at each of them.
+    pub fn counts(&self) -> (usize, usize)
+        ensures copies { result.0 ≡ length (copied (entries self.now.transaction.steps)) }
+        ensures revokes { result.1 ≡ length (revoked (entries self.now.transaction.steps)) }
+    {
+        let all = self.entries.len();
+        let mut copies = 0;
+        for (_, entry) in self.entries.iter() {
+            if let Entry::Copy(_) = entry {
+                copies += 1;
+            }
+        }
+        (copies, all - copies)
+    }
+
+    /// The entry of a block: what the last write or revoke of it leaves, or nothing where no step touches it.
+    pub fn get(&self, block: BlockNo) -> Option<&Entry>
+        ensures { option_copied result ≡ effect block self.now.transaction.steps }
+    {
+        self.entries.get(&block)
+    }
+
+    /// What a touch of the block would be.
+    pub fn touch(&self, block: BlockNo) -> Touch
+        ensures { result ≡ touch_of (effect block self.now.transaction.steps) }
+    {
+        match self.get(block) {
+            None => Touch::First,
+            Some(_) => Touch::Later,
+        }
+    }
+
+    /// One more handle joins. The caller's condition: the transaction is running.
+    ///
+    /// # Errors
+    ///
+    /// `Memory`: the handle has not joined.
+    pub fn join(&mut self, handle: HandleNo) -> Result<(), JournalError>
+        requires { self.old.locked ≡ false }
+        ensures ok { OnOk result (self.new ≡ joined_by self.old handle) }
+        ensures err { IfErr result (λ e. (e ≡ Memory) × (self.new ≡ self.old)) }
+    {
+        self.handles.push(handle)?;
+        Ok(())
+    }
+
+    /// From now on it takes no further handles, where one has joined it; else nothing changes.
+    /// Source: fs/jbd2/commit.c (T_LOCKED).
+    pub fn lock(&mut self)
+        ensures joined { 0 < length self.old.transaction.handles → self.new ≡ locking self.old }
+        ensures empty { length self.old.transaction.handles ≡ 0 → self.new ≡ self.old }
+    {
+        if self.is_joined() {
+            self.locked = true;
+        }
+    }
+
+    /// Makes room for one more step, which `note` makes.
+    ///
+    /// # Errors
+    ///
+    /// `Memory`: nothing has changed.
+    pub fn reserve(&mut self) -> Result<(), JournalError>
+        ensures ok { OnOk result (self.new ≡ reserving self.old) }
+        ensures err { IfErr result (λ e. (e ≡ Memory) × (self.new ≡ self.old)) }
+    {
+        self.steps.try_reserve(1)?;
+        self.entries.reserve(1)?;
+        self.reserved = true;
+        Ok(())
+    }
+
+    /// Makes a step, for which there is room. `entry` is what it leaves of its block; a read leaves nothing. Whether a touch
+    /// is paid for is the caller's to see. It takes no memory.
+    pub fn note(&mut self, step: Step, entry: Option<Entry>)
+        requires room { self.old.reserved ≡ true }
+        requires entry { entry ≡ entry_of step.op }
+        ensures { self.new ≡ noting self.old step }
+    {
+        self.reserved = false;
+        put_entry(&mut self.entries, step.block, entry);
+        self.steps.push_reserved(step);
+    }
+
+    /// Whether a handle with so many credits left may touch the block, and what that touch is.
+    fn paid_touch(&self, left: u64, block: BlockNo) -> Result<Touch, JournalError>
+        ensures ok { IfOk result (λ touch. MayTouch self.now left block touch) }
+        ensures err { IfErr result (λ e. LacksCredit self.now left block e) }
+    {
+        let touch = self.touch(block);
+        if touch.cost() > left {
+            return Err(JournalError::NoCredit);
+        }
+        Ok(touch)
+    }
+
+    /// A handle with `left` credits writes these bytes, one block of them, to the block. It answers what the touch is, and so
+    /// what it costs the handle.
+    ///
+    /// # Errors
+    ///
+    /// Nothing has changed. `NoCredit` at a first touch by a handle without a credit left; else `Memory`.
+    /// Source: journalling.rst (`journal_get_write_access`, `journal_dirty_metadata`).
+    pub fn touch_write(
+        &mut self,
+        handle: HandleNo,
+        left: u64,
+        block: BlockNo,
+        bytes: &[u8],
+    ) -> Result<Touch, JournalError>
+        ensures ok { IfOk result (λ touch. Touches self.old left (write_step handle block bytes.now) touch self.new) }
+        ensures err { IfErr result (λ e. TouchRefused self.old left block e × (self.new ≡ self.old)) }
+    {
+        let touch = self.paid_touch(left, block)?;
+        let copy = Block::copy_of(self.alloc, bytes)?;
+        let op = Op::Write(copy.try_clone()?);
+        self.reserve()?;
+        self.note(Step { handle, block, op }, Some(Entry::Copy(copy)));
+        Ok(touch)
+    }
+
+    /// A handle with `left` credits revokes the block: no older copy of it is to be replayed. It answers what the touch is,
+    /// and so what it costs the handle. Where the block's entry is a revoke already, no entry changes.
+    ///
+    /// # Errors
+    ///
+    /// Nothing has changed. `NoCredit` at a first touch by a handle without a credit left; else `Memory`.
+    /// Source: journalling.rst (`journal_revoke`), fs/jbd2/revoke.c by behaviour.
+    pub fn touch_revoke(
+        &mut self,
+        handle: HandleNo,
+        left: u64,
+        block: BlockNo,
+    ) -> Result<Touch, JournalError>
+        ensures ok { IfOk result (λ touch. Touches self.old left (revoke_step handle block) touch self.new) }
+        ensures err { IfErr result (λ e. TouchRefused self.old left block e × (self.new ≡ self.old)) }
+    {
+        let touch = self.paid_touch(left, block)?;
+        self.reserve()?;
+        let op = Op::Revoke;
+        self.note(Step { handle, block, op }, Some(Entry::Revoke));
+        Ok(touch)
+    }
+
+    /// A copy of its entries, as the batch that is written to the log. The transaction stays as it is, so that the batch may
+    /// still be refused.
+    ///
+    /// # Errors
+    ///
+    /// `Memory`.
+    pub fn batch(&self) -> Result<Batch, JournalError>
+        ensures ok { IfOk result (λ batch. batch ≡ batch_of self.now.transaction) }
+        ensures err { IfErr result (λ e. e ≡ Memory) }
+    {
+        let mut entries = Items::new(self.alloc);
+        for (block, entry) in self.entries.iter() {
+            entries.push((*block, entry.try_clone()?))?;
+        }
+        Ok(Batch {
+            tid: self.tid,
+            entries,
+        })
+    }
+
+    /// It is sealed: it is handed out with its entries, moved and not copied, and the next one begins in its place. The
+    /// caller's conditions: it is locked, and there is a next number. It takes no memory, and can't be refused.
+    pub fn seal(&mut self) -> (Sealed, Entries)
+        requires locked { self.old.locked ≡ true }
+        requires number { self.old.transaction.tid < 2 ^ 32 - 1 }
+        ensures sealed { result.0 ≡ self.old.transaction }
+        ensures entries { result.1 ≡ entries self.old.transaction.steps }
+        ensures next { self.new ≡ begun (self.old.transaction.tid + 1) }
+    {
+        let next = Transaction::new(self.alloc, Tid(self.tid.0 + 1));
+        let Transaction {
+            alloc: _,
+            tid,
+            handles,
+            steps,
+            entries,
+            locked: _,
+            reserved: _,
+        } = std::mem::replace(self, next);
+        let sealed = Sealed {
+            tid,
+            handles,
+            steps: Items::from_vec(steps),
+        };
+        (sealed, Entries::of(entries))
+    }
+}

@@ -1,0 +1,10 @@
+-- A `&` to a history holds nothing, so it may go to another thread, whatever its items are.
+use denote.RattleType.{RattleType}
+use denote.Param.Send.{IsSync, sendable}
+use denote.Struct.Struct.{Struct}
+use denote.Struct.Owning.{shape}
+use Rattle.journal_model.specs.contracts.history.History.{the_row, the_type}
+
+pub sync : (T : RattleType) → IsSync (the_row T)
+sync T = let fields : IsSync (Struct (shape (the_type T))) = search sendable depth 20 in
+    record { shared = λ d b o ν. (fields.shared (tt, tt) b o ν, tt) }

@@ -1,0 +1,267 @@
+//! Why a text gives no script.
+use crate::order::Misplaced;
+use crate::script::HANDLE_NAMES;
+use std::alloc::{AllocError, AllocFailed};
+use std::fmt;
+
+/// Why a text gives no script.
+#[derive(Debug, Drop)]
+pub enum ScriptError {
+    /// It is no script.
+    BadScript(BadScript),
+    /// Memory ran out.
+    Memory,
+}
+
+/// What makes a text no script.
+#[derive(Debug, Drop)]
+pub enum BadScript {
+    /// It is no JSON from this line and this column on, both counted from 1.
+    NoJson(usize, usize),
+    /// It is no JSON object.
+    NoObject,
+    /// It has this key, which a script has not.
+    UnknownKey(String),
+    /// It lacks this key, or what the key has is none of its values.
+    Key(Key),
+    /// What this key has is not so on the device that is there.
+    Disagrees(Key),
+    /// It has this operation, which is none or can't stand there.
+    Operation(BadOperation),
+}
+
+/// A key of a script.
+#[derive(Clone, Copy, Debug, PartialEq, Eq)]
+pub enum Key {
+    /// `ops`, the operations.
+    Operations,
+    /// `block`, the bytes of a block.
+    Block,
+    /// `length`, the blocks of the log.
+    Length,
+    /// `home`, the blocks of the home area.
+    Home,
+    /// `uuid`, the journal's UUID.
+    Uuid,
+}
+
+/// An operation that is none, or can't stand where it stands.
+#[derive(Debug, Drop)]
+pub struct BadOperation {
+    /// Its number in the list, from 1 on.
+    pub number: usize,
+    /// How its text begins, and where that is short the whole text.
+    pub text: String,
+    /// What is wrong with it.
+    pub fault: OperationFault,
+}
+
+/// What is wrong with an operation.
+#[derive(Clone, Copy, Debug)]
+pub enum OperationFault {
+    /// It is no list that begins with a name.
+    NoName,
+    /// No operation has its name.
+    UnknownName,
+    /// The operation of its name, which this is, has another form.
+    Form(OperationName),
+    /// Its handle is no number of one.
+    Handle,
+    /// A number of credits or of a block is none.
+    Number,
+    /// Its bytes are no hex digits, two for each.
+    Digits,
+    /// Its bytes are more than those of a block.
+    TooManyBytes,
+    /// Its handle is not in the state that it needs.
+    Misplaced(Misplaced),
+}
+
+/// The name of an operation.
+#[derive(Clone, Copy, Debug, PartialEq, Eq)]
+pub enum OperationName {
+    /// `start`
+    Start,
+    /// `write`
+    Write,
+    /// `revoke`
+    Revoke,
+    /// `read`
+    Read,
+    /// `extend`
+    Extend,
+    /// `restart`
+    Restart,
+    /// `stop`
+    Stop,
+    /// `request`
+    Request,
+    /// `turn`
+    Turn,
+    /// `commit`
+    Commit,
+    /// `ckturn`
+    CheckpointTurn,
+    /// `check`
+    Check,
+    /// `status`
+    Status,
+    /// `wait`
+    Wait,
+    /// `direct`
+    WriteDirect,
+    /// `sync`
+    SyncDirect,
+}
+
+impl OperationName {
+    /// The operation that is called so.
+    pub(crate) fn called(name: &str) -> Option<OperationName> {
+        match name {
+            "start" => Some(OperationName::Start),
+            "write" => Some(OperationName::Write),
+            "revoke" => Some(OperationName::Revoke),
+            "read" => Some(OperationName::Read),
+            "extend" => Some(OperationName::Extend),
+            "restart" => Some(OperationName::Restart),
+            "stop" => Some(OperationName::Stop),
+            "request" => Some(OperationName::Request),
+            "turn" => Some(OperationName::Turn),
+            "commit" => Some(OperationName::Commit),
+            "ckturn" => Some(OperationName::CheckpointTurn),
+            "check" => Some(OperationName::Check),
+            "status" => Some(OperationName::Status),
+            "wait" => Some(OperationName::Wait),
+            "direct" => Some(OperationName::WriteDirect),
+            "sync" => Some(OperationName::SyncDirect),
+            _ => None,
+        }
+    }
+
+    /// The form of its operation.
+    fn form(self) -> &'static str {
+        match self {
+            OperationName::Start => r#"["start", H, n]"#,
+            OperationName::Write => r#"["write", H, b, hex]"#,
+            OperationName::Revoke => r#"["revoke", H, b]"#,
+            OperationName::Read => r#"["read", H, b]"#,
+            OperationName::Extend => r#"["extend", H, n]"#,
+            OperationName::Restart => r#"["restart", H, n]"#,
+            OperationName::Stop => r#"["stop", H]"#,
+            OperationName::Request => r#"["request", H]"#,
+            OperationName::Turn => r#"["turn"]"#,
+            OperationName::Commit => r#"["commit"]"#,
+            OperationName::CheckpointTurn => r#"["ckturn"]"#,
+            OperationName::Check => r#"["check"]"#,
+            OperationName::Status => r#"["status", H]"#,
+            OperationName::Wait => r#"["wait", H]"#,
+            OperationName::WriteDirect => r#"["direct", b, hex]"#,
+            OperationName::SyncDirect => r#"["sync"]"#,
+        }
+    }
+}
+
+impl Key {
+    /// The key of this name.
+    pub(crate) fn named(name: &str) -> Option<Key> {
+        match name {
+            "ops" => Some(Key::Operations),
+            "block" => Some(Key::Block),
+            "length" => Some(Key::Length),
+            "home" => Some(Key::Home),
+            "uuid" => Some(Key::Uuid),
+            _ => None,
+        }
+    }
+
+    /// Its name.
+    pub(crate) fn name(self) -> &'static str {
+        match self {
+            Key::Operations => "ops",
+            Key::Block => "block",
+            Key::Length => "length",
+            Key::Home => "home",
+            Key::Uuid => "uuid",
+        }
+    }
+
+    /// What its value has to be.
+    fn wanted(self) -> &'static str {
+        match self {
+            Key::Operations => "a list of at most 100000 operations is wanted",
+            Key::Block => "1024, 2048 or 4096 is wanted",
+            Key::Length => "a number from 17 to 1048576 is wanted",
+            Key::Home => "a number from 1 to 1048576 is wanted",
+            Key::Uuid => "32 hex digits are wanted",
+        }
+    }
+}
+
+impl From<BadScript> for ScriptError {
+    fn from(bad: BadScript) -> ScriptError {
+        ScriptError::BadScript(bad)
+    }
+}
+
+impl From<AllocError> for ScriptError {
+    ghost use Rattle.std.specs.Prelude.{◌≡◌};
+    ghost use Rattle.journal_script.specs.declared.error.ScriptError.TheVariants.{Memory};
+
+    ghost from_gives = { λ _ e. e ≡ Memory };
+
+    fn from(_e: AllocError) -> ScriptError {
+        ScriptError::Memory
+    }
+}
+
+impl<T: Drop> From<AllocFailed<T>> for ScriptError {
+    ghost use Rattle.std.specs.Prelude.{◌≡◌};
+    ghost use Rattle.journal_script.specs.declared.error.ScriptError.TheVariants.{Memory};
+
+    ghost from_gives = { λ _ e. e ≡ Memory };
+
+    fn from(_e: AllocFailed<T>) -> ScriptError {
+        ScriptError::Memory
+    }
+}
+
+/// What makes a text no script, on one line: which key or operation, and why.
+impl fmt::Display for BadScript {
+    fn fmt<W: fmt::Write>(&self, f: &mut fmt::Formatter<W>) -> fmt::Result {
+        match self {
+            BadScript::NoJson(line, column) => {
+                write!(f, "it is no JSON from line {line} column {column} on")
+            }
+            BadScript::NoObject => f.write_str("it is no JSON object"),
+            BadScript::UnknownKey(name) => write!(f, "key {name:?}: a script has no such key"),
+            BadScript::Key(key) => write!(f, "key {:?}: {}", key.name(), key.wanted()),
+            BadScript::Disagrees(key) => write!(f, "key {:?}: the device has another", key.name()),
+            BadScript::Operation(bad) => bad.fmt(f),
+        }
+    }
+}
+
+impl fmt::Display for BadOperation {
+    fn fmt<W: fmt::Write>(&self, f: &mut fmt::Formatter<W>) -> fmt::Result {
+        write!(f, "operation {} {}: {}", self.number, self.text, self.fault)
+    }
+}
+
+impl fmt::Display for OperationFault {
+    fn fmt<W: fmt::Write>(&self, f: &mut fmt::Formatter<W>) -> fmt::Result {
+        match self {
+            OperationFault::NoName => f.write_str("a list that begins with a name is wanted"),
+            OperationFault::UnknownName => f.write_str("no operation has this name"),
+            OperationFault::Form(name) => write!(f, "its form is {}", name.form()),
+            OperationFault::Handle => {
+                write!(f, "a handle is a number from 0 to {}", HANDLE_NAMES - 1)
+            }
+            OperationFault::Number => f.write_str(
+                "a number from 0 to 18446744073709551615 is wanted",
+            ),
+            OperationFault::Digits => f.write_str("bytes are hex digits, two for each"),
+            OperationFault::TooManyBytes => f.write_str("a block has fewer bytes"),
+            OperationFault::Misplaced(misplaced) => misplaced.fmt(f),
+        }
+    }
+}

@@ -1,0 +1,275 @@
+//! What a script is: its operations, and the line that each begins.
+ghost use Rattle.std.specs.Prelude.{ℕ, ◌≡◌, [], ◌⊎◌, ◌<◌, ◌↔◌, Contains, IfOk, IfSome, IsSome, IsTrue, OnOk, Some};
+
+use crate::measures::Measures;
+use journal_model::BlockNo;
+use std::alloc::{AllocError, Global};
+use std::collections::BTreeSet;
+use std::fmt;
+use std::marker::Model;
+
+/// The most operations of a script.
+pub const MOST_OPERATIONS: usize = 100_000;
+
+/// How many names of handles there are.
+pub const HANDLE_NAMES: u16 = 10_000;
+
+/// A script's own name of a handle, 0 to 9999.
+#[derive(Clone, Copy, Debug)]
+pub struct HandleName(u16);
+
+impl Model for HandleName {
+    ghost Value = { ℕ };
+
+    ghost view = { λ h. h.0 };
+
+    ghost inverse = { λ n. record { 0 = n } };
+}
+
+/// One operation of a script.
+#[derive(Debug, Drop)]
+pub enum Operation {
+    /// Starts a handle with this many credits.
+    Start(HandleName, u64),
+    /// Writes a home block: these bytes, and zeros behind them.
+    Write(HandleName, BlockNo, Vec<u8>),
+    /// Revokes a home block: no copy of it so far is to come back.
+    Revoke(HandleName, BlockNo),
+    /// Reads a home block, as its handle's transaction sees it.
+    Read(HandleName, BlockNo),
+    /// Gives a handle this many further credits.
+    Extend(HandleName, u64),
+    /// Stops a handle, and starts another one with this many credits in its place.
+    Restart(HandleName, u64),
+    /// Stops a handle.
+    Stop(HandleName),
+    /// Asks for the commit of a stopped handle's transaction.
+    Request(HandleName),
+    /// Takes one commit turn.
+    Turn,
+    /// Takes commit turns until nothing is left to do.
+    Commit,
+    /// Takes one checkpoint turn.
+    CheckpointTurn,
+    /// Takes checkpoint turns until every committed transaction is released.
+    Check,
+    /// Asks whether a stopped handle's transaction is committed.
+    Status(HandleName),
+    /// Takes a stopped handle's receipt, where its transaction is committed.
+    Wait(HandleName),
+    /// Writes a home block directly, past the log: these bytes, and zeros behind them.
+    WriteDirect(BlockNo, Vec<u8>),
+    /// Makes direct writes durable.
+    SyncDirect,
+}
+
+/// The blocks that a script names, whether its operations will run or not.
+#[derive(Debug, Drop)]
+pub struct NamedBlocks {
+    /// The home blocks that any of its operations names.
+    pub blocks: BTreeSet<u64>,
+    /// The blocks that one of its direct writes names, those that home does not have among them.
+    pub directs: BTreeSet<u64>,
+}
+
+/// A script whose operations all have a right form, and name handles in the right state.
+#[derive(Drop)]
+pub struct Script {
+    /// The measures of its device.
+    pub measures: Measures,
+    /// Its operations, in order.
+    pub operations: Vec<Operation>,
+}
+
+impl HandleName {
+    /// The name with this number, if there is one.
+    pub fn new(number: u64) -> Option<HandleName>
+        ensures name { IfSome result (λ name. name ≡ number) }
+        ensures found { IsSome result ↔ (number < 10_000) }
+    {
+        match u16::try_from(number) {
+            Ok(small) if small < HANDLE_NAMES => Some(HandleName(small)),
+            _ => None,
+        }
+    }
+
+    /// Its number, below `HANDLE_NAMES`.
+    pub fn index(self) -> usize
+        ensures { result ≡ self }
+    {
+        usize::from(self.0)
+    }
+}
+
+impl Operation {
+    ghost use Rattle.std.specs.BTreeSet.{keys};
+    ghost use Rattle.journal_script.specs.Named.{block_in, direct_in};
+
+    /// The handle that it names.
+    pub fn handle(&self) -> Option<HandleName> {
+        match self {
+            Operation::Start(handle, _)
+            | Operation::Write(handle, _, _)
+            | Operation::Revoke(handle, _)
+            | Operation::Read(handle, _)
+            | Operation::Extend(handle, _)
+            | Operation::Restart(handle, _)
+            | Operation::Stop(handle)
+            | Operation::Request(handle)
+            | Operation::Status(handle)
+            | Operation::Wait(handle) => Some(*handle),
+            Operation::Turn
+            | Operation::Commit
+            | Operation::CheckpointTurn
+            | Operation::Check
+            | Operation::WriteDirect(..)
+            | Operation::SyncDirect => None,
+        }
+    }
+
+    /// The home block that it names.
+    pub fn block(&self) -> Option<BlockNo>
+        ensures { result ≡ block_in self.now }
+    {
+        match self {
+            Operation::Write(_, block, _)
+            | Operation::Revoke(_, block)
+            | Operation::Read(_, block)
+            | Operation::WriteDirect(block, _) => Some(*block),
+            _ => None,
+        }
+    }
+
+    /// The block that it writes directly.
+    fn direct_block(&self) -> Option<BlockNo>
+        ensures { result ≡ direct_in self.now }
+    {
+        match self {
+            Operation::WriteDirect(block, _) => Some(*block),
+            _ => None,
+        }
+    }
+
+    /// Notes the block of home that it names, where there is one.
+    fn note_block(&self, home_blocks: u64, named: &mut BTreeSet<u64>) -> Result<(), AllocError>
+        ensures keeps { OnOk result ((b : ℕ) → Contains (keys named.old) b → Contains (keys named.new) b) }
+        ensures notes { OnOk result ((b : ℕ) → block_in self.now ≡ Some b → b < home_blocks → Contains (keys named.new) b) }
+    {
+        match self.block() {
+            Some(BlockNo(block)) if block < home_blocks => {
+                named.insert(block)?;
+                Ok(())
+            }
+            _ => Ok(()),
+        }
+    }
+
+    /// Notes the block that it writes directly, where it is such a write.
+    fn note_direct(&self, directs: &mut BTreeSet<u64>) -> Result<(), AllocError>
+        ensures keeps { OnOk result ((b : ℕ) → Contains (keys directs.old) b → Contains (keys directs.new) b) }
+        ensures notes { OnOk result ((b : ℕ) → direct_in self.now ≡ Some b → Contains (keys directs.new) b) }
+        ensures no_others { OnOk result ((b : ℕ) → Contains (keys directs.new) b → Contains (keys directs.old) b ⊎ (direct_in self.now ≡ Some b)) }
+    {
+        match self.direct_block() {
+            Some(BlockNo(block)) => {
+                directs.insert(block)?;
+                Ok(())
+            }
+            None => Ok(()),
+        }
+    }
+
+    /// The word that its line begins with.
+    fn word(&self) -> &'static str {
+        match self {
+            Operation::Start(..) => "start",
+            Operation::Write(..) => "write",
+            Operation::Revoke(..) => "revoke",
+            Operation::Read(..) => "read",
+            Operation::Extend(..) => "extend",
+            Operation::Restart(..) => "restart",
+            Operation::Stop(_) => "stop",
+            Operation::Request(_) => "request",
+            Operation::Turn => "turn",
+            Operation::Commit => "commit",
+            Operation::CheckpointTurn => "ckturn",
+            Operation::Check => "check",
+            Operation::Status(_) => "status",
+            Operation::Wait(_) => "wait",
+            Operation::WriteDirect(..) => "direct",
+            Operation::SyncDirect => "sync",
+        }
+    }
+
+    /// The number in its line, of credits or of a block.
+    fn number(&self) -> Option<u64> {
+        match self {
+            Operation::Start(_, credits)
+            | Operation::Extend(_, credits)
+            | Operation::Restart(_, credits) => Some(*credits),
+            _ => match self.block() {
+                Some(block) => Some(block.0),
+                None => None,
+            },
+        }
+    }
+}
+
+impl Script {
+    ghost use Rattle.journal_script.specs.Named.{AreNamedBy};
+
+    /// The blocks that its operations name, whether these will run or not.
+    pub fn named_blocks(&self, alloc: Global) -> Result<NamedBlocks, AllocError>
+        ensures { IfOk result (AreNamedBy self.now) }
+    {
+        let mut blocks = BTreeSet::new(alloc);
+        let mut directs = BTreeSet::new(alloc);
+        for operation in &self.operations {
+            operation.note_block(self.measures.home_blocks, &mut blocks)?;
+            operation.note_direct(&mut directs)?;
+        }
+        Ok(NamedBlocks { blocks, directs })
+    }
+}
+
+impl NamedBlocks {
+    ghost use Rattle.std.specs.BTreeSet.{keys};
+
+    /// No blocks.
+    pub fn none(alloc: Global) -> Self
+        ensures blocks { keys result.blocks ≡ [] }
+        ensures directs { keys result.directs ≡ [] }
+    {
+        NamedBlocks {
+            blocks: BTreeSet::new(alloc),
+            directs: BTreeSet::new(alloc),
+        }
+    }
+
+    /// Whether a direct write names the block.
+    pub fn is_direct(&self, block: u64) -> bool
+        ensures { IsTrue result ↔ Contains (keys self.now.directs) block }
+    {
+        self.directs.contains(&block)
+    }
+}
+
+impl fmt::Display for HandleName {
+    fn fmt<W: fmt::Write>(&self, f: &mut fmt::Formatter<W>) -> fmt::Result {
+        write!(f, "{}", self.0)
+    }
+}
+
+/// The left side of an operation's line.
+impl fmt::Display for Operation {
+    fn fmt<W: fmt::Write>(&self, f: &mut fmt::Formatter<W>) -> fmt::Result {
+        f.write_str(self.word())?;
+        if let Some(handle) = self.handle() {
+            write!(f, " {handle}")?;
+        }
+        if let Some(number) = self.number() {
+            write!(f, " {number}")?;
+        }
+        Ok(())
+    }
+}

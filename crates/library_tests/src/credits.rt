@@ -1,0 +1,152 @@
+//! Reserves and loads of one thread and of two, with answers worked out by hand.
+ghost use Rattle.std.specs.Prelude.{◌≡◌};
+
+use handle::{
+    CommitMark, CreditPool, Handle, JournalName, LaidBoard, Raiser, Seat, Status, Ticket, board,
+};
+use journal_model::{HandleNo, Tid};
+use std::marker::Brand;
+use std::process::Abort;
+use std::sync::atomic::{AtomicU64, Ordering};
+use std::test::Fail;
+use std::thread::{Threads, join};
+
+/// The number of the refusal where n credits are refused, else 0: then they are given back.
+fn refusal<J: JournalName>(pool: &CreditPool<J>, seat: &mut Seat<J>, n: u64) -> u8 {
+    match pool.reserve(seat, n) {
+        Ok(credits) => {
+            credits.give_back(pool);
+            0
+        }
+        Err(e) => e.number(),
+    }
+}
+
+/// Credits of a pool of 6 are reserved, joined, split and given back.
+fn credits<J: JournalName, R: Abort>(rt: &R, pool: &CreditPool<J>, seat: &mut Seat<J>) {
+    assert_eq!(rt; (pool.capacity(), refusal(pool, seat, 7)), (6, 6));
+    let Ok(mut first) = pool.reserve(seat, 3) else {
+        panic!(rt; "3 of 6 credits are refused")
+    };
+    let Ok(second) = pool.reserve(seat, 3) else {
+        panic!(rt; "3 of 3 credits are refused")
+    };
+    assert_eq!(rt;
+        (
+            refusal(pool, seat, 1),
+            refusal(pool, seat, 0),
+            pool.word(seat)
+        ),
+        (5, 0, 6)
+    );
+    first.join(pool, second);
+    let third = first.split(pool, 2);
+    assert_eq!(rt; (first.count(), third.count()), (4, 2));
+    third.give_back(pool);
+    assert_eq!(rt; (pool.word(seat), refusal(pool, seat, 2)), (4, 0));
+    first.give_back(pool);
+    assert_eq!(rt; pool.word(seat), 0);
+}
+
+/// A handle of transaction 2 stops, and asks whether it is committed, where the mark is 1 at first. Its credits lie in one value
+/// with that of its entry.
+fn answers<J: JournalName, R: Abort>(
+    rt: &R,
+    pool: &CreditPool<J>,
+    mark: &CommitMark<J>,
+    raiser: &mut Raiser<J>,
+    seat: &mut Seat<J>,
+) {
+    let Ok(credits) = pool.reserve(seat, 2) else {
+        panic!(rt; "2 of 6 credits are refused")
+    };
+    let mut held = pool.none(seat);
+    held.join(pool, credits);
+    let ticket = mark.ticket(raiser, HandleNo(1), Tid(2));
+    let handle = Handle::new(pool, raiser, ticket);
+    assert_eq!(rt; (handle.number().0, handle.tid().0), (1, 2));
+    assert_eq!(rt; (held.count(), pool.word(seat)), (2, 2));
+    held.split(pool, 1).give_back(pool);
+    let ticket = handle.end(raiser);
+    assert_eq!(rt; (held.count(), pool.word(seat)), (1, 1));
+    held.give_back(pool);
+    assert_eq!(rt; (pool.word(seat), mark.seen(seat).0), (0, 1));
+    asks(rt, mark, raiser, seat, ticket);
+}
+
+/// A ticket of transaction 2 asks before and after the mark comes to it.
+fn asks<J: JournalName, R: Abort>(
+    rt: &R,
+    mark: &CommitMark<J>,
+    raiser: &mut Raiser<J>,
+    seat: &mut Seat<J>,
+    ticket: Ticket<J>,
+) {
+    assert!(rt; mark.status(&ticket, seat) == Status::Open);
+    let Err(ticket) = ticket.reach(mark) else {
+        panic!(rt; "a receipt is given too early")
+    };
+    mark.raise(raiser, Tid(2));
+    mark.raise(raiser, Tid(1));
+    assert_eq!(rt; mark.seen(seat).0, 2);
+    assert!(rt; mark.status(&ticket, seat) == Status::Committed);
+    mark.compare(raiser, seat);
+    let Ok(mut receipt) = ticket.reach(mark) else {
+        panic!(rt; "no receipt is given")
+    };
+    mark.confirm(raiser, &mut receipt);
+    assert_eq!(rt; (receipt.handle().0, receipt.tid().0), (1, 2));
+}
+
+/// How often each thread reserves.
+const ROUNDS: u64 = 1_000_000;
+
+/// Reserves 4 of 6 credits over and over, and counts in `held` what is granted: never more than 4 at once. It answers
+/// whether that was so.
+fn hammer<J: JournalName>(pool: &CreditPool<J>, mut seat: Seat<J>, held: &AtomicU64) -> bool {
+    let mut within = true;
+    for _ in 0..ROUNDS {
+        if let Ok(credits) = pool.reserve(&mut seat, 4) {
+            within = held.fetch_add(4, Ordering::SeqCst) == 0 && within;
+            held.fetch_sub(4, Ordering::SeqCst);
+            credits.give_back(pool);
+        }
+    }
+    within
+}
+
+/// Two threads reserve and give back at once; then the word is what it was.
+fn two_at_once<J: JournalName + Send + Sync, R: Threads + Abort + Sync>(
+    rt: &R,
+    pool: &CreditPool<J>,
+    seat: &mut Seat<J>,
+) {
+    let (Some(first), Some(second)) = (seat.split(pool), seat.split(pool)) else {
+        panic!(rt; "there is no further seat")
+    };
+    let held = AtomicU64::new(0);
+    let (one, other) = join(
+        rt,
+        || -> bool { hammer(pool, first, &held) },
+        || -> bool { hammer(pool, second, &held) },
+    );
+    assert!(rt; one && other);
+    assert_eq!(rt; (pool.word(seat), refusal(pool, seat, 6)), (0, 0));
+}
+
+/// All of it on one board of 6 credits.
+fn on_board<J: JournalName + Send + Sync, R: Threads + Abort + Sync>(rt: &R, laid: LaidBoard)
+    requires { (laid.board ≡ J.board) × (laid.capacity ≡ J.capacity) }
+{
+    let (pool, mark, mut raiser, mut seat) = laid.named::<J>();
+    credits(rt, &pool, &mut seat);
+    answers(rt, &pool, &mark, &mut raiser, &mut seat);
+    two_at_once(rt, &pool, &mut seat);
+}
+
+#[test]
+fn credits_and_mark_are_kept(rt: HostRuntime) -> Result<(), Fail> {
+    let laid = board(rt.alloc(), 6, Tid(1))?;
+    on_board::<Brand, _>(&rt, laid);
+    Ok(())
+}

@@ -1,0 +1,23 @@
+//! Tests that no row can stand for: of devices and commands over real files, of tables and transactions, of threads, and of the
+//! example. There is nothing here but tests, and all call public functions alone: so no other library is proved a second time for
+//! them.
+#![tactic(auto)]
+
+#[cfg(test)]
+mod bytes;
+#[cfg(test)]
+mod commands;
+#[cfg(test)]
+mod credits;
+#[cfg(test)]
+mod example;
+#[cfg(test)]
+mod files;
+#[cfg(test)]
+mod gathered;
+#[cfg(test)]
+mod tables;
+#[cfg(test)]
+mod threads;
+#[cfg(test)]
+mod touches;

@@ -1,0 +1,169 @@
+//! Two threads that share one journal over a device in memory.
+ghost use Rattle.std.specs.Prelude.{◌≡◌};
+
+use block_device::MemDevice;
+use group_commit::Turn;
+use handle::{JournalName, Seat, Status, Ticket};
+use journal_model::{BlockNo, Tid};
+use shared_journal::{Journal, LaidJournal, Tally, lay};
+use std::marker::Brand;
+use std::process::Abort;
+use std::sync::Wait;
+use std::sync::atomic::{AtomicU64, Ordering};
+use std::test::Fail;
+use std::thread::{Threads, join};
+
+/// How often each thread reserves.
+const ROUNDS: u64 = 1_000_000;
+
+/// How many handles each thread has, one behind the other.
+const HANDLES: u64 = 20;
+
+/// Reserves all credits but one over and over, and counts in `held` what is granted: never those of two at once. It answers whether
+/// that was so.
+fn hammer<J: JournalName>(
+    journal: &Journal<J, MemDevice>,
+    mut seat: Seat<J>,
+    most: u64,
+    held: &AtomicU64,
+) -> bool {
+    let mut within = true;
+    for _ in 0..ROUNDS {
+        if let Ok(credits) = journal.reserve(&mut seat, most) {
+            within = held.fetch_add(1, Ordering::SeqCst) == 0 && within;
+            held.fetch_sub(1, Ordering::SeqCst);
+            journal.give_back(credits);
+        }
+    }
+    within
+}
+
+/// Writes so many blocks from `first` on, each through a handle of its own. It answers the last handle's ticket.
+fn write_all<J: JournalName, R: Wait>(
+    rt: &R,
+    journal: &Journal<J, MemDevice>,
+    mut seat: Seat<J>,
+    first: u64,
+) -> Option<Ticket<J>> {
+    if journal.block_size() != 1024 {
+        return None;
+    }
+    let bytes = [7; 1024];
+    let mut last = None;
+    for block in first..first.saturating_add(HANDLES) {
+        match journal.try_start(rt, &mut seat, 1) {
+            Ok(handle) => {
+                let mut handle = handle;
+                let wrote = journal.write(rt, &mut handle, BlockNo(block), &bytes);
+                let left = handle.left();
+                last = Some(journal.stop(rt, handle));
+                if wrote.is_err() || left != 0 {
+                    return None;
+                }
+            }
+            Err(_) => return None,
+        }
+    }
+    last
+}
+
+/// Takes commit turns until the transaction is committed. It answers whether it is.
+fn commit<J: JournalName, R: Wait>(rt: &R, journal: &Journal<J, MemDevice>, tid: Tid) -> bool {
+    if journal.request(rt, tid).is_err() {
+        return false;
+    }
+    for _ in 0..1000 {
+        match journal.commit_turn(rt) {
+            Ok(Turn::Committed(_)) => return true,
+            Ok(_) => {}
+            Err(_) => return false,
+        }
+    }
+    false
+}
+
+/// The last credits that a journal can grant to one seat: all, where nobody holds any.
+fn all_are_left<J: JournalName>(
+    journal: &Journal<J, MemDevice>,
+    seat: &mut Seat<J>,
+    all: u64,
+) -> bool {
+    match journal.reserve(seat, all) {
+        Ok(credits) => {
+            journal.give_back(credits);
+            true
+        }
+        Err(_) => false,
+    }
+}
+
+/// Two threads reserve and give back at once, then two write at once; all of it is committed in one transaction, and the credits
+/// are back.
+fn shared<J: JournalName + Send + Sync, R: Threads + Wait + Abort + Sync>(
+    rt: &R,
+    laid: LaidJournal<MemDevice>,
+)
+    requires board { laid.board ≡ J.board }
+    requires capacity { laid.capacity ≡ J.capacity }
+    requires block_size { laid.block_size ≡ J.block_size }
+{
+    let (journal, mut seat) = laid.named::<J>();
+    // a quarter of the 1,023 blocks of the ring has room for so many copies, three descriptors and a commit block
+    let all = journal.capacity();
+    assert_eq!(rt; all, 251);
+    let (Some(one), Some(two), Some(three), Some(four)) = (
+        journal.split_seat(&mut seat),
+        journal.split_seat(&mut seat),
+        journal.split_seat(&mut seat),
+        journal.split_seat(&mut seat),
+    ) else {
+        panic!(rt; "there is no further seat")
+    };
+    let held = AtomicU64::new(0);
+    let (first, second) = join(
+        rt,
+        || -> bool { hammer(&journal, one, all - 1, &held) },
+        || -> bool { hammer(&journal, two, all - 1, &held) },
+    );
+    assert!(rt; first && second && all_are_left(&journal, &mut seat, all));
+    let (first, second) = join(
+        rt,
+        || -> Option<Ticket<J>> { write_all(rt, &journal, three, 0) },
+        || -> Option<Ticket<J>> { write_all(rt, &journal, four, 100) },
+    );
+    let (Some(first), Some(second)) = (first, second) else {
+        panic!(rt; "a handle is refused")
+    };
+    assert!(rt; journal.status(&first, &mut seat) == Status::Open);
+    assert_eq!(rt;
+        journal.tally(rt, &mut seat),
+        Tally {
+            word: 2 * HANDLES,
+            entries: 2 * HANDLES
+        }
+    );
+    assert!(rt; !all_are_left(&journal, &mut seat, all - 2 * HANDLES + 1));
+    assert!(rt; all_are_left(&journal, &mut seat, all - 2 * HANDLES));
+    assert!(rt; commit(rt, &journal, first.tid()));
+    assert!(rt; all_are_left(&journal, &mut seat, all));
+    assert!(rt; journal.status(&second, &mut seat) == Status::Committed);
+    assert!(rt; journal.reach(first).is_ok() && journal.reach(second).is_ok());
+    let Ok(parts) = journal.close() else {
+        panic!(rt; "the close is refused")
+    };
+    assert_eq!(rt; parts.committed, 1);
+}
+
+#[test]
+fn two_threads_share_a_journal(rt: HostRuntime) -> Result<(), Fail> {
+    let mut device = MemDevice::new(rt.alloc(), 1024, 1024, 4096);
+    recovery::format(&mut device, 1024, &[7; 16])?;
+    let Ok(opened) = recovery::open(rt.alloc(), device) else {
+        panic!(rt; "the log is refused")
+    };
+    let Ok(laid) = lay(rt.alloc(), opened) else {
+        panic!(rt; "the journal is refused")
+    };
+    shared::<Brand, _>(&rt, laid);
+    Ok(())
+}

@@ -1,8 +1,0 @@
-use Rattle.revoke_table.proofs.Placing.{home-newest, home-none}
-use Rattle.revoke_table.proofs.laws.what_goes_home_is_the_newest_live_copy.Goals as goal
-
-pub returns-clause-newest : goal.returns-clause-newest
-returns-clause-newest c = home-newest
-
-pub returns-clause-none : goal.returns-clause-none
-returns-clause-none c = home-none

@@ -1,2 +1,0 @@
-pub mod Revokes
-pub mod Copies

@@ -1,0 +1,78 @@
+-- What is left of a journal at its end.
+use Rattle.std.proofs.Common.{sym, subst, ◌∙◌}
+use Rattle.std.specs.Prelude.{◌≡◌, ℕ, ◌++◌, List, Option, None}
+use Rattle.journal_model.specs.Disk.{Disk, Image, Leaves, Shape}
+use Rattle.journal_model.specs.Transaction.{History}
+use Rattle.block_device.specs.State.{DeviceState}
+use Rattle.journal_world.specs.Journal.{Journal}
+use Rattle.log_epochs.specs.EngineWorld.{Phase}
+use Rattle.log_epochs.specs.EngineWorld.Phase.{Closed, Running, Shut}
+use Rattle.log_epochs.specs.JournalPromise.{IsClosed}
+use Rattle.log_epochs.specs.JournalWorld.{JournalWorld, Leads}
+use Rattle.log_epochs.proofs.Leading.{leads-behind}
+use Rattle.group_commit.specs.Close.{CloseDid, EndsWith}
+use Rattle.group_commit.specs.Close.CloseDid.{ClosesLog, StaysClean}
+use Rattle.journal_script.specs.declared.script.Operation.{Operation}
+use Rattle.script_client.specs.Ended.{IsEnded, IsLeftClosed, world_in}
+use Rattle.script_client.specs.Told.{HasLedTo, IsLedTo, running_world}
+
+-- a journal that still runs
+pub led-ended : (Fact : Shape → Disk → Type 0) (operations : List Operation) (j : Journal) (state : DeviceState) (sealed : History) (shown : Option ℕ) → HasLedTo Fact operations j state shown
+    → sealed ≡ j.front.sealed → IsEnded Fact operations state sealed shown
+led-ended Fact operations j state sealed shown led is = record {
+  opening = led.opening;
+  fact = led.fact;
+  start = led.start;
+  begins = led.begins;
+  moves = led.moves;
+  journal = j;
+  phase = Running;
+  directs = led.directs;
+  written = led.written;
+  answered = led.answered;
+  leads = led.leads;
+  greatest = led.greatest;
+  sealed_is = is;
+}
+
+pub to-ended : (Fact : Shape → Disk → Type 0) (operations : List Operation) (state : DeviceState) (sealed : History) (shown : Option ℕ) → IsLedTo Fact operations state sealed shown → IsEnded Fact operations state sealed shown
+to-ended Fact operations state sealed shown to = led-ended Fact operations to.journal state sealed shown to.led to.sealed_is
+
+-- one that was ended by moves of its own
+pub ends-ended : (Fact : Shape → Disk → Type 0) (operations : List Operation) (old : Journal) (before after : DeviceState) (sealed : History) (committed : ℕ) (shown : Option ℕ) (phase : Phase)
+    → HasLedTo Fact operations old before shown → EndsWith old before.disk sealed committed after.disk phase → after.shape ≡ before.shape → IsEnded Fact operations after sealed shown
+ends-ended Fact operations old before after sealed committed shown phase led ends shape =
+    let world : JournalWorld = running_world led.opening old before led.directs led.answered in
+    let end : Shape → JournalWorld =
+    λ s. world_in phase led.opening ends.last (record { shape = s; disk = after.disk; past = after.past; faults = after.faults; calls = after.calls }) led.directs led.answered in
+    let on : Leads world ends.comes.moves (end before.shape) = ends.comes.leads world (record { opening = led.opening; engine = old.engine; directs = led.directs; pin = None }) in
+    record {
+      opening = led.opening;
+      fact = subst (λ (s : Shape). Fact s led.opening) (sym shape) led.fact;
+      start = led.start;
+      begins = led.begins;
+      moves = led.moves ++ ends.comes.moves;
+      journal = ends.last;
+      phase = phase;
+      directs = led.directs;
+      written = led.written;
+      answered = led.answered;
+      leads =
+          leads-behind led.start world (end after.shape) led.moves ends.comes.moves led.leads
+          (subst (λ (s : Shape). Leads world ends.comes.moves (end s)) (sym shape) on);
+      greatest = led.greatest;
+      sealed_is = ends.sealed_is;
+    }
+
+-- one that was closed
+pub close-ended : (Fact : Shape → Disk → Type 0) (operations : List Operation) (old : Journal) (before after : DeviceState) (sealed : History) (committed : ℕ) (shown : Option ℕ)
+    → HasLedTo Fact operations old before shown → CloseDid old before.disk sealed committed after.disk → after.shape ≡ before.shape → IsEnded Fact operations after sealed shown
+close-ended Fact operations old before after sealed committed shown led (ClosesLog ends) shape = ends-ended Fact operations old before after sealed committed shown Closed led ends shape
+close-ended Fact operations old before after sealed committed shown led (StaysClean none ends) shape = ends-ended Fact operations old before after sealed committed shown Shut led ends shape
+
+-- its log is clean, by the measures of its device
+pub left-closed : (Fact : Shape → Disk → Type 0) (operations : List Operation) (old : Journal) (before after : DeviceState) (sealed : History) (shown : Option ℕ) → HasLedTo Fact operations old before shown
+    → ((image : Image) → Leaves after.disk image → IsClosed old.engine.shape sealed image) → after.shape ≡ before.shape → IsLeftClosed after sealed
+left-closed Fact operations old before after sealed shown led closed shape = record {
+  each = λ image leaves. subst (λ (s : Shape). IsClosed s sealed image) (led.measures ∙ sym shape) (closed image leaves);
+}

@@ -1,0 +1,43 @@
+use Rattle.std.proofs.Common.{sym, subst}
+use Rattle.log_epochs.specs.EngineWorld.Phase.{Shut}
+use Rattle.script_client.specs.Ended.{IsEnded}
+use Rattle.script_client.specs.Told.{ClientValue}
+use Rattle.script_client.proofs.Closing.{close-ended, ends-ended, led-ended, left-closed}
+use Rattle.script_client.proofs.client.Client.close.Goals as goal
+
+-- a handle is open: nothing was done
+pub returns-then-has_open_handles-clause-ended : goal.returns-then-has_open_handles-clause-ended
+returns-then-has_open_handles-clause-ended g c = λ honest.
+    let device = c.into_parts.ensures.device in
+    let old = c.self.inside.journal in
+    let parts = c.into_parts.result in
+    let led = c.self.invariant (subst g.D.Device.honest device honest) in
+    subst (λ (v : ClientValue _). IsEnded g.H.HomeFact.holds v.operations (g.D.Device.state parts.device) parts.sealed.items c.self.inside.acknowledged) c.self.view_is
+    (subst (λ (d : _). IsEnded g.H.HomeFact.holds c.self.inside.operations.now (g.D.Device.state d) parts.sealed.items c.self.inside.acknowledged) (sym device)
+    (led-ended g.H.HomeFact.holds c.self.inside.operations.now old.journal (g.D.Device.state old.device) parts.sealed.items c.self.inside.acknowledged led c.into_parts.ensures.sealed))
+
+-- the moves of the close follow on those before
+pub returns-in-Ok-clause-ended : goal.returns-in-Ok-clause-ended
+returns-in-Ok-clause-ended g c = λ honest.
+    let old = c.self.inside.journal in
+    let parts = c.in-Ok.parts in
+    subst (λ (v : ClientValue _). IsEnded g.H.HomeFact.holds v.operations (g.D.Device.state parts.device) parts.sealed.items c.self.inside.acknowledged) c.self.view_is
+    (close-ended g.H.HomeFact.holds c.self.inside.operations.now old.journal (g.D.Device.state old.device) (g.D.Device.state parts.device) parts.sealed.items parts.committed c.self.inside.acknowledged
+    (c.self.invariant (c.in-Ok.ensures.honest honest)) c.in-Ok.ensures.moves c.in-Ok.ensures.shape)
+
+-- the log is clean
+pub returns-in-Ok-clause-closed : goal.returns-in-Ok-clause-closed
+returns-in-Ok-clause-closed g c = λ honest.
+    let old = c.self.inside.journal in
+    let parts = c.in-Ok.parts in
+    left-closed g.H.HomeFact.holds c.self.inside.operations.now old.journal (g.D.Device.state old.device) (g.D.Device.state parts.device) parts.sealed.items c.self.inside.acknowledged
+    (c.self.invariant (c.in-Ok.ensures.honest honest)) (c.in-Ok.ensures.closed honest) c.in-Ok.ensures.shape
+
+-- so do those of a close that is refused
+pub returns-in-Err-clause-ended : goal.returns-in-Err-clause-ended
+returns-in-Err-clause-ended g c = λ honest.
+    let old = c.self.inside.journal in
+    let parts = c.in-Err.parts in
+    subst (λ (v : ClientValue _). IsEnded g.H.HomeFact.holds v.operations (g.D.Device.state parts.device) parts.sealed.items c.self.inside.acknowledged) c.self.view_is
+    (ends-ended g.H.HomeFact.holds c.self.inside.operations.now old.journal (g.D.Device.state old.device) (g.D.Device.state parts.device) parts.sealed.items parts.committed c.self.inside.acknowledged Shut
+    (c.self.invariant (c.in-Err.ensures.honest honest)) c.in-Err.ensures.moves c.in-Err.ensures.shape)

@@ -1,0 +1,11 @@
+use Rattle.std.proofs.Common.{subst, List}
+use Rattle.journal_script.specs.declared.script.Operation.{Operation}
+use Rattle.script_client.specs.Told.{IsLedTo}
+use Rattle.script_client.proofs.interpreter.Interpreter.finish.Goals as goal
+
+-- the operations are the same
+pub returns : goal.returns
+returns g c = λ honest.
+    let left = c.finish.result in
+    subst (λ (operations : List Operation). IsLedTo g.H.HomeFact.holds operations (g.D.Device.state left.0.device) left.0.sealed.items left.1) c.into_stopped.ensures
+    (c.finish.ensures honest)

@@ -1,0 +1,48 @@
+-- What is left of a journal that its client has ended.
+use Rattle.std.specs.Prelude.{◌≡◌, ℕ, List, [], Option, Some, None}
+use Rattle.journal_model.specs.Disk.{Disk, Image, Leaves, Shape}
+use Rattle.journal_model.specs.Transaction.{History}
+use Rattle.block_device.specs.State.{DeviceState}
+use Rattle.journal_world.specs.Journal.{Journal}
+use Rattle.log_epochs.specs.EngineWorld.{Phase}
+use Rattle.log_epochs.specs.JournalPromise.{IsClosed}
+use Rattle.log_epochs.specs.JournalWorld.{Begins, JournalWorld, Leads, Move}
+use Rattle.journal_script.specs.declared.script.Operation.{Operation}
+use Rattle.script_client.specs.Told.{AreDirectsOf, greatest_of}
+
+-- the world of a journal in this phase, on a device that its log was opened on with this disk; these were its direct writes, and
+-- these transactions were answered committed
+abbrev pub world_in : Phase → (opening : Disk) → Journal → DeviceState → (directs : List (ℕ × List ℕ)) → (answered : List ℕ) → JournalWorld
+world_in phase opening j state directs answered = record {
+  below = record {
+    shape = state.shape;
+    disk = state.disk;
+    phase = phase;
+    epoch = Some (record { opening = opening; engine = j.engine; directs = directs; pin = None });
+    ended = [];
+  };
+  told = record { front = j.front; answered = answered };
+  past = [];
+}
+
+-- Moves of the machine led from a journal that was just made, on a device of which this fact was known then, to what is left at
+-- its end: its device, the transactions that were sealed, and the greatest that a wait or a status answered committed. Its direct
+-- writes are those of these operations. The journal runs still, or its log was closed, or a failure or a refusal ended it.
+pub record IsEnded (Fact : Shape → Disk → Type 0) (operations : List Operation) (state : DeviceState) (sealed : History) (shown : Option ℕ) : Type 0 where
+  pub opening : Disk
+  pub fact : Fact state.shape opening
+  pub start : JournalWorld
+  pub begins : Begins start
+  pub moves : List Move
+  pub journal : Journal
+  pub phase : Phase
+  pub directs : List (ℕ × List ℕ)
+  pub written : AreDirectsOf operations directs
+  pub answered : List ℕ
+  pub leads : Leads start moves (world_in phase opening journal state directs answered)
+  pub greatest : shown ≡ greatest_of answered
+  pub sealed_is : sealed ≡ journal.front.sealed
+
+-- each image that a stop may leave of the device has a clean log, and opens to all of these transactions
+pub record IsLeftClosed (state : DeviceState) (sealed : History) : Type 0 where
+  pub each : (image : Image) → Leaves state.disk image → IsClosed state.shape sealed image

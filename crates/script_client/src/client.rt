@@ -1,0 +1,409 @@
+//! The client of a journal: it calls it, and records what it is shown.
+ghost use Rattle.std.specs.Prelude.{◌≡◌, ◌≤◌, length, IfOk, OnOk};
+ghost use Rattle.journal_model.specs.Disk.{Disk, Shape};
+ghost use Rattle.journal_world.specs.Front.FrontEvent.{RevokeBlock, WriteBlock};
+ghost use Rattle.journal_world.specs.Journal.Event.{DirectSync, DirectWrite, FrontStep};
+ghost use Rattle.journal_script.specs.Named.{IsDirectOf};
+ghost use Rattle.group_commit.specs.Extension.{Extends, Restarts};
+ghost use Rattle.journal_steps.specs.Journal.{Does};
+
+use block_device::Device;
+use group_commit::{
+    CheckTurn, Credits, Handle, Journal, Parts, Receipt, Seat, Status, Ticket, Turn,
+};
+use journal_model::{BlockNo, JournalError, Sealed, Tid};
+use journal_script::Operation;
+use recovery::Opened;
+use std::alloc::Global;
+use std::marker::{Model, PhantomData};
+
+/// What is known of the disk on which a run begins.
+pub trait HomeFact {
+    /// A fact about the measures of a device, and about its disk as the opening of its log left it.
+    ghost holds: { Shape → Disk → Type 0 };
+}
+
+/// Nothing is known.
+pub struct AnyHome;
+
+impl HomeFact for AnyHome {
+    ghost use Rattle.script_client.specs.Told.{IsAnyHome};
+
+    ghost holds = { IsAnyHome };
+}
+
+/// Every block of home is zeros, durably.
+pub struct ZeroHome;
+
+impl HomeFact for ZeroHome {
+    ghost use Rattle.script_client.specs.Told.{IsZeroHome};
+
+    ghost holds = { IsZeroHome };
+}
+
+/// A journal on a device, the operations that its client performs, and what it was shown.
+#[derive(Drop)]
+pub struct Client<'a, D: Device, H: HomeFact> {
+    journal: Journal<D, Vec<Sealed>>,
+    seat: Seat,
+    operations: &'a [Operation],
+    /// The greatest transaction that a wait or a status answered committed.
+    acknowledged: Option<Tid>,
+    of: PhantomData<H>,
+}
+
+impl<'a, D: Device, H: HomeFact> Model for Client<'a, D, H> {
+    ghost use Rattle.script_client.specs.Told.{ClientValue, HasLedTo};
+
+    ghost Value = { ClientValue D };
+
+    ghost view = { λ c. record { journal = c.journal; operations = c.operations.now; shown = c.acknowledged } };
+
+    ghost invariant = { λ c. D.honest c.journal.device → HasLedTo H.holds c.operations.now c.journal.journal (D.state c.journal.device) c.acknowledged };
+}
+
+/// What is left of a journal that was to be closed.
+#[derive(Drop)]
+pub struct Ended<D> {
+    /// Its device and its record.
+    pub parts: Parts<D, Vec<Sealed>>,
+    /// The greatest transaction that was shown committed.
+    pub acknowledged: Option<Tid>,
+    /// Whether it was closed, or why not.
+    pub closed: Result<(), JournalError>,
+}
+
+/// What a wait came to.
+pub enum Waited {
+    /// The transaction is committed.
+    Committed(Receipt),
+    /// It is not: the ticket comes back.
+    Open(Ticket),
+    /// The wait is refused: the ticket comes back.
+    Refused(Ticket, JournalError),
+}
+
+impl<'a, D: Device + Drop, H: HomeFact> Client<'a, D, H> {
+    ghost use Rattle.script_client.specs.Ended.{IsEnded, IsLeftClosed};
+    ghost use Rattle.script_client.specs.Shown.{IsNoted, IsShown};
+    ghost use Rattle.script_client.specs.Told.{IsLedTo, with_told};
+
+    /// A client of a new journal on an opened log, who is to perform these operations, and was shown nothing.
+    ///
+    /// # Errors
+    ///
+    /// `Memory`.
+    pub fn new(
+        alloc: Global,
+        opened: Opened<D>,
+        operations: &'a [Operation],
+    ) -> Result<Self, JournalError>
+        requires { D.honest opened.device → H.holds (D.state opened.device).shape (D.state opened.device).disk }
+        ensures { IfOk result (λ client. client.operations ≡ operations.now) }
+    {
+        match Journal::new(alloc, opened) {
+            Ok((journal, seat)) => Ok(Client {
+                journal,
+                seat,
+                operations,
+                acknowledged: None,
+                of: PhantomData,
+            }),
+            Err((_, e)) => Err(e),
+        }
+    }
+
+    /// How many bytes a block has.
+    pub fn block_size(&self) -> usize
+        ensures { result ≡ (D.state self.now.journal.device).shape.block_size }
+    {
+        self.journal.block_size()
+    }
+
+    /// Grants credits.
+    ///
+    /// # Errors
+    ///
+    /// `TooMany` and `Full`.
+    pub fn reserve(&mut self, credits: u64) -> Result<Credits, JournalError>
+        ensures operations { self.new.operations ≡ self.old.operations }
+    {
+        self.journal.reserve(&mut self.seat, credits)
+    }
+
+    /// Takes back credits that no handle was made of.
+    pub fn give_back(&mut self, credits: Credits)
+        ensures operations { self.new.operations ≡ self.old.operations }
+    {
+        self.journal.give_back(credits);
+    }
+
+    /// Makes a handle of these credits.
+    ///
+    /// # Errors
+    ///
+    /// Those of a join: the credits come back.
+    pub fn try_join(&mut self, credits: Credits) -> Result<Handle, (Credits, JournalError)>
+        ensures operations { self.new.operations ≡ self.old.operations }
+    {
+        self.journal.try_join(credits)
+    }
+
+    /// Writes a block through a handle.
+    ///
+    /// # Errors
+    ///
+    /// Those of a write: nothing changes.
+    pub fn write(
+        &mut self,
+        handle: &mut Handle,
+        block: BlockNo,
+        bytes: &[u8],
+    ) -> Result<(), JournalError>
+        requires { length bytes.now ≡ (D.state self.old.journal.device).shape.block_size }
+        ensures does { OnOk result (Does D.state self.old.journal (FrontStep (WriteBlock handle.old.number block bytes.now)) self.new.journal) }
+        ensures operations { self.new.operations ≡ self.old.operations }
+    {
+        self.journal.write(handle, block, bytes)
+    }
+
+    /// Revokes a block through a handle.
+    ///
+    /// # Errors
+    ///
+    /// Those of a revoke: nothing changes.
+    pub fn revoke(&mut self, handle: &mut Handle, block: BlockNo) -> Result<(), JournalError>
+        ensures does { OnOk result (Does D.state self.old.journal (FrontStep (RevokeBlock handle.old.number block)) self.new.journal) }
+        ensures operations { self.new.operations ≡ self.old.operations }
+    {
+        self.journal.revoke(handle, block)
+    }
+
+    /// Writes a block directly, as one of its operations does.
+    ///
+    /// # Errors
+    ///
+    /// Those of a direct write.
+    pub fn write_direct(&mut self, block: BlockNo, bytes: &[u8]) -> Result<(), JournalError>
+        requires named { IsDirectOf self.old.operations block }
+        requires length { length bytes.now ≡ (D.state self.old.journal.device).shape.block_size }
+        ensures does { OnOk result (Does D.state self.old.journal (DirectWrite block bytes.now) self.new.journal) }
+        ensures operations { self.new.operations ≡ self.old.operations }
+    {
+        self.journal.write_direct(block, bytes)
+    }
+
+    /// Makes direct writes durable.
+    ///
+    /// # Errors
+    ///
+    /// Those of a direct sync.
+    pub fn sync_direct(&mut self) -> Result<(), JournalError>
+        ensures does { OnOk result (Does D.state self.old.journal DirectSync self.new.journal) }
+        ensures operations { self.new.operations ≡ self.old.operations }
+    {
+        self.journal.sync_direct()
+    }
+
+    /// Reads a block through a handle.
+    ///
+    /// # Errors
+    ///
+    /// Those of a read.
+    pub fn read(
+        &mut self,
+        handle: &mut Handle,
+        block: BlockNo,
+        into: &mut [u8],
+    ) -> Result<(), JournalError>
+        requires { length into.old ≡ (D.state self.old.journal.device).shape.block_size }
+        ensures length { length into.new ≡ length into.old }
+        ensures operations { self.new.operations ≡ self.old.operations }
+    {
+        self.journal.read(handle, block, into)
+    }
+
+    /// Gives a handle further credits.
+    ///
+    /// # Errors
+    ///
+    /// Those of an extension: nothing changes.
+    pub fn extend(&mut self, handle: &mut Handle, credits: u64) -> Result<(), JournalError>
+        ensures does { OnOk result (Extends D.state handle.old.number credits self.old.journal self.new.journal) }
+        ensures operations { self.new.operations ≡ self.old.operations }
+    {
+        self.journal.extend(handle, &mut self.seat, credits)
+    }
+
+    /// Ends a handle, and makes another one in its place.
+    ///
+    /// # Errors
+    ///
+    /// Those of a restart: the handle's ticket comes back.
+    pub fn restart(
+        &mut self,
+        handle: Handle,
+        credits: u64,
+    ) -> Result<Handle, (Ticket, JournalError)>
+        ensures does { IfOk result (λ other. Restarts D.state handle credits self.old.journal self.new.journal × (other.tid ≡ self.old.journal.journal.front.running.tid)) }
+        ensures operations { self.new.operations ≡ self.old.operations }
+    {
+        self.journal.restart(handle, &mut self.seat, credits)
+    }
+
+    /// Ends a handle.
+    pub fn stop(&mut self, handle: Handle) -> Ticket
+        ensures operations { self.new.operations ≡ self.old.operations }
+    {
+        self.journal.stop(handle)
+    }
+
+    /// Asks for the commit of a ticket's transaction.
+    ///
+    /// # Errors
+    ///
+    /// `Aborted`.
+    pub fn request(&mut self, ticket: &Ticket) -> Result<(), JournalError>
+        ensures operations { self.new.operations ≡ self.old.operations }
+    {
+        self.journal.request(ticket)
+    }
+
+    /// Takes one commit turn.
+    ///
+    /// # Errors
+    ///
+    /// Those of a commit turn.
+    pub fn commit_turn(&mut self) -> Result<Turn, JournalError>
+        ensures operations { self.new.operations ≡ self.old.operations }
+    {
+        self.journal.commit_turn()
+    }
+
+    /// Takes one checkpoint turn.
+    ///
+    /// # Errors
+    ///
+    /// Those of a checkpoint turn.
+    pub fn checkpoint_turn(&mut self) -> Result<CheckTurn, JournalError>
+        ensures operations { self.new.operations ≡ self.old.operations }
+    {
+        self.journal.checkpoint_turn()
+    }
+
+    /// The last transaction that is told to be committed.
+    pub fn mark(&self) -> Tid {
+        self.journal.mark()
+    }
+
+    /// Whether a ticket's transaction is committed. Where it is, that is noted.
+    pub fn status(&mut self, ticket: &Ticket) -> Status
+        ensures shown { IsShown result ticket.now.tid self.old.shown self.new.shown }
+        ensures operations { self.new.operations ≡ self.old.operations }
+    {
+        let status = self.journal.status(ticket, &mut self.seat);
+        if matches!(status, Status::Committed) {
+            self.acknowledge(ticket.tid());
+        }
+        status
+    }
+
+    /// Whether a receipt's transaction is committed, as it is where this journal gave it. Where it is, that is noted again.
+    pub fn confirm(&mut self, receipt: &Receipt) -> Status
+        ensures shown { IsShown result receipt.now.tid self.old.shown self.new.shown }
+        ensures operations { self.new.operations ≡ self.old.operations }
+    {
+        if receipt.tid() > self.journal.mark() {
+            return Status::Open;
+        }
+        self.acknowledge(receipt.tid());
+        Status::Committed
+    }
+
+    /// Takes the receipt of a committed transaction, which is noted. Of any other nothing is awaited.
+    pub fn wait(&mut self, ticket: Ticket) -> Waited
+        ensures noted { IsNoted result self.old.shown self.new.shown }
+        ensures operations { self.new.operations ≡ self.old.operations }
+    {
+        match self.journal.status(&ticket, &mut self.seat) {
+            Status::Committed => self.wait_for(ticket),
+            Status::Open => Waited::Open(ticket),
+        }
+    }
+
+    /// Takes the receipt for the ticket of a committed transaction.
+    fn wait_for(&mut self, ticket: Ticket) -> Waited
+        requires { ticket.tid ≤ self.old.journal.journal.front.mark }
+        ensures noted { IsNoted result self.old.shown self.new.shown }
+        ensures operations { self.new.operations ≡ self.old.operations }
+    {
+        match self.journal.wait(ticket, &mut self.seat) {
+            Ok(receipt) => {
+                self.acknowledge(receipt.tid());
+                Waited::Committed(receipt)
+            }
+            Err((ticket, e)) => Waited::Refused(ticket, e),
+        }
+    }
+
+    /// Notes that a transaction was shown committed.
+    fn acknowledge(&mut self, tid: Tid)
+        requires { tid ≤ self.old.journal.journal.front.mark }
+        ensures journal { self.new.journal ≡ self.old.journal }
+        ensures shown { self.new.shown ≡ with_told tid self.old.shown }
+        ensures operations { self.new.operations ≡ self.old.operations }
+    {
+        self.acknowledged = match self.acknowledged {
+            Some(other) => Some(Tid(other.0.max(tid.0))),
+            None => Some(tid),
+        };
+    }
+
+    /// Ends the journal: its device with what was sealed, and the greatest transaction that was shown committed.
+    pub fn finish(self) -> (Parts<D, Vec<Sealed>>, Option<Tid>)
+        ensures { D.honest result.0.device → IsLedTo H.holds self.entry.operations (D.state result.0.device) result.0.sealed.items result.1 }
+    {
+        let Client {
+            journal,
+            seat: _,
+            operations: _,
+            acknowledged,
+            of: PhantomData,
+        } = self;
+        (journal.into_parts(), acknowledged)
+    }
+
+    /// Ends the journal by its close. Where that is refused, what was sealed and committed by then stays so: `NotRunning` where a
+    /// handle is open, and nothing was done; else as a close of the journal says.
+    pub fn close(self) -> Ended<D>
+        ensures ended { D.honest result.parts.device → IsEnded H.holds self.entry.operations (D.state result.parts.device) result.parts.sealed.items result.acknowledged }
+        ensures closed { OnOk result.closed (D.honest result.parts.device → IsLeftClosed (D.state result.parts.device) result.parts.sealed.items) }
+    {
+        let Client {
+            journal,
+            seat: _,
+            operations: _,
+            acknowledged,
+            of: PhantomData,
+        } = self;
+        if journal.has_open_handles() {
+            return Ended {
+                parts: journal.into_parts(),
+                acknowledged,
+                closed: Err(JournalError::NotRunning),
+            };
+        }
+        match journal.close() {
+            Ok(parts) => Ended {
+                parts,
+                acknowledged,
+                closed: Ok(()),
+            },
+            Err((parts, e)) => Ended {
+                parts,
+                acknowledged,
+                closed: Err(e),
+            },
+        }
+    }
+}

@@ -1,0 +1,221 @@
+//! The operations of a script, one after the other.
+ghost use Rattle.std.specs.Prelude.{◌≡◌, IfOk, OnOk};
+ghost use Rattle.script_client.specs.declared.performing.Ending.TheVariants.{Close, Stay};
+ghost use Rattle.script_client.specs.Ended.{IsEnded, IsLeftClosed};
+ghost use Rattle.script_client.specs.Told.{IsLedTo};
+
+use crate::client::{Ended, HomeFact};
+use crate::fault::Fault;
+use crate::interpreter::Interpreter;
+use crate::outcome::Outcome;
+use block_device::Device;
+use journal_model::{JournalError, Sealed, Tid};
+use journal_script::Operation;
+use recovery::Opened;
+use std::alloc::Global;
+use std::io;
+use std::io::Write;
+
+/// What the operations behind a device failure come to.
+#[derive(Clone, Copy, Debug, PartialEq, Eq)]
+pub enum AfterFailure {
+    /// Nothing: the first operation that is refused for such a failure is the last one.
+    End,
+    /// They are performed, and come to what the aborted journal answers.
+    GoOn,
+}
+
+/// What is left of a journal when operations were performed on it.
+#[derive(Drop)]
+pub struct Performed<D> {
+    /// The device.
+    pub device: D,
+    /// The transactions that were sealed, in order.
+    pub sealed: Vec<Sealed>,
+    /// The greatest transaction that was shown committed.
+    pub acknowledged: Option<Tid>,
+}
+
+/// How a journal is left behind its last operation.
+#[derive(Clone, Copy, Debug, PartialEq, Eq)]
+pub enum Ending {
+    /// It is closed: the log is clean, and home has all that was committed.
+    Close,
+    /// It is not: what was committed stays in the log, for the next opening.
+    Stay,
+}
+
+/// What is left of a journal when operations were applied to it, and how that ended.
+#[derive(Drop)]
+pub struct Applied<D> {
+    /// What is left.
+    pub left: Performed<D>,
+    /// Whether all was done, or why not.
+    pub end: Result<(), Fault>,
+}
+
+/// Performs operations on a new journal on an opened log, of whose disk `H` is known, and prints a line for each. All open handles
+/// are stopped at the end.
+///
+/// # Errors
+///
+/// `Fault::Refused` with `Memory` where there is none for the journal; `Fault::Output` where a line can't be written. Some of the
+/// lines may have been.
+pub fn perform<D: Device + Drop, H: HomeFact>(
+    alloc: Global,
+    opened: Opened<D>,
+    operations: &[Operation],
+    after: AfterFailure,
+    out: &mut impl Write,
+) -> Result<Performed<D>, Fault>
+    requires { D.honest opened.device → H.holds (D.state opened.device).shape (D.state opened.device).disk }
+    ensures { IfOk result (λ performed. D.honest performed.device →
+        IsLedTo H.holds operations.now (D.state performed.device) performed.sealed.items performed.acknowledged) }
+{
+    let mut interpreter = Interpreter::<D, H>::new(alloc, opened, operations)?;
+    let performed = perform_all(&mut interpreter, operations, after, out);
+    let left = left_of(interpreter);
+    match performed {
+        Ok(()) => Ok(left),
+        Err(e) => Err(Fault::Output(e)),
+    }
+}
+
+/// Performs operations on a new journal on an opened log, of whose disk `H` is known, up to the first that is refused because the
+/// device failed, and prints a line for each. All open handles are stopped behind the last, and then the journal is closed, where
+/// `ending` tells so. What is left comes back however the work ended: `Fault::Output` where a line could not be written, `Device`
+/// where an operation was refused with it, and the refusal of the close. The journal is closed in none of these cases, nor where
+/// `ending` tells that it stays; what was committed by then is in the log or at home.
+///
+/// # Errors
+///
+/// `Memory` where there is none for the journal: nothing was done.
+pub fn apply<D: Device + Drop, H: HomeFact>(
+    alloc: Global,
+    opened: Opened<D>,
+    operations: &[Operation],
+    ending: Ending,
+    out: &mut impl Write,
+) -> Result<Applied<D>, JournalError>
+    requires { D.honest opened.device → H.holds (D.state opened.device).shape (D.state opened.device).disk }
+    ensures ended { IfOk result (λ applied. D.honest applied.left.device →
+        IsEnded H.holds operations.now (D.state applied.left.device) applied.left.sealed.items applied.left.acknowledged) }
+    ensures closed { ending ≡ Close → IfOk result (λ applied. OnOk applied.end (D.honest applied.left.device →
+        IsLeftClosed (D.state applied.left.device) applied.left.sealed.items)) }
+    ensures stays { ending ≡ Stay → IfOk result (λ applied. D.honest applied.left.device →
+        IsLedTo H.holds operations.now (D.state applied.left.device) applied.left.sealed.items applied.left.acknowledged) }
+{
+    let mut interpreter = Interpreter::<D, H>::new(alloc, opened, operations)?;
+    let performed = perform_all(&mut interpreter, operations, AfterFailure::End, out);
+    Ok(end_of(interpreter, performed, ending))
+}
+
+/// Ends the journal, as `ending` tells where all operations were performed.
+fn end_of<D: Device + Drop, H: HomeFact>(
+    interpreter: Interpreter<'_, D, H>,
+    performed: io::Result<()>,
+    ending: Ending,
+) -> Applied<D>
+    ensures ended { D.honest result.left.device → IsEnded H.holds interpreter.entry.client.operations (D.state result.left.device) result.left.sealed.items result.left.acknowledged }
+    ensures closed { ending ≡ Close → OnOk result.end (D.honest result.left.device → IsLeftClosed (D.state result.left.device) result.left.sealed.items) }
+    ensures stays { ending ≡ Stay → D.honest result.left.device → IsLedTo H.holds interpreter.entry.client.operations (D.state result.left.device) result.left.sealed.items result.left.acknowledged }
+{
+    if let Err(e) = performed {
+        return stay(interpreter, Err(Fault::Output(e)));
+    }
+    if interpreter.is_aborted() {
+        return stay(interpreter, Err(Fault::Refused(JournalError::Device)));
+    }
+    end_as(interpreter, ending)
+}
+
+/// Ends the journal as this tells.
+fn end_as<D: Device + Drop, H: HomeFact>(
+    interpreter: Interpreter<'_, D, H>,
+    ending: Ending,
+) -> Applied<D>
+    ensures ended { D.honest result.left.device → IsEnded H.holds interpreter.entry.client.operations (D.state result.left.device) result.left.sealed.items result.left.acknowledged }
+    ensures closed { ending ≡ Close → OnOk result.end (D.honest result.left.device → IsLeftClosed (D.state result.left.device) result.left.sealed.items) }
+    ensures stays { ending ≡ Stay → D.honest result.left.device → IsLedTo H.holds interpreter.entry.client.operations (D.state result.left.device) result.left.sealed.items result.left.acknowledged }
+{
+    match ending {
+        Ending::Close => close(interpreter),
+        Ending::Stay => stay(interpreter, Ok(())),
+    }
+}
+
+/// Ends the journal without a close.
+fn stay<D: Device + Drop, H: HomeFact>(
+    interpreter: Interpreter<'_, D, H>,
+    end: Result<(), Fault>,
+) -> Applied<D>
+    ensures ended { D.honest result.left.device → IsEnded H.holds interpreter.entry.client.operations (D.state result.left.device) result.left.sealed.items result.left.acknowledged }
+    ensures led { D.honest result.left.device → IsLedTo H.holds interpreter.entry.client.operations (D.state result.left.device) result.left.sealed.items result.left.acknowledged }
+    ensures end { result.end ≡ end }
+{
+    Applied {
+        left: left_of(interpreter),
+        end,
+    }
+}
+
+/// Ends the journal by its close.
+fn close<D: Device + Drop, H: HomeFact>(interpreter: Interpreter<'_, D, H>) -> Applied<D>
+    ensures ended { D.honest result.left.device → IsEnded H.holds interpreter.entry.client.operations (D.state result.left.device) result.left.sealed.items result.left.acknowledged }
+    ensures closed { OnOk result.end (D.honest result.left.device → IsLeftClosed (D.state result.left.device) result.left.sealed.items) }
+{
+    let Ended {
+        parts,
+        acknowledged,
+        closed,
+    } = interpreter.close();
+    let left = Performed {
+        device: parts.device,
+        sealed: parts.sealed,
+        acknowledged,
+    };
+    match closed {
+        Ok(()) => Applied { left, end: Ok(()) },
+        Err(e) => Applied {
+            left,
+            end: Err(Fault::Refused(e)),
+        },
+    }
+}
+
+/// Performs the operations of an interpreter, and prints a line for each.
+fn perform_all<D: Device + Drop, H: HomeFact>(
+    interpreter: &mut Interpreter<'_, D, H>,
+    operations: &[Operation],
+    after: AfterFailure,
+    out: &mut impl Write,
+) -> io::Result<()>
+    requires { interpreter.old.client.operations ≡ operations.now }
+    ensures { interpreter.new.client.operations ≡ interpreter.old.client.operations }
+{
+    for operation in operations {
+        let outcome = interpreter.perform(operation);
+        writeln!(out, "{operation} = {outcome}")?;
+        if is_last(outcome, after) {
+            break;
+        }
+    }
+    Ok(())
+}
+
+/// Whether no operation is performed behind one that came to this.
+fn is_last(outcome: Outcome, after: AfterFailure) -> bool {
+    after == AfterFailure::End && matches!(outcome, Outcome::Refused(JournalError::Device))
+}
+
+/// What the performed operations leave.
+fn left_of<D: Device + Drop, H: HomeFact>(interpreter: Interpreter<'_, D, H>) -> Performed<D>
+    ensures { D.honest result.device → IsLedTo H.holds interpreter.entry.client.operations (D.state result.device) result.sealed.items result.acknowledged }
+{
+    let (parts, acknowledged) = interpreter.finish();
+    Performed {
+        device: parts.device,
+        sealed: parts.sealed,
+        acknowledged,
+    }
+}

@@ -1,0 +1,63 @@
+-- The disk on which a run begins.
+use Rattle.std.proofs.Common.{◌∙◌, refl, sym, ap, subst, arith, false}
+use Rattle.std.specs.Prelude.{◌≡◌, ℕ, ◌^◌, ◌<◌, ◌≤◌, List, [], ◌∷◌, length, replicate}
+use Rattle.journal_model.specs.declared.number.Area.{Area}
+use Rattle.journal_model.specs.declared.number.Area.TheVariants.{Home, Log}
+use Rattle.journal_model.specs.Disk.{Cell, Disk, Shape, flushed}
+use Rattle.log_model.specs.Superblock.{Super, formatted_super, greatest_length, super_in}
+use Rattle.block_device.specs.Memory.{MemState, crashed, durable, kept_value, state_of, unflushed}
+use Rattle.block_device.specs.State.{DeviceState}
+use Rattle.block_device.specs.declared.fail.FailOnce.{FailOnce}
+use Rattle.block_device.specs.declared.stop.StopAt.{StopAt}
+use Rattle.journal_world.specs.Opening.{IsOpening}
+use Rattle.journal_world.specs.Sound.{durable_cell}
+use Rattle.log_format.proofs.Formatted.{formatted_says}
+use Rattle.recovery.specs.Opening.{IsFormatted}
+use Rattle.script_client.specs.Told.{IsZeroHome}
+use Rattle.script_run.specs.Disks.{IsEmptyLog, disk_behind, run_state}
+
+-- a crash that keeps no write leaves what was flushed
+kept-none : (v : List ℕ) (ws : List (ℕ × List ℕ)) → kept_value [] v ws ≡ v
+kept-none v [] = refl
+kept-none v (w ∷ ws) = kept-none v ws
+
+-- where a block is durable, that is what it reads
+crashed-durable : (s : MemState) (a : Area) (n : ℕ) (v : List ℕ) → (state_of s).disk a n ≡ durable_cell v → crashed [] s a n ≡ v
+crashed-durable s a n v is = kept-none (durable ((state_of s).disk a n)) (unflushed a n s.calls) ∙ ap durable is
+
+small : (n : ℕ) → n ≤ greatest_length → n < 2 ^ 32
+small n most = omega (arith, most)
+
+-- what a crash leaves of a device that was blank, and then formatted
+pub empty-log : (shape : Shape) (maxlen : ℕ) (uuid : List ℕ) (blank formatted left : MemState)
+    → blank ≡ record { shape = shape; calls = []; faults = 0; calls_made = 0 } → formatted.shape ≡ blank.shape
+    → IsFormatted blank.shape maxlen uuid (state_of blank).disk (state_of formatted).disk → length uuid ≡ 16
+    → ((a : Area) (n : ℕ) → (state_of left).disk a n ≡ record { reads = crashed [] formatted a n; others = [] })
+    → left.shape ≡ formatted.shape
+    → IsEmptyLog (state_of left)
+empty-log shape maxlen uuid blank formatted left new same is long crash left_shape =
+    let size : left.shape ≡ shape = left_shape ∙ same ∙ ap (λ (m : MemState). m.shape) new in
+    let zeros : List ℕ = replicate shape.block_size 0 in
+    let blank_home : (b : ℕ) → (state_of blank).disk Home b ≡ durable_cell zeros = λ b. ap (λ (m : MemState). (state_of m).disk Home b) new in
+    let home : (b : ℕ) → (state_of left).disk Home b ≡ durable_cell zeros = λ b.
+    crash Home b ∙ ap durable_cell (crashed-durable formatted Home b zeros (is.home b ∙ blank_home b)) in
+    let log : ((state_of left).disk Log 0).reads ≡ formatted_super blank.shape.block_size maxlen uuid =
+    ap (λ (c : Cell). c.reads) (crash Log 0) ∙ crashed-durable formatted Log 0 (formatted_super blank.shape.block_size maxlen uuid) is.superblock in
+    record {
+      home = λ b. home b ∙ ap (λ (s : Shape). durable_cell (replicate s.block_size 0)) (sym size);
+      clean = ap (λ (block : List ℕ). (super_in block).s_start) log
+          ∙ ap (λ (s : Super). s.s_start) (formatted_says blank.shape.block_size maxlen uuid is.block_size (small maxlen is.most) long);
+    }
+
+-- the opening of an empty log leaves home as it is
+pub opened-zero : (old new : DeviceState) (superblock : List ℕ) (next : ℕ) → IsEmptyLog old → IsOpening old.shape old.disk new.disk superblock next → new.shape ≡ old.shape
+    → IsZeroHome new.shape new.disk
+opened-zero old new superblock next empty is shape =
+    let still : new.disk ≡ flushed old.disk Log = is.untouched empty.clean in
+    λ b. ap (λ (d : Disk). d Home b) still ∙ empty.home b ∙ ap (λ (s : Shape). durable_cell (replicate s.block_size 0)) (sym shape)
+
+-- the device of a run has the disk of the one behind it
+pub empty-run : (disk : MemState) (device : FailOnce (StopAt MemState)) → disk_behind device ≡ disk → IsEmptyLog (state_of disk) → IsEmptyLog (run_state device)
+empty-run disk device is empty =
+    let moved : IsEmptyLog (state_of (disk_behind device)) = subst (λ (m : MemState). IsEmptyLog (state_of m)) (sym is) empty in
+    record { home = moved.home; clean = moved.clean }

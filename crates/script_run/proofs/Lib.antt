@@ -1,0 +1,11 @@
+-- The lemmas of this crate that crates above it cite.
+pub mod Openings
+pub mod Verdicts
+-- The others.
+mod Disks
+mod Ends
+mod Judging
+mod LastEntries
+mod Limits
+mod OpeningMoves
+mod Reopened

@@ -1,0 +1,40 @@
+-- An image that is written to another device.
+use Rattle.std.specs.Prelude.{◌≡◌, ◌≢◌, ◌⊎◌, ℕ, ◌<◌, Bool, false, []}
+use Rattle.journal_model.specs.declared.number.Area.{Area}
+use Rattle.journal_model.specs.declared.refusal.JournalError.{JournalError}
+use Rattle.journal_model.specs.declared.refusal.JournalError.TheVariants.{Device}
+use Rattle.journal_model.specs.Disk.{Disk, same_area}
+use Rattle.block_device.specs.Memory.{MemState, state_of}
+use Rattle.block_device.specs.State.{DeviceState, IsFailure, Stays, blocks_in}
+use Rattle.journal_script.specs.declared.script.Script.{Script}
+use Rattle.script_run.specs.declared.stops.Stops.{Stops}
+use Rattle.script_run.specs.Left.{IsRunTo}
+
+-- the device is of the image's shape, and each of its blocks reads as the image's, durably
+pub record IsCopy (image : MemState) (to : DeviceState) : Type 0 where
+  pub shape_is : to.shape ≡ image.shape
+  pub each : (a : Area) (n : ℕ) → n < blocks_in image.shape a → to.disk a n ≡ record { reads = ((state_of image).disk a n).reads; others = [] }
+
+-- the image was only read: the calls that changed it and its failures are as they were, so that its blocks and what a crash of it
+-- leaves are
+abbrev pub IsOnlyRead : MemState → MemState → Type 0
+IsOnlyRead old new = (new.shape ≡ old.shape) × (new.calls ≡ old.calls) × (new.faults ≡ old.faults)
+
+-- the first k blocks of an area read as the image's, and the blocks of the other area are as they were
+pub record HasCopied (area : Area) (k : ℕ) (image old new : Disk) : Type 0 where
+  pub copied : (n : ℕ) → n < k → (new area n).reads ≡ (image area n).reads
+  pub others : (a : Area) (n : ℕ) → same_area area a ≡ false → new a n ≡ old a n
+
+-- why an image is not copied: the device is of another shape, and it was not touched; or the device failed, or memory ran out
+abbrev pub CopyRefused : MemState → DeviceState → DeviceState → JournalError → Type 0
+CopyRefused image old new e = ((e ≡ Device) × (old.shape ≢ image.shape) × Stays old new) ⊎ IsFailure old new e
+
+-- the image is copied, or its copy was refused
+abbrev pub IsCopyTried : MemState → DeviceState → DeviceState → Type 0
+IsCopyTried image old new = IsCopy image new ⊎ ((e : JournalError) × CopyRefused image old new e)
+
+-- a run of a script left an image, with this verdict, and the device is a copy of that
+pub record IsCopiedRun (script : Script) (stops : Stops) (to : DeviceState) (right : Bool) : Type 0 where
+  pub image : MemState
+  pub run : IsRunTo script stops image right
+  pub copy : IsCopy image to

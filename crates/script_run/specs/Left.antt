@@ -1,0 +1,49 @@
+-- What a run of a script did and judged, where an opening of what it left may be stopped.
+use Rattle.std.specs.Prelude.{◌≡◌, ℕ, Bool, List, [], Option, Some, None}
+use Rattle.journal_model.specs.declared.number.Area.{Area}
+use Rattle.journal_model.specs.Disk.{reading}
+use Rattle.journal_model.specs.Transaction.{History}
+use Rattle.block_device.specs.Memory.{MemState, crashed, state_of}
+use Rattle.journal_script.specs.declared.script.Script.{Script}
+use Rattle.journal_script.specs.Named.{AreNamedBy}
+use Rattle.journal_script.specs.declared.script.NamedBlocks.{NamedBlocks}
+use Rattle.script_run.specs.Reopening.{IsOpeningVerdict}
+use Rattle.script_run.specs.Verdict.{IsImageVerdict}
+use Rattle.script_run.specs.declared.stops.Stop.{Stop}
+use Rattle.script_run.specs.declared.stops.Stops.{Stops}
+use Rattle.script_client.specs.Told.{IsLedTo, IsZeroHome}
+
+-- the verdict on an image, by the write at which its opening stops, where one is named, and what it then keeps
+abbrev pub IsVerdictBy : Option ℕ → (keep : List ℕ) → MemState → History → Option ℕ → NamedBlocks → Bool → Type 0
+IsVerdictBy None keep image sealed shown named right = IsImageVerdict image.shape (reading (state_of image).disk) sealed shown named right
+IsVerdictBy (Some k) keep image sealed shown named right = IsOpeningVerdict (state_of image) k keep sealed shown named right
+
+abbrev pub IsLeftVerdict : MemState → Stop → History → Option ℕ → NamedBlocks → Bool → Type 0
+IsLeftVerdict image opening sealed shown named right = IsVerdictBy opening.at_write opening.keep.now image sealed shown named right
+
+-- The image is what a crash of the device leaves that keeps these writes, and is durable.
+pub record IsCrashOf (device : MemState) (keep : List ℕ) (image : MemState) : Type 0 where
+  pub each : (a : Area) (n : ℕ) → (state_of image).disk a n ≡ record { reads = crashed keep device a n; others = [] }
+  pub shape_is : image.shape ≡ device.shape
+
+-- The end of a script's run: moves of the machine led from an empty log, on a home of zeros, to a device, to the transactions that
+-- were sealed, and to the greatest one that was answered committed. The image is what a crash of the device leaves, and the blocks
+-- are those that the script names.
+pub record IsEndOf (script : Script) (stop : Stop) (image : MemState) (sealed : History) (shown : Option ℕ) (named : NamedBlocks) : Type 0 where
+  pub device : MemState
+  pub led : IsLedTo IsZeroHome script.operations.items (state_of device) sealed shown
+  pub crash : IsCrashOf device stop.keep.now image
+  pub names : AreNamedBy script named
+
+-- a run of a script that left this image, with this verdict on what openings of it gave, by that record
+pub record IsRunTo (script : Script) (stops : Stops) (image : MemState) (right : Bool) : Type 0 where
+  pub sealed : History
+  pub shown : Option ℕ
+  pub named : NamedBlocks
+  pub end : IsEndOf script stops.run image sealed shown named
+  pub verdict : IsLeftVerdict image stops.opening sealed shown named right
+
+-- a run of a script, with this verdict
+pub record IsRunOf (script : Script) (stops : Stops) (right : Bool) : Type 0 where
+  pub image : MemState
+  pub run : IsRunTo script stops image right

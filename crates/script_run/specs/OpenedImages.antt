@@ -1,0 +1,14 @@
+-- An image that was opened.
+use Rattle.std.specs.Prelude.{◌≡◌}
+use Rattle.journal_model.specs.declared.number.Area.TheVariants.{Home}
+use Rattle.journal_model.specs.Disk.{Disk, Shape, reading}
+use Rattle.log_model.specs.Opening.{OpensAs}
+use Rattle.block_device.specs.Memory.{state_of}
+use Rattle.recovery.specs.Opening.{Tells}
+use Rattle.script_run.specs.declared.opening.OpenedImage.{OpenedImage}
+
+-- what the opening of this disk found is told, and home reads as it gave it
+pub record IsOpenedImage (shape : Shape) (disk : Disk) (opened : OpenedImage) : Type 0 where
+  pub tells : Tells shape (reading disk) opened.report.clean opened.report.ends_at opened.report.transactions
+  pub opens : OpensAs shape (reading disk) (reading (state_of opened.device).disk Home)
+  pub shape_is : opened.device.shape ≡ shape

@@ -1,0 +1,85 @@
+-- The verdict where the opening of an image is stopped, and what that left is opened.
+use Rattle.std.specs.Prelude.{◌≡◌, ◌↔◌, ℕ, ◌+◌, ◌<◌, Bool, true, false, IsTrue, List, Option, All}
+use Rattle.journal_model.specs.Disk.{Image, Shape, reading}
+use Rattle.log_model.specs.Opening.{OpensAs, numbered_below}
+use Rattle.journal_model.specs.Transaction.{History, Volume}
+use Rattle.block_device.specs.Memory.{MemState, crashed, state_of, writes_of}
+use Rattle.block_device.specs.State.{DeviceState}
+use Rattle.log_epochs.specs.OpeningRun.{IsMoment}
+use Rattle.recovery.specs.Opening.{IsBroken, IsDone, Tells}
+use Rattle.std.specs.BTreeSet.{keys}
+use Rattle.journal_script.specs.declared.script.NamedBlocks.{NamedBlocks}
+use Rattle.script_run.specs.declared.opening.OpenedImage.{OpenedImage}
+use Rattle.script_run.specs.declared.reopening.Attempt.{Attempt}
+use Rattle.script_run.specs.declared.reopening.Attempt.TheVariants.{Whole, Stopped}
+use Rattle.script_run.specs.OpenedImages.{IsOpenedImage}
+use Rattle.script_run.specs.Verdict.{IsImageVerdict, IsRight}
+
+-- the transactions of a log end at this limit; an opening of what a stop within its opening left finds the same end, or, where it
+-- was not clean, a clean log that names the number behind it
+abbrev pub FollowsOn : (was_clean : Bool) (limit : ℕ) (clean : Bool) (ends_at : ℕ) → Type 0
+FollowsOn false limit false ends_at = ends_at ≡ limit
+FollowsOn false limit true ends_at = ends_at ≡ limit + 1
+FollowsOn true limit true ends_at = ends_at ≡ limit
+FollowsOn true limit false ends_at = ⊥
+
+-- A device after an opening of this image that was stopped: some of the opening's calls were made, so that it is at one of
+-- the opening's moments. Its last write has the number k.
+pub record IsStoppedAt (image : DeviceState) (k : ℕ) (device : MemState) : Type 0 where
+  pub shape_is : device.shape ≡ image.shape
+  pub moment : IsMoment image.shape image.disk (state_of device).disk
+  pub calls : IsBroken image (state_of device)
+  pub last : writes_of device.calls ≡ k
+
+-- a device after a whole opening of this image, which made fewer writes than k
+pub record IsBefore (image : DeviceState) (k : ℕ) (device : MemState) : Type 0 where
+  pub calls : IsDone image (state_of device)
+  pub fewer : writes_of device.calls < k
+
+-- what came of an opening of this image that was to stop at write k
+abbrev pub IsAttempt : DeviceState → ℕ → Attempt → Type 0
+IsAttempt image k (Whole opened) = IsOpenedImage image.shape image.disk opened × IsBefore image k opened.device
+IsAttempt image k (Stopped device) = IsStoppedAt image k device
+
+-- the opening ended on this device, and made fewer writes than that
+abbrev pub IsWholeAttempt : OpenedImage → ℕ → Attempt → Type 0
+IsWholeAttempt opened k (Whole same) = (same ≡ opened) × (writes_of opened.device.calls < k)
+IsWholeAttempt opened k (Stopped device) = ⊥
+
+-- the opening stopped on this device, and its last write has this number
+abbrev pub IsStoppedAttempt : MemState → ℕ → Attempt → Type 0
+IsStoppedAttempt device k (Whole opened) = ⊥
+IsStoppedAttempt device k (Stopped same) = (same ≡ device) × (writes_of device.calls ≡ k)
+
+-- The verdict on what a stop within an opening left, where the transactions of what was opened first end at this limit: it was
+-- opened. The verdict is ok just where that found what such a stop can leave, and what it gave is right by the first count.
+pub record IsSecondVerdict (shape : Shape) (left : Image) (was_clean : Bool) (limit : ℕ) (sealed : History) (shown : Option ℕ) (named : NamedBlocks) (right : Bool) : Type 0 where
+  pub clean : Bool
+  pub ends_at : ℕ
+  pub transactions : ℕ
+  pub tells : Tells shape left clean ends_at transactions
+  pub got : Volume
+  pub opens : OpensAs shape left got
+  pub there : All (λ b. b < shape.home_blocks) (keys named.blocks)
+  pub right_is : IsTrue right ↔ FollowsOn was_clean limit clean ends_at × IsRight sealed shown named (numbered_below limit sealed) shape.block_size got
+
+-- an opening of this image makes fewer writes than k, and this is the verdict on what it gave
+pub record IsVerdictWithoutStop (image : DeviceState) (k : ℕ) (sealed : History) (shown : Option ℕ) (named : NamedBlocks) (right : Bool) : Type 0 where
+  pub device : MemState
+  pub before : IsBefore image k device
+  pub verdict : IsImageVerdict image.shape (reading image.disk) sealed shown named right
+
+-- a device stopped at write k of an opening of this image, and this is the verdict on what it kept
+pub record IsVerdictBehindStop (image : DeviceState) (k : ℕ) (keep : List ℕ) (sealed : History) (shown : Option ℕ) (named : NamedBlocks) (right : Bool) : Type 0 where
+  pub was_clean : Bool
+  pub limit : ℕ
+  pub count : ℕ
+  pub first : Tells image.shape (reading image.disk) was_clean limit count
+  pub device : MemState
+  pub stopped : IsStoppedAt image k device
+  pub verdict : IsSecondVerdict image.shape (crashed keep device) was_clean limit sealed shown named right
+
+-- the verdict on an image of which an opening stops at its write k: it made fewer writes, or it did stop there
+pub data IsOpeningVerdict (image : DeviceState) (k : ℕ) (keep : List ℕ) (sealed : History) (shown : Option ℕ) (named : NamedBlocks) (right : Bool) : Type 0 where
+  Once : IsVerdictWithoutStop image k sealed shown named right → IsOpeningVerdict image k keep sealed shown named right
+  Twice : IsVerdictBehindStop image k keep sealed shown named right → IsOpeningVerdict image k keep sealed shown named right

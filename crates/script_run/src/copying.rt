@@ -1,0 +1,157 @@
+//! Writing what a stop left to another device, so that other programs can judge it.
+ghost use Rattle.std.specs.Prelude.{◌≡◌, ◌<◌, ◌↔◌, length, IfErr, IfOk, IsTrue, OnOk, true};
+ghost use Rattle.std.specs.BTreeSet.{keys};
+ghost use Rattle.journal_model.specs.Disk.{written};
+ghost use Rattle.block_device.specs.Memory.{state_of};
+ghost use Rattle.block_device.specs.State.{CountsFaults, blocks_in};
+ghost use Rattle.script_run.specs.Copying.{CopyRefused, HasCopied, IsCopiedRun, IsCopy, IsCopyTried, IsOnlyRead};
+ghost use Rattle.script_run.specs.Left.{IsLeftVerdict};
+
+use crate::running::{Left, end_of_run, judge_left};
+use crate::stops::{Stop, Stops};
+use block_device::{Device, DeviceFault, MemDevice};
+use journal_model::{Area, JournalError};
+use journal_script::{NamedBlocks, Script};
+use script_client::Fault;
+use std::alloc::Global;
+use std::io::Write;
+
+/// Runs a script as `run` does, and writes what its stop left to a device of the script's measures, durably, before that is
+/// opened. So what stands on that device is what the answer is the verdict on.
+///
+/// # Errors
+///
+/// Those of `run`; `Fault::Refused` with `Device` where `to` is of another shape, or fails: then the lines of the operations were
+/// written and no others.
+pub fn run_copied<D: Device>(
+    alloc: Global,
+    script: &Script,
+    stops: &Stops<'_>,
+    to: &mut D,
+    out: &mut impl Write,
+) -> Result<bool, Fault>
+    ensures run { IfOk result (IsCopiedRun script.now stops.now (D.state to.new)) }
+    ensures right { IfOk result (λ right. right ≡ true) }
+{
+    let ended = end_of_run(alloc, script, stops.run, stops.failing_call, out)?;
+    judge_copied(alloc, ended.left, to, stops.opening, &ended.named, out)
+}
+
+/// Writes what a crash left to a device of the same shape, durably, and then dumps, opens and judges it as `judge_left` does.
+///
+/// # Errors
+///
+/// Those of `judge_left`, behind a whole copy; or those of `copy_image`, and then nothing was printed.
+pub fn judge_copied<D: Device>(
+    alloc: Global,
+    left: Left,
+    to: &mut D,
+    opening: Stop<'_>,
+    named: &NamedBlocks,
+    out: &mut impl Write,
+) -> Result<bool, Fault>
+    ensures verdict { IfOk result (IsLeftVerdict left.image opening.entry left.recorded.sealed.items left.recorded.acknowledged named.now) }
+    ensures copy { IfOk result (λ _. IsCopy left.image (D.state to.new)) }
+    ensures tried { IsCopyTried left.image (D.state to.old) (D.state to.new) }
+{
+    let mut left = left;
+    copy_image(alloc, &mut left.image, to)?;
+    judge_left(alloc, left, opening, named, out)
+}
+
+/// Writes each block of both areas of an image to a device of the same shape, by number, the log's first, and makes both areas
+/// durable. The image is only read. It takes memory for one block.
+///
+/// # Errors
+///
+/// `Device` where the device is of another shape, and then it was not touched, or where a write or a flush failed. `Memory`.
+pub fn copy_image<D: Device>(
+    alloc: Global,
+    image: &mut MemDevice,
+    to: &mut D,
+) -> Result<(), JournalError>
+    ensures same { IsOnlyRead image.old image.new }
+    ensures copy { OnOk result (IsCopy image.old (D.state to.new)) }
+    ensures refused { IfErr result (CopyRefused image.old (D.state to.old) (D.state to.new)) }
+    ensures no_fault { OnOk result ((D.state to.new).faults ≡ (D.state to.old).faults) }
+    ensures shape { (D.state to.new).shape ≡ (D.state to.old).shape }
+    ensures honest { D.honest to.new → D.honest to.old }
+{
+    if !are_alike(image, to) {
+        return Err(JournalError::Device);
+    }
+    let mut block = vec![in alloc; 0; image.block_size()]?;
+    copy_areas(image, to, &mut block)?;
+    Ok(())
+}
+
+/// Whether a device is of the shape of an image.
+fn are_alike<D: Device>(image: &MemDevice, to: &D) -> bool
+    ensures { IsTrue result ↔ ((D.state to.now).shape ≡ image.now.shape) }
+{
+    to.block_size() == image.block_size()
+        && to.blocks(Area::Log) == image.blocks(Area::Log)
+        && to.blocks(Area::Home) == image.blocks(Area::Home)
+}
+
+/// Writes both areas of an image by way of a buffer of one block, and makes them durable.
+fn copy_areas<D: Device>(
+    image: &mut MemDevice,
+    to: &mut D,
+    block: &mut [u8],
+) -> Result<(), DeviceFault>
+    requires block { length block.old ≡ image.old.shape.block_size }
+    requires shape { (D.state to.old).shape ≡ image.old.shape }
+    ensures same { IsOnlyRead image.old image.new }
+    ensures copy { OnOk result (IsCopy image.old (D.state to.new)) }
+    ensures faults { CountsFaults result (D.state to.old) (D.state to.new) }
+    ensures shape { (D.state to.new).shape ≡ (D.state to.old).shape }
+    ensures honest { D.honest to.new → D.honest to.old }
+{
+    copy_area(image, to, Area::Log, block)?;
+    copy_area(image, to, Area::Home, block)?;
+    to.flush(Area::Log)?;
+    to.flush(Area::Home)
+}
+
+/// Writes the blocks of an area of an image.
+fn copy_area<D: Device>(
+    image: &mut MemDevice,
+    to: &mut D,
+    area: Area,
+    block: &mut [u8],
+) -> Result<(), DeviceFault>
+    requires block { length block.old ≡ image.old.shape.block_size }
+    requires shape { (D.state to.old).shape ≡ image.old.shape }
+    ensures same { IsOnlyRead image.old image.new }
+    ensures copied { OnOk result (HasCopied area (blocks_in image.old.shape area) (state_of image.old).disk (D.state to.old).disk (D.state to.new).disk) }
+    ensures faults { CountsFaults result (D.state to.old) (D.state to.new) }
+    ensures shape { (D.state to.new).shape ≡ (D.state to.old).shape }
+    ensures honest { D.honest to.new → D.honest to.old }
+{
+    for n in 0..image.blocks(area) {
+        copy_block(image, to, area, n, block)?;
+    }
+    Ok(())
+}
+
+/// Writes one block of an image.
+fn copy_block<D: Device>(
+    image: &mut MemDevice,
+    to: &mut D,
+    area: Area,
+    n: u64,
+    block: &mut [u8],
+) -> Result<(), DeviceFault>
+    requires block { length block.old ≡ image.old.shape.block_size }
+    requires shape { (D.state to.old).shape ≡ image.old.shape }
+    requires there { n < blocks_in image.old.shape area }
+    ensures same { IsOnlyRead image.old image.new }
+    ensures copied { OnOk result ((D.state to.new).disk ≡ written (D.state to.old).disk area n ((state_of image.old).disk area n).reads) }
+    ensures faults { CountsFaults result (D.state to.old) (D.state to.new) }
+    ensures shape { (D.state to.new).shape ≡ (D.state to.old).shape }
+    ensures honest { D.honest to.new → D.honest to.old }
+{
+    image.read(area, n, block)?;
+    to.write(area, n, block)
+}

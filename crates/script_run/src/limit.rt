@@ -1,0 +1,58 @@
+//! What an opening of a log would find.
+ghost use Rattle.std.specs.Prelude.{◌≡◌, IfOk};
+ghost use Rattle.journal_model.specs.Disk.{reading};
+ghost use Rattle.block_device.specs.State.{Stays};
+ghost use Rattle.log_format.specs.Accepted.{IsAccepted};
+ghost use Rattle.recovery.specs.Opening.{Tells};
+ghost use Rattle.script_run.specs.Limit.{IsReadLog};
+
+use crate::blocks::read_block;
+use block_device::Device;
+use journal_model::{Area, JournalError};
+use log_format::Super;
+use log_scan::{Finder, Log, scan};
+use recovery::Report;
+use std::alloc::Global;
+
+/// What an opening of the log of a device finds, which is read and not written: where its transactions end, and how many there
+/// are. (Whether a block is ahead is not tested.)
+///
+/// # Errors
+///
+/// `BadMagic` to `ErrnoSet` and `BadLength`: the superblock is refused, or there is none. `Damage`: a block of the ring is.
+/// `Device` and `Memory`.
+pub(crate) fn report_of<D: Device>(alloc: Global, device: &mut D) -> Result<Report, JournalError>
+    ensures tells { IfOk result (λ report. D.honest device.new →
+        Tells (D.state device.old).shape (reading (D.state device.old).disk) report.clean report.ends_at report.transactions) }
+    ensures stays { Stays (D.state device.old) (D.state device.new) }
+    ensures honest { D.honest device.new → D.honest device.old }
+{
+    let log = read_log(alloc, device)?;
+    if log.is_clean() {
+        return Ok(Report {
+            clean: true,
+            ends_at: log.first_number(),
+            transactions: 0,
+        });
+    }
+    let home_blocks = device.blocks(Area::Home);
+    let mut finder = Finder::new(log.layout());
+    let transactions = scan(device, &log, Some(home_blocks), &mut finder)?;
+    Ok(Report {
+        clean: false,
+        ends_at: log.first_number() + transactions,
+        transactions,
+    })
+}
+
+/// Reads and tests the superblock.
+fn read_log<D: Device>(alloc: Global, device: &mut D) -> Result<Log, JournalError>
+    ensures accepted { IfOk result (λ log. IsAccepted (D.state device.old).shape.block_size (D.state device.old).shape.log_blocks log) }
+    ensures read { IfOk result (λ log. D.honest device.new → IsReadLog (D.state device.old).shape (reading (D.state device.old).disk) log) }
+    ensures stays { Stays (D.state device.old) (D.state device.new) }
+    ensures honest { D.honest device.new → D.honest device.old }
+{
+    let superblock = read_block(alloc, device, Area::Log, 0)?;
+    let fields = Super::read(superblock.bytes(), device.blocks(Area::Log))?;
+    Ok(Log::new(fields))
+}

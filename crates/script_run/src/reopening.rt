@@ -1,0 +1,157 @@
+//! Openings that stop at one of their writes, and the verdict on what the next opening gives back.
+ghost use Rattle.std.specs.Prelude.{◌≡◌, ◌↔◌, ◌<◌, All, IfOk, IsTrue};
+ghost use Rattle.std.specs.BTreeSet.{keys};
+ghost use Rattle.journal_model.specs.declared.number.Area.TheVariants.{Home};
+ghost use Rattle.journal_model.specs.Disk.{reading};
+ghost use Rattle.log_model.specs.Opening.{numbered_below};
+ghost use Rattle.block_device.specs.Memory.{state_of};
+ghost use Rattle.script_run.specs.Reopening.{FollowsOn, IsAttempt, IsOpeningVerdict, IsSecondVerdict, IsStoppedAttempt, IsWholeAttempt};
+ghost use Rattle.script_run.specs.Verdict.{IsRight};
+
+use crate::limit::report_of;
+use crate::opening::{
+    OpenedImage, judge_home, judge_opened, open_image, write_opening, write_verdict,
+};
+use crate::verdict::Record;
+use block_device::{MemDevice, StopAt};
+use journal_model::{JournalError, Tid};
+use journal_script::NamedBlocks;
+use recovery::{Report, open};
+use script_client::Fault;
+use std::alloc::Global;
+use std::io::Write;
+
+/// What came of an opening over a device that stops at one of its writes.
+#[derive(Drop)]
+pub enum Attempt {
+    /// It ended before that write.
+    Whole(OpenedImage),
+    /// The device stopped, and this is left of it, with its cache.
+    Stopped(MemDevice),
+}
+
+/// Opens an image over a device that stops at write `k` of the opening, counted from 1, and prints that it did. Of its unflushed
+/// writes those of `keep` are left. That is opened once more, and what the second opening found is printed, how the named blocks
+/// of home then begin, and the verdict. Where the opening makes fewer writes, all is printed as of an image that is opened once.
+pub(crate) fn judge_stopped_opening(
+    alloc: Global,
+    image: MemDevice,
+    k: u64,
+    keep: &[u64],
+    recorded: &Record,
+    named: &NamedBlocks,
+    out: &mut impl Write,
+) -> Result<bool, Fault>
+    ensures { IfOk result (IsOpeningVerdict (state_of image) k keep.now recorded.now.sealed.items recorded.now.acknowledged named.now) }
+{
+    let mut image = image;
+    let first = report_of(alloc, &mut image)?;
+    match open_to(alloc, image, k)? {
+        Attempt::Whole(opened) => judge_opened(alloc, opened, recorded, named, out),
+        Attempt::Stopped(device) => {
+            writeln!(out, "stopped again {k}")?;
+            judge_second(alloc, device.crash(keep), first, recorded, named, out)
+        }
+    }
+}
+
+/// Opens an image over a device that stops at write `k` of the opening, counted from 1.
+///
+/// # Errors
+///
+/// Those of an opening, where it failed before that write.
+pub fn open_to(alloc: Global, image: MemDevice, k: u64) -> Result<Attempt, JournalError>
+    ensures { IfOk result (IsAttempt (state_of image) k) }
+{
+    match open(alloc, StopAt::new(image, k)) {
+        Ok(opened) => {
+            let (report, next) = (opened.report(), opened.next());
+            whole(opened.into_device().into_inner(), report, next, k)
+        }
+        Err((device, e)) => stopped(device.into_inner(), k, e),
+    }
+}
+
+/// The device on which an opening ended, which made fewer than `k` writes.
+fn whole(device: MemDevice, report: Report, next: Tid, k: u64) -> Result<Attempt, JournalError>
+    ensures { IfOk result (IsWholeAttempt (record { device = device; report = report; next = next }) k) }
+{
+    if device.writes() < k {
+        Ok(Attempt::Whole(OpenedImage {
+            device,
+            report,
+            next,
+        }))
+    } else {
+        // Not met: a device that stops at write k never answers Ok to it.
+        Err(JournalError::Device)
+    }
+}
+
+/// The device on which an opening failed so, where write `k` was its last.
+fn stopped(device: MemDevice, k: u64, e: JournalError) -> Result<Attempt, JournalError>
+    ensures { IfOk result (IsStoppedAttempt device k) }
+{
+    if device.writes() == k {
+        Ok(Attempt::Stopped(device))
+    } else {
+        Err(e)
+    }
+}
+
+/// Opens what a stop within an opening left, where this stood in the image that was opened first, and prints what the second
+/// opening found, how the named blocks of home then begin, and the verdict.
+fn judge_second(
+    alloc: Global,
+    left: MemDevice,
+    first: Report,
+    recorded: &Record,
+    named: &NamedBlocks,
+    out: &mut impl Write,
+) -> Result<bool, Fault>
+    ensures { IfOk result (IsSecondVerdict left.shape (reading (state_of left).disk) first.clean first.ends_at recorded.now.sealed.items recorded.now.acknowledged named.now) }
+{
+    let opened = open_image(alloc, left)?;
+    judge_reopened(alloc, opened, first, recorded, named, out)
+}
+
+/// Prints what a second opening found, where this stood in the image that was opened first, how the named blocks of home then
+/// begin, and the verdict, which is also the answer.
+///
+/// # Errors
+///
+/// `Fault::Refused` where memory runs out, or home lacks a named block; `Fault::Output` where the output can't be written. Some of
+/// the lines may have been written.
+pub fn judge_reopened(
+    alloc: Global,
+    opened: OpenedImage,
+    first: Report,
+    recorded: &Record,
+    named: &NamedBlocks,
+    out: &mut impl Write,
+) -> Result<bool, Fault>
+    ensures { IfOk result (λ right. All (λ b. b < opened.device.shape.home_blocks) (keys named.now.blocks) × (IsTrue right ↔
+        FollowsOn first.clean first.ends_at opened.report.clean opened.report.ends_at
+        × IsRight recorded.now.sealed.items recorded.now.acknowledged named.now (numbered_below first.ends_at recorded.now.sealed.items)
+        opened.device.shape.block_size (reading (state_of opened.device).disk Home))) }
+{
+    let n = recorded.count_below(first.ends_at);
+    write_opening(out, "reopen", opened.report, opened.next, n)?;
+    let mut device = opened.device;
+    let right = judge_home(alloc, &mut device, recorded, named, n, out)?;
+    let verdict = follows_on(first, opened.report) && right;
+    write_verdict(out, verdict)?;
+    Ok(verdict)
+}
+
+/// Whether a second opening found what a stop within the first one can leave: the same end, in a clean log where that was clean; or
+/// else a clean log, whose last number is the one behind that end.
+fn follows_on(first: Report, second: Report) -> bool
+    ensures { IsTrue result ↔ FollowsOn first.clean first.ends_at second.clean second.ends_at }
+{
+    if first.clean == second.clean {
+        second.ends_at == first.ends_at
+    } else {
+        second.clean && first.ends_at.checked_add(1) == Some(second.ends_at)
+    }
+}

@@ -1,0 +1,258 @@
+//! A script's operations over a device that stops, or of which a call fails, and then the verdict on what openings give back.
+ghost use Rattle.std.specs.Prelude.{◌≡◌, ℕ, List, [], IfOk, true};
+ghost use Rattle.std.specs.BTreeSet.{keys};
+ghost use Rattle.journal_model.specs.declared.number.Area.{Area};
+ghost use Rattle.block_device.specs.Memory.{crashed, state_of, writes_of};
+ghost use Rattle.journal_script.specs.declared.script.Operation.{Operation};
+ghost use Rattle.script_client.specs.Told.{IsLedTo, IsZeroHome};
+ghost use Rattle.script_run.specs.Disks.{run_state};
+ghost use Rattle.script_run.specs.Left.{IsEndOf, IsLeftVerdict, IsRunOf};
+ghost use Rattle.script_run.specs.Verdict.{IsVerdict};
+
+use crate::disk::{RunDevice, empty_log};
+use crate::opening::judge_image;
+use crate::reopening::judge_stopped_opening;
+use crate::stops::{Stop, Stops};
+use crate::verdict::Record;
+use block_device::MemDevice;
+use journal_model::JournalError;
+use journal_script::{NamedBlocks, Operation, Script};
+use log_dump::dump;
+use recovery::Opened;
+use script_client::{AfterFailure, Fault, HomeFact, Performed, ZeroHome, perform};
+use std::alloc::Global;
+use std::io;
+use std::io::Write;
+
+/// What is left of a run when the device has stopped.
+#[derive(Drop)]
+pub struct Stopped {
+    /// The device, with its cache.
+    pub device: MemDevice,
+    /// What the run had recorded.
+    pub recorded: Record,
+    /// The write at which the device stopped, where it did before the end.
+    pub at_write: Option<u64>,
+}
+
+/// What a crash leaves of a stopped run.
+#[derive(Drop)]
+pub struct Left {
+    /// The device, with an empty cache.
+    pub image: MemDevice,
+    /// What the run had recorded.
+    pub recorded: Record,
+    /// The write at which the device stopped, where it did before the end.
+    pub at_write: Option<u64>,
+}
+
+impl Stopped {
+    /// Takes the power away: the image has of each block the greatest unflushed write that `keep` names, else what was flushed
+    /// last.
+    pub fn crash(self, keep: &[u64]) -> Left
+        ensures image { (a : Area) (n : ℕ) → (state_of result.image).disk a n ≡ record { reads = crashed keep.now self.device a n; others = [] } }
+        ensures numbers { writes_of result.image.calls ≡ 0 }
+        ensures shape { result.image.shape ≡ self.device.shape }
+        ensures recorded { result.recorded ≡ self.recorded }
+        ensures stop { result.at_write ≡ self.at_write }
+    {
+        let Stopped {
+            device,
+            recorded,
+            at_write,
+        } = self;
+        Left {
+            image: device.crash(keep),
+            recorded,
+            at_write,
+        }
+    }
+}
+
+/// Runs a script over a device in memory, and prints a line for each operation, the dump of what the stop left, and the
+/// verdict on what openings of that give back, which is also the answer. The writes and the calls of the run are numbered from 1
+/// once the device is formatted and opened, and the writes of the opening from 1 again. Where a call is to fail the script goes on
+/// behind it; else it ends with the first operation that the device refuses.
+///
+/// # Errors
+///
+/// `Fault::Refused` where memory runs out, or what a stop left is refused; `Fault::Output` where the output can't be
+/// written. Some of the lines may have been written.
+pub fn run(
+    alloc: Global,
+    script: &Script,
+    stops: &Stops<'_>,
+    out: &mut impl Write,
+) -> Result<bool, Fault>
+    ensures run { IfOk result (IsRunOf script.now stops.now) }
+    ensures right { IfOk result (λ right. right ≡ true) }
+{
+    let ended = end_of_run(alloc, script, stops.run, stops.failing_call, out)?;
+    judge_left(alloc, ended.left, stops.opening, &ended.named, out)
+}
+
+/// What the stop of a script's run left, and the blocks that the script names.
+#[derive(Drop)]
+pub(crate) struct Ended {
+    /// What the stop left.
+    pub(crate) left: Left,
+    /// The blocks that the script names.
+    pub(crate) named: NamedBlocks,
+}
+
+/// Runs a script's operations up to its stop, and prints a line for each.
+///
+/// # Errors
+///
+/// `Fault::Refused` where memory runs out; `Fault::Output` where the output can't be written. Some of the lines may have been
+/// written.
+pub(crate) fn end_of_run(
+    alloc: Global,
+    script: &Script,
+    stop: Stop<'_>,
+    failing_call: Option<u64>,
+    out: &mut impl Write,
+) -> Result<Ended, Fault>
+    ensures { IfOk result (λ ended. IsEndOf script.now stop.entry ended.left.image ended.left.recorded.sealed.items ended.left.recorded.acknowledged ended.named) }
+{
+    let named = match script.named_blocks(alloc) {
+        Ok(named) => named,
+        Err(e) => return Err(Fault::Refused(JournalError::from(e))),
+    };
+    let stopped = run_operations(alloc, script, stop.at_write, failing_call, out)?;
+    Ok(Ended {
+        left: stopped.crash(stop.keep),
+        named,
+    })
+}
+
+/// Runs a script's operations over a device in memory that stops at write `stop`, or at the end, and prints a line for each. Where
+/// `failing_call` is a call, that one fails, and the operations behind it are performed too.
+///
+/// # Errors
+///
+/// `Fault::Refused` where memory runs out; `Fault::Output` where the output can't be written. Some of the lines may have been
+/// written.
+pub fn run_operations(
+    alloc: Global,
+    script: &Script,
+    stop: Option<u64>,
+    failing_call: Option<u64>,
+    out: &mut impl Write,
+) -> Result<Stopped, Fault>
+    ensures { IfOk result (λ stopped. IsLedTo IsZeroHome script.now.operations.items (state_of stopped.device) stopped.recorded.sealed.items stopped.recorded.acknowledged) }
+{
+    let after = if failing_call.is_some() {
+        AfterFailure::GoOn
+    } else {
+        AfterFailure::End
+    };
+    let opened = empty_log(alloc, &script.measures, stop, failing_call)?;
+    run_operations_over::<ZeroHome>(alloc, opened, &script.operations, after, stop, out)
+}
+
+/// Runs operations over an opened log in memory, of whose disk `H` is known, and prints a line for each. The device stops at write
+/// `stop` of its own, or at the end.
+///
+/// # Errors
+///
+/// `Fault::Refused` where memory runs out; `Fault::Output` where the output can't be written. Some of the lines may have been
+/// written.
+pub fn run_operations_over<H: HomeFact>(
+    alloc: Global,
+    opened: Opened<RunDevice>,
+    operations: &[Operation],
+    after: AfterFailure,
+    stop: Option<u64>,
+    out: &mut impl Write,
+) -> Result<Stopped, Fault>
+    requires { H.holds (run_state opened.device).shape (run_state opened.device).disk }
+    ensures { IfOk result (λ stopped. IsLedTo H.holds operations.now (state_of stopped.device) stopped.recorded.sealed.items stopped.recorded.acknowledged) }
+{
+    let performed = perform::<RunDevice, H>(alloc, opened, operations, after, out)?;
+    Ok(stopped_of::<H>(performed, stop))
+}
+
+/// What the performed operations leave.
+fn stopped_of<H: HomeFact>(performed: Performed<RunDevice>, stop: Option<u64>) -> Stopped
+    ensures { (operations : List Operation) → IsLedTo H.holds operations (run_state performed.device) performed.sealed.items performed.acknowledged
+        → IsLedTo H.holds operations (state_of result.device) result.recorded.sealed.items result.recorded.acknowledged }
+{
+    let device = performed.device.into_inner();
+    Stopped {
+        at_write: if device.is_stopped() { stop } else { None },
+        device: device.into_inner(),
+        recorded: Record {
+            sealed: performed.sealed,
+            acknowledged: performed.acknowledged,
+        },
+    }
+}
+
+/// Crashes the device with the unflushed writes `keep` kept, dumps the image, opens it, and prints how the named blocks of
+/// home begin and the verdict on what the opening gave back, which is also the answer.
+///
+/// # Errors
+///
+/// `Fault::Refused` where memory runs out, the image is refused, or home lacks a named block; `Fault::Output` where the
+/// output can't be written. Some of the lines may have been written.
+pub fn judge(
+    alloc: Global,
+    stopped: Stopped,
+    keep: &[u64],
+    named: &NamedBlocks,
+    out: &mut impl Write,
+) -> Result<bool, Fault>
+    ensures { IfOk result (IsVerdict stopped.device keep.now stopped.recorded.sealed.items stopped.recorded.acknowledged named.now) }
+{
+    let none = Stop {
+        at_write: None,
+        keep: &[],
+    };
+    judge_left(alloc, stopped.crash(keep), none, named, out)
+}
+
+/// Dumps what a crash left and opens it, over a device that stops at the write of `opening` where one is named and the opening
+/// makes it: what that leaves is opened once more. Prints how the named blocks of home begin behind the last opening and the
+/// verdict on what it gave back, which is also the answer.
+///
+/// # Errors
+///
+/// `Fault::Refused` where memory runs out, an image is refused, or home lacks a named block; `Fault::Output` where the
+/// output can't be written. Some of the lines may have been written.
+pub fn judge_left(
+    alloc: Global,
+    left: Left,
+    opening: Stop<'_>,
+    named: &NamedBlocks,
+    out: &mut impl Write,
+) -> Result<bool, Fault>
+    ensures { IfOk result (IsLeftVerdict left.image opening.entry left.recorded.sealed.items left.recorded.acknowledged named.now) }
+{
+    write_stop(out, left.at_write)?;
+    let mut image = left.image;
+    match dump(alloc, &mut image, out) {
+        Ok(()) => {}
+        Err(fault) => return Err(of_dump(fault)),
+    }
+    match opening.at_write {
+        Some(k) => judge_stopped_opening(alloc, image, k, opening.keep, &left.recorded, named, out),
+        None => judge_image(alloc, image, &left.recorded, named, out),
+    }
+}
+
+/// Why there is no dump, as a run says it.
+fn of_dump(fault: log_dump::Fault) -> Fault {
+    match fault {
+        log_dump::Fault::Refused(e) => Fault::Refused(e),
+        log_dump::Fault::Output(e) => Fault::Output(e),
+    }
+}
+
+/// Prints at which write the device stopped.
+fn write_stop(out: &mut impl Write, at_write: Option<u64>) -> io::Result<()> {
+    match at_write {
+        Some(k) => writeln!(out, "stopped {k}"),
+        None => writeln!(out, "stopped at end"),
+    }
+}

@@ -1,0 +1,168 @@
+//! Judges what an opening gave back by what the run had recorded.
+ghost use Rattle.std.specs.Prelude.{◌≡◌, ◌↔◌, All, Contains, IfOk, IsTrue, None, count_by, length, nat_le, replicate};
+ghost use Rattle.std.specs.BTreeSet.{keys};
+ghost use Rattle.journal_model.specs.declared.number.Area.TheVariants.{Home};
+ghost use Rattle.journal_model.specs.Disk.{reading};
+ghost use Rattle.log_model.specs.Opening.{numbered_below};
+ghost use Rattle.journal_model.specs.Transaction.{entry_of};
+ghost use Rattle.block_device.specs.State.{Stays};
+ghost use Rattle.script_run.specs.LastEntries.{entry_in};
+ghost use Rattle.script_run.specs.Verdict.{IsAsLeft, IsLeft, IsLeftBy, IsRight, owed};
+
+use crate::blocks::read_block;
+use crate::last_entries::last_entries;
+use block_device::Device;
+use journal_model::{Area, JournalError, Op, Sealed, Tid};
+use journal_script::NamedBlocks;
+use std::alloc::Global;
+use std::collections::BTreeMap;
+
+/// What a run recorded.
+#[derive(Debug, Drop)]
+pub struct Record {
+    /// The transactions that were sealed, in order.
+    pub sealed: Vec<Sealed>,
+    /// The greatest transaction that the run showed committed.
+    pub acknowledged: Option<Tid>,
+}
+
+impl Record {
+    /// How many recorded transactions have a number below `end`.
+    pub fn count_below(&self, end: u64) -> usize
+        ensures { result ≡ numbered_below end self.now.sealed.items }
+    {
+        self.sealed
+            .iter()
+            .filter(|transaction| u64::from(transaction.tid.0) < end)
+            .count()
+    }
+
+    /// How many recorded transactions have a number up to this one.
+    fn count_up_to(&self, tid: Tid) -> usize
+        ensures { result ≡ count_by (λ t. nat_le t.tid tid) self.now.sealed.items }
+    {
+        self.sealed
+            .iter()
+            .filter(|transaction| transaction.tid.0 <= tid.0)
+            .count()
+    }
+
+    /// How many recorded transactions have to be there: those up to the greatest one that was shown committed.
+    fn count_acknowledged(&self) -> usize
+        ensures { result ≡ owed self.now.acknowledged self.now.sealed.items }
+    {
+        match self.acknowledged {
+            Some(tid) => self.count_up_to(tid),
+            None => 0,
+        }
+    }
+
+    /// Whether an opening that found the first `n` recorded transactions gave back what it owes: none acknowledged is lost,
+    /// none is there that was not sealed, and each named block is as those `n` left it. A block of which they have no entry is
+    /// zeros, unless a direct write names it; of one that a direct write names so, and of one that they revoked last, nothing is
+    /// asked.
+    ///
+    /// # Errors
+    ///
+    /// `BadBlock` where home has no such block; `Device` and `Memory`.
+    pub fn judge<D: Device>(
+        &self,
+        alloc: Global,
+        device: &mut D,
+        named: &NamedBlocks,
+        n: usize,
+    ) -> Result<bool, JournalError>
+        ensures { IfOk result (λ right. D.honest device.new → IsTrue right ↔
+            IsRight self.now.sealed.items self.now.acknowledged named.now n (D.state device.old).shape.block_size (reading (D.state device.old).disk Home)) }
+    {
+        if n < self.count_acknowledged() || n > self.sealed.len() {
+            return Ok(false);
+        }
+        self.are_as_left(alloc, device, named, n)
+    }
+
+    /// Whether each of these blocks of home is as the first `n` recorded transactions left it.
+    fn are_as_left<D: Device>(
+        &self,
+        alloc: Global,
+        device: &mut D,
+        named: &NamedBlocks,
+        n: usize,
+    ) -> Result<bool, JournalError>
+        ensures { IfOk result (λ right. D.honest device.new → IsTrue right ↔
+            All (IsAsLeft self.now.sealed.items (keys named.now.directs) n (D.state device.old).shape.block_size (reading (D.state device.old).disk Home)) (keys named.now.blocks)) }
+    {
+        let last = last_entries(alloc, &self.sealed, n)?;
+        are_left(alloc, device, named, &last)
+    }
+}
+
+/// Whether each of these blocks of home is as these last operations left it.
+fn are_left<D: Device>(
+    alloc: Global,
+    device: &mut D,
+    named: &NamedBlocks,
+    last: &BTreeMap<u64, &Op>,
+) -> Result<bool, JournalError>
+    ensures { IfOk result (λ right. D.honest device.new → IsTrue right ↔
+        All (IsLeft (entry_in last.now) (keys named.now.directs) (D.state device.old).shape.block_size (reading (D.state device.old).disk Home)) (keys named.now.blocks)) }
+{
+    for block in &named.blocks {
+        if !is_left(alloc, device, *block, named, last)? {
+            return Ok(false);
+        }
+    }
+    Ok(true)
+}
+
+/// Whether a block of home is as these last operations left it.
+fn is_left<D: Device>(
+    alloc: Global,
+    device: &mut D,
+    block: u64,
+    named: &NamedBlocks,
+    last: &BTreeMap<u64, &Op>,
+) -> Result<bool, JournalError>
+    ensures right { IfOk result (λ right. D.honest device.new → IsTrue right ↔
+        IsLeft (entry_in last.now) (keys named.now.directs) (D.state device.old).shape.block_size (reading (D.state device.old).disk Home) block) }
+    ensures stays { Stays (D.state device.old) (D.state device.new) }
+    ensures honest { D.honest device.new → D.honest device.old }
+{
+    let home = read_block(alloc, device, Area::Home, block)?;
+    Ok(are_bytes_left(last, named, block, home.bytes()))
+}
+
+/// Whether these are bytes of a block as these last operations left it.
+fn are_bytes_left(last: &BTreeMap<u64, &Op>, named: &NamedBlocks, block: u64, bytes: &[u8]) -> bool
+    ensures { IsTrue result ↔ IsLeftBy (entry_in last.now block) (Contains (keys named.now.directs) block) (length bytes.now) bytes.now }
+{
+    match last.get(&block) {
+        Some(op) => are_left_by(op, named, block, bytes),
+        None => are_untouched(named, block, bytes),
+    }
+}
+
+/// Whether these are bytes of a block on which this was the last operation that could leave an entry.
+fn are_left_by(op: &Op, named: &NamedBlocks, block: u64, bytes: &[u8]) -> bool
+    ensures { IsTrue result ↔ IsLeftBy (entry_of op.now) (Contains (keys named.now.directs) block) (length bytes.now) bytes.now }
+{
+    match op {
+        Op::Write(written) => written.bytes() == bytes,
+        Op::Revoke => true,
+        Op::Read(_) => are_untouched(named, block, bytes),
+    }
+}
+
+/// Whether these are bytes of a block without an entry: zeros, unless a direct write names it.
+fn are_untouched(named: &NamedBlocks, block: u64, bytes: &[u8]) -> bool
+    ensures { IsTrue result ↔ IsLeftBy None (Contains (keys named.now.directs) block) (length bytes.now) bytes.now }
+{
+    named.is_direct(block) || are_zeros(bytes)
+}
+
+/// Whether all of these bytes are 0.
+fn are_zeros(bytes: &[u8]) -> bool
+    ensures { IsTrue result ↔ (bytes.now ≡ replicate (length bytes.now) 0) }
+{
+    bytes.iter().all(|byte| *byte == 0)
+}

@@ -1,0 +1,30 @@
+-- What is known within a sweep of a journal that keeps its contracts.
+use Rattle.std.specs.Prelude.{ℕ, ◌+◌, ◌-◌, ◌^◌, List, min}
+use Rattle.std.specs.BTreeSet.{keys}
+use Rattle.journal_model.specs.Disk.{reading}
+use Rattle.block_device.specs.Memory.{MemState, state_of}
+use Rattle.recovery.specs.declared.opening.Report.{Report}
+use Rattle.recovery.specs.Opening.{Tells}
+use Rattle.journal_script.specs.declared.script.NamedBlocks.{NamedBlocks}
+use Rattle.journal_script.specs.declared.script.Operation.{Operation}
+use Rattle.journal_script.specs.Named.{HasDirects}
+use Rattle.script_client.specs.Told.{IsLedTo, IsZeroHome}
+use Rattle.script_run.specs.declared.running.Stopped.{Stopped}
+
+-- a run of these operations was led to what it left
+abbrev pub HasRun : List Operation → Stopped → Type 0
+HasRun operations stopped = IsLedTo IsZeroHome operations (state_of stopped.device) stopped.recorded.sealed.items stopped.recorded.acknowledged
+
+-- so was one of operations of which these are the direct writes
+pub record HasRunNamed (stopped : Stopped) (named : NamedBlocks) : Type 0 where
+  pub operations : List Operation
+  pub run : HasRun operations stopped
+  pub directs : HasDirects operations (keys named.directs)
+
+-- this is what an opening finds in the image
+abbrev pub IsFirst : MemState → Report → Type 0
+IsFirst image report = Tells image.shape (reading (state_of image).disk) report.clean report.ends_at report.transactions
+
+-- a count with one more, which stays at 2^64 - 1
+abbrev pub one_more : ℕ → ℕ
+one_more n = min (n + 1) (2 ^ 64 - 1)

@@ -1,0 +1,44 @@
+//! How many device calls are made where none fails.
+use journal_model::JournalError;
+use journal_script::{Measures, Script};
+use recovery::{Opened, open};
+use script_client::perform;
+use script_run::{AfterFailure, AnyHome, Fault, RunDevice, empty_disk, run_device};
+use std::alloc::Global;
+use std::io;
+
+/// How many device calls a script's operations make, where the device does not stop and no call fails: reads, writes and flushes,
+/// counted behind the opening of the empty log.
+///
+/// # Errors
+///
+/// `Fault::Refused` where memory runs out.
+pub fn calls_of_run(alloc: Global, script: &Script) -> Result<u64, Fault> {
+    let calls_before = calls_of_opening(alloc, &script.measures)?;
+    let opened = empty_log(alloc, &script.measures)?;
+    let performed = perform::<RunDevice, AnyHome>(
+        alloc,
+        opened,
+        &script.operations,
+        AfterFailure::End,
+        &mut io::sink(),
+    )?;
+    Ok(performed.device.calls().saturating_sub(calls_before))
+}
+
+/// How many device calls the opening of an empty log with these measures makes.
+///
+/// # Errors
+///
+/// Those of `script_run::empty_disk`, and `Memory`.
+pub fn calls_of_opening(alloc: Global, measures: &Measures) -> Result<u64, JournalError> {
+    Ok(empty_log(alloc, measures)?.into_device().calls())
+}
+
+/// The opened log of an empty disk with these measures, over a device that counts its calls and of which none fails.
+fn empty_log(alloc: Global, measures: &Measures) -> Result<Opened<RunDevice>, JournalError> {
+    match open(alloc, run_device(empty_disk(alloc, measures)?, None, None)) {
+        Ok(opened) => Ok(opened),
+        Err((_, e)) => Err(e),
+    }
+}

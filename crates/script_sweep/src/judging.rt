@@ -1,0 +1,191 @@
+//! What is left of a run, and the verdicts on openings of it.
+ghost use Rattle.std.specs.Prelude.{◌≡◌, IfOk, IfSome, false, true};
+ghost use Rattle.block_device.specs.Memory.{state_of};
+ghost use Rattle.journal_script.specs.Named.{AreNamedBy};
+ghost use Rattle.script_run.specs.Left.{IsCrashOf};
+ghost use Rattle.script_run.specs.OpenedImages.{IsOpenedImage};
+ghost use Rattle.script_sweep.specs.Swept.{HasRunNamed, IsFirst, one_more};
+
+use crate::counts::NotRight;
+use crate::place::{Place, choice};
+use crate::swept::Swept;
+use block_device::MemDevice;
+use journal_model::JournalError;
+use journal_script::{NamedBlocks, Script};
+use recovery::Report;
+use script_run::{Fault, OpenedImage, Stopped, judge_opened};
+use std::alloc::Global;
+use std::io;
+use std::io::Write;
+
+/// A run that stopped, on a journal, and the blocks that its script names.
+#[derive(Clone, Copy)]
+pub(crate) struct Ran<'a, J> {
+    /// The allocator.
+    pub(crate) alloc: Global,
+    /// The journal.
+    pub(crate) journal: &'a J,
+    /// What is left of the run.
+    pub(crate) stopped: &'a Stopped,
+    /// The blocks.
+    pub(crate) named: &'a NamedBlocks,
+}
+
+/// What an opening of an image found, and how many writes it made.
+#[derive(Clone, Copy)]
+pub(crate) struct Found {
+    /// What it found.
+    pub(crate) report: Report,
+    /// How many writes it made.
+    pub(crate) writes: u64,
+}
+
+impl<J: Swept> Ran<'_, J> {
+    /// Opens what the run left, and judges it. Nothing is found where that is refused.
+    ///
+    /// # Errors
+    ///
+    /// `Fault::Refused` where memory runs out; `Fault::Output` where `err` can't be written.
+    pub(crate) fn judge_image<E: Write>(
+        &self,
+        place: Place<'_>,
+        image: &MemDevice,
+        not_right: &mut NotRight,
+        err: &mut E,
+    ) -> Result<Option<Found>, Fault>
+        requires run { J.keeps → HasRunNamed self.now.stopped.now self.now.named.now }
+        requires crash { IsCrashOf self.now.stopped.now.device place.keep.now image.now }
+        ensures right { J.keeps → not_right.new.wrong ≡ not_right.old.wrong }
+        ensures found { IfOk result (λ found. IfSome found (λ first. J.keeps → IsFirst image.now first.report)) }
+    {
+        let opened = match self.journal.open(self.alloc, copy_of(image)?) {
+            Ok(opened) => opened,
+            Err(e) => {
+                self.note_refusal(place, None, e, not_right, err)?;
+                return Ok(None);
+            }
+        };
+        let found = Found {
+            report: opened.report,
+            writes: opened.device.writes(),
+        };
+        self.judge_first(place, image, opened, not_right, err)?;
+        Ok(Some(found))
+    }
+
+    /// Judges an opening of what a stop left.
+    fn judge_first<E: Write>(
+        &self,
+        place: Place<'_>,
+        image: &MemDevice,
+        opened: OpenedImage,
+        not_right: &mut NotRight,
+        err: &mut E,
+    ) -> Result<(), Fault>
+        requires run { J.keeps → HasRunNamed self.now.stopped.now self.now.named.now }
+        requires crash { IsCrashOf self.now.stopped.now.device place.keep.now image.now }
+        requires opened { J.keeps → IsOpenedImage image.now.shape (state_of image.now).disk opened }
+        ensures { J.keeps → not_right.new.wrong ≡ not_right.old.wrong }
+    {
+        let mut lines = Vec::new(self.alloc);
+        let recorded = &self.stopped.recorded;
+        let right = judge_opened(self.alloc, opened, recorded, self.named, &mut lines)?;
+        self.note_verdict(place, None, right, &lines, not_right, err)
+    }
+
+    /// Counts a verdict that is false, and names it: what the opening found is in these lines.
+    pub(crate) fn note_verdict<E: Write>(
+        &self,
+        place: Place<'_>,
+        again: Option<Place<'_>>,
+        right: bool,
+        lines: &[u8],
+        not_right: &mut NotRight,
+        err: &mut E,
+    ) -> Result<(), Fault>
+        ensures right { right ≡ true → not_right.new ≡ not_right.old }
+        ensures wrong { right ≡ false → not_right.new ≡ record not_right.old { wrong = one_more not_right.old.wrong } }
+    {
+        if right {
+            return Ok(());
+        }
+        not_right.wrong = not_right.wrong.saturating_add(1);
+        self.name(place, again, err)?;
+        err.write_all(lines)?;
+        Ok(())
+    }
+
+    /// Counts a refused image, and names it. Where memory ran out, or the device failed, the sweep ends.
+    pub(crate) fn note_refusal<E: Write>(
+        &self,
+        place: Place<'_>,
+        again: Option<Place<'_>>,
+        e: JournalError,
+        not_right: &mut NotRight,
+        err: &mut E,
+    ) -> Result<(), Fault>
+        ensures { not_right.new.wrong ≡ not_right.old.wrong }
+    {
+        if matches!(e, JournalError::Memory | JournalError::Device) {
+            return Err(Fault::Refused(e));
+        }
+        not_right.refused = not_right.refused.saturating_add(1);
+        self.name(place, again, err)?;
+        writeln!(err, "refused {} {e}", e.number())?;
+        Ok(())
+    }
+
+    /// Names what is not right: by the options that show it, and by what the run recorded.
+    fn name<E: Write>(
+        &self,
+        place: Place<'_>,
+        again: Option<Place<'_>>,
+        err: &mut E,
+    ) -> io::Result<()> {
+        write!(err, "not right:{place}")?;
+        if let Some(again) = again {
+            write!(err, "{again}")?;
+        }
+        let recorded = &self.stopped.recorded;
+        match recorded.acknowledged {
+            Some(tid) => write!(err, ", acknowledged {}", tid.0)?,
+            None => write!(err, ", acknowledged none")?,
+        }
+        writeln!(err, ", sealed {}", recorded.sealed.len())
+    }
+}
+
+/// What a crash of a copy of this device leaves that keeps these writes.
+pub(crate) fn crashed(device: &MemDevice, keep: &[u64]) -> Result<MemDevice, JournalError>
+    ensures { IfOk result (IsCrashOf device.now keep.now) }
+{
+    Ok(copy_of(device)?.crash(keep))
+}
+
+/// A copy of a device.
+pub(crate) fn copy_of(device: &MemDevice) -> Result<MemDevice, JournalError>
+    ensures { IfOk result (λ copy. copy ≡ device.now) }
+{
+    match device.try_clone() {
+        Ok(copy) => Ok(copy),
+        Err(e) => Err(JournalError::from(e)),
+    }
+}
+
+/// This choice of the last writes up to write `k`.
+pub(crate) fn kept(alloc: Global, k: u64, bits: u64) -> Result<Vec<u64>, JournalError> {
+    match choice(alloc, k, bits) {
+        Ok(kept) => Ok(kept),
+        Err(e) => Err(JournalError::from(e)),
+    }
+}
+
+/// The blocks that a script names.
+pub(crate) fn named_blocks(alloc: Global, script: &Script) -> Result<NamedBlocks, JournalError>
+    ensures { IfOk result (AreNamedBy script.now) }
+{
+    match script.named_blocks(alloc) {
+        Ok(named) => Ok(named),
+        Err(e) => Err(JournalError::from(e)),
+    }
+}

@@ -1,0 +1,88 @@
+//! The journal that is swept.
+ghost use Rattle.std.specs.Prelude.{IfOk};
+ghost use Rattle.block_device.specs.Memory.{state_of};
+ghost use Rattle.script_run.specs.OpenedImages.{IsOpenedImage};
+ghost use Rattle.script_run.specs.Reopening.{IsAttempt};
+ghost use Rattle.script_sweep.specs.Swept.{HasRun};
+
+use crate::calls::calls_of_run;
+use block_device::MemDevice;
+use journal_model::JournalError;
+use journal_script::Script;
+use script_run::{Attempt, Fault, OpenedImage, Stopped, open_image, open_to, run_operations};
+use std::alloc::Global;
+use std::io;
+
+/// A journal, by what a sweep asks of it: to run a script, and to open what a stop left.
+pub trait Swept {
+    /// It does so as the contracts of this project's journal say.
+    ghost keeps: { Type 0 };
+
+    /// Runs a script over a device in memory that stops at write `stop`, or at the end. Where `failing_call` is a call, that one fails
+    /// and does nothing, and the operations behind it are performed too. Both are counted from 1 behind the first opening.
+    ///
+    /// # Errors
+    ///
+    /// `Fault::Refused` where memory runs out.
+    fn run(
+        &self,
+        alloc: Global,
+        script: &Script,
+        stop: Option<u64>,
+        failing_call: Option<u64>,
+    ) -> Result<Stopped, Fault>
+        ensures { IfOk result (λ stopped. keeps → HasRun script.now.operations.items stopped) };
+
+    /// How many device calls a run of a script makes behind the first opening, where none fails: its reads, writes and flushes.
+    ///
+    /// # Errors
+    ///
+    /// `Fault::Refused` where memory runs out.
+    fn calls(&self, alloc: Global, script: &Script) -> Result<u64, Fault>;
+
+    /// Opens what a crash left.
+    ///
+    /// # Errors
+    ///
+    /// Those of an opening.
+    fn open(&self, alloc: Global, image: MemDevice) -> Result<OpenedImage, JournalError>
+        ensures { IfOk result (λ opened. keeps → IsOpenedImage image.shape (state_of image).disk opened) };
+
+    /// Opens what a crash left over a device that stops at write `k` of the opening, counted from 1.
+    ///
+    /// # Errors
+    ///
+    /// Those of an opening, where it failed before that write.
+    fn open_to(&self, alloc: Global, image: MemDevice, k: u64) -> Result<Attempt, JournalError>
+        ensures { IfOk result (λ attempt. keeps → IsAttempt (state_of image) k attempt) };
+}
+
+/// The journal of this project.
+#[derive(Clone, Copy, Debug)]
+pub struct ThisJournal;
+
+impl Swept for ThisJournal {
+    ghost keeps = { Unit {0} };
+
+    fn run(
+        &self,
+        alloc: Global,
+        script: &Script,
+        stop: Option<u64>,
+        failing_call: Option<u64>,
+    ) -> Result<Stopped, Fault> {
+        run_operations(alloc, script, stop, failing_call, &mut io::sink())
+    }
+
+    fn calls(&self, alloc: Global, script: &Script) -> Result<u64, Fault> {
+        calls_of_run(alloc, script)
+    }
+
+    fn open(&self, alloc: Global, image: MemDevice) -> Result<OpenedImage, JournalError> {
+        open_image(alloc, image)
+    }
+
+    fn open_to(&self, alloc: Global, image: MemDevice, k: u64) -> Result<Attempt, JournalError> {
+        open_to(alloc, image, k)
+    }
+}

@@ -1,5 +1,0 @@
-use Rattle.shared_journal.proofs.tests.two_threads_share_a_journal.Given as goal
-
--- the name is that of the laid journal
-abbrev pub ghosts-shared : goal.ghosts-shared
-ghosts-shared g a = record { board = a.laid.board; capacity = a.laid.capacity; block_size = a.laid.block_size }

@@ -1,7 +1,0 @@
-use Rattle.std.proofs.Common.{◌≡◌, ◌+◌, length}
-use Rattle.journal_model.specs.Transaction.{copied, entries}
-use Rattle.transaction.proofs.transaction.Transaction.counts.Given as goal
-
--- the copies that were counted, and those that are left, are all
-abbrev pub invariant-loop-entry : goal.invariant-loop-entry
-invariant-loop-entry l = l.copies + length (copied l.entry-iterator) ≡ length (copied (entries l.self.transaction.steps))
