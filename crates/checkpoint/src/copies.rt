@@ -11,7 +11,7 @@ use std::collections::VecDeque;
 use std::marker::Model;
 
 /// A committed copy that is not released.
-#[derive(Clone, Copy, Debug)]
+#[derive(Clone, Copy)]
 pub(crate) struct QueuedCopy {
     /// The transaction that it is of.
     pub(crate) tid: Tid,
@@ -24,7 +24,7 @@ pub(crate) struct QueuedCopy {
 }
 
 /// A copy, and the number of the link before it in its bucket, where there is one.
-#[derive(Clone, Copy, Debug)]
+#[derive(Clone, Copy)]
 struct Link {
     copy: QueuedCopy,
     before: u64,
@@ -32,7 +32,7 @@ struct Link {
 
 /// Committed copies in order, in chains by block: one chain for each bucket of block numbers, from its last copy back.
 /// Links are numbered in their order, modulo 2^64. The number of a link that was dropped leads nowhere.
-#[derive(Debug, Drop)]
+#[derive(Drop)]
 pub(crate) struct Copies {
     /// How many copies there is room for.
     room: usize,

@@ -20,7 +20,7 @@ use std::marker::Model;
 /// is room for copies. A commit of k entries takes in the order of k log k, for it sorts its copies by block. A release
 /// takes time in proportion to the copies that it drops. Besides, `commit`, `wrote` and `release` pass over copies that
 /// were replaced: over each of them twice in its whole life.
-#[derive(Debug, Drop)]
+#[derive(Drop)]
 pub struct Pending {
     /// The copies that were committed and not released, by transaction and then block.
     copies: Copies,

@@ -2,7 +2,7 @@
 use journal_model::{BlockNo, Tid};
 
 /// Where a copy stands in the log: its transaction, and its place among that transaction's entries.
-#[derive(Clone, Copy, Debug, PartialEq, Eq)]
+#[derive(Clone, Copy, PartialEq, Eq)]
 pub struct Version {
     /// The transaction that it is of.
     pub tid: Tid,
@@ -11,7 +11,7 @@ pub struct Version {
 }
 
 /// A pending copy that is to be written home.
-#[derive(Clone, Copy, Debug, PartialEq, Eq)]
+#[derive(Clone, Copy, PartialEq, Eq)]
 pub struct HomeCopy {
     /// The block that it is of.
     pub block: BlockNo,

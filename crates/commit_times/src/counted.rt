@@ -5,7 +5,7 @@ use block_device::{Device, DeviceFault};
 use journal_model::Area;
 
 /// How often an area was called, by the kind of call.
-#[derive(Clone, Copy, Debug)]
+#[derive(Clone, Copy)]
 pub(crate) struct Calls {
     /// Reads of one block.
     pub(crate) reads: u64,

@@ -2,7 +2,7 @@
 use journal_model::Area;
 
 /// What a command is about to do, or has done.
-#[derive(Clone, Copy, Debug, PartialEq, Eq)]
+#[derive(Clone, Copy)]
 pub enum Step {
     /// This block of an area, of so many, is about to be read.
     Reads { area: Area, n: u64, blocks: u64 },
@@ -26,7 +26,7 @@ pub trait Watch {
 }
 
 /// Is told how far a command is, and does nothing.
-#[derive(Clone, Copy, Debug)]
+#[derive(Clone, Copy)]
 pub struct Unwatched;
 
 impl Watch for Unwatched {

@@ -14,7 +14,7 @@ use std::io::Write;
 use std::time::Duration;
 
 /// What the program is told to do.
-#[derive(Debug, Drop)]
+#[derive(Drop)]
 pub enum Words<'a> {
     /// To run a script.
     Run(RunWords<'a>),
@@ -35,7 +35,7 @@ pub enum Words<'a> {
 }
 
 /// The words of `sweep`.
-#[derive(Debug, Drop)]
+#[derive(Drop)]
 pub struct SweepWords<'a> {
     /// The script's file.
     pub script: &'a str,
@@ -47,7 +47,7 @@ pub struct SweepWords<'a> {
 const SECONDS: u64 = 10;
 
 /// The words of `bench`.
-#[derive(Clone, Copy, Debug)]
+#[derive(Clone, Copy)]
 pub struct BenchWords<'a> {
     /// The files of the log.
     pub paths: LogPaths<'a>,
@@ -76,7 +76,7 @@ impl BenchWords<'_> {
 }
 
 /// The words of `apply`.
-#[derive(Clone, Copy, Debug)]
+#[derive(Clone, Copy)]
 pub struct ApplyWords<'a> {
     /// The files of the log.
     pub paths: LogPaths<'a>,
@@ -87,7 +87,7 @@ pub struct ApplyWords<'a> {
 }
 
 /// The files of a log.
-#[derive(Clone, Copy, Debug)]
+#[derive(Clone, Copy)]
 pub struct LogPaths<'a> {
     /// The file of the log.
     pub log: &'a str,
@@ -96,7 +96,7 @@ pub struct LogPaths<'a> {
 }
 
 /// The words of `format`.
-#[derive(Debug, Drop)]
+#[derive(Drop)]
 pub struct FormatWords<'a> {
     /// The files that are made.
     pub paths: LogPaths<'a>,
@@ -105,7 +105,7 @@ pub struct FormatWords<'a> {
 }
 
 /// The words of `run`.
-#[derive(Debug, Drop)]
+#[derive(Drop)]
 pub struct RunWords<'a> {
     /// The script's file.
     pub script: &'a str,
@@ -120,7 +120,7 @@ pub struct RunWords<'a> {
 }
 
 /// Where a device is to stop.
-#[derive(Debug, Drop)]
+#[derive(Drop)]
 pub struct StopWords {
     /// The write at which it stops, if one is told.
     pub at_write: Option<u64>,

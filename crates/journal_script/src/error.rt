@@ -5,7 +5,7 @@ use std::alloc::{AllocError, AllocFailed};
 use std::fmt;
 
 /// Why a text gives no script.
-#[derive(Debug, Drop)]
+#[derive(Drop)]
 pub enum ScriptError {
     /// It is no script.
     BadScript(BadScript),
@@ -14,7 +14,7 @@ pub enum ScriptError {
 }
 
 /// What makes a text no script.
-#[derive(Debug, Drop)]
+#[derive(Drop)]
 pub enum BadScript {
     /// It is no JSON from this line and this column on, both counted from 1.
     NoJson(usize, usize),
@@ -31,7 +31,7 @@ pub enum BadScript {
 }
 
 /// A key of a script.
-#[derive(Clone, Copy, Debug, PartialEq, Eq)]
+#[derive(Clone, Copy)]
 pub enum Key {
     /// `ops`, the operations.
     Operations,
@@ -46,7 +46,7 @@ pub enum Key {
 }
 
 /// An operation that is none, or can't stand where it stands.
-#[derive(Debug, Drop)]
+#[derive(Drop)]
 pub struct BadOperation {
     /// Its number in the list, from 1 on.
     pub number: usize,
@@ -57,7 +57,7 @@ pub struct BadOperation {
 }
 
 /// What is wrong with an operation.
-#[derive(Clone, Copy, Debug)]
+#[derive(Clone, Copy)]
 pub enum OperationFault {
     /// It is no list that begins with a name.
     NoName,
@@ -78,7 +78,7 @@ pub enum OperationFault {
 }
 
 /// The name of an operation.
-#[derive(Clone, Copy, Debug, PartialEq, Eq)]
+#[derive(Clone, Copy)]
 pub enum OperationName {
     /// `start`
     Start,

@@ -7,7 +7,7 @@ use journal_model::layout::{GREATEST_LENGTH, LEAST_LENGTH};
 use std::alloc::{AllocError, Global};
 
 /// The measures of a device, and the UUID of its journal.
-#[derive(Clone, Copy, Debug, PartialEq, Eq)]
+#[derive(Clone, Copy)]
 pub struct Measures {
     /// Bytes of a block: 1024, 2048 or 4096.
     pub block_size: usize,

@@ -4,7 +4,7 @@ use std::alloc::{AllocError, Global};
 use std::fmt;
 
 /// The state of a name of a handle.
-#[derive(Clone, Copy, Debug, PartialEq, Eq)]
+#[derive(Clone, Copy)]
 pub enum State {
     /// It names nothing yet.
     Unused,
@@ -15,7 +15,7 @@ pub enum State {
 }
 
 /// A handle that an operation names, and that is in another state than the operation needs.
-#[derive(Clone, Copy, Debug)]
+#[derive(Clone, Copy)]
 pub struct Misplaced {
     /// The handle's name.
     pub handle: HandleName,

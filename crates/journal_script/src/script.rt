@@ -15,7 +15,7 @@ pub const MOST_OPERATIONS: usize = 100_000;
 pub const HANDLE_NAMES: u16 = 10_000;
 
 /// A script's own name of a handle, 0 to 9999.
-#[derive(Clone, Copy, Debug)]
+#[derive(Clone, Copy)]
 pub struct HandleName(u16);
 
 impl Model for HandleName {
@@ -27,7 +27,7 @@ impl Model for HandleName {
 }
 
 /// One operation of a script.
-#[derive(Debug, Drop)]
+#[derive(Drop)]
 pub enum Operation {
     /// Starts a handle with this many credits.
     Start(HandleName, u64),
@@ -64,7 +64,7 @@ pub enum Operation {
 }
 
 /// The blocks that a script names, whether its operations will run or not.
-#[derive(Debug, Drop)]
+#[derive(Drop)]
 pub struct NamedBlocks {
     /// The home blocks that any of its operations names.
     pub blocks: BTreeSet<u64>,

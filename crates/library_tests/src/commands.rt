@@ -14,5 +14,14 @@ mod sessions;
 fn text_of(alloc: Global, out: &[u8], err: &[u8], status: Status) -> Result<String, Fail> {
     let out = from_utf8(out)?;
     let err = from_utf8(err)?;
-    Ok(format!(in alloc; "{out}| {err}{status:?}")?)
+    Ok(format!(in alloc; "{out}| {err}{}", name_of(status))?)
+}
+
+/// The name of a status.
+fn name_of(status: Status) -> &'static str {
+    match status {
+        Status::Fine => "Fine",
+        Status::Refused => "Refused",
+        Status::VerdictFalse => "VerdictFalse",
+    }
 }

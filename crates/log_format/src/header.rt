@@ -7,7 +7,7 @@ use journal_model::layout::MAGIC;
 
 /// The header that the superblock and each descriptor, commit and revoke block begins with.
 /// Source: journal.rst, "Block Header".
-#[derive(Clone, Copy, Debug, PartialEq, Eq)]
+#[derive(Clone, Copy)]
 pub struct Header {
     /// What the block is: 1 a descriptor, 2 a commit block, 4 a superblock, 5 a revoke block.
     pub block_type: u32,

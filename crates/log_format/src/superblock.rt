@@ -21,7 +21,7 @@ const LEAST_RING: u32 = 16;
 
 /// The fields of a superblock, under the names that jbd2 gives them.
 /// Source: journal.rst, "Super Block".
-#[derive(Clone, Copy, Debug, PartialEq, Eq)]
+#[derive(Clone, Copy)]
 pub struct Super {
     /// Bytes in a block.
     pub s_blocksize: u32,

@@ -2,7 +2,7 @@
 use journal_model::Area;
 
 /// The device call that is due, if one is.
-#[derive(Clone, Copy, Debug)]
+#[derive(Clone, Copy)]
 pub enum Due {
     /// None.
     Nothing,

@@ -2,7 +2,7 @@
 use journal_model::Tid;
 
 /// How far a step of a commit, or of a checkpoint round, has come.
-#[derive(Clone, Copy, Debug, PartialEq, Eq)]
+#[derive(Clone, Copy)]
 pub enum Progress {
     /// There is nothing to do: nothing is being committed, or every committed transaction is released.
     Idle,

@@ -19,7 +19,7 @@ use std::marker::Model;
 const DESCRIPTOR_BYTES: usize = HEADER_BYTES + 2 * UUID_BYTES;
 
 /// What a log block of a transaction is. Its copies and its revokes are counted from 0, each in the order of its entries.
-#[derive(Clone, Copy, Debug, PartialEq, Eq)]
+#[derive(Clone, Copy)]
 pub enum Part {
     /// A revoke block with so many numbers, from this revoke on.
     Revokes { first: u64, numbers: u64 },
@@ -33,7 +33,7 @@ pub enum Part {
 
 /// The log blocks of one transaction: revoke blocks, descriptors with their copies, and the commit block.
 /// Source: journal.rst, "Layout"; which blocks come first is this project's own.
-#[derive(Debug, Drop)]
+#[derive(Drop)]
 pub struct Layout {
     layout: LogLayout,
     copies: u64,

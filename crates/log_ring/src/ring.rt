@@ -14,7 +14,7 @@ use std::marker::Model;
 /// The ring of a log, and how many of its blocks are taken, from the tail to the head. Both are positions: they count
 /// blocks over all laps and never fall.
 /// Source: fs/jbd2 by behaviour (`j_head`, `j_tail`, `j_free`); positions in the place of places are this project's own.
-#[derive(Debug, Drop)]
+#[derive(Drop)]
 pub struct Ring {
     /// The first block of the ring in the log, and how many it has.
     first: u64,

@@ -14,7 +14,7 @@ use std::alloc::Global;
 use std::io;
 
 /// Which calls overtake a flush that was made before them, and which is done before the call behind them.
-#[derive(Clone, Copy, Debug, PartialEq, Eq)]
+#[derive(Clone, Copy, PartialEq, Eq)]
 pub enum Order {
     /// None.
     AsMade,
@@ -27,7 +27,7 @@ pub enum Order {
 }
 
 /// This project's journal, whose calls a disk takes in this order, those of openings in that.
-#[derive(Clone, Copy, Debug)]
+#[derive(Clone, Copy)]
 pub struct WrongJournal {
     /// The order in runs.
     pub runs: Order,
