@@ -85,6 +85,7 @@ fn found_of_opening(alloc: Global, kind: &str, given: &str) -> Option<Found> {
     match kind {
         "changed_bytes" => Some(opening_rows::changed_bytes(alloc, given)),
         "failed_openings" => Some(opening_rows::failed_openings(alloc, given)),
+        "forgetful_openings" => Some(opening_rows::forgetful_openings(alloc, given)),
         "opening_calls" => Some(opening_rows::opening_calls(alloc, given)),
         "openings" => Some(opening_rows::openings(alloc, given)),
         "random_logs" => Some(opening_rows::random_logs(alloc, given)),

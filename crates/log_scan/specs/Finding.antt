@@ -1,5 +1,5 @@
 -- What stands at one place of a log.
-use Rattle.std.specs.Prelude.{◌≡◌, ℕ, ◌+◌, ◌<◌, ◌≤◌, List, ◌∷◌, length, take, drop, Option, MatchOption, unwrap_or, true, false, All, ⊤}
+use Rattle.std.specs.Prelude.{◌≡◌, ℕ, ◌+◌, ◌<◌, ◌≤◌, min, List, ◌∷◌, length, take, drop, Option, MatchOption, unwrap_or, true, false, All, ⊤}
 use Rattle.log_model.specs.declared.log.Tag.{Tag}
 use Rattle.log_model.specs.declared.log.Piece.TheVariants.{Revokes, Copies}
 use Rattle.journal_model.specs.declared.number.Area.TheVariants.{Log}
@@ -12,6 +12,7 @@ use Rattle.log_model.specs.ReadingLog.{NoPieceBegins, PieceBegins}
 use Rattle.log_model.specs.RevokeBlock.{IsRevokeBlock}
 use Rattle.log_model.specs.Superblock.{Super}
 use Rattle.log_model.specs.Text.{IsCommitBlock}
+use Rattle.block_device.specs.State.{DeviceState, most_calls}
 use Rattle.log_format.specs.Size.{most_tags}
 use Rattle.log_scan.specs.declared.finding.Found.{Found}
 use Rattle.log_scan.specs.declared.finding.Found.TheVariants.{RevokeBlock, Descriptor, CommitBlock, Malformed, Nothing}
@@ -110,3 +111,15 @@ IsFound l count sequence blocks f Nothing = NothingBegins l count sequence block
 -- the sequence of a block's header, where it begins with the magic
 abbrev pub IsSequenceOf : List ℕ → Option ℕ → Type 0
 IsSequenceOf block found = MatchOption found (begins_with_magic block ≡ false) (λ sequence. (begins_with_magic block ≡ true) × (sequence ≡ sequence_in block))
+
+-- so many calls at least were made of a device: each one is counted, up to the greatest count
+abbrev pub MakesCalls : ℕ → DeviceState → DeviceState → Type 0
+MakesCalls n old new = min (old.calls + n) most_calls ≤ new.calls
+
+-- the reads that it takes to find this: where the ring ends, none
+abbrev pub reads_of : Found → ℕ
+reads_of (RevokeBlock n) = 1
+reads_of (Descriptor n) = 1
+reads_of CommitBlock = 1
+reads_of Malformed = 1
+reads_of Nothing = 0

@@ -2,7 +2,7 @@
 ghost use Rattle.std.specs.Prelude.{◌≡◌, ◌<◌, ◌≤◌, length, OnOk};
 ghost use Rattle.journal_model.specs.Disk.{reading};
 ghost use Rattle.log_model.specs.Escape.{unescaped};
-ghost use Rattle.block_device.specs.State.{CountsFaults, Stays, blocks_in};
+ghost use Rattle.block_device.specs.State.{CountsCall, CountsFaults, Stays, blocks_in};
 ghost use Rattle.log_format.specs.Size.{IsBlockSize};
 ghost use Rattle.log_scan.specs.Finding.{most_bytes};
 
@@ -63,6 +63,7 @@ impl BlockBuffer {
         ensures bytes { OnOk result (D.honest device.new → self.new ≡ reading (D.state device.old).disk area n) }
         ensures stays { Stays (D.state device.old) (D.state device.new) }
         ensures faults { CountsFaults result (D.state device.old) (D.state device.new) }
+        ensures calls { CountsCall (D.state device.old) (D.state device.new) }
         ensures honest { D.honest device.new → D.honest device.old }
     {
         device.read(area, n, &mut self.bytes[..self.size])

@@ -6,7 +6,7 @@ ghost use Rattle.journal_model.specs.Disk.{reading};
 ghost use Rattle.log_model.specs.Opening.{layout_of, ring_of};
 ghost use Rattle.block_device.specs.State.{IsDeviceFailure, Stays};
 ghost use Rattle.log_format.specs.Accepted.{IsAccepted};
-ghost use Rattle.log_scan.specs.Finding.{Fits, limit_of};
+ghost use Rattle.log_scan.specs.Finding.{Fits, MakesCalls, limit_of, reads_of};
 ghost use Rattle.log_scan.specs.Passing.{IsPassed, LeadsTo, cursor_behind};
 
 use crate::finding::{Finder, Found};
@@ -63,6 +63,7 @@ impl Cursor {
             IsPassed log.now (limit_of log.now home_blocks) (reading (D.state device.old).disk) texts pieces self.old →
             LeadsTo log.now (limit_of log.now home_blocks) (reading (D.state device.old).disk) texts pieces finder.new self.old self.new found) }
         ensures faults { MatchResult result (λ _. (D.state device.new).faults ≡ (D.state device.old).faults) (IsDeviceFailure (D.state device.old) (D.state device.new)) }
+        ensures calls { IfOk result (λ found. MakesCalls (reads_of found) (D.state device.old) (D.state device.new)) }
         ensures stays { Stays (D.state device.old) (D.state device.new) }
         ensures honest { D.honest device.new → D.honest device.old }
     {

@@ -8,6 +8,7 @@ mod agreement;
 mod calls;
 mod changes;
 mod drawing;
+mod forgetting;
 mod opening;
 mod plain_opening;
 mod random;
@@ -15,5 +16,6 @@ mod told;
 
 pub use calls::opening_calls;
 pub use changes::changed_bytes;
+pub use forgetting::forgetful_openings;
 pub use opening::{failed_openings, openings, second_openings};
 pub use random::random_logs;

@@ -23,7 +23,7 @@ fn read_home(alloc: Global, device: &mut MemDevice, block: u64) -> Result<Vec<u8
 }
 
 /// The lines of the home blocks that are not zeros.
-fn home_text(alloc: Global, device: &mut MemDevice) -> Result<String, RowError> {
+pub(crate) fn home_text(alloc: Global, device: &mut MemDevice) -> Result<String, RowError> {
     let mut told = String::new(alloc);
     for block in 0..device.blocks(Area::Home) {
         add_home(&mut told, block, &read_home(alloc, device, block)?)?;
@@ -37,7 +37,10 @@ fn opened_text<D: Device>(alloc: Global, opened: &Opened<D>) -> Result<String, R
 }
 
 /// What an opening answers, and the device behind it.
-fn opened_or_refused<D: Device + Drop>(alloc: Global, device: D) -> Result<(String, D), RowError> {
+pub(crate) fn opened_or_refused<D: Device + Drop>(
+    alloc: Global,
+    device: D,
+) -> Result<(String, D), RowError> {
     match open(alloc, device) {
         Ok(opened) => Ok((opened_text(alloc, &opened)?, opened.into_device())),
         Err((device, e)) => Ok((refusal_text(alloc, e)?, device)),

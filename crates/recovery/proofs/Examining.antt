@@ -192,7 +192,7 @@ content-refused honest s t e stays same other more listed refused = record {
   device = λ device. absurd (other device);
   no_fault = λ not_device. same;
   memory = λ memory. absurd (more memory);
-  content = λ not_device not_memory. (stays, listed, refused);
+  content = λ not_device not_memory. (inl stays, listed, refused);
 }
 
 -- a refusal of the ring is neither the device's nor want of memory
@@ -214,7 +214,7 @@ ring-around first end low high e under over (NamesAhead place from below) = Name
 ring-around first end low high e under over NoNumber = NoNumber
 
 -- so it is one of content, where the superblock is accepted
-ring-content : (shape : Shape) (superblock : List ℕ) (fields : Super) (e : JournalError) → IsWellRead shape superblock fields →
+pub ring-content : (shape : Shape) (superblock : List ℕ) (fields : Super) (e : JournalError) → IsWellRead shape superblock fields →
     IsRingRefusal fields.s_first fields.s_maxlen e → IsContentRefusal shape e
 ring-content shape superblock fields e well names =
     let behind = well.accepted.behind in
@@ -313,12 +313,12 @@ gather-refused honest s t u v superblock fields transactions e well first second
     failure-refused honest s v e (stays-joined s u v (stays-joined s t u first second) third) (later-failure s u v e same failure)
 gather-refused honest s t u v superblock fields transactions e well first second third same tested sound (inl (inr (memory, kept))) =
     memory-refused honest s v e (stays-joined s u v (stays-joined s t u first second) third) (kept ∙ same) memory (λ trust small. sound trust)
-gather-refused honest s t u v superblock fields transactions e well first second third same tested sound (inr (names, kept, some, never)) =
-    let named : IsRingRefusal fields.s_first fields.s_maxlen e = NamesDamaged e names in
-    content-refused honest s v e (stays-joined s u v (stays-joined s t u first second) third) (kept ∙ same)
+gather-refused honest s t u v superblock fields transactions e well first second third same tested sound (inr otherwise) =
+    let named : IsRingRefusal fields.s_first fields.s_maxlen e = NamesDamaged e otherwise.names in
+    content-refused honest s v e (stays-joined s u v (stays-joined s t u first second) third) (otherwise.no_fault ∙ same)
     (ring-device fields.s_first fields.s_maxlen e named) (ring-memory fields.s_first fields.s_maxlen e named)
     (ring-content s.shape superblock fields e well named)
     (λ trust.
     absurd
-    (never-refused fields t.shape.home_blocks transactions (reading t.disk) (tested trust) some
-    (on-stays (λ (m : Shape) (d : Disk). (texts : List Text) → AreTextsOf fields m.home_blocks (reading d) texts → transactions ≡ length texts → ⊥) t u second (never trust))))
+    (never-refused fields t.shape.home_blocks transactions (reading t.disk) (tested trust) otherwise.some
+    (on-stays (λ (m : Shape) (d : Disk). (texts : List Text) → AreTextsOf fields m.home_blocks (reading d) texts → transactions ≡ length texts → ⊥) t u second (otherwise.never trust))))

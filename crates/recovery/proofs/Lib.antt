@@ -15,6 +15,7 @@ mod Noting
 mod OpeningDone
 mod OpeningMoments
 mod OpeningPaths
+mod PassCalls
 mod PlaceNotes
 mod Reading
 mod Recovering

@@ -1,5 +1,5 @@
 -- A whole opening by its calls: a log that was examined is flushed, and where it is not clean, replayed.
-use Rattle.std.proofs.Common.{refl, sym, ◌∙◌, ap, ap₂, subst, arith}
+use Rattle.std.proofs.Common.{refl, sym, ◌∙◌, ap, ap₂, subst, arith, inl, inr}
 use Rattle.std.specs.Prelude.{◌≡◌, ◌≢◌, ℕ, ◌+◌, ◌==◌, Bool, true, false, List, [], ◌∷◌, ◌++◌, length}
 use Rattle.std.proofs.lemmas.Bool.{eqb-true}
 use Rattle.std.proofs.lemmas.Bool.Decides.{nat_tests}
@@ -7,10 +7,11 @@ use Rattle.log_model.specs.declared.log.Text.{Text}
 use Rattle.journal_model.specs.declared.number.Area.TheVariants.{Log}
 use Rattle.journal_model.specs.declared.refusal.JournalError.{JournalError}
 use Rattle.log_model.specs.Chain.{IsChain, IsDamaged, Ring, lap}
-use Rattle.journal_model.specs.Disk.{Disk, Image, Shape, flushed, reading}
+use Rattle.journal_model.specs.Disk.{Cell, Disk, Image, Shape, flushed, reading}
 use Rattle.log_model.specs.Opening.{layout_of, ring_of, super_of}
 use Rattle.log_model.specs.Superblock.{Super, super_in, with_tail}
 use Rattle.block_device.specs.State.{DeviceState, IsDeviceFailure, Moves, Stays, one_more_fault}
+use Rattle.log_scan.proofs.Listed.{damage-around, damage-device, damage-memory}
 use Rattle.log_scan.specs.Scanning.{AreTextsOf}
 use Rattle.journal_world.specs.Call.{Call}
 use Rattle.journal_world.specs.Call.Call.{Flush}
@@ -18,12 +19,14 @@ use Rattle.log_epochs.specs.OpeningSteps.{Found, HasTexts, clean_superblock, nex
 use Rattle.log_epochs.specs.OpeningSteps.HasTexts.{NoTexts, Texts}
 use Rattle.log_epochs.proofs.CleanLogs.{clean-tail, cleaned-clean, cleaned-started}
 use Rattle.recovery.specs.Calls.{HasBegun, HasMade, cleaning_calls, opening_calls, writes_home}
-use Rattle.recovery.specs.Gather.{TablesValue, tables_of}
+use Rattle.recovery.specs.Gather.{IsReplayRefused, TablesValue, tables_of}
 use Rattle.recovery.specs.HomeCopies.{home_copies}
-use Rattle.recovery.specs.Opening.{IsBroken, IsDoneWith, IsExamined, IsExaminedOn, OpeningRefused, Tells}
+use Rattle.recovery.specs.Opening.{IsBroken, IsDoneWith, IsExamined, IsExaminedOn, IsRingRefusal, IsWellRead, OpeningRefused, Tells}
 use Rattle.recovery.specs.Opening.IsBroken.{Writing}
+use Rattle.recovery.specs.Opening.IsRingRefusal.{NamesDamaged}
 use Rattle.recovery.specs.Opening.Tells.{OfChain, OfClean}
 use Rattle.recovery.specs.Values.{IsNextNamed}
+use Rattle.recovery.proofs.Examining.{ring-content}
 use Rattle.recovery.proofs.MadeCalls.{begun-front, made-begun, made-joins, made-one, stays-made}
 use Rattle.recovery.proofs.OpeningPaths.{calls-clean, calls-started}
 
@@ -230,3 +233,31 @@ module _ (s : DeviceState) (superblock : List ℕ) (fields : Super) (transaction
             ∙ sym (cleaned-started (found.image Log 0) next (λ start. started (examined-start ∙ start)));
         next_is = examined-next next number;
       }
+
+-- why a replay is, behind the flush of a log that was examined
+pub replay-refused : (honest : Type 0) (s t u w : DeviceState) (superblock : List ℕ) (fields : Super) (transactions : ℕ) (tables : TablesValue) (e : JournalError) →
+    IsWellRead s.shape superblock fields → Stays s t → Moves t u (flushed t.disk Log) → u.faults ≡ s.faults → w.disk Log ≡ u.disk Log →
+    (honest → (found : Found) × IsExaminedOn s.shape s.disk superblock fields transactions tables found) → fields.s_start ≢ 0 →
+    IsReplayRefused honest fields transactions u w e → OpeningRefused honest s w e
+replay-refused honest s t u w superblock fields transactions tables e well stays moves same kept on started (inl failure) =
+    device-refused honest s u w e same failure
+replay-refused honest s t u w superblock fields transactions tables e well stays moves same kept on started (inr otherwise) =
+    let named : IsRingRefusal fields.s_first fields.s_maxlen e = NamesDamaged e otherwise.names in
+    let never : honest → ⊥ = λ trust.
+    let examined = on trust in
+    otherwise.never trust examined.0.texts (texts-flushed s t u fields examined.0.texts stays moves (examined.1.texts started)) examined.1.count in
+    let behind = well.accepted.behind in
+    record {
+      device = λ device. absurd (damage-device fields.s_first fields.s_maxlen e otherwise.names device);
+      no_fault = λ other. otherwise.no_fault ∙ same;
+      memory = λ memory. absurd (damage-memory fields.s_first fields.s_maxlen e otherwise.names memory);
+      content = λ other more. (
+        inr (record {
+          dishonest = never;
+          names = damage-around fields.s_first fields.s_maxlen 1 s.shape.log_blocks e (omega arith) well.accepted.within otherwise.names;
+          log = λ n. ap (λ (cells : ℕ → Cell). cells n) (kept ∙ ap (λ (d : Disk). d Log) (moves.now ∙ ap (λ (d : Disk). flushed d Log) stays.disk));
+        }),
+        ring-content s.shape superblock fields e well named,
+        λ trust. absurd (never trust),
+      );
+    }

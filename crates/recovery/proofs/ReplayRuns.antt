@@ -219,6 +219,15 @@ module _
           (made-begun (writes_home (chosen_so tables s.s_sequence so.texts so.pieces)) (writes_home (chosen_behind tables tid place tags passed.copies)) old next new
           (made-stays (writes_home (chosen_so tables s.s_sequence so.texts so.pieces)) old mid next so.made stays) begun))
 
+    -- the chain does not end before
+    pub ends-later : (chain : List Text) → AreTextsOf s limit image chain → transactions ≡ length chain → from.transactions < transactions → AreTextsOf s limit image so.texts → ⊥
+    ends-later chain are all below others =
+        let same : so.texts ≡ chain =
+        one_chain_of (layout_of s) limit (omega arith) s.s_sequence (lap (ring_of s) image s.s_start) so.texts chain others.chain are.chain in
+        let sizes = ap length same in
+        let count = counted in
+        omega arith
+
     module _ (chain : List Text) (are : AreTextsOf s limit image chain) (all : transactions ≡ length chain) (tables_are : tables ≡ tables_of s.s_sequence chain) where
       -- a read failed
       pub replays-unread : from.transactions < transactions → (new : DeviceState) → Stays mid new → HasBegun (writes_home (home_copies chain)) old new
@@ -239,15 +248,6 @@ module _
           subst (λ (cs : List (ℕ × List ℕ)). HasMade (writes_home cs) old mid)
           (ap (chosen_so tables s.s_sequence so.texts) (so.whole end) ∙ so-whole tables s.s_sequence so.texts
           ∙ ap (chosen_all tables.revokes tables.copies s.s_sequence 0) (sym texts) ∙ chain-chosen tables s.s_sequence chain tables_are) so.made
-
-      -- the chain does not end before
-      pub ends-later : from.transactions < transactions → AreTextsOf s limit image so.texts → ⊥
-      ends-later below others =
-          let same : so.texts ≡ chain =
-          one_chain_of (layout_of s) limit (omega arith) s.s_sequence (lap (ring_of s) image s.s_start) so.texts chain others.chain are.chain in
-          let sizes = ap length same in
-          let count = counted in
-          omega arith
 
 -- where a step leads behind writes home, told of the log before them
 pub replay-led : (s : Super) (limit : ℕ) (from to : Cursor) (f : FinderValue) (found : Found) (transactions place : ℕ) (tables : TablesValue) (old mid : DeviceState)
@@ -282,11 +282,11 @@ module _ (s : Super) (limit : ℕ) (image : Image) (from to : Cursor) (f : Finde
         replays-commit s limit image from to transactions place tables old mid so new stays (subst (LeadsTo s limit image so.texts so.pieces f from to) is leads)
 
     -- the chain does not end there
-    pub replays-nowhere : (chain : List Text) → AreTextsOf s limit image chain → transactions ≡ length chain → tables ≡ tables_of s.s_sequence chain → from.transactions < transactions →
+    pub replays-nowhere : (chain : List Text) → AreTextsOf s limit image chain → transactions ≡ length chain → from.transactions < transactions →
         (found ≡ Malformed) ⊎ (found ≡ Nothing) → ⊥
-    replays-nowhere chain are all tables_are below (inl is) = are.undamaged from.position (subst (LeadsTo s limit image so.texts so.pieces f from to) is leads)
-    replays-nowhere chain are all tables_are below (inr is) =
-        ends-later s limit image from to transactions place tables old mid so chain are all tables_are below (subst (LeadsTo s limit image so.texts so.pieces f from to) is leads)
+    replays-nowhere chain are all below (inl is) = are.undamaged from.position (subst (LeadsTo s limit image so.texts so.pieces f from to) is leads)
+    replays-nowhere chain are all below (inr is) =
+        ends-later s limit image from to transactions place tables old mid so chain are all below (subst (LeadsTo s limit image so.texts so.pieces f from to) is leads)
 
 -- the cursor is farther on
 pub on-farther : (from to : Cursor) (found : Found) → ((n : ℕ) × (found ≡ RevokeBlock n)) ⊎ (found ≡ CommitBlock) → to ≡ cursor_behind from found → from.position < to.position

@@ -12,7 +12,7 @@ use Rattle.journal_model.specs.Disk.{Image, reading}
 use Rattle.log_model.specs.Escape.{unescaped}
 use Rattle.log_model.specs.Opening.{ring_of}
 use Rattle.log_model.specs.Superblock.{Super}
-use Rattle.block_device.specs.State.{DeviceState, IsFailure}
+use Rattle.block_device.specs.State.{DeviceState, IsDeviceFailure, IsFailure}
 use Rattle.log_scan.specs.Finding.{log_block}
 use Rattle.log_scan.specs.Refusals.{NamesDamage}
 use Rattle.log_scan.specs.Scanning.{AreTextsOf}
@@ -54,13 +54,21 @@ tag_notes p (tag ∷ tags) = (tag.block, p) ∷ tag_notes (suc p) tags
 abbrev pub with_copies : TablesValue → ℕ → List Tag → TablesValue
 with_copies tables place tags = record { revokes = tables.revokes; copies = placed_all tables.copies (tag_notes place tags) }
 
--- why gathering is refused: the device failed, or memory ran out, or a log that has transactions reads otherwise than it was
--- scanned, which shows at a block of the ring
+-- a log that has transactions reads otherwise than it was scanned, which shows at a block of the ring: where reads are honest,
+-- these are not the transactions of its chain
+pub record ReadsOtherwise (honest : Type 0) (s : Super) (transactions : ℕ) (old new : DeviceState) (e : JournalError) : Type 0 where
+  pub names : NamesDamage s.s_first s.s_maxlen e
+  pub no_fault : new.faults ≡ old.faults
+  pub some : 0 < transactions
+  pub never : honest → (texts : List Text) → AreTextsOf s old.shape.home_blocks (reading old.disk) texts → transactions ≡ length texts → ⊥
+
+-- why gathering is refused: the device failed, or memory ran out, or the log reads otherwise than it was scanned
 abbrev pub IsGatherRefused : (honest : Type 0) → Super → ℕ → DeviceState → DeviceState → JournalError → Type 0
-IsGatherRefused honest s transactions old new e =
-    IsFailure old new e
-    ⊎ (NamesDamage s.s_first s.s_maxlen e × (new.faults ≡ old.faults) × (0 < transactions)
-    × (honest → (texts : List Text) → AreTextsOf s old.shape.home_blocks (reading old.disk) texts → transactions ≡ length texts → ⊥))
+IsGatherRefused honest s transactions old new e = IsFailure old new e ⊎ ReadsOtherwise honest s transactions old new e
+
+-- why a replay is: the device failed, or the log reads otherwise
+abbrev pub IsReplayRefused : (honest : Type 0) → Super → ℕ → DeviceState → DeviceState → JournalError → Type 0
+IsReplayRefused honest s transactions old new e = IsDeviceFailure old new e ⊎ ReadsOtherwise honest s transactions old new e
 
 -- those of the copies behind a descriptor with these tags which go home by the tables, as they go home
 abbrev pub chosen_behind : TablesValue → ℕ → ℕ → List Tag → List (List ℕ) → List (ℕ × List ℕ)

@@ -64,14 +64,21 @@ IsContentRefusal shape e = IsOneOf super_refusals e ⊎ IsRingRefusal 1 shape.lo
 abbrev pub IsNotRefused : Shape → Image → Type 0
 IsNotRefused shape image = (e : JournalError) → IsRefused shape image e → ⊥
 
+-- A log read otherwise while its copies went home than when it was tested, which shows at a block of the ring: reads were not
+-- honest. The log was flushed before, and no block of it is written; what is home may be wrong.
+pub record IsReadOtherwise (honest : Type 0) (old new : DeviceState) (e : JournalError) : Type 0 where
+  pub dishonest : honest → ⊥
+  pub names : NamesDamage 1 old.shape.log_blocks e
+  pub log : (n : ℕ) → new.disk Log n ≡ flushed old.disk Log Log n
+
 -- Why an opening is refused: the device failed; memory ran out, nothing was written, and what was read is not refused; or else
--- nothing was written, and what was read is refused for what stands in it. (A block that is larger than any log's is read in
--- memory.)
+-- what was read is refused for what stands in it, and nothing was written, or reads were not honest. (A block that is larger than
+-- any log's is read in memory.)
 pub record OpeningRefused (honest : Type 0) (old new : DeviceState) (e : JournalError) : Type 0 where
   pub device : e ≡ Device → new.faults ≡ one_more_fault old.faults
   pub no_fault : e ≢ Device → new.faults ≡ old.faults
   pub memory : e ≡ Memory → Stays old new × (honest → old.shape.block_size ≤ most_bytes → IsNotRefused old.shape (reading old.disk))
-  pub content : e ≢ Device → e ≢ Memory → Stays old new × IsContentRefusal old.shape e × (honest → IsRefused old.shape (reading old.disk) e)
+  pub content : e ≢ Device → e ≢ Memory → (Stays old new ⊎ IsReadOtherwise honest old new e) × IsContentRefusal old.shape e × (honest → IsRefused old.shape (reading old.disk) e)
 
 -- An opening that ended: what it read is good, and it made the calls that are due for that.
 pub record IsDone (old new : DeviceState) : Type 0 where

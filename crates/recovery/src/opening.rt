@@ -74,7 +74,8 @@ impl<D: Device> Model for Opened<D> {
 /// `SequenceEnd`: no number is left for a transaction; `Memory` where memory ran out, and nothing that stands in the log is
 /// refused: nothing is written. `BadLength` where the log area has no block: no call is made. `Device` where the device failed:
 /// home and the superblock may have been written. Once the flush of the log has succeeded, what a stop then leaves opens to the
-/// same transactions.
+/// same transactions. `Damage`, also, where the log reads otherwise, while its copies go home, than it did to the tests, which only
+/// a device does whose reads are not honest: some copies may be home, and the log is left as it was, not clean.
 /// Source: fs/jbd2/recovery.c by behaviour; the flush, the tests of ring blocks, and that each home block is written once are
 /// this project's own.
 pub fn open<D: Device>(alloc: Global, device: D) -> Result<Opened<D>, (D, JournalError)>

@@ -1,16 +1,18 @@
 //! Replay: the newest copies go home, and then the log is left clean.
-ghost use Rattle.std.specs.Prelude.{◌≡◌, ℕ, ◌+◌, ◌<◌, ◌≤◌, ◌^◌, [], ◌∷◌, List, All, length, take, OnOk, OnErr, MatchResult};
+ghost use Rattle.std.specs.Prelude.{◌≡◌, ℕ, ◌+◌, ◌<◌, ◌≤◌, ◌^◌, [], ◌∷◌, List, All, length, take, IfErr, OnOk, OnErr, MatchResult};
 ghost use Rattle.log_model.specs.declared.log.Text.{Text};
+ghost use Rattle.journal_model.specs.declared.number.Area.TheVariants.{Log as LogArea};
 ghost use Rattle.journal_model.specs.Disk.{reading};
 ghost use Rattle.log_model.specs.Opening.{greatest_number, layout_of, ring_of};
 ghost use Rattle.log_model.specs.Superblock.{with_tail};
 ghost use Rattle.block_device.specs.State.{IsDeviceFailure};
 ghost use Rattle.log_format.specs.Accepted.{IsAccepted};
 ghost use Rattle.log_format.specs.Size.{IsBlockSize};
+ghost use Rattle.log_scan.specs.Finding.{MakesCalls};
 ghost use Rattle.log_scan.specs.Passing.{StandAt};
 ghost use Rattle.log_scan.specs.Scanning.{AreTextsOf};
 ghost use Rattle.recovery.specs.Calls.{HasBegun, HasMade, cleaning_calls, writes_home};
-ghost use Rattle.recovery.specs.Gather.{chosen_behind, copy_calls, tables_of};
+ghost use Rattle.recovery.specs.Gather.{IsReplayRefused, chosen_behind, copy_calls, tables_of};
 ghost use Rattle.recovery.specs.HomeCopies.{home_copies};
 
 use crate::gathering::{Tables, number_of};
@@ -35,13 +37,15 @@ struct Copies {
 
 /// Writes home the copies of a log that is not clean, in the order of its chain: of each block the newest one, unescaped, where
 /// neither its own transaction nor a later one revokes the block. `transactions` is what `scan` answered, and `tables` what
-/// `gather` did. One block is read and written at a time, no memory is taken, and no block is written twice. A log that reads
-/// otherwise than `scan` read it ends the replay without a refusal.
+/// `gather` did. One block is read and written at a time, no memory is taken, and no block is written twice. Nothing is written to
+/// the log. Ok comes only once each of the transactions was passed, which takes a read for each at least.
 /// Source: fs/jbd2/recovery.c by behaviour; that a block is written once is this project's own.
 ///
 /// # Errors
 ///
-/// `Device` where the device failed: some of the copies are home.
+/// `Device` where the device failed: some of the copies are home. `Damage` where the log reads otherwise than it did to `scan`, at
+/// the place where that shows: what was read and written home before it may be wrong, and the log is not to be marked clean. Of a
+/// device whose reads are honest it never comes.
 pub fn replay<D: Device>(
     device: &mut D,
     log: &Log,
@@ -56,7 +60,10 @@ pub fn replay<D: Device>(
         transactions ≡ length texts → tables.now ≡ tables_of log.now.s_sequence texts → HasMade (writes_home (home_copies texts)) (D.state device.old) (D.state device.new)) }
     ensures begun { OnErr result (D.honest device.new → (texts : List Text) → AreTextsOf log.now (D.state device.old).shape.home_blocks (reading (D.state device.old).disk) texts →
         transactions ≡ length texts → tables.now ≡ tables_of log.now.s_sequence texts → HasBegun (writes_home (home_copies texts)) (D.state device.old) (D.state device.new)) }
-    ensures faults { MatchResult result (λ _. (D.state device.new).faults ≡ (D.state device.old).faults) (IsDeviceFailure (D.state device.old) (D.state device.new)) }
+    ensures passed { OnOk result (MakesCalls transactions (D.state device.old) (D.state device.new)) }
+    ensures refused { IfErr result (IsReplayRefused (D.honest device.new) log.now transactions (D.state device.old) (D.state device.new)) }
+    ensures faults { OnOk result ((D.state device.new).faults ≡ (D.state device.old).faults) }
+    ensures log { (D.state device.new).disk LogArea ≡ (D.state device.old).disk LogArea }
     ensures shape { (D.state device.new).shape ≡ (D.state device.old).shape }
     ensures honest { D.honest device.new → D.honest device.old }
 {
@@ -78,7 +85,9 @@ pub fn replay<D: Device>(
                 write_copies(device, log, tables, copies, finder)?;
                 place += count as u64;
             }
-            Found::Malformed | Found::Nothing => return Ok(()),
+            Found::Malformed | Found::Nothing => {
+                return Err(JournalError::Damage(log.place(cursor.position)));
+            }
         }
     }
     Ok(())
@@ -104,6 +113,8 @@ fn write_copies<D: Device>(
     ensures begun { OnErr result (D.honest device.new → (blocks : List (List ℕ)) → StandAt log.now (reading (D.state device.old).disk) copies.position copies.count blocks →
         HasBegun (writes_home (chosen_behind tables.now copies.tid copies.place (take copies.count finder.old.tags) blocks)) (D.state device.old) (D.state device.new)) }
     ensures faults { MatchResult result (λ _. (D.state device.new).faults ≡ (D.state device.old).faults) (IsDeviceFailure (D.state device.old) (D.state device.new)) }
+    ensures log { (D.state device.new).disk LogArea ≡ (D.state device.old).disk LogArea }
+    ensures calls { OnOk result (MakesCalls 0 (D.state device.old) (D.state device.new)) }
     ensures shape { (D.state device.new).shape ≡ (D.state device.old).shape }
     ensures honest { D.honest device.new → D.honest device.old }
 {
@@ -132,6 +143,8 @@ fn copy_home<D: Device>(
     ensures made { OnOk result (D.honest device.new → HasMade (copy_calls log.now (reading (D.state device.old).disk) position tag) (D.state device.old) (D.state device.new)) }
     ensures begun { OnErr result (D.honest device.new → HasBegun (copy_calls log.now (reading (D.state device.old).disk) position tag) (D.state device.old) (D.state device.new)) }
     ensures faults { MatchResult result (λ _. (D.state device.new).faults ≡ (D.state device.old).faults) (IsDeviceFailure (D.state device.old) (D.state device.new)) }
+    ensures log { (D.state device.new).disk LogArea ≡ (D.state device.old).disk LogArea }
+    ensures calls { OnOk result (MakesCalls 0 (D.state device.old) (D.state device.new)) }
     ensures shape { (D.state device.new).shape ≡ (D.state device.old).shape }
     ensures honest { D.honest device.new → D.honest device.old }
 {

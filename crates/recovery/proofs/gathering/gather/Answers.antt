@@ -120,18 +120,18 @@ returns-in-Malformed-clause-refused g c =
     let s : Super = c.args.log.now in
     let old : DeviceState = g.D.Device.state c.args.device.now in
     let before = c.loop-cursor.invariant in
-    inr (
-      record { place = c.place.result; from = c.place.ensures.ring; below = c.place.ensures.there; refusal = refl },
-      c.in_ok-count.ensures.faults ∙ before.faults,
-      (let below = c.loop-cursor-test.true in omega arith),
-      λ h texts are all.
+    inr (record {
+      names = record { place = c.place.result; from = c.place.ensures.ring; below = c.place.ensures.there; refusal = refl };
+      no_fault = c.in_ok-count.ensures.faults ∙ before.faults;
+      some = let below = c.loop-cursor-test.true in omega arith;
+      never = λ h texts are all.
           let so = before.gathers (c.advance.ensures.honest h) in
           led-nowhere s c.blocks-2.result (reading old.disk) c.advance.new.finder c.loop-cursor.cursor c.advance.new.self c.in_ok-count.field-0 c.args.transactions c.loop-cursor.copies
           c.loop-cursor.tables so c.in-Malformed.is
           (led-on s c.blocks-2.result old (g.D.Device.state c.loop-cursor.device) c.advance.new.finder c.loop-cursor.cursor c.advance.new.self c.in_ok-count.field-0 before.stays
           so.texts so.pieces so.passed (c.in_ok-count.ensures.leads h))
-          texts (subst (λ (n : ℕ). AreTextsOf s n (reading old.disk) texts) (sym c.blocks-2.ensures) are) all c.loop-cursor-test.true,
-    )
+          texts (subst (λ (n : ℕ). AreTextsOf s n (reading old.disk) texts) (sym c.blocks-2.ensures) are) all c.loop-cursor-test.true;
+    })
 
 -- all are gathered
 pub returns-clause-tables : goal.returns-clause-tables

@@ -10,7 +10,7 @@ use Rattle.recovery.specs.Gather.{TablesValue}
 use Rattle.recovery.specs.HomeCopies.{home_copies}
 use Rattle.recovery.specs.Opening.{IsDoneWith}
 use Rattle.recovery.specs.Values.{IsNextNamed}
-use Rattle.recovery.proofs.Recovering.{clean-done, clean-named, clean-start, cleaning-broken, copies-broken, device-refused, examined-tells, of-found, other-start, started-done, tail-named}
+use Rattle.recovery.proofs.Recovering.{clean-done, clean-named, clean-start, cleaning-broken, copies-broken, device-refused, examined-tells, of-found, other-start, replay-refused, started-done, tail-named}
 use Rattle.recovery.proofs.opening.recover.Goals as goal
 
 -- a clean log is opened
@@ -46,14 +46,17 @@ returns-then-report-clause-report g c = λ honest.
     (c.first_number.result + c.in_ok-superblock.field-0.transactions) c.is_clean.ensures
     (ap (λ (n : ℕ). n + c.in_ok-superblock.field-0.transactions) c.first_number.ensures.value)
 
--- the device failed in replay
+-- the device failed in replay, or the log read otherwise
 pub returns-in_err-replay-clause-refused : goal.returns-in_err-replay-clause-refused
 returns-in_err-replay-clause-refused g c =
     let p = err_from_is_err_and c.from_residual-in_err-replay.result c.from_residual-in_err-replay.ensures.1 in
     rw (p.1, p.2)
-    (device-refused (g.D.Device.honest c.replay.new.device) (g.D.Device.state c.args.device.now) (g.D.Device.state c.flush.new.self)
-    (g.D.Device.state c.replay.new.device) c.in_err-replay.field-0.0 (c.in_ok-flush.ensures.faults ∙ c.in_ok-superblock.ensures.faults)
-    c.in_err-replay.ensures.faults)
+    (replay-refused (g.D.Device.honest c.replay.new.device) (g.D.Device.state c.args.device.now) (g.D.Device.state c.examine.new.device)
+    (g.D.Device.state c.flush.new.self) (g.D.Device.state c.replay.new.device) c.in_ok-superblock.field-0.superblock.items c.in_ok-superblock.field-0.log
+    c.in_ok-superblock.field-0.transactions c.in_ok-superblock.field-0.tables c.in_err-replay.field-0.0 c.in_ok-superblock.ensures.examined.well
+    c.examine.ensures.stays c.in_ok-flush.ensures.ok (c.in_ok-flush.ensures.faults ∙ c.in_ok-superblock.ensures.faults) c.replay.ensures.log
+    (λ honest. c.in_ok-superblock.ensures.on (c.flush.ensures.honest (c.replay.ensures.honest honest)))
+    (other-start c.in_ok-superblock.field-0.log c.is_clean.result c.is_clean.ensures c.if-report.false) c.in_err-replay.ensures.refused)
 
 -- some copies are home
 pub returns-in_err-replay-clause-broken : goal.returns-in_err-replay-clause-broken

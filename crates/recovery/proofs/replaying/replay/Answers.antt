@@ -1,13 +1,16 @@
-use Rattle.std.proofs.Common.{ℕ, ◌+◌, refl, sym, ◌∙◌, ap, subst, arith}
+use Rattle.std.proofs.Common.{ℕ, ◌+◌, refl, sym, ◌∙◌, ap, subst, arith, inr}
 use Rattle.std.specs.Prelude.{take}
 use Rattle.std.proofs.lemmas.List.{length-take-le}
 use Rattle.std.proofs.lemmas.Result.{err_from_is_err_and}
-use Rattle.journal_model.specs.Disk.{reading}
+use Rattle.journal_model.specs.declared.number.Area.TheVariants.{Log}
+use Rattle.journal_model.specs.Disk.{Disk, reading}
 use Rattle.log_model.specs.Superblock.{Super}
 use Rattle.block_device.specs.State.{DeviceState}
 use Rattle.log_scan.specs.declared.cursor.Cursor.{Cursor}
+use Rattle.log_scan.specs.Finding.{reads_of}
 use Rattle.log_scan.specs.Passing.{LeadsTo}
 use Rattle.log_scan.specs.Scanning.{AreTextsOf}
+use Rattle.recovery.proofs.PassCalls.{calls-fewer, calls-join, calls-none, passed-reads}
 use Rattle.recovery.proofs.ReplayRuns.{on-below, on-farther, replay-led, replay-stand, replays-all, replays-begun, replays-copies, replays-none, replays-nowhere, replays-on, replays-unread}
 use Rattle.recovery.proofs.replaying.replay.Goals as goal
 
@@ -21,6 +24,8 @@ loop-cursor-init g c = rw c.new-cursor.ensures (record {
   layout = refl;
   shape = refl;
   faults = refl;
+  log = refl;
+  calls = calls-none (g.D.Device.state c.args.device.now);
   honest = λ h. h;
   replays = λ h. replays-none c.args.log.now c.blocks-2.result (reading (g.D.Device.state c.args.device.now).disk) c.args.transactions c.args.tables.now (g.D.Device.state c.args.device.now);
 })
@@ -41,6 +46,12 @@ loop-cursor-preserved-in-RevokeBlock g c =
       layout = c.advance.ensures.layout ∙ before.layout;
       shape = c.advance.ensures.stays.shape ∙ before.shape;
       faults = c.in_ok-advance.ensures.faults ∙ before.faults;
+      log = ap (λ (d : Disk). d Log) c.advance.ensures.stays.disk ∙ before.log;
+      calls =
+          calls-fewer c.advance.new.self.transactions (c.loop-cursor.cursor.transactions + reads_of c.in_ok-advance.field-0) old (g.D.Device.state c.advance.new.device)
+          (passed-reads c.loop-cursor.cursor c.advance.new.self c.in_ok-advance.field-0 c.in-RevokeBlock.is c.in_ok-advance.ensures.behind)
+          (calls-join c.loop-cursor.cursor.transactions (reads_of c.in_ok-advance.field-0) old mid (g.D.Device.state c.advance.new.device) before.calls
+          c.in_ok-advance.ensures.calls);
       honest = λ h. before.honest (c.advance.ensures.honest h);
       replays = λ h.
           let so = before.replays (c.advance.ensures.honest h) in
@@ -70,6 +81,12 @@ loop-cursor-preserved g c =
       layout = c.write_copies.ensures.layout ∙ c.advance.ensures.layout ∙ before.layout;
       shape = c.write_copies.ensures.shape ∙ c.advance.ensures.stays.shape ∙ before.shape;
       faults = c.in_ok-write_copies-in-Descriptor.ensures.faults ∙ c.in_ok-advance.ensures.faults ∙ before.faults;
+      log = c.write_copies.ensures.log ∙ ap (λ (d : Disk). d Log) c.advance.ensures.stays.disk ∙ before.log;
+      calls =
+          let reads : ℕ = reads_of c.in_ok-advance.field-0 in
+          calls-fewer c.advance.new.self.transactions ((c.loop-cursor.cursor.transactions + reads) + 0) old (g.D.Device.state c.write_copies.new.device) (omega arith)
+          (calls-join (c.loop-cursor.cursor.transactions + reads) 0 old next (g.D.Device.state c.write_copies.new.device)
+          (calls-join c.loop-cursor.cursor.transactions reads old mid next before.calls c.in_ok-advance.ensures.calls) c.in_ok-write_copies-in-Descriptor.ensures.calls);
       honest = λ h. before.honest (c.advance.ensures.honest (c.write_copies.ensures.honest h));
       replays = λ h.
           let so = before.replays (c.advance.ensures.honest (c.write_copies.ensures.honest h)) in
@@ -126,9 +143,28 @@ returns-in_err-write_copies-in-Descriptor-clause-begun g c =
     (replay-stand s c.blocks-2.result c.loop-cursor.cursor c.args.transactions c.loop-cursor.place c.args.tables.now old mid next (c.loop-cursor.cursor.position + 1) c.in-Descriptor.count
     leads.copies so c.advance.ensures.stays leads.stand)))
 
--- an honest device leads on
-pub returns-in-Malformed-clause-made : goal.returns-in-Malformed-clause-made
-returns-in-Malformed-clause-made g c = λ h texts are all tables_are.
+-- the log reads otherwise, which an honest device's never does
+pub returns-in-Malformed-clause-refused : goal.returns-in-Malformed-clause-refused
+returns-in-Malformed-clause-refused g c =
+    let s : Super = c.args.log.now in
+    let old : DeviceState = g.D.Device.state c.args.device.now in
+    let mid : DeviceState = g.D.Device.state c.loop-cursor.device in
+    let before = c.loop-cursor.invariant in
+    inr (record {
+      names = record { place = c.place.result; from = c.place.ensures.ring; below = c.place.ensures.there; refusal = refl };
+      no_fault = c.in_ok-advance.ensures.faults ∙ before.faults;
+      some = let below = c.loop-cursor-test.true in omega arith;
+      never = λ h texts are all.
+          let so = before.replays (c.advance.ensures.honest h) in
+          replays-nowhere s c.blocks-2.result (reading old.disk) c.loop-cursor.cursor c.advance.new.self c.advance.new.finder c.in_ok-advance.field-0 c.args.transactions
+          c.loop-cursor.place c.args.tables.now old mid so
+          (replay-led s c.blocks-2.result c.loop-cursor.cursor c.advance.new.self c.advance.new.finder c.in_ok-advance.field-0 c.args.transactions c.loop-cursor.place c.args.tables.now
+          old mid so (c.in_ok-advance.ensures.leads h))
+          texts (subst (λ (n : ℕ). AreTextsOf s n (reading old.disk) texts) (sym c.blocks-2.ensures) are) all c.loop-cursor-test.true c.in-Malformed.is;
+    })
+
+pub returns-in-Malformed-clause-begun : goal.returns-in-Malformed-clause-begun
+returns-in-Malformed-clause-begun g c = λ h texts are all tables_are.
     let s : Super = c.args.log.now in
     let old : DeviceState = g.D.Device.state c.args.device.now in
     let mid : DeviceState = g.D.Device.state c.loop-cursor.device in
@@ -137,7 +173,7 @@ returns-in-Malformed-clause-made g c = λ h texts are all tables_are.
     c.loop-cursor.place c.args.tables.now old mid so
     (replay-led s c.blocks-2.result c.loop-cursor.cursor c.advance.new.self c.advance.new.finder c.in_ok-advance.field-0 c.args.transactions c.loop-cursor.place c.args.tables.now
     old mid so (c.in_ok-advance.ensures.leads h))
-    texts (subst (λ (n : ℕ). AreTextsOf s n (reading old.disk) texts) (sym c.blocks-2.ensures) are) all tables_are c.loop-cursor-test.true c.in-Malformed.is in
+    texts (subst (λ (n : ℕ). AreTextsOf s n (reading old.disk) texts) (sym c.blocks-2.ensures) are) all c.loop-cursor-test.true c.in-Malformed.is in
     absurd none
 
 -- all are home

@@ -1,7 +1,8 @@
 use Rattle.std.proofs.Common.{◌≡◌, ◌≤◌, ◌-◌}
+use Rattle.journal_model.specs.declared.number.Area.TheVariants.{Log}
 use Rattle.journal_model.specs.Disk.{reading}
 use Rattle.log_model.specs.Opening.{ring_of}
-use Rattle.log_scan.specs.Finding.{limit_of}
+use Rattle.log_scan.specs.Finding.{MakesCalls, limit_of}
 use Rattle.recovery.proofs.ReplayRuns.{Replays}
 use Rattle.recovery.proofs.replaying.replay.Given as goal
 
@@ -15,6 +16,8 @@ invariant-loop-cursor g l = record {
   layout : l.finder.layout ≡ l.fn.finder.layout;
   shape : (g.D.Device.state l.device).shape ≡ (g.D.Device.state l.fn.device).shape;
   faults : (g.D.Device.state l.device).faults ≡ (g.D.Device.state l.fn.device).faults;
+  log : (g.D.Device.state l.device).disk Log ≡ (g.D.Device.state l.fn.device).disk Log;
+  calls : MakesCalls l.cursor.transactions (g.D.Device.state l.fn.device) (g.D.Device.state l.device);
   honest : g.D.Device.honest l.device → g.D.Device.honest l.fn.device;
   replays : g.D.Device.honest l.device →
       Replays l.log (limit_of l.log l.home_blocks) (reading (g.D.Device.state l.fn.device).disk) l.cursor l.transactions l.place l.tables (g.D.Device.state l.fn.device)

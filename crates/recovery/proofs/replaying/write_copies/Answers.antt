@@ -3,6 +3,7 @@ use Rattle.std.proofs.lemmas.Result.{err_from_is_err_and}
 use Rattle.std.specs.Prelude.{slice_get}
 use Rattle.log_model.specs.declared.log.Tag.{Tag}
 use Rattle.recovery.proofs.CopySteps.{step-begun, step-made, step-stays}
+use Rattle.recovery.proofs.PassCalls.{calls-join}
 use Rattle.recovery.proofs.replaying.write_copies.Goals as goal
 use Rattle.recovery.proofs.replaying.write_copies.Goals.{then-goes_home+in_ok-copy_home, else-goes_home}
 
@@ -18,6 +19,10 @@ loop-k-preserved g c =
             tags = w.copy_home.ensures.tags ∙ before.tags;
             shape = w.copy_home.ensures.shape ∙ before.shape;
             faults = w.in_ok-copy_home.ensures.faults ∙ before.faults;
+            log = w.copy_home.ensures.log ∙ before.log;
+            calls =
+                calls-join 0 0 (g.D.Device.state c.args.device.now) (g.D.Device.state c.loop-k.device) (g.D.Device.state w.copy_home.new.device) before.calls
+                w.in_ok-copy_home.ensures.calls;
             honest = λ h. before.honest (w.copy_home.ensures.honest h);
             made = λ h blocks stand.
                 step-made c.args.log.now (g.D.Device.state c.args.device.now) (g.D.Device.state c.loop-k.device) c.args.tables.now c.args.copies.tid c.args.copies.place
@@ -31,6 +36,8 @@ loop-k-preserved g c =
             tags = before.tags;
             shape = before.shape;
             faults = before.faults;
+            log = before.log;
+            calls = before.calls;
             honest = before.honest;
             made = λ h blocks stand.
                 step-stays c.args.log.now (g.D.Device.state c.args.device.now) (g.D.Device.state c.loop-k.device) c.args.tables.now c.args.copies.tid c.args.copies.place

@@ -1,5 +1,7 @@
 use Rattle.std.proofs.Common.{◌≡◌, List, ℕ, take}
+use Rattle.journal_model.specs.declared.number.Area.TheVariants.{Log}
 use Rattle.journal_model.specs.Disk.{reading}
+use Rattle.log_scan.specs.Finding.{MakesCalls}
 use Rattle.log_scan.specs.Passing.{StandAt}
 use Rattle.recovery.specs.Calls.{HasMade, writes_home}
 use Rattle.recovery.proofs.CopyRuns.{chosen_first}
@@ -12,6 +14,8 @@ invariant-loop-k g l = record {
   tags : l.finder.tags ≡ l.fn.finder.tags;
   shape : (g.D.Device.state l.device).shape ≡ (g.D.Device.state l.fn.device).shape;
   faults : (g.D.Device.state l.device).faults ≡ (g.D.Device.state l.fn.device).faults;
+  log : (g.D.Device.state l.device).disk Log ≡ (g.D.Device.state l.fn.device).disk Log;
+  calls : MakesCalls 0 (g.D.Device.state l.fn.device) (g.D.Device.state l.device);
   honest : g.D.Device.honest l.device → g.D.Device.honest l.fn.device;
   made : g.D.Device.honest l.device → (blocks : List (List ℕ)) →
       StandAt l.log (reading (g.D.Device.state l.fn.device).disk) l.copies.position l.copies.count blocks →

@@ -1,0 +1,102 @@
+//! Rows of openings of a device that forgets its log while it is read.
+ghost use Rattle.std.specs.Prelude.{◌≡◌, false};
+
+use crate::opening::{home_text, opened_or_refused};
+use block_device::{Device, DeviceFault, MemDevice};
+use format_rows::RowError;
+use journal_model::Area;
+use log_rows::logs::{device_of, log_of};
+use std::alloc::Global;
+use std::fmt::Write;
+
+/// More reads of the log than an opening of a row's log makes.
+const MOST_READS: u64 = 10_000;
+
+/// A device of which only the first reads of the log are honest: each one behind them finds zeros, whatever stands there.
+#[derive(Drop)]
+struct Forgetful<D> {
+    device: D,
+    /// How many reads of the log are honest from now on.
+    honest_reads: u64,
+    /// One was not.
+    has_forgotten: bool,
+}
+
+impl<D: Device> Device for Forgetful<D> {
+    ghost state = { λ f. D.state f.device };
+
+    ghost honest = { λ f. D.honest f.device × (f.has_forgotten ≡ false) };
+
+    fn read(&mut self, area: Area, n: u64, into: &mut [u8]) -> Result<(), DeviceFault> {
+        self.device.read(area, n, into)?;
+        if area == Area::Home {
+            return Ok(());
+        }
+        if self.honest_reads > 0 {
+            self.honest_reads -= 1;
+        } else {
+            self.has_forgotten = true;
+            into.fill(0);
+        }
+        Ok(())
+    }
+
+    fn write(&mut self, area: Area, n: u64, bytes: &[u8]) -> Result<(), DeviceFault> {
+        self.device.write(area, n, bytes)
+    }
+
+    fn flush(&mut self, area: Area) -> Result<(), DeviceFault> {
+        self.device.flush(area)
+    }
+
+    fn blocks(&self, area: Area) -> u64 {
+        self.device.blocks(area)
+    }
+
+    fn block_size(&self) -> usize {
+        self.device.block_size()
+    }
+}
+
+/// Openings of a device that forgets its log while it is read. Given: as for `openings`. Found: each way in which they go, where
+/// the first 0, 1, 2 and so on of the reads of the log are honest and each one behind them finds zeros, on a line: what the
+/// opening answers, what one of the same device answers whose reads are honest, each home block that is then not zeros, and how many
+/// writes both made. The last line is of an opening of which all reads are honest.
+pub fn forgetful_openings(alloc: Global, given: &str) -> Result<String, RowError> {
+    let log = log_of(alloc, given)?;
+    let mut all = String::new(alloc);
+    let mut before = String::new(alloc);
+    for honest_reads in 0..=MOST_READS {
+        let device = Forgetful {
+            device: device_of(alloc, &log)?,
+            honest_reads,
+            has_forgotten: false,
+        };
+        let (line, has_forgotten) = forgetful_opening(alloc, device)?;
+        if line.as_str() != before.as_str() {
+            writeln!(all, "{line}")?;
+        }
+        if !has_forgotten {
+            return Ok(all);
+        }
+        before = line;
+    }
+    Err(RowError::Unread)
+}
+
+/// What an opening of such a device answers, what one finds whose reads are honest, and whether the first had one that was not.
+fn forgetful_opening(
+    alloc: Global,
+    device: Forgetful<MemDevice>,
+) -> Result<(String, bool), RowError> {
+    let (first, device) = opened_or_refused(alloc, device)?;
+    let Forgetful {
+        device,
+        honest_reads: _,
+        has_forgotten,
+    } = device;
+    let (again, mut device) = opened_or_refused(alloc, device)?;
+    let home = home_text(alloc, &mut device)?;
+    let told = format!(in alloc; "{first}\n{again}{home}\nwrites {}", device.writes())?;
+    Ok((told.replace(alloc, "\n", ", ")?, has_forgotten))
+}
