@@ -21,7 +21,7 @@ clean-runs w found shut found_is clean =
     let opened : World = record done {
       phase = Running;
       epoch = Some (fresh_epoch w.shape (cleaned (found.image Log 0) (next_of found)) (next_of found) done.disk);
-      ended = ending done.epoch (reading done.disk) done.ended;
+      ended = ending done.epoch done.disk done.ended;
     } in
     record {
       moves = Begin found ∷ OpeningStep ∷ AnswerOk ∷ [];

@@ -1,4 +1,4 @@
--- Each epoch begins with what the device read when the one before it ended, whatever moves follow one another.
+-- Each epoch begins on the disk with which the one before it ended, whatever moves follow one another.
 use Rattle.std.proofs.Common.{refl, sym, subst}
 use Rattle.std.specs.Prelude.{ℕ, List, [], ◌∷◌, Option, Some, None}
 use Rattle.journal_model.specs.declared.number.Area.TheVariants.{Log}
@@ -38,7 +38,7 @@ stage-follows Done epoch image ended follows = follows
 
 -- an epoch that begins as another ends follows it
 ending-follows : (epoch : Option Epoch) (fresh : Epoch) (ended : List Ended) → Continues epoch ended →
-    Continues (Some fresh) (ending epoch (reading fresh.opening) ended)
+    Continues (Some fresh) (ending epoch fresh.opening ended)
 ending-follows None fresh [] follows = tt
 ending-follows None fresh (x ∷ xs) follows = absurd follows
 ending-follows (Some epoch) fresh ended follows = (refl, follows)

@@ -95,7 +95,7 @@ step-holds old new event step holds =
     subst Holds (sym step.after) (now, holds.1)
 
 -- the past once an epoch ended
-ending-agrees : (epoch : Option Epoch) (after : Image) (ended : List Ended) (told : Told) (past : List Told) → AgreesNow epoch told → AgreesPast ended past →
+ending-agrees : (epoch : Option Epoch) (after : Disk) (ended : List Ended) (told : Told) (past : List Told) → AgreesNow epoch told → AgreesPast ended past →
     AgreesPast (ending epoch after ended) (telling epoch told past)
 ending-agrees None after ended told past now before = before
 ending-agrees (Some epoch) after ended told past now before = (now, before)
@@ -111,9 +111,9 @@ fresh-told epoch told fresh =
 -- an opening answers Ok
 answer-holds : (old new : JournalWorld) → BelowMoves old.below AnswerOk new.below → TellsAnew old new → Holds old → Holds new
 answer-holds old new answer tells holds =
-    let past : AgreesPast (ending old.below.epoch (reading old.below.disk) old.below.ended) new.past =
-    subst (AgreesPast (ending old.below.epoch (reading old.below.disk) old.below.ended)) (sym tells.past)
-    (ending-agrees old.below.epoch (reading old.below.disk) old.below.ended old.told old.past holds.0 holds.1) in (
+    let past : AgreesPast (ending old.below.epoch old.below.disk old.below.ended) new.past =
+    subst (AgreesPast (ending old.below.epoch old.below.disk old.below.ended)) (sym tells.past)
+    (ending-agrees old.below.epoch old.below.disk old.below.ended old.told old.past holds.0 holds.1) in (
       subst (λ (o : Option Epoch). AgreesNow o new.told) (sym tells.now) (fresh-told tells.epoch new.told tells.fresh),
       subst (λ (w : World). AgreesPast w.ended new.past) (sym answer.after) past,
     )
@@ -277,7 +277,7 @@ past-kept shape [] [] agrees all = tt
 past-kept shape [] (t ∷ ts) agrees all = absurd agrees
 past-kept shape (x ∷ xs) [] agrees all = absurd agrees
 past-kept shape (x ∷ xs) (t ∷ ts) agrees all = (
-  record { pin = all.0.pin; pin_is = all.0.pin_is; clean = all.0.clean; keeps = image-kept shape x.epoch t x.after agrees.0 all.0.keeps },
+  record { pin = all.0.pin; pin_is = all.0.pin_is; clean = all.0.clean; keeps = λ image leaves. image-kept shape x.epoch t image agrees.0 (all.0.keeps image leaves) },
   past-kept shape xs ts agrees.1 all.1,
 )
 

@@ -1,10 +1,10 @@
 -- What every life of a log keeps.
-use Rattle.std.proofs.Common.{refl, sym, ◌∙◌, ap, subst, ⊎_elim}
+use Rattle.std.proofs.Common.{refl, sym, ◌∙◌, ap, subst, ⊎_elim, inl, inr}
 use Rattle.std.specs.Prelude.{◌≡◌, ℕ, List, [], ◌∷◌, Option, Some, None}
 use Rattle.std.specs.List.{AllByRecursion}
 use Rattle.std.proofs.lemmas.Option.{same_Some}
 use Rattle.journal_model.specs.declared.number.Area.TheVariants.{Log}
-use Rattle.journal_model.specs.Disk.{Cell, Disk, Image, Leaves, Shape, flushed, reading, written}
+use Rattle.journal_model.specs.Disk.{Cell, Disk, Image, Leaves, Shape, flushed, reading, written, IsOneOf, held}
 use Rattle.log_model.specs.Opening.{IsClean}
 use Rattle.log_model.specs.Superblock.{super_in, super_refusal}
 use Rattle.journal_world.specs.Call.{Call, IsAfterFault, after_success}
@@ -146,10 +146,16 @@ close-fails shape epoch now disk after phase next call is (WriteClosed may) hold
     (close-keeps shape now.opening now.directs now.engine disk after runs.runs may (is_write-fault disk after 0 (closed_superblock now.engine) fault))
 close-fails shape epoch now disk after phase next call is FlushClosed holds fault = undone-keeps shape epoch Log disk after fault holds.keeps
 
--- an opened log reads as a clean one
-opened-clean : (shape : Shape) (disk : Disk) (superblock : List ℕ) (next : ℕ) → IsOpenedLog shape disk superblock next → IsClean shape (reading disk)
-opened-clean shape disk superblock next log =
-    let reads : (disk Log 0).reads ≡ superblock = ap (λ (c : Cell). c.reads) log.durable in
+-- a value that is held alone
+only-one : (v w : List ℕ) → IsOneOf (v ∷ []) w → w ≡ v
+only-one v w (inl same) = same
+only-one v w (inr none) = absurd none
+
+-- an opened log is a clean one, whatever a stop leaves of it
+opened-clean : (shape : Shape) (disk : Disk) (superblock : List ℕ) (next : ℕ) (image : Image) → IsOpenedLog shape disk superblock next → Leaves disk image →
+    IsClean shape image
+opened-clean shape disk superblock next image log leaves =
+    let reads : image Log 0 ≡ superblock = only-one superblock (image Log 0) (subst (λ (c : Cell). IsOneOf (held c) (image Log 0)) log.durable (leaves.each Log 0)) in
     record {
       accepted = ap (super_refusal shape) reads ∙ log.named.is_superblock.accepted;
       clean = ap (λ (block : List ℕ). (super_in block).s_start) reads ∙ log.named.clean;
@@ -157,10 +163,10 @@ opened-clean shape disk superblock next log =
 
 -- an epoch ends well with the opening that answers Ok
 ending-well : (shape : Shape) (epoch : Option Epoch) (disk : Disk) (ended : List Ended) → IsPinned epoch → KeepsNow shape epoch disk →
-    IsClean shape (reading disk) → AllByRecursion (EndedWell shape) ended → AllByRecursion (EndedWell shape) (ending epoch (reading disk) ended)
+    ((image : Image) → Leaves disk image → IsClean shape image) → AllByRecursion (EndedWell shape) ended → AllByRecursion (EndedWell shape) (ending epoch disk ended)
 ending-well shape None disk ended pin keeps clean all = all
 ending-well shape (Some epoch) disk ended pin keeps clean all =
-    (record { pin = pin.0; pin_is = pin.1; clean = clean; keeps = keeps (reading disk) (reads-left disk) }, all)
+    (record { pin = pin.0; pin_is = pin.1; clean = clean; keeps = keeps }, all)
 
 -- the engine of an opened log runs
 fresh-runs : (shape : Shape) (superblock : List ℕ) (next : ℕ) (disk : Disk) → IsOpenedLog shape disk superblock next →
@@ -184,7 +190,7 @@ answer-holds old new holds answer =
     subst Holds (sym answer.after) (
       (fresh_epoch old.shape superblock (next_of x) old.disk, refl, fresh-runs old.shape superblock (next_of x) old.disk done.log),
       ending-well old.shape old.epoch old.disk old.ended done.flush.pin done.keeps
-          (opened-clean old.shape old.disk superblock (next_of x) done.log) holds.1,
+          (λ image leaves. opened-clean old.shape old.disk superblock (next_of x) image done.log leaves) holds.1,
     )
 
 -- each move keeps what holds

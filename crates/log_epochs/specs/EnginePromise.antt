@@ -3,7 +3,7 @@
 use Rattle.std.specs.Prelude.{◌≡◌, ⊤, ℕ, ◌≤◌, List, [], ◌∷◌, length, Option, Some, None, unwrap_or}
 use Rattle.std.specs.List.{AllByRecursion}
 use Rattle.journal_model.specs.declared.number.Area.TheVariants.{Home}
-use Rattle.journal_model.specs.Disk.{Disk, Image, IsOneOf, Leaves, Shape, held, reading}
+use Rattle.journal_model.specs.Disk.{Disk, Image, IsOneOf, Leaves, Shape, held}
 use Rattle.log_model.specs.HomeChange.{Addition, HomeAddsOnly, OthersRightlyHeld}
 use Rattle.log_model.specs.Opening.{IsClean, IsCountOf, Opens}
 use Rattle.log_model.specs.Replay.{IsNewest}
@@ -39,19 +39,20 @@ abbrev pub KeepsNow : Shape → Option Epoch → Disk → Type 0
 KeepsNow shape None disk = ⊤
 KeepsNow shape (Some epoch) disk = (image : Image) → Leaves disk image → KeepsImage shape epoch image
 
--- an epoch ended with a clean log that keeps it, so home reads as its first n transactions make it
+-- An epoch ended with a disk of which every image that a stop may leave has a clean log and keeps it, so that home is as its
+-- first n transactions make it.
 pub record EndedWell (shape : Shape) (x : Ended) : Type 0 where
   pub pin : Image
   pub pin_is : x.epoch.pin ≡ Some pin
-  pub clean : IsClean shape x.after
-  pub keeps : KeepsImage shape x.epoch x.after
+  pub clean : (image : Image) → Leaves x.after image → IsClean shape image
+  pub keeps : (image : Image) → Leaves x.after image → KeepsImage shape x.epoch image
 
--- each epoch began with what the device read when the one before it ended
+-- each epoch began on the disk with which the one before it ended
 abbrev pub Continues : Option Epoch → List Ended → Type 0
 Continues None [] = ⊤
 Continues (Some epoch) [] = ⊤
 Continues None (x ∷ xs) = ⊥
-Continues (Some epoch) (x ∷ xs) = (x.after ≡ reading epoch.opening) × Continues (Some x.epoch) xs
+Continues (Some epoch) (x ∷ xs) = (x.after ≡ epoch.opening) × Continues (Some x.epoch) xs
 
 -- a closed log is clean, and opens to all transactions
 pub record IsClosed (shape : Shape) (epoch : Epoch) (image : Image) : Type 0 where
@@ -105,8 +106,8 @@ MayAdd w GiveUp b v = ⊥
 MayAdd w (Begin found) b v = ⊥
 MayAdd w AnswerOk b v = ⊥
 
--- Each epoch keeps its promise: the one of now whatever a stop leaves at this moment, those that ended with what home
--- then read. Whatever move comes next adds to home nothing but what it may.
+-- Each epoch keeps its promise: the one of now whatever a stop leaves at this moment, those that ended whatever one left
+-- then. Whatever move comes next adds to home nothing but what it may.
 pub record KeepsPromise (w : World) : Type 0 where
   pub now : KeepsNow w.shape w.epoch w.disk
   pub ended : AllByRecursion (EndedWell w.shape) w.ended

@@ -112,7 +112,7 @@ pub record AnswersOk (old new : World) : Type 0 where
   pub after : new ≡ record old {
     phase = Running;
     epoch = Some (fresh_epoch old.shape (cleaned (found.image Log 0) (next_of found)) (next_of found) old.disk);
-    ended = ending old.epoch (reading old.disk) old.ended;
+    ended = ending old.epoch old.disk old.ended;
   }
 
 abbrev pub Moves : World → Move → World → Type 0

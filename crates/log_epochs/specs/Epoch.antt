@@ -14,10 +14,10 @@ pub record Epoch : Type 0 where
   -- stop. It pins n for the rest of the epoch: n is the count of the transactions that its log has.
   pub pin : Option Image
 
--- an epoch that an opening ended, and what the device read when that opening answered Ok
+-- an epoch that an opening ended, and the disk that this opening left when it answered Ok
 pub record Ended : Type 0 where
   pub epoch : Epoch
-  pub after : Image
+  pub after : Disk
 
 -- the epoch that begins on an opened log
 abbrev pub fresh_epoch : Shape → List ℕ → ℕ → Disk → Epoch
@@ -40,6 +40,6 @@ pinning_at SuperblockFlush epoch image = epoch
 pinning_at Done epoch image = epoch
 
 -- the epochs that ended, newest first, once this one has
-abbrev pub ending : Option Epoch → Image → List Ended → List Ended
+abbrev pub ending : Option Epoch → Disk → List Ended → List Ended
 ending None after ended = ended
 ending (Some epoch) after ended = record { epoch = epoch; after = after } ∷ ended

@@ -39,12 +39,12 @@ abbrev pub KeepsNow : Shape → Option Epoch → Disk → Told → Type 0
 KeepsNow shape None disk told = ⊤
 KeepsNow shape (Some epoch) disk told = (image : Image) → Leaves disk image → Kept shape epoch told image
 
--- so does what home read when an opening ended an epoch
+-- so does each image that a stop might leave when an opening ended an epoch
 pub record EndedWell (shape : Shape) (x : Ended) (told : Told) : Type 0 where
   pub pin : Image
   pub pin_is : x.epoch.pin ≡ Some pin
-  pub clean : IsClean shape x.after
-  pub keeps : Kept shape x.epoch told x.after
+  pub clean : (image : Image) → Leaves x.after image → IsClean shape image
+  pub keeps : (image : Image) → Leaves x.after image → Kept shape x.epoch told image
 
 abbrev pub HaveEndedWell : Shape → List Ended → List Told → Type 0
 HaveEndedWell shape [] [] = ⊤
@@ -106,8 +106,8 @@ pub data MakesSteps (move : Move) (old new : Front) : Type 0 where
   Sealed : move ≡ Step Seal → old.open_handles ≡ [] → new.sealed ≡ old.sealed ++ old.running ∷ [] → new.running.steps ≡ [] → MakesSteps move old new
   Begun : move ≡ Below AnswerOk → new.sealed ≡ [] → new.running.steps ≡ [] → MakesSteps move old new
 
--- Each epoch keeps its promise: the one of now whatever a stop leaves at this moment, those that ended with what home
--- then read. Front and engine agree. Whatever move comes next adds to home nothing but what it may, and no step of a
+-- Each epoch keeps its promise: the one of now whatever a stop leaves at this moment, those that ended whatever one left
+-- then. Front and engine agree. Whatever move comes next adds to home nothing but what it may, and no step of a
 -- handle but of one that is open.
 pub record KeepsPromise (w : JournalWorld) : Type 0 where
   pub now : KeepsNow w.below.shape w.below.epoch w.below.disk w.told
