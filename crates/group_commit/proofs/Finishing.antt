@@ -1,6 +1,6 @@
 -- The way of a journal to its end: what the turns of a close come to, one after the other.
 use Rattle.std.proofs.Common.{refl, sym, ◌∙◌, ap, ap₂, subst, arith, inl, inr}
-use Rattle.std.specs.Prelude.{◌≡◌, ◌≢◌, ℕ, ◌<◌, ◌≤◌, false, List, [], ◌∷◌, ◌++◌, length, Result, Ok, Err, IfErr, OnOk}
+use Rattle.std.specs.Prelude.{◌≡◌, ◌≢◌, ℕ, ◌<◌, ◌≤◌, true, false, List, [], ◌∷◌, ◌++◌, length, Result, Ok, Err, IfErr, OnOk}
 use Rattle.std.proofs.lemmas.Bool.{true≢false}
 use Rattle.std.proofs.lemmas.Option.{none-some}
 use Rattle.journal_model.specs.declared.refusal.JournalError.{JournalError}
@@ -17,10 +17,10 @@ use Rattle.journal_world.specs.Call.{Call}
 use Rattle.journal_world.specs.Checkpoint.{RoundCall, RoundSteps, begun, begun_from}
 use Rattle.journal_world.specs.Checkpoint.RoundCall.{CopyHome, FlushHome, WriteTail, FlushTail}
 use Rattle.journal_world.specs.Engine.{CommitSteps, Engine, call_in, stepped_from}
-use Rattle.journal_world.specs.Front.{Front}
+use Rattle.journal_world.specs.Front.{Front, aborting}
 use Rattle.journal_world.specs.Front.FrontEvent.{Lock, Raise}
 use Rattle.journal_world.specs.Journal.{Event, Journal}
-use Rattle.journal_world.specs.Journal.Event.{CheckpointFault, CheckpointStep, CommitFault, CommitStep, Finish, FrontStep, Seal}
+use Rattle.journal_world.specs.Journal.Event.{AbortMark, CheckpointFault, CheckpointStep, CommitFault, CommitStep, Finish, FrontStep, Seal}
 use Rattle.journal_world.specs.Sound.{IsPlain, StageAgrees, position}
 use Rattle.journal_model.specs.Disk.{Disk}
 use Rattle.journal_world.proofs.Batches.{same-length}
@@ -33,7 +33,7 @@ use Rattle.log_epochs.specs.JournalWorld.{with_directs}
 use Rattle.group_commit.specs.Close.{CloseRefused, ComesTo, FitsRing, GoesOn, HasSealed, IsFinished, SealRefused, StaysUnsealed, Went, WentWrong, closing, locked_journal, with_running}
 use Rattle.group_commit.specs.Close.CloseRefused.{CloseAborted, CloseFailed, NoMemory, RingTooShort}
 use Rattle.group_commit.specs.Close.SealRefused.{NoMemoryForIt, NoRoomForIt}
-use Rattle.journal_steps.specs.Journal.{Agrees, CheckTurnDid, CheckTurnRefused, Does, HasRoomFor, NothingToRelease, TurnDid, TurnRefused, need_of}
+use Rattle.journal_steps.specs.Journal.{Agrees, CheckTurnDid, CheckTurnRefused, Does, FailsAndTells, HasRoomFor, NothingToRelease, TurnDid, TurnRefused, need_of}
 use Rattle.journal_steps.specs.Journal.CheckTurnRefused.{CheckAborted, CheckFailed}
 use Rattle.journal_steps.specs.Journal.TurnRefused.{DeviceFailed, MemoryIsShort, RingIsShort, WasAborted}
 use Rattle.journal_steps.specs.Values.{JournalValue}
@@ -216,6 +216,14 @@ module _ {D : Type 0} (state : D → DeviceState) where
         faults = faults;
       }
 
+  -- a step in which the device failed, and of which the front was then told
+  by-fault : (old new : JournalValue D) (fault : Event) → ((directs : List (ℕ × List ℕ)) → with_directs fault directs ≡ directs) →
+      FailsAndTells state fault old new → ComesBy old new
+  by-fault old new fault indirect fails =
+      comes-behind old.journal fails.mid new.journal (state old.device).disk (state new.device).disk (state new.device).disk Running
+      (comes-step old.journal fails.mid (state old.device).disk (state new.device).disk fault indirect fails.fails)
+      (comes-step fails.mid new.journal (state new.device).disk (state new.device).disk AbortMark (λ directs. refl) fails.tells)
+
   -- one that is refused has failed
   pub commit-wrong : (old new : JournalValue D) (e : JournalError) → old.journal.engine.aborted ≡ false → old.journal.engine.stage ≢ Idle →
       TurnRefused state old new e → (state new.device).shape ≡ (state old.device).shape → (e ≡ Device) × WentWrong state old new
@@ -223,20 +231,21 @@ module _ {D : Type 0} (state : D → DeviceState) where
   commit-wrong old new e running busy (RingIsShort due none same) shape = absurd (busy due.idle)
   commit-wrong old new e running busy (MemoryIsShort due room same) shape = absurd (busy due.idle)
   commit-wrong old new e running busy (DeviceFailed fails counted) shape =
-      let fault = fails.engine in (
+      let told : new.journal.front ≡ aborting old.journal.front = fails.tells.front ∙ ap (λ (f : Front). aborting f) fails.fails.front in
+      let engine : new.journal.engine ≡ record old.journal.engine { aborted = true } = fails.tells.engine ∙ fails.fails.engine.engine in (
         refl,
         record {
           on = record {
-            sealed = ap (λ (f : Front). f.sealed) fails.front;
-            transaction = ap (λ (f : Front). f.running) fails.front;
-            locked = ap (λ (f : Front). f.locked) fails.front;
-            open_handles = ap (λ (f : Front). f.open_handles) fails.front;
-            measures = ap (λ (x : Engine). x.shape) fault.engine;
-            layout = ap (λ (x : Engine). x.layout) fault.engine;
-            ring = ap (λ (x : Engine). x.ring) fault.engine;
-            committed = (let same : new.journal.engine.committed ≡ old.journal.engine.committed = ap (λ (x : Engine). x.committed) fault.engine in omega arith);
+            sealed = ap (λ (f : Front). f.sealed) told;
+            transaction = ap (λ (f : Front). f.running) told;
+            locked = ap (λ (f : Front). f.locked) told;
+            open_handles = ap (λ (f : Front). f.open_handles) told;
+            measures = ap (λ (x : Engine). x.shape) engine;
+            layout = ap (λ (x : Engine). x.layout) engine;
+            ring = ap (λ (x : Engine). x.ring) engine;
+            committed = (let same : new.journal.engine.committed ≡ old.journal.engine.committed = ap (λ (x : Engine). x.committed) engine in omega arith);
             shape = shape;
-            path = by-step old new CommitFault (λ directs. refl) fails;
+            path = by-fault old new CommitFault (λ directs. refl) fails;
           };
           faults = counted;
         },
@@ -290,28 +299,29 @@ module _ {D : Type 0} (state : D → DeviceState) where
       (e ≡ Device) × WentWrong state old new × (new.journal.engine.stage ≡ old.journal.engine.stage)
   check-wrong old new e running (CheckAborted is same stays counted) shape = absurd (true≢false (sym is ∙ running))
   check-wrong old new e running (CheckFailed fails counted) shape =
-      let fault = fails.engine in
+      let told : new.journal.front ≡ aborting old.journal.front = fails.tells.front ∙ ap (λ (f : Front). aborting f) fails.fails.front in
+      let engine : new.journal.engine ≡ record (begun old.journal.engine) { aborted = true } = fails.tells.engine ∙ fails.fails.engine.engine in
       let begins = begun-stage old.journal.engine old.journal.engine.round in (
         refl,
         record {
           on = record {
-            sealed = ap (λ (f : Front). f.sealed) fails.front;
-            transaction = ap (λ (f : Front). f.running) fails.front;
-            locked = ap (λ (f : Front). f.locked) fails.front;
-            open_handles = ap (λ (f : Front). f.open_handles) fails.front;
-            measures = ap (λ (x : Engine). x.shape) fault.engine ∙ begins.log.measures;
-            layout = ap (λ (x : Engine). x.layout) fault.engine ∙ begins.log.layout;
-            ring = ap (λ (x : Engine). x.ring) fault.engine ∙ begins.log.ring;
+            sealed = ap (λ (f : Front). f.sealed) told;
+            transaction = ap (λ (f : Front). f.running) told;
+            locked = ap (λ (f : Front). f.locked) told;
+            open_handles = ap (λ (f : Front). f.open_handles) told;
+            measures = ap (λ (x : Engine). x.shape) engine ∙ begins.log.measures;
+            layout = ap (λ (x : Engine). x.layout) engine ∙ begins.log.layout;
+            ring = ap (λ (x : Engine). x.ring) engine ∙ begins.log.ring;
             committed =
-                (let same : new.journal.engine.committed ≡ (begun old.journal.engine).committed = ap (λ (x : Engine). x.committed) fault.engine in
+                (let same : new.journal.engine.committed ≡ (begun old.journal.engine).committed = ap (λ (x : Engine). x.committed) engine in
                 let low : old.journal.engine.committed ≤ (begun old.journal.engine).committed = begins.log.committed in
                 omega arith);
             shape = shape;
-            path = by-step old new CheckpointFault (λ directs. refl) fails;
+            path = by-fault old new CheckpointFault (λ directs. refl) fails;
           };
           faults = counted;
         },
-        ap (λ (x : Engine). x.stage) fault.engine ∙ begins.stage,
+        ap (λ (x : Engine). x.stage) engine ∙ begins.stage,
       )
 
   -- what is committed is released: the whole ring is free
@@ -342,7 +352,7 @@ module _ {D : Type 0} (state : D → DeviceState) where
   seal-wrong old mid new e is running idle (MemoryIsShort due room same) =
       (NoMemoryForIt (subst (λ (v : JournalValue D). HasRoomFor v.journal) is room), same ∙ is)
   seal-wrong old mid new e is running idle (DeviceFailed fails counted) =
-      let fault = fails.engine in
+      let fault = fails.fails.engine in
       absurd (none-some fault.call
       (sym (ap (call_in mid.journal.engine) (ap (λ (v : JournalValue D). v.journal.engine.stage) is ∙ idle)) ∙ fault.due))
 

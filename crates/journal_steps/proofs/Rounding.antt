@@ -59,7 +59,12 @@ pub refused-check : {D : Type 0} (state : D → DeviceState) (f front : Front) (
     CheckTurnRefused state (record { device = d; journal = record { front = f; engine = old } }) (record { device = other; journal = record { front = front; engine = new } }) e
 refused-check state f front d other old new e agrees told (RoundAborted is same stays counted) =
     CheckAborted is (ap₂ (λ (x : Front) (y : Engine). record { front = x; engine = y }) (told ∙ told-again f old agrees is) same) stays counted
-refused-check state f front d other old new e agrees told (RoundFailed fault counted) = CheckFailed (record { front = told; engine = fault }) counted
+refused-check state f front d other old new e agrees told (RoundFailed fault counted) =
+    CheckFailed (record {
+      mid = record { front = f; engine = new };
+      fails = record { front = refl; engine = fault };
+      tells = record { failed = ap (λ (x : Engine). x.aborted) fault.engine; front = told; engine = refl; disk_is = refl };
+    }) counted
 
 -- a step of a round that did nothing is a turn that did nothing
 pub idle-check : {D : Type 0} (state : D → DeviceState) (f : Front) (d other : D) (old new : Engine) →

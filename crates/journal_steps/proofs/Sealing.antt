@@ -331,7 +331,12 @@ pub refused-turn : {D : Type 0} (state : D → DeviceState) (f front : Front) (d
     front ≡ aborting f → StepRefused old (state d) new (state other) e →
     TurnRefused state (record { device = d; journal = record { front = f; engine = old } }) (record { device = other; journal = record { front = front; engine = new } }) e
 refused-turn state f front d other old new e running told (WasAborted is same stays counted) = absurd (true≢false (sym is ∙ running))
-refused-turn state f front d other old new e running told (DeviceFailed fault counted) = FailedTurn (record { front = told; engine = fault }) counted
+refused-turn state f front d other old new e running told (DeviceFailed fault counted) =
+    FailedTurn (record {
+      mid = record { front = f; engine = new };
+      fails = record { front = refl; engine = fault };
+      tells = record { failed = ap (λ (x : Engine). x.aborted) fault.engine; front = told; engine = refl; disk_is = refl };
+    }) counted
 
 -- the last step of a commit, with what the front knows and tells
 pub finishes-commit : {D : Type 0} (state : D → DeviceState) (f done front : Front) (d other : D) (old new : Engine) (tid : ℕ) →

@@ -23,7 +23,7 @@ use Rattle.journal_world.specs.Engine.{AreBatchesOf, Engine}
 use Rattle.journal_world.specs.Front.{unfinished}
 use Rattle.journal_world.specs.Front.FrontEvent.{Lock, Raise}
 use Rattle.journal_world.specs.Journal.{Event, Happens, Journal}
-use Rattle.journal_world.specs.Journal.Event.{CheckpointFault, CheckpointStep, CommitFault, CommitStep, Finish, FrontStep, ReadFault, Seal}
+use Rattle.journal_world.specs.Journal.Event.{AbortMark, CheckpointFault, CheckpointStep, CommitFault, CommitStep, Finish, FrontStep, ReadFault, Seal}
 use Rattle.journal_world.specs.Sound.{CopiesHome, KeepsHome}
 use Rattle.journal_steps.specs.declared.turn.CheckTurn.{CheckTurn}
 use Rattle.journal_steps.specs.declared.turn.CheckTurn.TheVariants.{Idle as IdleCheck, Step as StepCheck, Released}
@@ -119,6 +119,12 @@ pub record FinishesCommit {D : Type 0} (state : D → DeviceState) (tid : ℕ) (
   pub raises : Happens done (state new.device).disk (FrontStep (Raise tid)) new.journal (state new.device).disk
   pub told : new.journal.front.mark ≡ tid
 
+-- The device failed in the first step, and then the front was told: nobody else comes in between.
+pub record FailsAndTells {D : Type 0} (state : D → DeviceState) (fault : Event) (old new : JournalValue D) : Type 0 where
+  pub mid : Journal
+  pub fails : Happens old.journal (state old.device).disk fault mid (state new.device).disk
+  pub tells : Happens mid (state new.device).disk AbortMark new.journal (state new.device).disk
+
 -- a commit step that is not the last one
 pub record StepsCommit {D : Type 0} (state : D → DeviceState) (old new : JournalValue D) : Type 0 where
   pub commits : Does state old CommitStep new
@@ -151,7 +157,7 @@ pub data TurnRefused {D : Type 0} (state : D → DeviceState) (old new : Journal
   WasAborted : old.journal.engine.aborted ≡ true → new ≡ old → TurnRefused state old new Aborted
   RingIsShort : SealIsDue old.journal → (HasRoomFor old.journal → ⊥) → new ≡ old → TurnRefused state old new NeedSpace
   MemoryIsShort : SealIsDue old.journal → HasRoomFor old.journal → new ≡ old → TurnRefused state old new Memory
-  DeviceFailed : Does state old CommitFault new → (state new.device).faults ≡ one_more_fault (state old.device).faults →
+  DeviceFailed : FailsAndTells state CommitFault old new → (state new.device).faults ≡ one_more_fault (state old.device).faults →
       TurnRefused state old new Device
 
 -- no round is under way, and every committed transaction is released
@@ -172,7 +178,7 @@ CheckTurnDid state (Released tid) old new =
 pub data CheckTurnRefused {D : Type 0} (state : D → DeviceState) (old new : JournalValue D) : JournalError → Type 0 where
   CheckAborted : old.journal.engine.aborted ≡ true → new.journal ≡ old.journal → Stays (state old.device) (state new.device) →
       (state new.device).faults ≡ (state old.device).faults → CheckTurnRefused state old new Aborted
-  CheckFailed : Does state old CheckpointFault new → (state new.device).faults ≡ one_more_fault (state old.device).faults →
+  CheckFailed : FailsAndTells state CheckpointFault old new → (state new.device).faults ≡ one_more_fault (state old.device).faults →
       CheckTurnRefused state old new Device
 
 -- every image that a crash of the disk may leave opens, to a number of these transactions from low to high

@@ -5,7 +5,7 @@ use Rattle.std.proofs.lemmas.List.{length-map, length_push}
 use Rattle.std.proofs.lemmas.List.Sums.{sum-map, sum_by_push}
 use Rattle.journal_model.specs.Credits.{credit_word as word_of, credits_held}
 use Rattle.journal_model.specs.Disk.{Disk}
-use Rattle.journal_model.proofs.Effects.{entries-push_known, entries-push_new}
+use Rattle.journal_model.proofs.Effects.{entries-push_known, entries-push_new, entries-push_read}
 use Rattle.journal_model.proofs.ListElements.{option-known}
 use Rattle.journal_model.specs.declared.entry.Entry.{Entry}
 use Rattle.journal_model.specs.declared.entry.Entry.TheVariants.{Copy, Revoke}
@@ -14,9 +14,9 @@ use Rattle.journal_model.specs.declared.transaction.Op.TheVariants.{Write, Revok
 use Rattle.journal_model.specs.declared.transaction.Step.{Step}
 use Rattle.journal_model.specs.Transaction.{effect, entries, entry_of}
 use Rattle.journal_world.specs.Credits.{HeldAfter, HeldBehind, IsAtHand, NeedsFront, RefusedAfter, accounts_of, beside, beside_all}
-use Rattle.journal_world.specs.Front.{ExtendsHandle, Front, FrontEvent, FrontHappens, GivesBack, IsFirstTouch, IsOpen, Joins, Reserves, RevokesBlock, StopsHandle, WritesBlock, credit_word, extending, giving_back, held, joining, left_after, left_in, reserving, sealing, stopping, touching}
+use Rattle.journal_world.specs.Front.{ExtendsHandle, Front, FrontEvent, FrontHappens, GivesBack, IsFirstTouch, IsOpen, Joins, Reserves, RevokesBlock, StopsHandle, WritesBlock, credit_word, extending, giving_back, held, joining, left_after, left_in, read_step, reading_block, reserving, sealing, stopping, touching}
 use Rattle.journal_world.specs.Journal.{Event, Happens, Journal}
-use Rattle.journal_world.specs.Journal.Event.{FrontStep, Seal, CommitStep, CommitFault, CheckpointStep, CheckpointFault, ReadFault, DirectWrite, DirectWriteFault, DirectSync, DirectSyncFault, Finish}
+use Rattle.journal_world.specs.Journal.Event.{FrontStep, Seal, CommitStep, CommitFault, CheckpointStep, CheckpointFault, ReadBlock, ReadFault, DirectWrite, DirectWriteFault, DirectSync, DirectSyncFault, Finish, AbortMark}
 use Rattle.journal_world.specs.Front.FrontEvent.{Reserve, RefuseReserve, TakeBack, GiveBack, LoadCredits, LoadMark, Join, ExtendHandle, WriteBlock, RevokeBlock, StopHandle, Lock, Raise}
 use Rattle.journal_world.proofs.OpenHandles.{left-among, left-without}
 
@@ -255,12 +255,18 @@ journal-held old new disk after CommitStep step = ap (λ (f : Front). held f) st
 journal-held old new disk after CommitFault step = ap (λ (f : Front). held f) step.front
 journal-held old new disk after CheckpointStep step = ap (λ (f : Front). held f) step.front
 journal-held old new disk after CheckpointFault step = ap (λ (f : Front). held f) step.front
+journal-held old new disk after (ReadBlock h b v) step =
+    let same : held new.front ≡ held (reading_block old.front h b v) = ap (λ (f : Front). held f) step.front in
+    let entries_are : length (entries (old.front.running.steps ++ read_step h b v ∷ [])) ≡ length (entries old.front.running.steps) =
+    ap (λ (es : List (ℕ × Entry)). length es) (entries-push_read old.front.running.steps (read_step h b v) refl) in
+    omega arith
 journal-held old new disk after ReadFault step = ap (λ (f : Front). held f) step.front
 journal-held old new disk after (DirectWrite b v) step = ap (λ (f : Front). held f) step.front
 journal-held old new disk after (DirectWriteFault b v) step = ap (λ (f : Front). held f) step.front
 journal-held old new disk after DirectSync step = ap (λ (f : Front). held f) step.front
 journal-held old new disk after DirectSyncFault step = ap (λ (f : Front). held f) step.front
 journal-held old new disk after Finish step = ap (λ (f : Front). held f) step.front
+journal-held old new disk after AbortMark step = ap (λ (f : Front). held f) step.front
 
 -- whatever callers hold beside, a step of front and engine together is the same
 pub journal-beside : (old new : Journal) (disk after : Disk) (event : Event) (reserved refused : ℕ) → NeedsFront event → Happens old disk event new after →
@@ -284,6 +290,15 @@ journal-beside old new disk after CheckpointStep reserved refused needs step =
     record { front = ap (λ (f : Front). beside reserved refused f) step.front; engine = step.engine }
 journal-beside old new disk after CheckpointFault reserved refused needs step =
     record { front = ap (λ (f : Front). beside reserved refused f) step.front; engine = step.engine }
+journal-beside old new disk after (ReadBlock h b v) reserved refused needs step = record {
+  running = step.running;
+  handle = beside-open old.front reserved refused h step.handle;
+  allowed = step.allowed;
+  sees = step.sees;
+  front = ap (λ (f : Front). beside reserved refused f) step.front;
+  engine = step.engine;
+  disk_is = step.disk_is;
+}
 journal-beside old new disk after ReadFault reserved refused needs step = record {
   running = step.running;
   front = ap (λ (f : Front). beside reserved refused f) step.front;
@@ -300,6 +315,12 @@ journal-beside old new disk after DirectSyncFault reserved refused needs step =
     record { front = ap (λ (f : Front). beside reserved refused f) step.front; engine = step.engine }
 journal-beside old new disk after Finish reserved refused needs step = record {
   committed = step.committed;
+  front = ap (λ (f : Front). beside reserved refused f) step.front;
+  engine = step.engine;
+  disk_is = step.disk_is;
+}
+journal-beside old new disk after AbortMark reserved refused needs step = record {
+  failed = step.failed;
   front = ap (λ (f : Front). beside reserved refused f) step.front;
   engine = step.engine;
   disk_is = step.disk_is;

@@ -1,6 +1,6 @@
 -- The front agrees with the engine, and each step of the front keeps that, as does whatever step the engine goes on by.
 use Rattle.std.proofs.Common.{refl, sym, ap, subst, ◌∙◌, arith, length-append}
-use Rattle.std.specs.Prelude.{◌≡◌, ℕ, suc, ◌+◌, ◌<◌, ◌≤◌, max, nat_eq, Bool, true, false, List, [], ◌∷◌, ◌++◌, length, map, Contains}
+use Rattle.std.specs.Prelude.{◌≡◌, ℕ, suc, ◌+◌, ◌<◌, ◌≤◌, max, nat_eq, Bool, true, false, List, [], ◌∷◌, ◌++◌, length, map, Contains, Some, Ok}
 use Rattle.std.specs.List.{AllByRecursion, IsDistinct, list_any}
 use Rattle.std.proofs.Math.Nat.{le-max_left, max-le}
 use Rattle.std.proofs.lemmas.Bool.Decides.{nat_tests}
@@ -9,31 +9,37 @@ use Rattle.std.proofs.lemmas.List.{map-append}
 use Rattle.std.proofs.lemmas.List.Elements.{Contains-append_left, Contains-push}
 use Rattle.std.proofs.lemmas.Map.Keys.{IsDistinct-push}
 use Rattle.journal_model.proofs.ListElements.{each-append}
+use Rattle.journal_model.proofs.Effects.{entries-push_read}
 use Rattle.journal_model.specs.declared.entry.Batch.{Batch}
+use Rattle.journal_model.specs.declared.entry.Entry.{Entry}
+use Rattle.journal_model.specs.declared.entry.Entry.TheVariants.{Copy, Revoke as RevokeEntry}
 use Rattle.journal_model.specs.declared.transaction.Op.{Op}
 use Rattle.journal_model.specs.declared.transaction.Op.TheVariants.{Write, Revoke}
 use Rattle.log_model.specs.Chain.{Ring}
 use Rattle.log_model.specs.Room.{IsCapacity}
 use Rattle.journal_model.specs.Disk.{Shape}
+use Rattle.journal_model.specs.Reading.{seen}
+use Rattle.journal_model.specs.Record.{IsLegal}
+use Rattle.journal_model.specs.Transaction.{entries, entry_of}
 use Rattle.journal_world.specs.Engine.{Engine, Accepts, AreBatchesOf}
-use Rattle.journal_world.specs.Front.{Front, FrontEvent, FrontHappens, IsOpen, MaySeal, aborting, extending, finishing, fresh_front, held, joining, left_after, next_handle, raising, sealing, stopping, touching}
+use Rattle.journal_world.specs.Front.{Front, FrontEvent, FrontHappens, IsOpen, MaySeal, aborting, extending, finished_count, finishing, fresh_front, held, joining, left_after, next_handle, raising, read_step, reading_block, sealing, stopping, touching, transactions}
 use Rattle.journal_world.specs.Front.FrontEvent.{Reserve, RefuseReserve, TakeBack, GiveBack, LoadCredits, LoadMark, Join, ExtendHandle, WriteBlock, RevokeBlock, StopHandle, Lock, Raise}
 use Rattle.journal_world.specs.Journal.{KeepsFront, batch_of, fresh_engine}
 use Rattle.journal_world.proofs.Batches.{batches-last}
 use Rattle.journal_world.proofs.Credits.{held-within}
 use Rattle.journal_world.proofs.Elements.{all-weaker, none-passes}
 use Rattle.journal_world.proofs.Handles.{HasHandles, handles-begin, handles-empty, handles-join, handles-step}
+use Rattle.journal_world.proofs.Legal.{legal-begin, legal-empty, legal-read, legal-same, legal-touch}
 use Rattle.journal_world.proofs.Onward.{GoesOn}
 use Rattle.journal_world.proofs.OpenHandles.{all-changed, all-without, distinct-without, same-numbers}
 
--- What the front keeps true beside the engine: the sealed transactions are those that the engine has, the running one
--- has the next number, and answers tell of no transaction above the mark. (With number 0 for the first one nothing is ever
--- sealed.) No open handle has a number that is still to be given.
+-- What the front keeps true beside the engine: what `KeepsFront` says; answers tell of no transaction above the mark; handles
+-- and reads are as a record has them; and no open handle has a number that is still to be given. (With number 0 for the first
+-- transaction nothing is ever sealed.)
 pub record FrontAgrees (f : Front) (e : Engine) (answered : List ℕ) : Type 0 where
-  pub batches : AreBatchesOf f.sealed e.accepted
-  pub number : f.running.tid ≡ e.first + length e.accepted
   pub told : AllByRecursion (λ n. n ≤ f.mark) answered
   pub handles : HasHandles f.given (f.sealed ++ f.running ∷ [])
+  pub legal : IsLegal (f.sealed ++ f.running ∷ [])
   pub keeps : KeepsFront f e
   pub least : AllByRecursion (λ h. h.0 ≤ f.given) f.open_handles
 
@@ -45,14 +51,15 @@ fresh-agrees capacity shape superblock next e is fits =
     let first : e.first ≡ next = ap (λ (x : Engine). x.first) is in
     let none : length e.accepted ≡ 0 = ap (λ (bs : List Batch). length bs) accepted in
     record {
-      batches = subst (AreBatchesOf []) (sym accepted) tt;
-      number = omega arith;
       told = tt;
       handles = handles-empty next;
+      legal = legal-empty next;
       keeps = record {
         layout = refl;
         home_blocks = refl;
-        aborted = sym (ap (λ (x : Engine). x.aborted) is);
+        aborted = λ yes. ap (λ (x : Engine). x.aborted) is ∙ yes;
+        accepted = subst (AreBatchesOf []) (sym accepted) tt;
+        number = omega arith;
         committed = λ some. absurd (omega arith);
         marked = omega arith;
         capacity = fits;
@@ -68,14 +75,15 @@ credits-agree : (f : Front) (e : Engine) (answered : List ℕ) (reserved refused
     held (record f { reserved = reserved; refused = refused; locked = locked }) ≤ f.capacity → FrontAgrees f e answered →
     FrontAgrees (record f { reserved = reserved; refused = refused; locked = locked }) e answered
 credits-agree f e answered reserved refused locked within agrees = record {
-  batches = agrees.batches;
-  number = agrees.number;
   told = agrees.told;
   handles = agrees.handles;
+  legal = agrees.legal;
   keeps = record {
     layout = agrees.keeps.layout;
     home_blocks = agrees.keeps.home_blocks;
     aborted = agrees.keeps.aborted;
+    accepted = agrees.keeps.accepted;
+    number = agrees.keeps.number;
     committed = agrees.keeps.committed;
     marked = agrees.keeps.marked;
     capacity = agrees.keeps.capacity;
@@ -94,14 +102,15 @@ join-agrees f e answered n within agrees =
     let fresh : list_any (nat_eq (next_handle f)) (map number f.open_handles) ≡ false =
     above-none f.given f.open_handles agrees.least in
     record {
-      batches = agrees.batches;
-      number = agrees.number;
       told = agrees.told;
       handles = handles-join f.given f.sealed f.running agrees.handles;
+      legal = legal-same f.sealed f.running (record f.running { handles = f.running.handles ++ next_handle f ∷ [] }) refl agrees.legal;
       keeps = record {
         layout = agrees.keeps.layout;
         home_blocks = agrees.keeps.home_blocks;
         aborted = agrees.keeps.aborted;
+        accepted = agrees.keeps.accepted;
+        number = agrees.keeps.number;
         committed = agrees.keeps.committed;
         marked = agrees.keeps.marked;
         capacity = agrees.keeps.capacity;
@@ -131,14 +140,15 @@ join-agrees f e answered n within agrees =
 extend-agrees : (f : Front) (e : Engine) (answered : List ℕ) (h n : ℕ) (handle : IsOpen f h) → held (extending f h n handle) ≤ f.capacity →
     FrontAgrees f e answered → FrontAgrees (extending f h n handle) e answered
 extend-agrees f e answered h n handle within agrees = record {
-  batches = agrees.batches;
-  number = agrees.number;
   told = agrees.told;
   handles = agrees.handles;
+  legal = agrees.legal;
   keeps = record {
     layout = agrees.keeps.layout;
     home_blocks = agrees.keeps.home_blocks;
     aborted = agrees.keeps.aborted;
+    accepted = agrees.keeps.accepted;
+    number = agrees.keeps.number;
     committed = agrees.keeps.committed;
     marked = agrees.keeps.marked;
     capacity = agrees.keeps.capacity;
@@ -155,23 +165,31 @@ extend-agrees f e answered h n handle within agrees = record {
       (subst (AllByRecursion (λ o. o.0 ≤ f.given)) handle.stands agrees.least);
 }
 
+-- an open handle is one of those that joined
+own-handle : (handles : List ℕ) (h left : ℕ) (before behind : List (ℕ × ℕ)) →
+    AllByRecursion (λ o. Contains handles o.0) (before ++ (h, left) ∷ behind) → Contains handles h
+own-handle handles h left [] behind all = all.0
+own-handle handles h left (o ∷ before) behind all = own-handle handles h left before behind all.1
+
 -- an open handle touches a block
-touch-agrees : (f : Front) (e : Engine) (answered : List ℕ) (h b : ℕ) (op : Op) (handle : IsOpen f h) → held (touching f h b op handle) ≤ f.capacity →
-    FrontAgrees f e answered → FrontAgrees (touching f h b op handle) e answered
-touch-agrees f e answered h b op handle within agrees =
+touch-agrees : (f : Front) (e : Engine) (answered : List ℕ) (h b : ℕ) (op : Op) (left : Entry) (handle : IsOpen f h) → entry_of op ≡ Some left →
+    held (touching f h b op handle) ≤ f.capacity → FrontAgrees f e answered → FrontAgrees (touching f h b op handle) e answered
+touch-agrees f e answered h b op left handle leaves within agrees =
     let all : AllByRecursion (λ o. Contains f.running.handles o.0) (handle.before ++ (h, handle.left) ∷ handle.behind) =
     subst (AllByRecursion (λ o. Contains f.running.handles o.0)) handle.stands agrees.keeps.joined in
     let least : AllByRecursion (λ o. o.0 ≤ f.given) (handle.before ++ (h, handle.left) ∷ handle.behind) =
     subst (AllByRecursion (λ o. o.0 ≤ f.given)) handle.stands agrees.least in
     record {
-      batches = agrees.batches;
-      number = agrees.number;
       told = agrees.told;
-      handles = handles-step f.given f.sealed f.running (record { handle = h; block = b; op = op }) (own handle.before handle.behind all) agrees.handles;
+      handles = handles-step f.given f.sealed f.running (record { handle = h; block = b; op = op }) (own-handle f.running.handles h handle.left handle.before handle.behind all)
+          agrees.handles;
+      legal = legal-touch f.sealed f.running (record { handle = h; block = b; op = op }) left leaves agrees.legal;
       keeps = record {
         layout = agrees.keeps.layout;
         home_blocks = agrees.keeps.home_blocks;
         aborted = agrees.keeps.aborted;
+        accepted = agrees.keeps.accepted;
+        number = agrees.keeps.number;
         committed = agrees.keeps.committed;
         marked = agrees.keeps.marked;
         capacity = agrees.keeps.capacity;
@@ -183,24 +201,51 @@ touch-agrees f e answered h b op handle within agrees =
       };
       least = all-changed (λ o. o.0 ≤ f.given) handle.before (h, handle.left) (h, left_after f b handle.left) handle.behind (λ low. low) least;
     }
-  where
-    own : (before behind : List (ℕ × ℕ)) → AllByRecursion (λ o. Contains f.running.handles o.0) (before ++ (h, handle.left) ∷ behind) →
-        Contains f.running.handles h
-    own [] behind all = all.0
-    own (o ∷ before) behind all = own before behind all.1
+
+-- an open handle reads a block, and sees what it is to see
+pub read-agrees : (f : Front) (e : Engine) (answered : List ℕ) (h b : ℕ) (v home : List ℕ) → IsOpen f h →
+    seen (transactions f) (finished_count f) b home ≡ Ok v → FrontAgrees f e answered → FrontAgrees (reading_block f h b v) e answered
+read-agrees f e answered h b v home handle sees agrees =
+    let all : AllByRecursion (λ o. Contains f.running.handles o.0) (handle.before ++ (h, handle.left) ∷ handle.behind) =
+    subst (AllByRecursion (λ o. Contains f.running.handles o.0)) handle.stands agrees.keeps.joined in
+    let same : length (entries (f.running.steps ++ read_step h b v ∷ [])) ≡ length (entries f.running.steps) =
+    ap (λ (es : List (ℕ × Entry)). length es) (entries-push_read f.running.steps (read_step h b v) refl) in
+    let within : held f ≤ f.capacity = agrees.keeps.credits in
+    record {
+      told = agrees.told;
+      handles =
+          handles-step f.given f.sealed f.running (read_step h b v) (own-handle f.running.handles h handle.left handle.before handle.behind all)
+          agrees.handles;
+      legal = legal-read f.sealed f.running h b (finished_count f) v home sees agrees.legal;
+      keeps = record {
+        layout = agrees.keeps.layout;
+        home_blocks = agrees.keeps.home_blocks;
+        aborted = agrees.keeps.aborted;
+        accepted = agrees.keeps.accepted;
+        number = agrees.keeps.number;
+        committed = agrees.keeps.committed;
+        marked = agrees.keeps.marked;
+        capacity = agrees.keeps.capacity;
+        credits = omega arith;
+        joined = agrees.keeps.joined;
+        once = agrees.keeps.once;
+      };
+      least = agrees.least;
+    }
 
 -- an open handle stops
 stop-agrees : (f : Front) (e : Engine) (answered : List ℕ) (h : ℕ) (handle : IsOpen f h) → held (stopping f h handle) ≤ f.capacity → FrontAgrees f e answered →
     FrontAgrees (stopping f h handle) e answered
 stop-agrees f e answered h handle within agrees = record {
-  batches = agrees.batches;
-  number = agrees.number;
   told = agrees.told;
   handles = agrees.handles;
+  legal = agrees.legal;
   keeps = record {
     layout = agrees.keeps.layout;
     home_blocks = agrees.keeps.home_blocks;
     aborted = agrees.keeps.aborted;
+    accepted = agrees.keeps.accepted;
+    number = agrees.keeps.number;
     committed = agrees.keeps.committed;
     marked = agrees.keeps.marked;
     capacity = agrees.keeps.capacity;
@@ -220,14 +265,15 @@ raise-agrees : (f : Front) (e : Engine) (answered : List ℕ) (t : ℕ) → t �
 raise-agrees f e answered t finished agrees =
     let higher = le-max_left f.mark t in
     record {
-      batches = agrees.batches;
-      number = agrees.number;
       told = all-weaker (λ n. n ≤ f.mark) (λ n. n ≤ max f.mark t) (λ n low. omega arith) answered agrees.told;
       handles = agrees.handles;
+      legal = agrees.legal;
       keeps = record {
         layout = agrees.keeps.layout;
         home_blocks = agrees.keeps.home_blocks;
         aborted = agrees.keeps.aborted;
+        accepted = agrees.keeps.accepted;
+        number = agrees.keeps.number;
         committed = agrees.keeps.committed;
         marked = max-le agrees.keeps.marked finished;
         capacity = agrees.keeps.capacity;
@@ -268,10 +314,10 @@ front-agrees old new e answered event step agrees = by event step (held-within o
         subst (λ (f : Front). FrontAgrees f e answered) (sym step.after) (join-agrees old e answered n (with _ step.after refl within) agrees)
     by (WriteBlock h b v) step within =
         subst (λ (f : Front). FrontAgrees f e answered) (sym step.after)
-        (touch-agrees old e answered h b (Write v) step.handle (with _ step.after refl within) agrees)
+        (touch-agrees old e answered h b (Write v) (Copy v) step.handle refl (with _ step.after refl within) agrees)
     by (RevokeBlock h b) step within =
         subst (λ (f : Front). FrontAgrees f e answered) (sym step.after)
-        (touch-agrees old e answered h b Revoke step.handle (with _ step.after refl within) agrees)
+        (touch-agrees old e answered h b Revoke RevokeEntry step.handle refl (with _ step.after refl within) agrees)
     by (StopHandle h) step within =
         subst (λ (f : Front). FrontAgrees f e answered) (sym step.after)
         (stop-agrees old e answered h step.handle (with _ step.after refl within) agrees)
@@ -285,14 +331,15 @@ front-agrees old new e answered event step agrees = by event step (held-within o
 pub finish-agrees : (f : Front) (e : Engine) (answered : List ℕ) → f.finished + 1 < e.first + e.committed → FrontAgrees f e answered →
     FrontAgrees (finishing f) e answered
 finish-agrees f e answered committed agrees = record {
-  batches = agrees.batches;
-  number = agrees.number;
   told = agrees.told;
   handles = agrees.handles;
+  legal = agrees.legal;
   keeps = record {
     layout = agrees.keeps.layout;
     home_blocks = agrees.keeps.home_blocks;
     aborted = agrees.keeps.aborted;
+    accepted = agrees.keeps.accepted;
+    number = agrees.keeps.number;
     committed = λ some. committed;
     marked = let marked = agrees.keeps.marked in omega arith;
     capacity = agrees.keeps.capacity;
@@ -306,23 +353,25 @@ finish-agrees f e answered committed agrees = record {
 -- an answer tells of a transaction that the mark has come to
 pub answer-agrees : (f : Front) (e : Engine) (answered : List ℕ) (tid : ℕ) → tid ≤ f.mark → FrontAgrees f e answered → FrontAgrees f e (tid ∷ answered)
 answer-agrees f e answered tid marked agrees = record {
-  batches = agrees.batches;
-  number = agrees.number;
   told = (marked, agrees.told);
   handles = agrees.handles;
+  legal = agrees.legal;
   keeps = agrees.keeps;
   least = agrees.least;
 }
 
 -- what a sealed front keeps beside an engine of the same measures that has not failed either
 sealed-keeps : (f : Front) (old new : Engine) → f.open_handles ≡ [] → new.shape ≡ old.shape → new.layout ≡ old.layout → new.ring ≡ old.ring →
-    new.aborted ≡ old.aborted → f.finished < new.first + new.committed → KeepsFront f old → KeepsFront (sealing f) new
-sealed-keeps f old new none shape layout ring aborted committed keeps =
+    new.aborted ≡ old.aborted → AreBatchesOf (f.sealed ++ f.running ∷ []) new.accepted → suc f.running.tid ≡ new.first + length new.accepted →
+    f.finished < new.first + new.committed → KeepsFront f old → KeepsFront (sealing f) new
+sealed-keeps f old new none shape layout ring aborted batches number committed keeps =
     let within : held f ≤ f.capacity = keeps.credits in
     record {
       layout = keeps.layout ∙ sym layout;
       home_blocks = keeps.home_blocks ∙ sym (ap (λ (s : Shape). s.home_blocks) shape);
-      aborted = keeps.aborted ∙ sym aborted;
+      aborted = λ yes. aborted ∙ keeps.aborted yes;
+      accepted = batches;
+      number = number;
       committed = λ some. committed;
       marked = keeps.marked;
       capacity = subst (λ (r : Ring). IsCapacity f.layout r.blocks f.capacity) (sym ring) keeps.capacity;
@@ -338,19 +387,19 @@ seal-agrees f old new answered may accepts agrees =
     let one = length-append old.accepted (batch_of f.running ∷ []) in
     let finished = may.finished in
     let next : f.running.tid ≡ old.first + old.committed = accepts.number in
-    let number : f.running.tid ≡ old.first + length old.accepted = agrees.number in
+    let number : f.running.tid ≡ old.first + length old.accepted = agrees.keeps.number in
     subst (λ (e : Engine). FrontAgrees (sealing f) e answered) (sym accepts.after)
     (record {
-      batches = batches-last f.sealed old.accepted f.running agrees.batches;
-      number = omega arith;
       told = agrees.told;
       handles = handles-begin f.given (f.sealed ++ f.running ∷ []) (suc f.running.tid) agrees.handles;
-      keeps = sealed-keeps f old _ may.stopped refl refl refl refl (omega arith) agrees.keeps;
+      legal = legal-begin (f.sealed ++ f.running ∷ []) (suc f.running.tid) agrees.legal;
+      keeps = sealed-keeps f old _ may.stopped refl refl refl refl
+          (batches-last f.sealed old.accepted f.running agrees.keeps.accepted) (omega arith) (omega arith) agrees.keeps;
       least = agrees.least;
     })
 
 -- what a front keeps beside an engine that goes on, where it knows whether that has failed
-keeps-on : (f : Front) (old new : Engine) (aborted : Bool) → GoesOn old new → new.aborted ≡ aborted → KeepsFront f old →
+keeps-on : (f : Front) (old new : Engine) (aborted : Bool) → GoesOn old new → (aborted ≡ true → new.aborted ≡ true) → KeepsFront f old →
     KeepsFront (record f { aborted = aborted }) new
 keeps-on f old new aborted on told keeps =
     let first : new.first ≡ old.first = on.first in
@@ -359,7 +408,9 @@ keeps-on f old new aborted on told keeps =
     record {
       layout = keeps.layout ∙ sym on.layout;
       home_blocks = keeps.home_blocks ∙ sym (ap (λ (s : Shape). s.home_blocks) on.shape);
-      aborted = sym told;
+      aborted = told;
+      accepted = subst (AreBatchesOf f.sealed) (sym on.accepted) keeps.accepted;
+      number = let number = keeps.number in omega arith;
       committed = λ some. let finished = keeps.committed (omega arith) in omega arith;
       marked = keeps.marked;
       capacity = subst (λ (r : Ring). IsCapacity f.layout r.blocks f.capacity) (sym on.ring) keeps.capacity;
@@ -369,16 +420,13 @@ keeps-on f old new aborted on told keeps =
     }
 
 -- a front agrees with an engine that goes on, once it knows whether that has failed
-told-on : (f : Front) (old new : Engine) (answered : List ℕ) (aborted : Bool) → GoesOn old new → new.aborted ≡ aborted → FrontAgrees f old answered →
+pub told-on : (f : Front) (old new : Engine) (answered : List ℕ) (aborted : Bool) → GoesOn old new → (aborted ≡ true → new.aborted ≡ true) → FrontAgrees f old answered →
     FrontAgrees (record f { aborted = aborted }) new answered
 told-on f old new answered aborted on told agrees =
-    let first : new.first ≡ old.first = on.first in
-    let size : length new.accepted ≡ length old.accepted = ap (λ (bs : List Batch). length bs) on.accepted in
     record {
-      batches = subst (AreBatchesOf f.sealed) (sym on.accepted) agrees.batches;
-      number = let number = agrees.number in omega arith;
       told = agrees.told;
       handles = agrees.handles;
+      legal = agrees.legal;
       keeps = keeps-on f old new aborted on told agrees.keeps;
       least = agrees.least;
     }
@@ -386,9 +434,9 @@ told-on f old new answered aborted on told agrees =
 -- by a step that succeeds
 pub goes-on : (f : Front) (old new : Engine) (answered : List ℕ) → GoesOn old new → new.aborted ≡ old.aborted → FrontAgrees f old answered →
     FrontAgrees f new answered
-goes-on f old new answered on same agrees = told-on f old new answered f.aborted on (same ∙ sym agrees.keeps.aborted) agrees
+goes-on f old new answered on same agrees = told-on f old new answered f.aborted on (λ yes. same ∙ agrees.keeps.aborted yes) agrees
 
 -- and by one that fails
 pub fails-on : (f : Front) (old new : Engine) (answered : List ℕ) → GoesOn old new → new.aborted ≡ true → FrontAgrees f old answered →
     FrontAgrees (aborting f) new answered
-fails-on f old new answered on failed agrees = told-on f old new answered true on failed agrees
+fails-on f old new answered on failed agrees = told-on f old new answered true on (λ yes. failed) agrees

@@ -44,6 +44,7 @@ mod Committing
 mod Due
 mod Handles
 mod Laps
+mod Legal
 mod OwnBlocks
 mod Releasing
 mod Replayed

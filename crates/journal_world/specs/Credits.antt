@@ -6,7 +6,7 @@ use Rattle.journal_model.specs.Transaction.{entries}
 use Rattle.journal_world.specs.Front.{Front, FrontEvent, IsOpen, held}
 use Rattle.journal_world.specs.Front.FrontEvent.{Reserve, RefuseReserve, TakeBack, GiveBack, LoadCredits, LoadMark, Join, ExtendHandle, WriteBlock, RevokeBlock, StopHandle, Lock, Raise}
 use Rattle.journal_world.specs.Journal.{Event, Journal}
-use Rattle.journal_world.specs.Journal.Event.{FrontStep, Seal, CommitStep, CommitFault, CheckpointStep, CheckpointFault, ReadFault, DirectWrite, DirectWriteFault, DirectSync, DirectSyncFault, Finish}
+use Rattle.journal_world.specs.Journal.Event.{FrontStep, Seal, CommitStep, CommitFault, CheckpointStep, CheckpointFault, ReadBlock, ReadFault, DirectWrite, DirectWriteFault, DirectSync, DirectSyncFault, Finish, AbortMark}
 
 -- how many credits are held after an event: those that are granted are more, those that come back fewer
 abbrev pub HeldAfter : Front → FrontEvent → ℕ → Type 0
@@ -79,12 +79,14 @@ HeldBehind old CommitStep after = after ≡ held old
 HeldBehind old CommitFault after = after ≡ held old
 HeldBehind old CheckpointStep after = after ≡ held old
 HeldBehind old CheckpointFault after = after ≡ held old
+HeldBehind old (ReadBlock h b v) after = after ≡ held old
 HeldBehind old ReadFault after = after ≡ held old
 HeldBehind old (DirectWrite b v) after = after ≡ held old
 HeldBehind old (DirectWriteFault b v) after = after ≡ held old
 HeldBehind old DirectSync after = after ≡ held old
 HeldBehind old DirectSyncFault after = after ≡ held old
 HeldBehind old Finish after = after ≡ held old
+HeldBehind old AbortMark after = after ≡ held old
 
 -- the event is no step of a caller on the credit word, and no load of the mark
 abbrev pub NeedsFront : Event → Type 0
@@ -94,12 +96,14 @@ NeedsFront CommitStep = ⊤
 NeedsFront CommitFault = ⊤
 NeedsFront CheckpointStep = ⊤
 NeedsFront CheckpointFault = ⊤
+NeedsFront (ReadBlock h b v) = ⊤
 NeedsFront ReadFault = ⊤
 NeedsFront (DirectWrite b v) = ⊤
 NeedsFront (DirectWriteFault b v) = ⊤
 NeedsFront DirectSync = ⊤
 NeedsFront DirectSyncFault = ⊤
 NeedsFront Finish = ⊤
+NeedsFront AbortMark = ⊤
 
 -- the journal where callers hold so many credits more, and refused reserves have so many more to take back
 abbrev pub beside_all : ℕ → ℕ → Journal → Journal

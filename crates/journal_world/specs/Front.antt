@@ -5,7 +5,7 @@
 use Rattle.std.specs.Prelude.{◌≡◌, ℕ, zero, suc, ◌+◌, ◌-◌, ◌^◌, ◌<◌, ◌≤◌, Bool, true, false, if◌then◌else◌, max, List, [], ◌∷◌, ◌++◌, length, drop, is_some, None}
 use Rattle.std.specs.List.{flat_map, sum_by}
 use Rattle.journal_model.specs.declared.transaction.Op.{Op}
-use Rattle.journal_model.specs.declared.transaction.Op.TheVariants.{Write, Revoke}
+use Rattle.journal_model.specs.declared.transaction.Op.TheVariants.{Write, Revoke, Read}
 use Rattle.journal_model.specs.declared.transaction.Step.{Step}
 use Rattle.journal_model.specs.Block.{IsAllowedBlock}
 use Rattle.journal_model.specs.Layout.{Layout}
@@ -97,6 +97,9 @@ write_step h b v = record { handle = h; block = b; op = Write v }
 
 abbrev pub revoke_step : ℕ → ℕ → Step
 revoke_step h b = record { handle = h; block = b; op = Revoke }
+
+abbrev pub read_step : ℕ → ℕ → List ℕ → Step
+read_step h b v = record { handle = h; block = b; op = Read v }
 
 -- the block has no entry in the transaction yet, so that a touch of it, a write or a revoke, takes a credit
 abbrev pub IsFirstTouch : Front → ℕ → Type 0
@@ -301,6 +304,10 @@ sealing f = record f {
 -- the front knows that one more transaction is committed; nobody is told yet
 abbrev pub finishing : Front → Front
 finishing f = record f { finished = f.finished + 1 }
+
+-- the front with one more step of a handle, which reads a block: it takes no credit
+abbrev pub reading_block : Front → ℕ → ℕ → List ℕ → Front
+reading_block f h b v = record f { running = record f.running { steps = f.running.steps ++ read_step h b v ∷ [] } }
 
 -- it is told that the device has failed
 abbrev pub aborting : Front → Front

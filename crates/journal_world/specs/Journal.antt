@@ -1,9 +1,11 @@
 -- The journal: a front and an engine, and the atomic steps of both. Source: journalling.rst, fs/jbd2 by behaviour.
-use Rattle.std.specs.Prelude.{◌≡◌, ℕ, ◌+◌, ◌<◌, ◌≤◌, nat_eq, true, false, List, [], length, map, Contains}
+use Rattle.std.specs.Prelude.{◌≡◌, ℕ, ◌+◌, ◌<◌, ◌≤◌, nat_eq, true, false, List, [], length, map, Contains, Ok}
 use Rattle.std.specs.List.{AllByRecursion, IsDistinct}
 use Rattle.journal_model.specs.declared.entry.Batch.{Batch}
 use Rattle.journal_model.specs.declared.number.Area.TheVariants.{Home}
+use Rattle.journal_model.specs.Block.{IsAllowedBlock}
 use Rattle.journal_model.specs.Disk.{Disk, Shape}
+use Rattle.journal_model.specs.Reading.{seen}
 use Rattle.log_model.specs.Opening.{layout_of, ring_of}
 use Rattle.log_model.specs.Room.{IsCapacity}
 use Rattle.log_model.specs.Superblock.{Super, super_in}
@@ -13,8 +15,8 @@ use Rattle.journal_world.specs.declared.stage.Stage.TheVariants.{Idle}
 use Rattle.journal_world.specs.Call.Call.{Write, Flush}
 use Rattle.journal_world.specs.Checkpoint.{RoundFaults, RoundSteps}
 use Rattle.journal_world.specs.Direct.{DirectFaults, DirectSteps}
-use Rattle.journal_world.specs.Engine.{Engine, Accepts, CommitSteps, CommitFaults}
-use Rattle.journal_world.specs.Front.{Front, FrontEvent, FrontHappens, IsUntouched, MaySeal, aborting, finishing, fresh_front, held, sealing}
+use Rattle.journal_world.specs.Engine.{AreBatchesOf, Engine, Accepts, CommitSteps, CommitFaults}
+use Rattle.journal_world.specs.Front.{Front, FrontEvent, FrontHappens, IsOpen, IsUntouched, MaySeal, aborting, finished_count, finishing, fresh_front, held, reading_block, sealing, transactions}
 
 pub record Journal : Type 0 where
   pub front : Front
@@ -28,12 +30,14 @@ pub data Event : Type 0 where
   CommitFault : Event
   CheckpointStep : Event
   CheckpointFault : Event
+  ReadBlock : (handle block : ℕ) → (bytes : List ℕ) → Event
   ReadFault : Event
   DirectWrite : (block : ℕ) → (bytes : List ℕ) → Event
   DirectWriteFault : (block : ℕ) → (bytes : List ℕ) → Event
   DirectSync : Event
   DirectSyncFault : Event
   Finish : Event
+  AbortMark : Event
 
 -- what is handed to the engine for a transaction: its entries
 abbrev pub batch_of : Transaction → Batch
@@ -56,9 +60,9 @@ pub record Commits (old : Journal) (disk : Disk) (new : Journal) (after : Disk) 
   pub front : new.front ≡ old.front
   pub engine : CommitSteps old.engine disk new.engine after
 
--- Where the device fails, the front is told.
+-- Where the device fails, the engine knows it; the front is told by a step of its own.
 pub record CommitFails (old : Journal) (disk : Disk) (new : Journal) (after : Disk) : Type 0 where
-  pub front : new.front ≡ aborting old.front
+  pub front : new.front ≡ old.front
   pub engine : CommitFaults old.engine disk new.engine after
 
 pub record Checkpoints (old : Journal) (disk : Disk) (new : Journal) (after : Disk) : Type 0 where
@@ -66,8 +70,18 @@ pub record Checkpoints (old : Journal) (disk : Disk) (new : Journal) (after : Di
   pub engine : RoundSteps old.engine disk new.engine after
 
 pub record CheckpointFails (old : Journal) (disk : Disk) (new : Journal) (after : Disk) : Type 0 where
-  pub front : new.front ≡ aborting old.front
+  pub front : new.front ≡ old.front
   pub engine : RoundFaults old.engine disk new.engine after
+
+-- An open handle reads one block that may be touched: these are the bytes that it sees. No credit goes.
+pub record ReadsBlock (old : Journal) (disk : Disk) (h b : ℕ) (v : List ℕ) (new : Journal) (after : Disk) : Type 0 where
+  pub running : old.front.aborted ≡ false
+  pub handle : IsOpen old.front h
+  pub allowed : IsAllowedBlock old.front.layout old.front.home_blocks b
+  pub sees : seen (transactions old.front) (finished_count old.front) b (disk Home b).reads ≡ Ok v
+  pub front : new.front ≡ reading_block old.front h b v
+  pub engine : new.engine ≡ old.engine
+  pub disk_is : after ≡ disk
 
 -- A read of home fails: the journal is aborted.
 pub record ReadFails (old : Journal) (disk : Disk) (new : Journal) (after : Disk) : Type 0 where
@@ -103,6 +117,13 @@ pub record Finishes (old : Journal) (disk : Disk) (new : Journal) (after : Disk)
   pub engine : new.engine ≡ old.engine
   pub disk_is : after ≡ disk
 
+-- The front is told that the device has failed.
+pub record MarksAbort (old : Journal) (disk : Disk) (new : Journal) (after : Disk) : Type 0 where
+  pub failed : old.engine.aborted ≡ true
+  pub front : new.front ≡ aborting old.front
+  pub engine : new.engine ≡ old.engine
+  pub disk_is : after ≡ disk
+
 -- what each event does
 abbrev pub Happens : Journal → Disk → Event → Journal → Disk → Type 0
 Happens old disk (FrontStep event) new after = StepsFront old disk event new after
@@ -111,20 +132,25 @@ Happens old disk CommitStep new after = Commits old disk new after
 Happens old disk CommitFault new after = CommitFails old disk new after
 Happens old disk CheckpointStep new after = Checkpoints old disk new after
 Happens old disk CheckpointFault new after = CheckpointFails old disk new after
+Happens old disk (ReadBlock h b v) new after = ReadsBlock old disk h b v new after
 Happens old disk ReadFault new after = ReadFails old disk new after
 Happens old disk (DirectWrite b v) new after = WritesDirect old disk b v new after
 Happens old disk (DirectWriteFault b v) new after = DirectWriteFails old disk b v new after
 Happens old disk DirectSync new after = SyncsDirect old disk new after
 Happens old disk DirectSyncFault new after = DirectSyncFails old disk new after
 Happens old disk Finish new after = Finishes old disk new after
+Happens old disk AbortMark new after = MarksAbort old disk new after
 
--- What a front keeps beside its engine. It knows the layout of the log, how many home blocks there are and whether the
--- device has failed; what it knows to be committed is so, and callers are told no more than that; no more credits are held
--- than a transaction may have; and its open handles are different ones that joined the running transaction.
+-- What a front keeps beside its engine. It knows the layout of the log and how many home blocks there are, and where it was
+-- told that the device has failed, that is so. The engine has accepted the entries of its sealed transactions, and the running
+-- one has the next number. What it knows to be committed is so, and callers are told no more than that. No more credits are
+-- held than a transaction may have; and its open handles are different ones that joined the running transaction.
 pub record KeepsFront (f : Front) (e : Engine) : Type 0 where
   pub layout : f.layout ≡ e.layout
   pub home_blocks : f.home_blocks ≡ e.shape.home_blocks
-  pub aborted : f.aborted ≡ e.aborted
+  pub aborted : f.aborted ≡ true → e.aborted ≡ true
+  pub accepted : AreBatchesOf f.sealed e.accepted
+  pub number : f.running.tid ≡ e.first + length e.accepted
   pub committed : 0 < length e.accepted → f.finished < e.first + e.committed
   pub marked : f.mark ≤ f.finished
   pub capacity : IsCapacity f.layout e.ring.blocks f.capacity

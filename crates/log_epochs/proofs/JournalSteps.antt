@@ -1,5 +1,5 @@
 -- A step of the journal: front and engine agree after it, and the engine's world makes the same step, or none.
-use Rattle.std.proofs.Common.{refl, sym, ap, subst, ◌∙◌}
+use Rattle.std.proofs.Common.{refl, sym, ap, subst, ◌∙◌, arith}
 use Rattle.std.specs.Prelude.{◌≡◌, ℕ, true, Option, Some, None, List}
 use Rattle.journal_model.specs.declared.number.Area.TheVariants.{Home}
 use Rattle.journal_model.specs.Disk.{Disk}
@@ -10,13 +10,13 @@ use Rattle.journal_world.specs.Engine.{Engine}
 use Rattle.journal_world.specs.Front.{Front, FrontEvent, FrontHappens, aborting}
 use Rattle.journal_world.specs.Front.FrontEvent.{Reserve, RefuseReserve, TakeBack, GiveBack, LoadCredits, LoadMark, Join, ExtendHandle, WriteBlock, RevokeBlock, StopHandle, Lock, Raise}
 use Rattle.journal_world.specs.Journal.{Event, Happens, Journal, batch_of}
-use Rattle.journal_world.specs.Journal.Event.{FrontStep, Seal, CommitStep, CommitFault, CheckpointStep, CheckpointFault, ReadFault, DirectWrite, DirectWriteFault, DirectSync, DirectSyncFault, Finish}
-use Rattle.journal_world.proofs.Fronts.{FrontAgrees, fails-on, finish-agrees, front-agrees, goes-on, seal-agrees}
+use Rattle.journal_world.specs.Journal.Event.{FrontStep, Seal, CommitStep, CommitFault, CheckpointStep, CheckpointFault, ReadBlock, ReadFault, DirectWrite, DirectWriteFault, DirectSync, DirectSyncFault, Finish, AbortMark}
+use Rattle.journal_world.proofs.Fronts.{FrontAgrees, fails-on, finish-agrees, front-agrees, goes-on, read-agrees, seal-agrees, told-on}
 use Rattle.journal_world.proofs.Onward.{GoesOn, aborted-on, fault-on, round-fault-on, round-on, round-unfailed, step-on, step-unfailed}
 use Rattle.log_epochs.specs.JournalWorld.{Move, with_directs}
 use Rattle.log_epochs.specs.JournalWorld.Move.{Step}
 use Rattle.log_epochs.specs.JournalPromise.{MakesSteps}
-use Rattle.log_epochs.specs.JournalPromise.MakesSteps.{NoStep, OneWrite, OneRevoke, Sealed}
+use Rattle.log_epochs.specs.JournalPromise.MakesSteps.{NoStep, OneWrite, OneRevoke, OneRead, Sealed}
 use Rattle.log_epochs.specs.EngineSteps.{Event as EngineEvent, Happens as EngineHappens, with_directs as below_directs}
 use Rattle.log_epochs.specs.EngineSteps.Event.{Accept, CommitStep as EngineCommit, CommitFault as EngineCommitFault, CheckpointStep as EngineCheckpoint, CheckpointFault as EngineCheckpointFault, ReadFault as EngineReadFault, DirectWrite as EngineDirect, DirectWriteFault as EngineDirectFault, DirectSync as EngineSync, DirectSyncFault as EngineSyncFault}
 
@@ -35,6 +35,22 @@ failed-agrees : (old new : Journal) (answered : List ℕ) → new.front ≡ abor
     Agrees old answered → Agrees new answered
 failed-agrees old new answered told on failed agrees =
     subst (λ (f : Front). FrontAgrees f new.engine answered) (sym told) (fails-on old.front old.engine new.engine answered on failed agrees)
+
+-- one in which the device fails, of which the front is not told yet
+unmarked-agrees : (old new : Journal) (answered : List ℕ) → new.front ≡ old.front → GoesOn old.engine new.engine → new.engine.aborted ≡ true →
+    Agrees old answered → Agrees new answered
+unmarked-agrees old new answered same on failed agrees =
+    subst (λ (f : Front). FrontAgrees f new.engine answered) (sym same)
+    (told-on old.front old.engine new.engine answered old.front.aborted on (λ yes. failed) agrees)
+
+-- the front is told
+marked-agrees : (old new : Journal) (answered : List ℕ) → new.front ≡ aborting old.front → new.engine ≡ old.engine → old.engine.aborted ≡ true →
+    Agrees old answered → Agrees new answered
+marked-agrees old new answered told same failed agrees =
+    subst (λ (e : Engine). FrontAgrees new.front e answered) (sym same)
+    (subst (λ (f : Front). FrontAgrees f old.engine answered) (sym told)
+    (told-on old.front old.engine old.engine answered true
+    (record { shape = refl; layout = refl; ring = refl; first = refl; accepted = refl; committed = omega arith }) (λ yes. failed) agrees))
 
 -- a direct call
 direct-agrees : (old new : Journal) (disk after : Disk) (answered : List ℕ) (call : Call) → new.front ≡ old.front →
@@ -60,6 +76,7 @@ event-agrees old new disk after answered Finish agrees happens =
     subst (λ (e : Engine). FrontAgrees new.front e answered) (sym happens.engine)
     (subst (λ (f : Front). FrontAgrees f old.engine answered) (sym happens.front)
     (finish-agrees old.front old.engine answered happens.committed agrees))
+event-agrees old new disk after answered AbortMark agrees happens = marked-agrees old new answered happens.front happens.engine happens.failed agrees
 event-agrees old new disk after answered Seal agrees happens =
     subst (λ (f : Front). FrontAgrees f new.engine answered) (sym happens.front)
     (seal-agrees old.front old.engine new.engine answered happens.may happens.engine agrees)
@@ -67,14 +84,18 @@ event-agrees old new disk after answered CommitStep agrees happens =
     engine-agrees old new answered happens.front (step-on old.engine new.engine disk after happens.engine)
     (step-unfailed old.engine new.engine disk after happens.engine) agrees
 event-agrees old new disk after answered CommitFault agrees happens =
-    failed-agrees old new answered happens.front (fault-on old.engine new.engine disk after happens.engine)
+    unmarked-agrees old new answered happens.front (fault-on old.engine new.engine disk after happens.engine)
     (ap (λ (e : Engine). e.aborted) happens.engine.engine) agrees
 event-agrees old new disk after answered CheckpointStep agrees happens =
     engine-agrees old new answered happens.front (round-on old.engine new.engine disk after happens.engine)
     (round-unfailed old.engine new.engine disk after happens.engine) agrees
 event-agrees old new disk after answered CheckpointFault agrees happens =
-    failed-agrees old new answered happens.front (round-fault-on old.engine new.engine disk after happens.engine)
+    unmarked-agrees old new answered happens.front (round-fault-on old.engine new.engine disk after happens.engine)
     (ap (λ (e : Engine). e.aborted) happens.engine.engine) agrees
+event-agrees old new disk after answered (ReadBlock h b v) agrees happens =
+    subst (λ (e : Engine). FrontAgrees new.front e answered) (sym happens.engine)
+    (subst (λ (f : Front). FrontAgrees f old.engine answered) (sym happens.front)
+    (read-agrees old.front old.engine answered h b v (disk Home b).reads happens.handle happens.sees agrees))
 event-agrees old new disk after answered ReadFault agrees happens =
     failed-agrees old new answered happens.front (subst (GoesOn old.engine) (sym happens.engine) (aborted-on old.engine))
     (ap (λ (e : Engine). e.aborted) happens.engine) agrees
@@ -89,11 +110,13 @@ event-agrees old new disk after answered DirectSyncFault agrees happens =
 abbrev pub below_event : Front → Event → Option EngineEvent
 below_event f (FrontStep event) = None
 below_event f Finish = None
+below_event f AbortMark = None
 below_event f Seal = Some (Accept (batch_of f.running))
 below_event f CommitStep = Some EngineCommit
 below_event f CommitFault = Some EngineCommitFault
 below_event f CheckpointStep = Some EngineCheckpoint
 below_event f CheckpointFault = Some EngineCheckpointFault
+below_event f (ReadBlock h b v) = None
 below_event f ReadFault = Some EngineReadFault
 below_event f (DirectWrite b v) = Some (EngineDirect b v)
 below_event f (DirectWriteFault b v) = Some (EngineDirectFault b v)
@@ -110,12 +133,14 @@ pub event-below : (old new : Journal) (disk after : Disk) (event : Event) (direc
     IsBelow (below_event old.front event) old.engine disk new.engine after directs (with_directs event directs)
 event-below old new disk after (FrontStep event) directs happens = Nothing happens.engine happens.disk_is refl
 event-below old new disk after Finish directs happens = Nothing happens.engine happens.disk_is refl
+event-below old new disk after AbortMark directs happens = Nothing happens.engine happens.disk_is refl
 event-below old new disk after Seal directs happens =
     Same (Accept (batch_of old.front.running)) refl (record { engine = happens.engine; disk_is = happens.disk_is }) refl
 event-below old new disk after CommitStep directs happens = Same EngineCommit refl happens.engine refl
 event-below old new disk after CommitFault directs happens = Same EngineCommitFault refl happens.engine refl
 event-below old new disk after CheckpointStep directs happens = Same EngineCheckpoint refl happens.engine refl
 event-below old new disk after CheckpointFault directs happens = Same EngineCheckpointFault refl happens.engine refl
+event-below old new disk after (ReadBlock h b v) directs happens = Nothing happens.engine happens.disk_is refl
 event-below old new disk after ReadFault directs happens =
     Same EngineReadFault refl (record { running = happens.running; engine = happens.engine; disk_is = happens.disk_is }) refl
 event-below old new disk after (DirectWrite b v) directs happens = Same (EngineDirect b v) refl happens.engine refl
@@ -150,12 +175,15 @@ same-steps move old new front is sealed steps =
 pub event-steps : (old new : Journal) (disk after : Disk) (event : Event) → Happens old disk event new after → MakesSteps (Step event) old.front new.front
 event-steps old new disk after (FrontStep event) happens = front-steps old.front new.front event happens.front
 event-steps old new disk after Finish happens = same-steps (Step Finish) old.front new.front _ happens.front refl refl
+event-steps old new disk after AbortMark happens = same-steps (Step AbortMark) old.front new.front _ happens.front refl refl
 event-steps old new disk after Seal happens =
     Sealed refl happens.may.stopped (ap (λ (f : Front). f.sealed) happens.front) (ap (λ (f : Front). f.running.steps) happens.front)
 event-steps old new disk after CommitStep happens = same-steps (Step CommitStep) old.front new.front _ happens.front refl refl
 event-steps old new disk after CommitFault happens = same-steps (Step CommitFault) old.front new.front _ happens.front refl refl
 event-steps old new disk after CheckpointStep happens = same-steps (Step CheckpointStep) old.front new.front _ happens.front refl refl
 event-steps old new disk after CheckpointFault happens = same-steps (Step CheckpointFault) old.front new.front _ happens.front refl refl
+event-steps old new disk after (ReadBlock h b v) happens =
+    OneRead h b v refl happens.handle (ap (λ (f : Front). f.sealed) happens.front) (ap (λ (f : Front). f.running.steps) happens.front)
 event-steps old new disk after ReadFault happens = same-steps (Step ReadFault) old.front new.front _ happens.front refl refl
 event-steps old new disk after (DirectWrite b v) happens = same-steps (Step (DirectWrite b v)) old.front new.front _ happens.front refl refl
 event-steps old new disk after (DirectWriteFault b v) happens = same-steps (Step (DirectWriteFault b v)) old.front new.front _ happens.front refl refl

@@ -8,7 +8,7 @@ use Rattle.journal_model.proofs.ListElements.{contains-behind, contains-first}
 use Rattle.journal_model.specs.Transaction.{entries}
 use Rattle.journal_world.specs.Front.{Front}
 use Rattle.journal_world.specs.Journal.{Event, batch_of}
-use Rattle.journal_world.specs.Journal.Event.{FrontStep, Seal, CommitStep, CommitFault, CheckpointStep, CheckpointFault, ReadFault, DirectWrite, DirectWriteFault, DirectSync, DirectSyncFault, Finish}
+use Rattle.journal_world.specs.Journal.Event.{FrontStep, Seal, CommitStep, CommitFault, CheckpointStep, CheckpointFault, ReadBlock, ReadFault, DirectWrite, DirectWriteFault, DirectSync, DirectSyncFault, Finish, AbortMark}
 use Rattle.journal_world.proofs.Lasts.{none-entered}
 use Rattle.log_epochs.specs.DirectPromise.{LeavesAlone as BelowLeavesAlone}
 use Rattle.log_epochs.specs.EngineSteps.{Event as EngineEvent}
@@ -38,8 +38,10 @@ JournalHands P b (Step CommitStep) = ⊤
 JournalHands P b (Step CommitFault) = ⊤
 JournalHands P b (Step CheckpointStep) = ⊤
 JournalHands P b (Step CheckpointFault) = ⊤
+JournalHands P b (Step (ReadBlock h block v)) = ⊤
 JournalHands P b (Step ReadFault) = ⊤
 JournalHands P b (Step Finish) = ⊤
+JournalHands P b (Step AbortMark) = ⊤
 JournalHands P b (Answer tid) = ⊤
 JournalHands P b (Below move) = ⊤
 
@@ -47,7 +49,9 @@ module _ (P : List ℕ → Type 0) (b : ℕ) where
   -- so does the engine's step that it is
   hands-below : (f : Front) (event : Event) (e : EngineEvent) → below_event f event ≡ Some e → JournalHands P b (Step event) → HandsAt P b e
   hands-below f (FrontStep event) e is hands = absurd (none-some e is)
+  hands-below f (ReadBlock h block v) e is hands = absurd (none-some e is)
   hands-below f Finish e is hands = absurd (none-some e is)
+  hands-below f AbortMark e is hands = absurd (none-some e is)
   hands-below f Seal e is hands = subst (HandsAt P b) (same_Some _ e is) tt
   hands-below f CommitStep e is hands = subst (HandsAt P b) (same_Some _ e is) tt
   hands-below f CommitFault e is hands = subst (HandsAt P b) (same_Some _ e is) tt
@@ -62,7 +66,9 @@ module _ (P : List ℕ → Type 0) (b : ℕ) where
   -- and it leaves the block alone
   alone-below : (f : Front) (event : Event) (e : EngineEvent) → below_event f event ≡ Some e → SealsWithout b f event → BelowLeavesAlone b (EngineStep e)
   alone-below f (FrontStep event) e is alone = absurd (none-some e is)
+  alone-below f (ReadBlock h block v) e is alone = absurd (none-some e is)
   alone-below f Finish e is alone = absurd (none-some e is)
+  alone-below f AbortMark e is alone = absurd (none-some e is)
   alone-below f Seal e is alone =
       subst (λ (x : EngineEvent). BelowLeavesAlone b (EngineStep x)) (same_Some (Accept (batch_of f.running)) e is)
       (none-entered b f.running.steps (entries f.running.steps) refl alone)
@@ -160,8 +166,10 @@ handed-among since moves b v within (Step CommitStep) among = tt
 handed-among since moves b v within (Step CommitFault) among = tt
 handed-among since moves b v within (Step CheckpointStep) among = tt
 handed-among since moves b v within (Step CheckpointFault) among = tt
+handed-among since moves b v within (Step (ReadBlock h block u)) among = tt
 handed-among since moves b v within (Step ReadFault) among = tt
 handed-among since moves b v within (Step Finish) among = tt
+handed-among since moves b v within (Step AbortMark) among = tt
 handed-among since moves b v within (Answer tid) among = tt
 handed-among since moves b v within (Below move) among = tt
 

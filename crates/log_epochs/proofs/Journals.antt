@@ -12,7 +12,7 @@ use Rattle.journal_world.specs.Call.Call.{Write}
 use Rattle.journal_world.specs.Engine.{AreBatchesOf, Engine}
 use Rattle.journal_world.specs.Front.{Front}
 use Rattle.journal_world.specs.Journal.{Event as JournalEvent, Happens as JournalHappens, Journal}
-use Rattle.journal_world.specs.Journal.Event.{FrontStep, Seal, CommitStep as JournalCommit, CommitFault as JournalCommitFault, CheckpointStep as JournalCheckpoint, CheckpointFault as JournalCheckpointFault, ReadFault as JournalReadFault, DirectWrite as JournalDirect, DirectWriteFault as JournalDirectFault, DirectSync as JournalSync, DirectSyncFault as JournalSyncFault, Finish}
+use Rattle.journal_world.specs.Journal.Event.{FrontStep, Seal, CommitStep as JournalCommit, CommitFault as JournalCommitFault, CheckpointStep as JournalCheckpoint, CheckpointFault as JournalCheckpointFault, ReadBlock, ReadFault as JournalReadFault, DirectWrite as JournalDirect, DirectWriteFault as JournalDirectFault, DirectSync as JournalSync, DirectSyncFault as JournalSyncFault, Finish, AbortMark}
 use Rattle.journal_world.specs.Sound.{AreNumberedFrom}
 use Rattle.journal_world.proofs.Batches.{same-length}
 use Rattle.journal_world.proofs.Fronts.{FrontAgrees, answer-agrees, fresh-agrees}
@@ -248,14 +248,14 @@ numbered-batches first (t ∷ ts) (b ∷ bs) numbered are = (are.0 ∙ numbered.
 image-kept : (shape : Shape) (epoch : Epoch) (told : Told) (image : Image) → AgreesIn epoch told → KeepsImage shape epoch image → Kept shape epoch told image
 image-kept shape epoch told image agrees keeps =
     let e : Engine = epoch.engine in
-    let kept : BelowKept shape epoch told.front.sealed image = keeps told.front.sealed agrees.batches in
+    let kept : BelowKept shape epoch told.front.sealed image = keeps told.front.sealed agrees.keeps.accepted in
     let few =
     acknowledged-few e.first e.committed told.front.mark told.answered told.front.sealed e.accepted agrees.told
     (λ some. let committed = agrees.keeps.committed some in let marked = agrees.keeps.marked in omega arith)
-    (numbered-batches e.first told.front.sealed e.accepted kept.numbered agrees.batches) agrees.batches in
+    (numbered-batches e.first told.front.sealed e.accepted kept.numbered agrees.keeps.accepted) agrees.keeps.accepted in
     let low : e.committed ≤ kept.n = kept.low in
     let high : kept.n ≤ length e.accepted = kept.high in
-    let size : length told.front.sealed ≡ length e.accepted = same-length told.front.sealed e.accepted agrees.batches in
+    let size : length told.front.sealed ≡ length e.accepted = same-length told.front.sealed e.accepted agrees.keeps.accepted in
     record {
       n = kept.n;
       low = omega arith;
@@ -266,6 +266,7 @@ image-kept shape epoch told image agrees keeps =
       numbered = kept.numbered;
       joined = agrees.handles.all;
       handles = agrees.handles.each;
+      legal = agrees.legal;
     }
 
 now-kept : (shape : Shape) (epoch : Option Epoch) (disk : Disk) (told : Told) → AgreesNow epoch told → BelowKeepsNow shape epoch disk → KeepsNow shape epoch disk told
@@ -291,10 +292,10 @@ closed-kept shape epoch disk told Closing agrees keeps = tt
 closed-kept shape None disk told Closed agrees keeps = absurd keeps
 closed-kept shape (Some epoch) disk told Closed agrees keeps = λ image leaves.
     let closed : IsClosedBelow shape epoch image = keeps image leaves in
-    let size : length told.front.sealed ≡ length epoch.engine.accepted = same-length told.front.sealed epoch.engine.accepted agrees.batches in
+    let size : length told.front.sealed ≡ length epoch.engine.accepted = same-length told.front.sealed epoch.engine.accepted agrees.keeps.accepted in
     record {
       clean = closed.clean;
-      all = subst (λ (n : ℕ). Opens shape told.front.sealed n image) (sym size) (closed.all told.front.sealed agrees.batches);
+      all = subst (λ (n : ℕ). Opens shape told.front.sealed n image) (sym size) (closed.all told.front.sealed agrees.keeps.accepted);
     }
 
 -- an unchanged world below adds nothing
@@ -305,10 +306,10 @@ unchanged-adds may old new same = subst (λ (w : World). HomeAddsOnly may old.di
 committed-within : (shape : Shape) (epoch : Epoch) (disk : Disk) (told : Told) → AgreesIn epoch told → BelowKeepsNow shape (Some epoch) disk →
     epoch.engine.committed ≤ length told.front.sealed
 committed-within shape epoch disk told agrees keeps =
-    let kept : BelowKept shape epoch told.front.sealed (reading disk) = keeps (reading disk) (reads-left disk) told.front.sealed agrees.batches in
+    let kept : BelowKept shape epoch told.front.sealed (reading disk) = keeps (reading disk) (reads-left disk) told.front.sealed agrees.keeps.accepted in
     let low : epoch.engine.committed ≤ kept.n = kept.low in
     let high : kept.n ≤ length epoch.engine.accepted = kept.high in
-    let size : length told.front.sealed ≡ length epoch.engine.accepted = same-length told.front.sealed epoch.engine.accepted agrees.batches in
+    let size : length told.front.sealed ≡ length epoch.engine.accepted = same-length told.front.sealed epoch.engine.accepted agrees.keeps.accepted in
     omega arith
 
 -- a step of the journal adds to home what it may
@@ -318,22 +319,24 @@ event-adds : (epoch : Epoch) (told : Told) (new : Journal) (disk after : Disk) (
 event-adds epoch told new disk after (FrontStep event) agrees within happens = same-adds _ disk after happens.disk_is
 event-adds epoch told new disk after Seal agrees within happens = same-adds _ disk after happens.disk_is
 event-adds epoch told new disk after Finish agrees within happens = same-adds _ disk after happens.disk_is
+event-adds epoch told new disk after AbortMark agrees within happens = same-adds _ disk after happens.disk_is
 event-adds epoch told new disk after JournalCommit agrees within happens =
     adds-none _ disk after (step-home epoch.engine new.engine disk after happens.engine).same
 event-adds epoch told new disk after JournalCommitFault agrees within happens =
     adds-none _ disk after (fault-home epoch.engine new.engine disk after happens.engine).same
 event-adds epoch told new disk after JournalCheckpoint agrees within happens =
-    (round-home epoch.engine new.engine disk after happens.engine).adds told.front.sealed agrees.batches
+    (round-home epoch.engine new.engine disk after happens.engine).adds told.front.sealed agrees.keeps.accepted
 event-adds epoch told new disk after JournalCheckpointFault agrees within happens =
-    (round-fault-home epoch.engine new.engine disk after happens.engine).adds told.front.sealed agrees.batches
+    (round-fault-home epoch.engine new.engine disk after happens.engine).adds told.front.sealed agrees.keeps.accepted
+event-adds epoch told new disk after (ReadBlock h b v) agrees within happens = same-adds _ disk after happens.disk_is
 event-adds epoch told new disk after JournalReadFault agrees within happens = same-adds _ disk after happens.disk_is
 event-adds epoch told new disk after (JournalDirect b v) agrees within happens =
     subst (HomeAddsOnly (StepMayAdd epoch told.front (JournalDirect b v)) disk) (sym happens.engine.disk_is)
     (direct-adds (StepMayAdd epoch told.front (JournalDirect b v)) epoch.engine disk (Write Home b v)
-    (written-rightly told.front epoch.engine b v agrees.batches within happens.untouched) happens.engine.due)
+    (written-rightly told.front epoch.engine b v agrees.keeps.accepted within happens.untouched) happens.engine.due)
 event-adds epoch told new disk after (JournalDirectFault b v) agrees within happens =
     direct-fault-adds (StepMayAdd epoch told.front (JournalDirectFault b v)) epoch.engine disk after (Write Home b v)
-    (written-rightly told.front epoch.engine b v agrees.batches within happens.untouched) happens.engine.due happens.engine.disk_is
+    (written-rightly told.front epoch.engine b v agrees.keeps.accepted within happens.untouched) happens.engine.due happens.engine.disk_is
 event-adds epoch told new disk after JournalSync agrees within happens =
     subst (HomeAddsOnly (StepMayAdd epoch told.front JournalSync) disk) (sym happens.engine.disk_is)
     (adds-flushed (StepMayAdd epoch told.front JournalSync) disk)

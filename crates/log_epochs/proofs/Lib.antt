@@ -6,6 +6,7 @@ pub mod Keeping
 pub mod Leading
 pub mod Lives
 pub mod Moments
+pub mod OpeningLeads
 pub mod Replaying
 pub mod Running
 pub mod Whole

@@ -4,7 +4,7 @@ use Rattle.std.specs.Prelude.{◌≡◌, ℕ, List, [], ◌∷◌, Option, Some,
 use Rattle.std.specs.List.{AllByRecursion}
 use Rattle.std.proofs.lemmas.Option.{same_Some}
 use Rattle.journal_model.specs.declared.number.Area.TheVariants.{Log}
-use Rattle.journal_model.specs.Disk.{Cell, Disk, Image, Leaves, Shape, flushed, reading, written, IsOneOf, held}
+use Rattle.journal_model.specs.Disk.{Cell, Disk, Image, Leaves, Shape, flushed, written, IsOneOf, held}
 use Rattle.log_model.specs.Opening.{IsClean}
 use Rattle.log_model.specs.Superblock.{super_in, super_refusal}
 use Rattle.journal_world.specs.Call.{Call, IsAfterFault, after_success}
@@ -25,7 +25,7 @@ use Rattle.log_epochs.specs.EngineWorld.Phase.{Shut, Opening, Running, Closing, 
 use Rattle.log_epochs.proofs.Closing.{close-closes, close-keeps}
 use Rattle.log_epochs.proofs.Following.{begin-follows, run-follows}
 use Rattle.log_epochs.proofs.HomeRule.{move-home}
-use Rattle.log_epochs.proofs.Keeping.{IsPinned, flush-keeps, flushed-leaves, reads-left, stop-keeps}
+use Rattle.log_epochs.proofs.Keeping.{IsPinned, flush-keeps, flushed-leaves, stop-keeps}
 use Rattle.log_epochs.proofs.Running.{IsRunning, event-runs, running-keeps, running_epoch}
 use Rattle.log_epochs.proofs.Stages.{IsDone, StageHolds, call-holds, fault-keeps, stage-keeps, undone-keeps}
 

@@ -28,14 +28,14 @@ use Rattle.log_epochs.proofs.Stages.IsWhole.{Untouched, Replayed as WasReplayed}
 use Rattle.log_epochs.proofs.Whole.{reached-holds}
 
 -- no call leads back to the begin
-abbrev IsLater : OpeningStage → Type 0
+abbrev pub IsLater : OpeningStage → Type 0
 IsLater LogFlush = ⊥
 IsLater Copies = ⊤
 IsLater SuperblockWrite = ⊤
 IsLater SuperblockFlush = ⊤
 IsLater Done = ⊤
 
-call-later : (shape : Shape) (found : Found) (disk : Disk) (stage next : OpeningStage) (call : Call) → OpeningCall shape found disk stage call next → IsLater next
+pub call-later : (shape : Shape) (found : Found) (disk : Disk) (stage next : OpeningStage) (call : Call) → OpeningCall shape found disk stage call next → IsLater next
 call-later shape found disk stage next call (FlushClean clean) = tt
 call-later shape found disk stage next call (FlushLog has) = tt
 call-later shape found disk stage next call (CopyHome b v newest) = tt
@@ -44,7 +44,7 @@ call-later shape found disk stage next call WriteSuperblock = tt
 call-later shape found disk stage next call FlushSuperblock = tt
 
 -- so nothing is written there
-reached-first : (shape : Shape) (found : Found) (old : Disk) (stage : OpeningStage) (disk : Disk) → Reached shape found old stage disk → (disk ≡ old) ⊎ IsLater stage
+pub reached-first : (shape : Shape) (found : Found) (old : Disk) (stage : OpeningStage) (disk : Disk) → Reached shape found old stage disk → (disk ≡ old) ⊎ IsLater stage
 reached-first shape found old stage disk Tested = inl refl
 reached-first shape found old stage disk (Called before next call mid new reached due same) = inr (call-later shape found mid before next call due)
 

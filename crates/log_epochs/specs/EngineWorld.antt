@@ -1,6 +1,6 @@
 -- The engine with its device over the whole life of a log: who works on the device, and every move that may come.
 -- Source: the GoJournal paper (a disk that may crash at any step); fs/jbd2/recovery.c by behaviour.
-use Rattle.std.specs.Prelude.{◌≡◌, ℕ, List, [], ◌∷◌, Option, Some, None}
+use Rattle.std.specs.Prelude.{◌≡◌, ℕ, List, [], ◌∷◌, ◌++◌, replicate, Option, Some, None}
 use Rattle.journal_model.specs.declared.number.Area.TheVariants.{Log}
 use Rattle.journal_model.specs.Disk.{Disk, Image, Leaves, Shape, disk_of, reading}
 use Rattle.journal_world.specs.Call.{Call, after_success, IsAfterFault}
@@ -136,6 +136,22 @@ pub data Begins (w : World) : Type 0 where
   Unopened : w.phase ≡ Shut → w.epoch ≡ None → w.ended ≡ [] → Begins w
   Made : (superblock : List ℕ) (next : ℕ) → IsOpenedLog w.shape w.disk superblock next → w.phase ≡ Running →
       w.epoch ≡ Some (fresh_epoch w.shape superblock next w.disk) → w.ended ≡ [] → Begins w
+
+-- the world behind an opening that answered Ok: an engine runs on this disk, behind this superblock, from this number on
+abbrev pub opened_world : World → Disk → List ℕ → ℕ → World
+opened_world w disk superblock next = record w {
+  disk = disk;
+  phase = Running;
+  epoch = Some (fresh_epoch w.shape superblock next disk);
+  ended = ending (pinning w.epoch (reading w.disk)) disk w.ended;
+}
+
+-- Whatever came before: where nobody works on the old disk, an opening may begin, make some calls and answer Ok, and then an engine
+-- runs on the new disk.
+pub record LeadsToEngine (shape : Shape) (old new : Disk) (superblock : List ℕ) (next : ℕ) : Type 0 where
+  pub found : Found
+  pub leads : (w : World) → w.shape ≡ shape → w.disk ≡ old → w.phase ≡ Shut →
+      (calls : ℕ) × Leads w (Begin found ∷ replicate calls OpeningStep ++ AnswerOk ∷ []) (opened_world w new superblock next)
 
 -- moves lead from this world to an engine that runs
 pub record ComesToRun (w : World) : Type 0 where

@@ -8,7 +8,7 @@ use Rattle.journal_model.specs.Transaction.{effect}
 use Rattle.journal_world.specs.Checkpoint.{IsRead}
 use Rattle.journal_world.specs.Front.{Front}
 use Rattle.journal_world.specs.Journal.{Event}
-use Rattle.journal_world.specs.Journal.Event.{FrontStep, Seal, CommitStep, CommitFault, CheckpointStep, CheckpointFault, ReadFault, DirectWrite, DirectWriteFault, DirectSync, DirectSyncFault, Finish}
+use Rattle.journal_world.specs.Journal.Event.{FrontStep, Seal, CommitStep, CommitFault, CheckpointStep, CheckpointFault, ReadBlock, ReadFault, DirectWrite, DirectWriteFault, DirectSync, DirectSyncFault, Finish, AbortMark}
 use Rattle.log_epochs.specs.DirectPromise.{IsNoStop as BelowIsNoStop}
 use Rattle.log_epochs.specs.EngineWorld.Phase.{Running}
 use Rattle.log_epochs.specs.Epoch.{Epoch}
@@ -29,12 +29,14 @@ SealsWithout b f CommitStep = ⊤
 SealsWithout b f CommitFault = ⊤
 SealsWithout b f CheckpointStep = ⊤
 SealsWithout b f CheckpointFault = ⊤
+SealsWithout b f (ReadBlock h block bytes) = ⊤
 SealsWithout b f ReadFault = ⊤
 SealsWithout b f (DirectWrite block bytes) = ⊤
 SealsWithout b f (DirectWriteFault block bytes) = ⊤
 SealsWithout b f DirectSync = ⊤
 SealsWithout b f DirectSyncFault = ⊤
 SealsWithout b f Finish = ⊤
+SealsWithout b f AbortMark = ⊤
 
 -- nor does a move
 abbrev pub LeavesAlone : ℕ → Front → Move → Type 0

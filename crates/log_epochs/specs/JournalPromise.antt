@@ -5,12 +5,12 @@ use Rattle.journal_model.specs.declared.number.Area.TheVariants.{Home}
 use Rattle.journal_model.specs.Disk.{Disk, Image, Leaves, Shape}
 use Rattle.log_model.specs.HomeChange.{Addition, HomeAddsOnly, IsCommittedCopy, IsDirectWrite, OthersRightlyHeld}
 use Rattle.log_model.specs.Opening.{IsClean, IsCountOf, Opens}
-use Rattle.journal_model.specs.Record.{EachHandleOnce, acknowledged}
+use Rattle.journal_model.specs.Record.{EachHandleOnce, IsLegal, acknowledged}
 use Rattle.journal_model.specs.Transaction.{AreNumbered, History}
-use Rattle.journal_world.specs.Front.{Front, IsOpen, finished_count, handle_numbers, handles_of, revoke_step, transactions, write_step}
+use Rattle.journal_world.specs.Front.{Front, IsOpen, finished_count, handle_numbers, handles_of, read_step, revoke_step, transactions, write_step}
 use Rattle.journal_world.specs.Front.FrontEvent.{RevokeBlock, WriteBlock}
 use Rattle.journal_world.specs.Journal.{Event, KeepsFront}
-use Rattle.journal_world.specs.Journal.Event.{FrontStep, Seal, CommitStep, CommitFault, CheckpointStep, CheckpointFault, ReadFault, DirectWrite, DirectWriteFault, DirectSync, DirectSyncFault, Finish}
+use Rattle.journal_world.specs.Journal.Event.{FrontStep, Seal, CommitStep, CommitFault, CheckpointStep, CheckpointFault, ReadBlock, ReadFault, DirectWrite, DirectWriteFault, DirectSync, DirectSyncFault, Finish, AbortMark}
 use Rattle.log_epochs.specs.Epoch.{Ended, Epoch}
 use Rattle.log_epochs.specs.EnginePromise.{Continues, MayAdd as BelowMayAdd}
 use Rattle.log_epochs.specs.EngineWorld.{Phase}
@@ -22,7 +22,8 @@ use Rattle.log_epochs.specs.JournalWorld.Move.{Step, Answer, Below}
 -- What an image keeps, with one number n: all that was told committed and nothing that was not sealed; n is the count of
 -- what the log of the image that pinned it has, and of its own where none has. An opening makes each block its last copy in
 -- the first n transactions, or else leaves it as home held it, and that rightly. The numbers follow one another; each handle
--- that was given out lies in exactly one transaction, and has all its steps in that one.
+-- that was given out lies in exactly one transaction, and has all its steps in that one; and each recorded read of a block that
+-- was written before it gave the last write's bytes.
 pub record Kept (shape : Shape) (epoch : Epoch) (told : Told) (image : Image) : Type 0 where
   pub n : ℕ
   pub low : acknowledged told.answered told.front.sealed ≤ n
@@ -33,6 +34,7 @@ pub record Kept (shape : Shape) (epoch : Epoch) (told : Told) (image : Image) : 
   pub numbered : AreNumbered epoch.engine.first told.front.sealed
   pub joined : handles_of (transactions told.front) ≡ handle_numbers told.front.given
   pub handles : EachHandleOnce (transactions told.front)
+  pub legal : IsLegal (transactions told.front)
 
 -- each image that a stop may leave now keeps it; before the first opening that answers Ok nothing is promised
 abbrev pub KeepsNow : Shape → Option Epoch → Disk → Told → Type 0
@@ -77,8 +79,10 @@ StepMayAdd epoch f CommitStep b v = ⊥
 StepMayAdd epoch f CommitFault b v = ⊥
 StepMayAdd epoch f CheckpointStep b v = IsCommittedCopy f.sealed epoch.engine.committed b v
 StepMayAdd epoch f CheckpointFault b v = IsCommittedCopy f.sealed epoch.engine.committed b v
+StepMayAdd epoch f (ReadBlock h block bytes) b v = ⊥
 StepMayAdd epoch f ReadFault b v = ⊥
 StepMayAdd epoch f Finish b v = ⊥
+StepMayAdd epoch f AbortMark b v = ⊥
 
 abbrev pub JournalMayAdd : Option Epoch → Front → Event → Addition
 JournalMayAdd None f event b v = ⊥
@@ -95,7 +99,7 @@ abbrev pub KeepsFrontNow : Option Epoch → Told → Type 0
 KeepsFrontNow None told = ⊤
 KeepsFrontNow (Some epoch) told = KeepsFront told.front epoch.engine
 
--- What a move does to the steps that handles have made: nothing; a handle that is open writes or revokes, which is one step
+-- What a move does to the steps that handles have made: nothing; a handle that is open writes, revokes or reads, which is one step
 -- more; the running transaction is sealed with all of them, while no handle is open; or an epoch begins.
 pub data MakesSteps (move : Move) (old new : Front) : Type 0 where
   NoStep : new.sealed ≡ old.sealed → new.running.steps ≡ old.running.steps → MakesSteps move old new
@@ -103,6 +107,8 @@ pub data MakesSteps (move : Move) (old new : Front) : Type 0 where
       new.running.steps ≡ old.running.steps ++ write_step h b v ∷ [] → MakesSteps move old new
   OneRevoke : (h b : ℕ) → move ≡ Step (FrontStep (RevokeBlock h b)) → IsOpen old h → new.sealed ≡ old.sealed →
       new.running.steps ≡ old.running.steps ++ revoke_step h b ∷ [] → MakesSteps move old new
+  OneRead : (h b : ℕ) (v : List ℕ) → move ≡ Step (ReadBlock h b v) → IsOpen old h → new.sealed ≡ old.sealed →
+      new.running.steps ≡ old.running.steps ++ read_step h b v ∷ [] → MakesSteps move old new
   Sealed : move ≡ Step Seal → old.open_handles ≡ [] → new.sealed ≡ old.sealed ++ old.running ∷ [] → new.running.steps ≡ [] → MakesSteps move old new
   Begun : move ≡ Below AnswerOk → new.sealed ≡ [] → new.running.steps ≡ [] → MakesSteps move old new
 

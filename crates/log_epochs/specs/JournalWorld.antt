@@ -4,7 +4,7 @@
 use Rattle.std.specs.Prelude.{◌≡◌, ⊤, ℕ, ◌≤◌, List, [], ◌∷◌, Option, Some, None}
 use Rattle.journal_world.specs.Front.{Front}
 use Rattle.journal_world.specs.Journal.{Event, Happens, IsFresh, Journal}
-use Rattle.journal_world.specs.Journal.Event.{FrontStep, Seal, CommitStep as Commit, CommitFault as CommitFails, CheckpointStep as Checkpoint, CheckpointFault as CheckpointFails, ReadFault as ReadFails, DirectWrite as WriteDirect, DirectWriteFault as WriteDirectFails, DirectSync as SyncDirect, DirectSyncFault as SyncDirectFails, Finish}
+use Rattle.journal_world.specs.Journal.Event.{FrontStep, Seal, CommitStep as Commit, CommitFault as CommitFails, CheckpointStep as Checkpoint, CheckpointFault as CheckpointFails, ReadBlock, ReadFault as ReadFails, DirectWrite as WriteDirect, DirectWriteFault as WriteDirectFails, DirectSync as SyncDirect, DirectSyncFault as SyncDirectFails, Finish, AbortMark}
 use Rattle.log_epochs.specs.EngineSteps.{Event as EngineEvent}
 use Rattle.log_epochs.specs.EngineSteps.Event.{Accept, Read, CommitStep, CommitFault, CheckpointStep, CheckpointFault, ReadFault, DirectWrite, DirectWriteFault, DirectSync, DirectSyncFault}
 use Rattle.log_epochs.specs.EngineWorld.{Begins as BelowBegins, Move as BelowMove, Moves as BelowMoves, World}
@@ -44,8 +44,10 @@ with_directs Commit directs = directs
 with_directs CommitFails directs = directs
 with_directs Checkpoint directs = directs
 with_directs CheckpointFails directs = directs
+with_directs (ReadBlock h b v) directs = directs
 with_directs ReadFails directs = directs
 with_directs Finish directs = directs
+with_directs AbortMark directs = directs
 
 pub record Steps (old : JournalWorld) (event : Event) (new : JournalWorld) : Type 0 where
   pub running : old.below.phase ≡ Running

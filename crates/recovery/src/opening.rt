@@ -7,6 +7,7 @@ ghost use Rattle.log_model.specs.Opening.{greatest_number, layout_of};
 ghost use Rattle.log_model.specs.Superblock.{super_in};
 ghost use Rattle.block_device.specs.State.{EachMoment};
 ghost use Rattle.journal_world.specs.Opening.{IsOpenedLog, IsOpening};
+ghost use Rattle.log_epochs.specs.EngineWorld.{LeadsToEngine};
 ghost use Rattle.log_epochs.specs.OpeningRun.{IsMoment};
 ghost use Rattle.recovery.specs.Values.{IsNextNamed};
 ghost use Rattle.recovery.specs.Opening.{IsBroken, IsDone, IsDoneWith, OpeningRefused, Tells};
@@ -80,6 +81,8 @@ impl<D: Device> Model for Opened<D> {
 /// this project's own.
 pub fn open<D: Device>(alloc: Global, device: D) -> Result<Opened<D>, (D, JournalError)>
     ensures opened { IfOk result (λ o. D.honest o.device → IsOpening (D.state device).shape (D.state device).disk (D.state o.device).disk o.superblock o.next) }
+    // In a machine of any past that nobody works in, it is a run of moves, from its begin to the answer.
+    ensures run { IfOk result (λ o. D.honest o.device → LeadsToEngine (D.state device).shape (D.state device).disk (D.state o.device).disk o.superblock o.next) }
     ensures report { IfOk result (λ o. D.honest o.device → Tells (D.state device).shape (reading (D.state device).disk) o.clean o.ends_at o.transactions) }
     ensures calls { MatchResult result
         (λ o. D.honest o.device → IsDone (D.state device) (D.state o.device))

@@ -11,7 +11,7 @@ use Rattle.journal_world.specs.Engine.{Engine}
 use Rattle.journal_world.specs.Front.{Front, FrontEvent}
 use Rattle.journal_world.specs.Front.FrontEvent.{ExtendHandle, GiveBack, Join, Lock, Raise, Reserve, StopHandle}
 use Rattle.journal_world.specs.Journal.{Event, Happens, Journal}
-use Rattle.journal_world.specs.Journal.Event.{CheckpointFault, CheckpointStep, CommitFault, CommitStep, DirectSync, DirectSyncFault, DirectWrite, DirectWriteFault, Finish, FrontStep, ReadFault, Seal}
+use Rattle.journal_world.specs.Journal.Event.{AbortMark, CheckpointFault, CheckpointStep, CommitFault, CommitStep, DirectSync, DirectSyncFault, DirectWrite, DirectWriteFault, Finish, FrontStep, ReadBlock, ReadFault, Seal}
 use Rattle.journal_world.proofs.Onward.{fault-on, round-fault-on, round-on, step-on}
 use Rattle.log_epochs.specs.JournalWorld.{JournalWorld, Leads, with_directs}
 use Rattle.log_epochs.specs.JournalWorld.Move.{Answer, Step}
@@ -25,7 +25,7 @@ use Rattle.journal_steps.specs.Direct.DirectSyncRefused.{SyncAborted, SyncFailed
 use Rattle.journal_steps.specs.Direct.DirectWriteRefused.{WriteAborted, WriteFailed, WriteNotDirect, WriteOutside}
 use Rattle.group_commit.specs.Extension.{Extends, RestartRefused, Restarts, Starts}
 use Rattle.journal_front.specs.Front.{IsOpenHandle}
-use Rattle.journal_steps.specs.Journal.{CheckTurnDid, CheckTurnRefused, Does, ReadRefused, Requests, TurnDid, TurnRefused}
+use Rattle.journal_steps.specs.Journal.{CheckTurnDid, CheckTurnRefused, Does, FailsAndTells, ReadRefused, Requests, TurnDid, TurnRefused}
 use Rattle.journal_steps.specs.Journal.CheckTurnRefused.{CheckAborted, CheckFailed}
 use Rattle.journal_steps.specs.Journal.ReadRefused.{ReadAborted, ReadFailed, ReadOutside, ReadRevoked}
 use Rattle.journal_steps.specs.Journal.TurnRefused.{DeviceFailed, MemoryIsShort, RingIsShort, WasAborted}
@@ -55,12 +55,14 @@ event-shape old new disk after CommitStep happens = (step-on old.engine new.engi
 event-shape old new disk after CommitFault happens = (fault-on old.engine new.engine disk after happens.engine).shape
 event-shape old new disk after CheckpointStep happens = (round-on old.engine new.engine disk after happens.engine).shape
 event-shape old new disk after CheckpointFault happens = (round-fault-on old.engine new.engine disk after happens.engine).shape
+event-shape old new disk after (ReadBlock h b v) happens = front-shape old.engine new.engine happens.engine
 event-shape old new disk after ReadFault happens = ap (λ (e : Engine). e.shape) happens.engine
 event-shape old new disk after (DirectWrite b v) happens = ap (λ (e : Engine). e.shape) happens.engine.engine
 event-shape old new disk after (DirectWriteFault b v) happens = ap (λ (e : Engine). e.shape) happens.engine.engine
 event-shape old new disk after DirectSync happens = ap (λ (e : Engine). e.shape) happens.engine.engine
 event-shape old new disk after DirectSyncFault happens = ap (λ (e : Engine). e.shape) happens.engine.engine
 event-shape old new disk after Finish happens = front-shape old.engine new.engine happens.engine
+event-shape old new disk after AbortMark happens = front-shape old.engine new.engine happens.engine
 
 -- a step of the journal is one more move
 pub goes : (Fact : Shape → Disk → Type 0) (operations : List Operation) (event : Event) (old new : Journal) (before after : DeviceState) (shown : Option ℕ) → WritesOnly operations event
@@ -152,12 +154,21 @@ turn-comes Fact operations state old new shown (Committed tid) did shape led =
     (goes Fact operations Finish did.mid did.done (state new.device) (state new.device) shown (λ directs written. written)
     (goes Fact operations CommitStep old.journal did.mid (state old.device) (state new.device) shown (λ directs written. written) led did.commits shape) did.finishes refl) did.raises refl
 
+-- a step in which the device failed, and of which the front was then told, is two moves
+fault-comes : (Fact : Shape → Disk → Type 0) (operations : List Operation) {D : Type 0} (state : D → DeviceState) (old new : JournalValue D) (shown : Option ℕ) (fault : Event)
+    → WritesOnly operations fault → FailsAndTells state fault old new → (state new.device).shape ≡ (state old.device).shape → HasComeTo Fact operations state old shown
+    → HasComeTo Fact operations state new shown
+fault-comes Fact operations state old new shown fault only is shape led =
+    goes Fact operations AbortMark is.mid new.journal (state new.device) (state new.device) shown (λ directs written. written)
+    (goes Fact operations fault old.journal is.mid (state old.device) (state new.device) shown only led is.fails shape) is.tells refl
+
 refused-comes : (Fact : Shape → Disk → Type 0) (operations : List Operation) {D : Type 0} (state : D → DeviceState) (old new : JournalValue D) (shown : Option ℕ) (e : JournalError) → TurnRefused state old new e
     → (state new.device).shape ≡ (state old.device).shape → HasComeTo Fact operations state old shown → HasComeTo Fact operations state new shown
 refused-comes Fact operations state old new shown e (WasAborted aborted is) shape led = same Fact operations state old new shown is led
 refused-comes Fact operations state old new shown e (RingIsShort due short is) shape led = same Fact operations state old new shown is led
 refused-comes Fact operations state old new shown e (MemoryIsShort due room is) shape led = same Fact operations state old new shown is led
-refused-comes Fact operations state old new shown e (DeviceFailed is fault) shape led = does Fact operations state old new shown CommitFault (λ directs written. written) is shape led
+refused-comes Fact operations state old new shown e (DeviceFailed is fault) shape led =
+    fault-comes Fact operations state old new shown CommitFault (λ directs written. written) is shape led
 
 pub commit_turn-comes : (Fact : Shape → Disk → Type 0) (operations : List Operation) {D : Type 0} (state : D → DeviceState) (old new : JournalValue D) (shown : Option ℕ) (result : Result Turn JournalError)
     → IfOk result (λ turn. TurnDid state turn old new) → IfErr result (λ e. TurnRefused state old new e)
@@ -176,7 +187,8 @@ check_refused-comes : (Fact : Shape → Disk → Type 0) (operations : List Oper
     → CheckTurnRefused state old new e → (state new.device).shape ≡ (state old.device).shape → HasComeTo Fact operations state old shown → HasComeTo Fact operations state new shown
 check_refused-comes Fact operations state old new shown e (CheckAborted aborted is device faults) shape led =
     stays Fact operations old.journal new.journal (state old.device) (state new.device) shown led is shape device.disk
-check_refused-comes Fact operations state old new shown e (CheckFailed is fault) shape led = does Fact operations state old new shown CheckpointFault (λ directs written. written) is shape led
+check_refused-comes Fact operations state old new shown e (CheckFailed is fault) shape led =
+    fault-comes Fact operations state old new shown CheckpointFault (λ directs written. written) is shape led
 
 pub checkpoint_turn-comes : (Fact : Shape → Disk → Type 0) (operations : List Operation) {D : Type 0} (state : D → DeviceState) (old new : JournalValue D) (shown : Option ℕ) (result : Result CheckTurn JournalError)
     → IfOk result (λ turn. CheckTurnDid state turn old new) → IfErr result (λ e. CheckTurnRefused state old new e)

@@ -65,7 +65,7 @@ module _ {D : Type 0} (state : D → DeviceState) (most size count raised : ℕ)
   turn-refused _ (WasAborted was same) = all-same same
   turn-refused _ (RingIsShort due short same) = all-same same
   turn-refused _ (MemoryIsShort due room same) = all-same same
-  turn-refused _ (DeviceFailed did faults) = front-aborted did.front
+  turn-refused _ (DeviceFailed did faults) = front-aborted (did.tells.front ∙ ap (λ (f : Front). aborting f) did.fails.front)
 
   checked : (turn : CheckTurn) → CheckTurnDid state turn old new → IsHeld state most size count raised new
   checked IdleCheck did = front-same (ap (λ j. j.front) did.1)
@@ -74,7 +74,7 @@ module _ {D : Type 0} (state : D → DeviceState) (most size count raised : ℕ)
 
   check-refused : (e : JournalError) → CheckTurnRefused state old new e → IsHeld state most size count raised new
   check-refused _ (CheckAborted was same stays faults) = front-same (ap (λ j. j.front) same)
-  check-refused _ (CheckFailed did faults) = front-aborted did.front
+  check-refused _ (CheckFailed did faults) = front-aborted (did.tells.front ∙ ap (λ (f : Front). aborting f) did.fails.front)
 
   pub check-turn : (r : Result CheckTurn JournalError) → IfOk r (λ turn. CheckTurnDid state turn old new)
       → IfErr r (λ e. CheckTurnRefused state old new e) → IsHeld state most size count raised new

@@ -1,6 +1,6 @@
 use Rattle.std.proofs.Common.{sym, ◌∙◌}
 use Rattle.recovery.proofs.Examining.{no-log-refused}
-use Rattle.recovery.proofs.OpeningDone.{broken-moments, done-log, done-moments, done-opening}
+use Rattle.recovery.proofs.OpeningDone.{broken-moments, done-leads, done-log, done-moments, done-opening}
 use Rattle.recovery.proofs.opening.open.Goals as goal
 
 -- the log is open, and block 0 names the next transaction
@@ -21,6 +21,11 @@ returns-then-blocks-eq0-clause-refused g c =
 pub returns-in-Ok-clause-opened : goal.returns-in-Ok-clause-opened
 returns-in-Ok-clause-opened g c = λ honest.
     done-opening (g.D.Device.state c.args.device) (g.D.Device.state c.recover.new.device) c.in-Ok.superblock.items c.in-Ok.next (c.in-Ok.ensures.done honest)
+
+-- and a run of the machine
+pub returns-in-Ok-clause-run : goal.returns-in-Ok-clause-run
+returns-in-Ok-clause-run g c = λ honest.
+    done-leads (g.D.Device.state c.args.device) (g.D.Device.state c.recover.new.device) c.in-Ok.superblock.items c.in-Ok.next (c.in-Ok.ensures.done honest)
 
 -- each of its moments is the machine's
 pub returns-in-Ok-clause-moments : goal.returns-in-Ok-clause-moments
