@@ -1,3 +1,5 @@
 pub mod Locked
+pub mod Ends
 pub mod Laid
+pub mod Moments
 pub mod Refusals

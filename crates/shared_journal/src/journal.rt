@@ -1,35 +1,44 @@
 //! The journal that threads share: its calls take `&self`, and those that are steps take the lock.
-ghost use Rattle.std.specs.Prelude.{◌≡◌, ◌+◌, ◌<◌, ◌≤◌, length, IfErr, IfOk, MatchResult, OnOk};
-ghost use Rattle.journal_model.specs.Disk.{Image, Leaves};
-ghost use Rattle.log_epochs.specs.JournalPromise.{IsClosed};
+ghost use Rattle.std.specs.Prelude.{◌≡◌, ◌≢◌, ◌+◌, ◌<◌, ◌≤◌, true, length, IfErr, IfOk, MatchResult, OnOk};
+ghost use Rattle.journal_model.specs.declared.refusal.JournalError.TheVariants.{Aborted, Device as DeviceFailed};
+ghost use Rattle.journal_model.specs.Transaction.{entries};
+ghost use Rattle.journal_world.specs.Front.FrontEvent.{RevokeBlock, StopHandle, WriteBlock};
+ghost use Rattle.journal_world.specs.Front.{next_handle, reserving};
+ghost use Rattle.journal_world.specs.Journal.Event.{DirectSync, DirectWrite, FrontStep};
 ghost use Rattle.handle.specs.Values.{Grants, Looks, LooksAgain, ReserveRefused, StatusIs, fresh_ticket, loading_credits, loading_mark};
-ghost use Rattle.journal_steps.specs.Journal.{OpensOver};
+ghost use Rattle.journal_front.specs.Front.{ExtendRefused, IsOpenHandle, JoinRefused, Spends, TouchRefused};
+ghost use Rattle.journal_steps.specs.Direct.{DirectSyncRefused, DirectWriteRefused, MayWriteDirectly};
+ghost use Rattle.journal_steps.specs.Journal.{CheckTurnDid, CheckTurnRefused, Does, IsSeen, ReadRefused, Requests, TurnDid, TurnRefused};
+ghost use Rattle.journal_steps.specs.Values.{JournalValue};
+ghost use Rattle.group_commit.specs.Extension.{Extends, Starts};
+ghost use Rattle.shared_journal.specs.Ends.{AtTheEnd, IsClosedWell, IsNotClosed};
+ghost use Rattle.shared_journal.specs.Moments.{AtOneMoment};
 ghost use Rattle.shared_journal.specs.Refusals.{IsExtendRefusal, IsJoinRefusal, IsTouchRefusal, MayHavePaid, StartRefused};
 
 use crate::closing::close;
 use crate::locked::{Counters, Locked, Tally};
 use crate::open_handle::Handle;
 use block_device::Device;
-use group_commit::{CheckTurn, Journal as OneJournal, Parts, Turn};
+use group_commit::{CheckTurn, Journal as OneJournal, Parts, Record, Turn};
 use handle::{Credits, JournalName, Receipt, Seat, Status, Ticket};
-use journal_model::{BlockNo, JournalError, Tid};
+use journal_model::{BlockNo, History, JournalError, Sealed, Tid};
 use std::sync::{Mutex, Wait};
 
 /// A journal that any number of threads share by reference. It has to be ended by `close` or `into_single`, since it holds credits:
 /// a value of this type can't be dropped.
-pub struct Journal<J: JournalName, D: Device> {
+pub struct Journal<J: JournalName, D: Device, R: Record = History<Sealed>> {
     counters: Counters<J>,
-    locked: Mutex<Locked<J, D>>,
+    locked: Mutex<Locked<J, D, R>>,
     block_size: usize,
     pub ghost block_is: { block_size ≡ J.block_size },
 }
 
-impl<J: JournalName, D: Device> Journal<J, D> {
+impl<J: JournalName, D: Device, R: Record> Journal<J, D, R> {
     pub(crate) fn of(
         counters: Counters<J>,
-        locked: Locked<J, D>,
+        locked: Locked<J, D, R>,
         block_size: usize,
-    ) -> Journal<J, D>
+    ) -> Journal<J, D, R>
         requires { block_size ≡ J.block_size }
     {
         Journal {
@@ -116,13 +125,16 @@ impl<J: JournalName, D: Device> Journal<J, D> {
     /// The credits come back. `Aborted` after a device failure, `NotRunning` where the transaction takes no further handles,
     /// `SequenceEnd` where no number is left for it or for the handle, and `Memory`.
     /// Source: journalling.rst (`journal_start`).
-    pub fn try_join<R: Wait>(
+    pub fn try_join<W: Wait>(
         &self,
-        rt: &R,
+        rt: &W,
         credits: Credits<J>,
     ) -> Result<Handle<'_, J>, (Credits<J>, JournalError)>
         ensures ok { IfOk result (λ handle. handle.left ≡ credits) }
+        ensures joins { IfOk result (λ handle. AtOneMoment (λ (old new : JournalValue D). Starts D.state credits old new
+            × (handle ≡ record { number = next_handle old.journal.front; tid = old.journal.front.running.tid; left = credits }))) }
         ensures err { IfErr result (λ e. (e.0 ≡ credits) × IsJoinRefusal e.1) }
+        ensures why { IfErr result (λ e. AtOneMoment (λ (old new : JournalValue D). JoinRefused (reserving old.journal.front credits) credits e.1 × (new ≡ old))) }
     {
         self.locked.lock(rt).join(&self.counters, credits)
     }
@@ -134,14 +146,16 @@ impl<J: JournalName, D: Device> Journal<J, D> {
     /// The credits come back. `Aborted` after a device failure, `NotRunning` where the handle's transaction takes no further
     /// handles. (`NoCredit` where the handle is not open can't come, and no contract says so yet.)
     /// Source: journalling.rst (`journal_extend`).
-    pub fn extend<R: Wait>(
+    pub fn extend<W: Wait>(
         &self,
-        rt: &R,
+        rt: &W,
         handle: &mut Handle<'_, J>,
         credits: Credits<J>,
     ) -> Result<(), (Credits<J>, JournalError)>
         ensures ok { OnOk result (handle.new ≡ record handle.old { left = handle.old.left + credits }) }
+        ensures extends { OnOk result (AtOneMoment (λ (old new : JournalValue D). Extends D.state handle.old.number credits old new)) }
         ensures err { IfErr result (λ e. (e.0 ≡ credits) × IsExtendRefusal e.1 × (handle.new ≡ handle.old)) }
+        ensures why { IfErr result (λ e. AtOneMoment (λ (old new : JournalValue D). ExtendRefused (reserving old.journal.front credits) handle.old credits e.1 × (new ≡ old))) }
     {
         self.locked.lock(rt).extend(&self.counters, handle, credits)
     }
@@ -154,16 +168,18 @@ impl<J: JournalName, D: Device> Journal<J, D> {
     /// Nothing changes. `Aborted` after a device failure, `BadBlock` where home has no such block, or its number is not below
     /// 2^32, `NoCredit` at a first touch without a credit left, and `Memory`.
     /// Source: journalling.rst (`journal_get_write_access`, `journal_dirty_metadata`).
-    pub fn write<R: Wait>(
+    pub fn write<W: Wait>(
         &self,
-        rt: &R,
+        rt: &W,
         handle: &mut Handle<'_, J>,
         block: BlockNo,
         bytes: &[u8],
     ) -> Result<(), JournalError>
         requires { length bytes.now ≡ J.block_size }
         ensures ok { OnOk result (MayHavePaid handle.old handle.new) }
+        ensures touches { OnOk result (AtOneMoment (λ (old new : JournalValue D). Does D.state old (FrontStep (WriteBlock handle.old.number block bytes.now)) new × Spends old.journal.front block handle.old handle.new)) }
         ensures err { IfErr result (λ e. IsTouchRefusal e × (handle.new ≡ handle.old)) }
+        ensures why { IfErr result (λ e. AtOneMoment (λ (old new : JournalValue D). TouchRefused old.journal.front handle.old block e × (new ≡ old))) }
     {
         self.locked.lock(rt).write(handle, block, bytes)
     }
@@ -174,14 +190,16 @@ impl<J: JournalName, D: Device> Journal<J, D> {
     ///
     /// Those of `write`: nothing changes.
     /// Source: journalling.rst (`journal_revoke`), fs/jbd2/revoke.c by behaviour.
-    pub fn revoke<R: Wait>(
+    pub fn revoke<W: Wait>(
         &self,
-        rt: &R,
+        rt: &W,
         handle: &mut Handle<'_, J>,
         block: BlockNo,
     ) -> Result<(), JournalError>
         ensures ok { OnOk result (MayHavePaid handle.old handle.new) }
+        ensures touches { OnOk result (AtOneMoment (λ (old new : JournalValue D). Does D.state old (FrontStep (RevokeBlock handle.old.number block)) new × Spends old.journal.front block handle.old handle.new)) }
         ensures err { IfErr result (λ e. IsTouchRefusal e × (handle.new ≡ handle.old)) }
+        ensures why { IfErr result (λ e. AtOneMoment (λ (old new : JournalValue D). TouchRefused old.journal.front handle.old block e × (new ≡ old))) }
     {
         self.locked.lock(rt).revoke(handle, block)
     }
@@ -195,14 +213,18 @@ impl<J: JournalName, D: Device> Journal<J, D> {
     /// where its last entry in the transactions that are not committed is a revoke. `Device` where the device failed: the journal
     /// is aborted, and the buffer's bytes are unspecified.
     /// Source: journalling.rst (handles see the running transaction).
-    pub fn read<R: Wait>(
+    pub fn read<W: Wait>(
         &self,
-        rt: &R,
+        rt: &W,
         handle: &mut Handle<'_, J>,
         block: BlockNo,
         into: &mut [u8],
     ) -> Result<(), JournalError>
         requires { length into.old ≡ J.block_size }
+        ensures reads { OnOk result (AtOneMoment (λ (old new : JournalValue D). (D.honest new.device → IsSeen old.journal (D.state old.device).disk block into.new)
+            × (new.journal ≡ old.journal))) }
+        ensures why { IfErr result (λ e. AtOneMoment (λ (old new : JournalValue D). ReadRefused D.state old block new e)) }
+        ensures untouched { IfErr result (λ e. e ≢ DeviceFailed → into.new ≡ into.old) }
         ensures length { length into.new ≡ length into.old }
         ensures handle { handle.new ≡ handle.old }
     {
@@ -218,13 +240,15 @@ impl<J: JournalName, D: Device> Journal<J, D> {
     /// where the transactions have a copy of the block, or one that is not committed has an entry of it: nothing changes.
     /// `Device` where the device failed: the journal is aborted.
     /// Source: this project's own, by what journal.rst says of revokes.
-    pub fn write_direct<R: Wait>(
+    pub fn write_direct<W: Wait>(
         &self,
-        rt: &R,
+        rt: &W,
         block: BlockNo,
         bytes: &[u8],
     ) -> Result<(), JournalError>
         requires { length bytes.now ≡ J.block_size }
+        ensures writes { OnOk result (AtOneMoment (λ (old new : JournalValue D). MayWriteDirectly old.journal block × Does D.state old (DirectWrite block bytes.now) new)) }
+        ensures why { IfErr result (λ e. AtOneMoment (λ (old new : JournalValue D). DirectWriteRefused D.state old block bytes.now new e)) }
     {
         self.locked.lock(rt).write_direct(block, bytes)
     }
@@ -235,14 +259,19 @@ impl<J: JournalName, D: Device> Journal<J, D> {
     ///
     /// `Aborted` after a device failure. `Device` where the device failed: the journal is aborted.
     /// Source: this project's own; a flush request (the kernel's writeback_cache_control.rst).
-    pub fn sync_direct<R: Wait>(&self, rt: &R) -> Result<(), JournalError> {
+    pub fn sync_direct<W: Wait>(&self, rt: &W) -> Result<(), JournalError>
+        ensures syncs { OnOk result (AtOneMoment (λ (old new : JournalValue D). Does D.state old DirectSync new)) }
+        ensures why { IfErr result (λ e. AtOneMoment (λ (old new : JournalValue D). DirectSyncRefused D.state old new e)) }
+    {
         self.locked.lock(rt).sync_direct()
     }
 
     /// Ends a handle. Its credits that are left are given back. It always succeeds, after a device failure too.
     /// Source: journalling.rst (`journal_stop`).
-    pub fn stop<R: Wait>(&self, rt: &R, handle: Handle<'_, J>) -> Ticket<J>
-        ensures { result ≡ fresh_ticket handle.entry.number handle.entry.tid }
+    pub fn stop<W: Wait>(&self, rt: &W, handle: Handle<'_, J>) -> Ticket<J>
+        ensures ticket { result ≡ fresh_ticket handle.entry.number handle.entry.tid }
+        ensures stops { AtOneMoment (λ (old new : JournalValue D). (IsOpenHandle old.journal.front handle.entry → Does D.state old (FrontStep (StopHandle handle.entry.number)) new)
+            × ((IsOpenHandle old.journal.front handle.entry → ⊥) → new ≡ old)) }
     {
         self.locked.lock(rt).stop(&self.counters, handle)
     }
@@ -255,7 +284,10 @@ impl<J: JournalName, D: Device> Journal<J, D> {
     /// `Aborted` after a device failure. `NeedSpace` where what is left of the ring is too short for the transaction, and
     /// `Memory`: the transaction stays as it is. `Device` where the device failed: the journal is aborted.
     /// Source: fs/jbd2/commit.c by behaviour.
-    pub fn commit_turn<R: Wait>(&self, rt: &R) -> Result<Turn, JournalError> {
+    pub fn commit_turn<W: Wait>(&self, rt: &W) -> Result<Turn, JournalError>
+        ensures ok { IfOk result (λ turn. AtOneMoment (λ (old new : JournalValue D). TurnDid D.state turn old new)) }
+        ensures why { IfErr result (λ e. AtOneMoment (λ (old new : JournalValue D). TurnRefused D.state old new e)) }
+    {
         self.locked.lock(rt).commit_turn(&self.counters)
     }
 
@@ -265,7 +297,10 @@ impl<J: JournalName, D: Device> Journal<J, D> {
     ///
     /// `Aborted` after a device failure. `Device` where the device failed: the journal is aborted.
     /// Source: fs/jbd2/checkpoint.c by behaviour.
-    pub fn checkpoint_turn<R: Wait>(&self, rt: &R) -> Result<CheckTurn, JournalError> {
+    pub fn checkpoint_turn<W: Wait>(&self, rt: &W) -> Result<CheckTurn, JournalError>
+        ensures ok { IfOk result (λ turn. AtOneMoment (λ (old new : JournalValue D). CheckTurnDid D.state turn old new)) }
+        ensures why { IfErr result (λ e. AtOneMoment (λ (old new : JournalValue D). CheckTurnRefused D.state old new e)) }
+    {
         self.locked.lock(rt).checkpoint_turn()
     }
 
@@ -275,21 +310,28 @@ impl<J: JournalName, D: Device> Journal<J, D> {
     ///
     /// `Aborted` after a device failure.
     /// Source: fs/jbd2/journal.c by behaviour (`jbd2_log_start_commit`).
-    pub fn request<R: Wait>(&self, rt: &R, tid: Tid) -> Result<(), JournalError> {
+    pub fn request<W: Wait>(&self, rt: &W, tid: Tid) -> Result<(), JournalError>
+        ensures ok { OnOk result (AtOneMoment (λ (old new : JournalValue D). Requests D.state tid old new)) }
+        ensures err { IfErr result (λ e. e ≡ Aborted) }
+        ensures why { IfErr result (λ e. AtOneMoment (λ (old new : JournalValue D). (old.journal.front.aborted ≡ true) × (new ≡ old))) }
+    {
         self.locked.lock(rt).request(tid)
     }
 
     /// What the credit word has, and how many entries the running transaction, at one moment. Where no handle is open and nobody has
     /// credits, and none is about to be given back, the word is that number.
     /// Source: fs/jbd2/transaction.c by behaviour (`t_outstanding_credits` beside the buffers of the transaction).
-    pub fn tally<R: Wait>(&self, rt: &R, seat: &mut Seat<J>) -> Tally
-        ensures { seat.new ≡ loading_credits seat.old result.word }
+    pub fn tally<W: Wait>(&self, rt: &W, seat: &mut Seat<J>) -> Tally
+        ensures seat { seat.new ≡ loading_credits seat.old result.word }
+        ensures entries { AtOneMoment (λ (old new : JournalValue D). (result.entries ≡ length (entries old.journal.front.running.steps)) × (new ≡ old)) }
     {
         self.locked.lock(rt).tally(&self.counters, seat)
     }
 
     /// Whether the device has failed.
-    pub fn is_aborted<R: Wait>(&self, rt: &R) -> bool {
+    pub fn is_aborted<W: Wait>(&self, rt: &W) -> bool
+        ensures { AtOneMoment (λ (old new : JournalValue D). (result ≡ old.journal.engine.aborted) × (new ≡ old)) }
+    {
         self.locked.lock(rt).is_aborted()
     }
 
@@ -300,9 +342,9 @@ impl<J: JournalName, D: Device> Journal<J, D> {
     /// Nothing is held: where the credits were granted, they are given back. `TooMany` and `Full`, as for `reserve`; else those of
     /// `try_join`.
     /// Source: journalling.rst (`journal_start`).
-    pub fn try_start<R: Wait>(
+    pub fn try_start<W: Wait>(
         &self,
-        rt: &R,
+        rt: &W,
         seat: &mut Seat<J>,
         n: u64,
     ) -> Result<Handle<'_, J>, JournalError>
@@ -327,9 +369,9 @@ impl<J: JournalName, D: Device> Journal<J, D> {
     ///
     /// The handle is stopped all the same, and its ticket comes back; nothing else changes. Those of `try_start`.
     /// Source: journalling.rst (`journal_restart`).
-    pub fn restart<R: Wait>(
+    pub fn restart<W: Wait>(
         &self,
-        rt: &R,
+        rt: &W,
         handle: Handle<'_, J>,
         seat: &mut Seat<J>,
         n: u64,
@@ -353,22 +395,17 @@ impl<J: JournalName, D: Device> Journal<J, D> {
     /// `group_commit::Journal::close`. (`NotRunning` where a handle is open can't come, since each borrows this journal and has to
     /// be stopped; no contract says so yet.)
     /// Source: fs/jbd2/journal.c by behaviour (`jbd2_journal_destroy`).
-    pub fn close(self) -> Result<Parts<D>, (Parts<D>, JournalError)>
-        ensures all { IfOk result (λ parts. parts.committed ≡ length parts.sealed.items) }
-        ensures closed { IfOk result (λ parts. D.honest parts.device → (image : Image) → Leaves (D.state parts.device).disk image
-            → IsClosed (D.state parts.device).shape parts.sealed.items image) }
-        ensures opens { MatchResult result
-            (λ parts. D.honest parts.device →
-            OpensOver (D.state parts.device).shape parts.sealed.items parts.committed (length parts.sealed.items) (D.state parts.device).disk)
-            (λ e. D.honest e.0.device →
-            OpensOver (D.state e.0.device).shape e.0.sealed.items e.0.committed (length e.0.sealed.items) (D.state e.0.device).disk) }
+    pub fn close(self) -> Result<Parts<D, R>, (Parts<D, R>, JournalError)>
+        ensures { AtTheEnd D.state J.capacity J.block_size (λ (old : JournalValue D). MatchResult result
+            (λ parts. IsClosedWell D.state D.honest old parts.device (R.transactions parts.sealed) parts.committed)
+            (λ e. IsNotClosed D.state D.honest old e.0.device (R.transactions e.0.sealed) e.0.committed e.1)) }
     {
         close(self.into_single())
     }
 
     /// The journal of one thread, once nobody shares it any longer. No handle is open then, since each borrows this journal and has
     /// to be stopped.
-    pub fn into_single(self) -> OneJournal<D>
+    pub fn into_single(self) -> OneJournal<D, R>
         ensures reserved { result.journal.front.reserved ≡ 0 }
         ensures capacity { result.journal.front.capacity ≡ J.capacity }
         ensures block_size { (D.state result.device).shape.block_size ≡ J.block_size }

@@ -1,29 +1,36 @@
 //! Makes a journal of an opened log, and gives it its name.
-ghost use Rattle.std.specs.Prelude.{◌≡◌, IfErr, IfOk};
-ghost use Rattle.handle.specs.Rule.{greatest_allotment};
+ghost use Rattle.std.specs.Prelude.{◌≡◌, ◌≤◌, [], IfErr, IfOk, Some, None};
+ghost use Rattle.journal_model.specs.declared.refusal.JournalError.TheVariants.{Memory};
+ghost use Rattle.log_model.specs.Opening.{layout_of, ring_of};
+ghost use Rattle.log_model.specs.Room.{IsCapacity};
+ghost use Rattle.log_model.specs.Superblock.{super_in};
+ghost use Rattle.journal_world.specs.Journal.{IsFresh};
+ghost use Rattle.log_epochs.specs.EngineWorld.Phase.{Running};
+ghost use Rattle.log_epochs.specs.JournalWorld.{Begins};
+ghost use Rattle.handle.specs.Rule.{greatest_allotment, greatest_capacity};
 ghost use Rattle.handle.specs.Values.{fresh_seat};
 
 use crate::journal::Journal;
 use crate::locked::{Counters, Locked};
 use block_device::Device;
-use group_commit::{Journal as OneJournal, Seat as OneSeat};
+use group_commit::{Journal as OneJournal, Record, Seat as OneSeat};
 use handle::{JournalName, LaidBoard, Seat, board};
-use journal_model::layout::GREATEST_LENGTH;
-use journal_model::{JournalError, Tid};
+use journal_model::{History, JournalError, Sealed, Tid};
+use log_format::Super;
+use log_ring::Layout;
 use recovery::Opened;
 use std::alloc::Global;
 use std::marker::Model;
-use std::sync::Mutex;
 
 /// A journal on an opened log that has no name yet.
 #[derive(Drop)]
-pub struct LaidJournal<D: Device> {
-    journal: OneJournal<D>,
+pub struct LaidJournal<D: Device, R: Record = History<Sealed>> {
+    journal: OneJournal<D, R>,
     seat: OneSeat,
     board: LaidBoard,
 }
 
-impl<D: Device> Model for LaidJournal<D> {
+impl<D: Device, R: Record> Model for LaidJournal<D, R> {
     ghost use Rattle.shared_journal.specs.Laid.{IsLaid, LaidValue, laid_value};
 
     ghost Value = { LaidValue D };
@@ -33,40 +40,55 @@ impl<D: Device> Model for LaidJournal<D> {
     ghost invariant = { λ l. IsLaid D.state l.board l.journal };
 }
 
+/// The most credits of a journal on this log.
+fn capacity_on<D: Device>(opened: &Opened<D>) -> u64
+    ensures capacity { IsCapacity (layout_of (super_in opened.now.superblock)) (ring_of (super_in opened.now.superblock)).blocks result }
+    ensures few { result ≤ greatest_capacity }
+{
+    let fields = Super::fields(opened.superblock());
+    Layout::capacity(opened.layout(), u64::from(fields.s_maxlen - fields.s_first))
+}
+
 /// Lays a journal on an opened log, for threads to share.
 ///
 /// # Errors
 ///
-/// The device comes back, and nothing was written. `Memory`; and `BadLength` where a transaction could have more credits than a
-/// log can have blocks, which no opened log lets it.
-pub fn lay<D: Device>(alloc: Global, opened: Opened<D>) -> Result<LaidJournal<D>, (D, JournalError)>
-    ensures ok { IfOk result (λ laid. laid.journal.device ≡ opened.device) }
-    ensures err { IfErr result (λ e. e.0 ≡ opened.device) }
+/// `Memory`: the opened log comes back.
+pub fn lay<D: Device, R: Record>(
+    alloc: Global,
+    opened: Opened<D>,
+) -> Result<LaidJournal<D, R>, (Opened<D>, JournalError)>
+    ensures fresh { IfOk result (λ laid. IsFresh (D.state opened.device).shape opened.superblock opened.next laid.journal.journal) }
+    ensures device { IfOk result (λ laid. laid.journal.device ≡ opened.device) }
+    ensures begins { IfOk result (λ laid. D.honest opened.device → Begins (record {
+      below = record {
+        shape = (D.state laid.journal.device).shape;
+        disk = (D.state laid.journal.device).disk;
+        phase = Running;
+        epoch = Some (record { opening = (D.state opened.device).disk; engine = laid.journal.journal.engine; directs = []; pin = None });
+        ended = [];
+      };
+      told = record { front = laid.journal.journal.front; answered = [] };
+      past = [];
+    })) }
+    ensures err { IfErr result (λ e. (e.0 ≡ opened) × (e.1 ≡ Memory)) }
 {
     let next = opened.next();
-    match OneJournal::new(alloc, opened) {
-        Ok((journal, seat)) => {
-            let capacity = journal.capacity();
-            if capacity > u64::from(GREATEST_LENGTH) {
-                return Err((journal.into_parts().device, JournalError::BadLength));
-            }
-            match board(alloc, capacity, Tid(next.0 - 1)) {
-                Ok(board) => Ok(LaidJournal {
-                    journal,
-                    seat,
-                    board,
-                }),
-                Err(e) => Err((journal.into_parts().device, e)),
-            }
-        }
-        Err((opened, e)) => Err((opened.into_device(), e)),
-    }
+    let Ok(board) = board(alloc, capacity_on(&opened), Tid(next.0 - 1)) else {
+        return Err((opened, JournalError::Memory));
+    };
+    let (journal, seat) = OneJournal::new(alloc, opened)?;
+    Ok(LaidJournal {
+        journal,
+        seat,
+        board,
+    })
 }
 
-impl<D: Device> LaidJournal<D> {
+impl<D: Device, R: Record> LaidJournal<D, R> {
     /// The journal that J names, and the first seat. The caller's condition: J is the name of this journal. The call that brings
     /// J in picks it so.
-    pub fn named<J: JournalName>(self) -> (Journal<J, D>, Seat<J>)
+    pub fn named<J: JournalName>(self) -> (Journal<J, D, R>, Seat<J>)
         requires board { self.board ≡ J.board }
         requires capacity { self.capacity ≡ J.capacity }
         requires block_size { self.block_size ≡ J.block_size }

@@ -1,8 +1,8 @@
 //! What lies under the lock, and the steps that are made there.
-ghost use Rattle.std.specs.Prelude.{◌≡◌, ◌+◌, ◌-◌, ◌≤◌, length, true, false, IfErr, IfOk, OnOk};
-ghost use Rattle.journal_model.specs.declared.refusal.JournalError.TheVariants.{Aborted};
+ghost use Rattle.std.specs.Prelude.{◌≡◌, ◌≢◌, ◌+◌, ◌-◌, ◌≤◌, length, true, false, IfErr, IfOk, OnOk};
+ghost use Rattle.journal_model.specs.declared.refusal.JournalError.TheVariants.{Aborted, Device as DeviceFailed};
 ghost use Rattle.journal_model.specs.Transaction.{entries};
-ghost use Rattle.block_device.specs.State.{EachMoment, MakesAtMostOneCall};
+ghost use Rattle.block_device.specs.State.{EachMoment, MakesAtMostOneCall, Stays};
 ghost use Rattle.journal_world.specs.Front.{next_handle, reserving};
 ghost use Rattle.journal_world.specs.Front.FrontEvent.{RevokeBlock, StopHandle, WriteBlock};
 ghost use Rattle.journal_world.specs.Journal.Event.{DirectSync, DirectWrite, FrontStep};
@@ -11,13 +11,13 @@ ghost use Rattle.handle.specs.Values.{fresh_ticket, loading_credits};
 ghost use Rattle.journal_steps.specs.Direct.{DirectSyncRefused, DirectWriteRefused, IsDuringDirectSync, IsDuringDirectWrite, MayWriteDirectly};
 ghost use Rattle.group_commit.specs.Extension.{Extends, Starts};
 ghost use Rattle.journal_front.specs.Front.{ExtendRefused, IsOpenHandle, JoinRefused, MayTouch, Spends, TouchRefused};
-ghost use Rattle.journal_steps.specs.Journal.{CheckTurnDid, CheckTurnRefused, Does, IsDuringCheckTurn, IsDuringTurn, IsSeen, ReadRefused, Requests, TurnDid, TurnRefused};
+ghost use Rattle.journal_steps.specs.Journal.{CheckTurnDid, CheckTurnRefused, Does, HasCopyKept, IsDuringCheckTurn, IsDuringTurn, IsSeen, OpensNow, ReadRefused, Requests, TurnDid, TurnRefused};
 
 use crate::open_handle::Handle;
 use block_device::Device;
-use group_commit::{CheckTurn, Journal as OneJournal, Seat as OneSeat, Turn};
+use group_commit::{CheckTurn, Journal as OneJournal, Record, Seat as OneSeat, Turn};
 use handle::{CommitMark, CreditPool, Credits, Handle as Place, JournalName, Raiser, Seat, Ticket};
-use journal_model::{BlockNo, JournalError, Tid};
+use journal_model::{BlockNo, History, JournalError, Sealed, Tid};
 use std::marker::Model;
 
 /// The two words of a journal, which its callers share without a lock.
@@ -40,15 +40,15 @@ pub struct Tally {
 
 /// What lies under the lock of a journal: the journal of one thread, and what it keeps at the two words. Contracts see the
 /// journal. Each call is a step of it.
-pub struct Locked<J: JournalName, D: Device> {
-    pub(crate) journal: OneJournal<D>,
+pub struct Locked<J: JournalName, D: Device, R: Record = History<Sealed>> {
+    pub(crate) journal: OneJournal<D, R>,
     pub(crate) seat: OneSeat,
     /// The credits that open handles have left, and one for each entry of the running transaction.
     pub(crate) credits: Credits<J>,
     pub(crate) raiser: Raiser<J>,
 }
 
-impl<J: JournalName, D: Device> Model for Locked<J, D> {
+impl<J: JournalName, D: Device, R: Record> Model for Locked<J, D, R> {
     ghost use Rattle.journal_steps.specs.Values.{JournalValue};
     ghost use Rattle.shared_journal.specs.Locked.{IsHeld};
 
@@ -68,7 +68,7 @@ fn settle<J: JournalName>(pool: &CreditPool<J>, credits: &mut Credits<J>, held: 
     credits.split(pool, over).give_back(pool);
 }
 
-impl<J: JournalName, D: Device> Locked<J, D> {
+impl<J: JournalName, D: Device, R: Record> Locked<J, D, R> {
     /// Makes a handle of the running transaction, with these credits.
     ///
     /// # Errors
@@ -180,8 +180,14 @@ impl<J: JournalName, D: Device> Locked<J, D> {
         ensures may { OnOk result ((self.old.journal.engine.aborted ≡ false) × MayTouch self.old.journal.front block) }
         ensures seen { OnOk result (D.honest self.new.device → IsSeen self.old.journal (D.state self.old.device).disk block into.new) }
         ensures same { OnOk result (self.new.journal ≡ self.old.journal) }
+        ensures kept { OnOk result (HasCopyKept self.old.journal block → self.new ≡ self.old) }
         ensures err { IfErr result (λ e. ReadRefused D.state self.old block self.new e) }
+        ensures untouched { IfErr result (λ e. e ≢ DeviceFailed → into.new ≡ into.old) }
+        ensures stays { Stays (D.state self.old.device) (D.state self.new.device) }
+        ensures opens { D.honest self.old.device → OpensNow self.new.journal (D.state self.new.device).disk }
         ensures calls { MakesAtMostOneCall (D.state self.old.device) (D.state self.new.device) }
+        ensures no_fault { OnOk result ((D.state self.new.device).faults ≡ (D.state self.old.device).faults) }
+        ensures honest { D.honest self.new.device → D.honest self.old.device }
         ensures length { length into.new ≡ length into.old }
         ensures handle { handle.new ≡ handle.old }
     {
@@ -199,8 +205,11 @@ impl<J: JournalName, D: Device> Locked<J, D> {
         ensures right { OnOk result (MayWriteDirectly self.old.journal block) }
         ensures ok { OnOk result (Does D.state self.old (DirectWrite block bytes.now) self.new) }
         ensures err { IfErr result (λ e. DirectWriteRefused D.state self.old block bytes.now self.new e) }
+        ensures no_fault { OnOk result ((D.state self.new.device).faults ≡ (D.state self.old.device).faults) }
+        ensures shape { (D.state self.new.device).shape ≡ (D.state self.old.device).shape }
         ensures moments { D.honest self.old.device →
             EachMoment (IsDuringDirectWrite self.old.journal block bytes.now (D.state self.old.device).disk) (D.state self.old.device) (D.state self.new.device) }
+        ensures one { IsOneMoment (D.state self.old.device) (D.state self.new.device) }
         ensures calls { MakesAtMostOneCall (D.state self.old.device) (D.state self.new.device) }
         ensures honest { D.honest self.new.device → D.honest self.old.device }
     {
@@ -216,8 +225,11 @@ impl<J: JournalName, D: Device> Locked<J, D> {
     pub fn sync_direct(&mut self) -> Result<(), JournalError>
         ensures ok { OnOk result (Does D.state self.old DirectSync self.new) }
         ensures err { IfErr result (λ e. DirectSyncRefused D.state self.old self.new e) }
+        ensures no_fault { OnOk result ((D.state self.new.device).faults ≡ (D.state self.old.device).faults) }
+        ensures shape { (D.state self.new.device).shape ≡ (D.state self.old.device).shape }
         ensures moments { D.honest self.old.device →
             EachMoment (IsDuringDirectSync self.old.journal (D.state self.old.device).disk) (D.state self.old.device) (D.state self.new.device) }
+        ensures one { IsOneMoment (D.state self.old.device) (D.state self.new.device) }
         ensures calls { MakesAtMostOneCall (D.state self.old.device) (D.state self.new.device) }
         ensures honest { D.honest self.new.device → D.honest self.old.device }
     {
@@ -318,7 +330,7 @@ impl<J: JournalName, D: Device> Locked<J, D> {
     }
 
     /// Ends it: the credits that it holds are given back.
-    pub(crate) fn into_single(self, counters: &Counters<J>) -> OneJournal<D>
+    pub(crate) fn into_single(self, counters: &Counters<J>) -> OneJournal<D, R>
         ensures journal { result ≡ self }
         ensures reserved { result.journal.front.reserved ≡ 0 }
         ensures capacity { result.journal.front.capacity ≡ J.capacity }

@@ -3,6 +3,7 @@ use Rattle.std.proofs.lemmas.Result.{IfErr-weaker}
 use Rattle.journal_front.specs.Front.{TouchRefused}
 use Rattle.shared_journal.specs.Refusals.{IsTouchRefusal}
 use Rattle.shared_journal.proofs.Refused.{touches}
+use Rattle.shared_journal.proofs.Moments.{err-moment, on-both, on-moment}
 use Rattle.shared_journal.proofs.journal.Journal.revoke.Goals as goal
 
 -- the refusals of the step under the lock
@@ -13,3 +14,14 @@ returns-clause-err g c =
     (λ e. TouchRefused old.journal.front c.args.handle.now c.args.block e × (c.revoke.new.self ≡ old) × (c.revoke.new.handle ≡ c.args.handle.now))
     (λ e. IsTouchRefusal e × (c.revoke.new.handle ≡ c.args.handle.now))
     (λ e why. (touches old.journal.front c.args.handle.now c.args.block e why.0, why.2)) c.revoke.ensures.err
+
+-- the step
+pub returns-clause-touches : goal.returns-clause-touches
+returns-clause-touches g c =
+    on-moment c.deref_mut.result.now c.revoke.new.self c.revoke.result _ (on-both _ _ c.revoke.result c.revoke.ensures.ok c.revoke.ensures.spends)
+
+-- and the cause of its refusal
+pub returns-clause-why : goal.returns-clause-why
+returns-clause-why g c =
+    err-moment c.deref_mut.result.now c.revoke.new.self c.revoke.result _
+    (IfErr-weaker c.revoke.result _ _ (λ e why. (why.0, why.1)) c.revoke.ensures.err)

@@ -1,0 +1,10 @@
+use Rattle.shared_journal.proofs.Moments.{err-moment, on-moment}
+use Rattle.shared_journal.proofs.journal.Journal.sync_direct.Goals as goal
+
+-- the step
+pub returns-clause-syncs : goal.returns-clause-syncs
+returns-clause-syncs g c = on-moment c.deref_mut.result.now c.sync_direct.new.self c.sync_direct.result _ c.sync_direct.ensures.ok
+
+-- and the cause of its refusal
+pub returns-clause-why : goal.returns-clause-why
+returns-clause-why g c = err-moment c.deref_mut.result.now c.sync_direct.new.self c.sync_direct.result _ c.sync_direct.ensures.err

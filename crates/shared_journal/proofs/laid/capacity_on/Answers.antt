@@ -1,0 +1,33 @@
+use Rattle.std.proofs.Common.{arith, ap, subst, sym, ◌∙◌, ◌≡◌, ◌-◌, ◌≤◌, ℕ}
+use Rattle.log_model.specs.Room.{IsCapacity}
+use Rattle.log_model.specs.Superblock.{Super, super_in}
+use Rattle.shared_journal.proofs.Capacities.{few-credits, some-blocks}
+use Rattle.shared_journal.proofs.laid.capacity_on.Goals as goal
+
+-- the ring lies behind the superblock
+pub overflow_sub-fields-inside : goal.overflow_sub-fields-inside
+overflow_sub-fields-inside g c =
+    let same = c.fields.view_is ∙ c.fields-fields.ensures ∙ ap super_in c.superblock.ensures.block in
+    let first : c.fields.inside.s_first ≡ (super_in c.args.opened.now.superblock).s_first = ap (λ (s : Super). s.s_first) same in
+    let most : c.fields.inside.s_maxlen ≡ (super_in c.args.opened.now.superblock).s_maxlen = ap (λ (s : Super). s.s_maxlen) same in
+    let some = some-blocks _ _ _ c.superblock.ensures.named in
+    omega arith
+
+-- and has blocks enough
+pub capacity-requires-clause-least : goal.capacity-requires-clause-least
+capacity-requires-clause-least g c =
+    let same = c.fields.view_is ∙ c.fields-fields.ensures ∙ ap super_in c.superblock.ensures.block in
+    let first : c.fields.inside.s_first ≡ (super_in c.args.opened.now.superblock).s_first = ap (λ (s : Super). s.s_first) same in
+    let most : c.fields.inside.s_maxlen ≡ (super_in c.args.opened.now.superblock).s_maxlen = ap (λ (s : Super). s.s_maxlen) same in
+    let blocks : c.from.result ≡ c.fields.inside.s_maxlen - c.fields.inside.s_first = c.from.ensures in
+    let some = some-blocks _ _ _ c.superblock.ensures.named in
+    omega arith
+
+-- no log has more
+pub returns-clause-few : goal.returns-clause-few
+returns-clause-few g c =
+    let same = c.fields.view_is ∙ c.fields-fields.ensures ∙ ap super_in c.superblock.ensures.block in
+    let blocks : c.from.result ≡ (super_in c.args.opened.now.superblock).s_maxlen - (super_in c.args.opened.now.superblock).s_first =
+    c.from.ensures ∙ ap (λ (s : Super). s.s_maxlen - s.s_first) same in
+    few-credits c.layout.result _ _ _ c.capacity.result c.superblock.ensures.named
+    (subst (λ (n : ℕ). IsCapacity c.layout.result n c.capacity.result) blocks c.capacity.ensures)
