@@ -1,5 +1,5 @@
 -- The disk on which a run begins, and the device over it.
-use Rattle.std.specs.Prelude.{◌≡◌}
+use Rattle.std.specs.Prelude.{◌≡◌, ℕ, ◌+◌, ◌-◌, ◌^◌, min, false, Option, Some, unwrap_or}
 use Rattle.journal_model.specs.declared.number.Area.TheVariants.{Log}
 use Rattle.log_model.specs.Superblock.{super_in}
 use Rattle.block_device.specs.Fail.{failing}
@@ -18,6 +18,19 @@ pub record IsEmptyLog (state : DeviceState) : Type 0 where
 -- the disk behind the device of a run
 abbrev pub disk_behind : FailOnce (StopAt MemState) → MemState
 disk_behind device = device.device.device
+
+-- the device over a disk that stops at this write, and of which this call fails, where they are named: neither has come yet
+abbrev pub run_device_over : MemState → (stop fail : Option ℕ) → FailOnce (StopAt MemState)
+run_device_over disk stop fail = record {
+  device = record { device = disk; left = unwrap_or stop 0; stopped = false; faults = 0; calls = 0 };
+  fails_at = unwrap_or fail 0;
+  calls = 0;
+  faults = 0;
+}
+
+-- a call is named that comes k calls behind some others
+abbrev pub IsCallBehind : ℕ → Option ℕ → Type 0
+IsCallBehind k behind = (calls : ℕ) × (behind ≡ Some (min (calls + k) (2 ^ 64 - 1)))
 
 -- the state of the device of a run
 abbrev pub run_state : FailOnce (StopAt MemState) → DeviceState

@@ -1,14 +1,15 @@
 -- What a run of a script did and judged, where an opening of what it left may be stopped.
-use Rattle.std.specs.Prelude.{◌≡◌, ℕ, Bool, List, [], Option, Some, None}
+use Rattle.std.specs.Prelude.{◌≡◌, ◌⊎◌, ⊤, ℕ, ◌<◌, Bool, List, [], Option, Some, None}
 use Rattle.journal_model.specs.declared.number.Area.{Area}
 use Rattle.journal_model.specs.Disk.{reading}
 use Rattle.journal_model.specs.Transaction.{History}
-use Rattle.block_device.specs.Memory.{MemState, crashed, state_of}
+use Rattle.block_device.specs.Memory.{MemState, crashed, state_of, writes_of}
 use Rattle.journal_script.specs.declared.script.Script.{Script}
 use Rattle.journal_script.specs.Named.{AreNamedBy}
 use Rattle.journal_script.specs.declared.script.NamedBlocks.{NamedBlocks}
 use Rattle.script_run.specs.Reopening.{IsOpeningVerdict}
 use Rattle.script_run.specs.Verdict.{IsImageVerdict}
+use Rattle.script_run.specs.declared.running.Stopped.{Stopped}
 use Rattle.script_run.specs.declared.stops.Stop.{Stop}
 use Rattle.script_run.specs.declared.stops.Stops.{Stops}
 use Rattle.script_client.specs.Told.{IsLedTo, IsZeroHome}
@@ -26,12 +27,25 @@ pub record IsCrashOf (device : MemState) (keep : List ℕ) (image : MemState) : 
   pub each : (a : Area) (n : ℕ) → (state_of image).disk a n ≡ record { reads = crashed keep device a n; others = [] }
   pub shape_is : image.shape ≡ device.shape
 
+-- A device that was to stop at write k stopped there, and its last write has that number; or it made fewer writes, and stopped at the
+-- end. One that was not to stop at a write stopped at the end.
+abbrev pub IsStoppedAtWrite : Option ℕ → Option ℕ → (writes : ℕ) → Type 0
+IsStoppedAtWrite None None writes = ⊤
+IsStoppedAtWrite None (Some at) writes = ⊥
+IsStoppedAtWrite (Some k) None writes = (k ≡ 0) ⊎ (writes < k)
+IsStoppedAtWrite (Some k) (Some at) writes = (at ≡ k) × (writes ≡ k)
+
+abbrev pub IsStoppedBy : Option ℕ → Stopped → Type 0
+IsStoppedBy stop stopped = IsStoppedAtWrite stop stopped.at_write (writes_of stopped.device.calls)
+
 -- The end of a script's run: moves of the machine led from an empty log, on a home of zeros, to a device, to the transactions that
--- were sealed, and to the greatest one that was answered committed. The image is what a crash of the device leaves, and the blocks
--- are those that the script names.
+-- were sealed, and to the greatest one that was answered committed. It stopped at the write that is named, or at the end. The image is
+-- what a crash of it leaves, and the blocks are those that the script names.
 pub record IsEndOf (script : Script) (stop : Stop) (image : MemState) (sealed : History) (shown : Option ℕ) (named : NamedBlocks) : Type 0 where
   pub device : MemState
   pub led : IsLedTo IsZeroHome script.operations.items (state_of device) sealed shown
+  pub at_write : Option ℕ
+  pub stops : IsStoppedAtWrite stop.at_write at_write (writes_of device.calls)
   pub crash : IsCrashOf device stop.keep.now image
   pub names : AreNamedBy script named
 

@@ -1,8 +1,8 @@
 //! The disk of a run, and the device over it.
-ghost use Rattle.std.specs.Prelude.{◌≡◌, IfOk};
+ghost use Rattle.std.specs.Prelude.{◌≡◌, IfOk, MatchOption, None};
 ghost use Rattle.block_device.specs.Memory.{state_of};
 ghost use Rattle.script_client.specs.Told.{IsZeroHome};
-ghost use Rattle.script_run.specs.Disks.{IsEmptyLog, disk_behind, run_state};
+ghost use Rattle.script_run.specs.Disks.{IsCallBehind, IsEmptyLog, run_device_over, run_state};
 
 use block_device::{FailOnce, MemDevice, StopAt};
 use journal_model::JournalError;
@@ -11,7 +11,7 @@ use recovery::{Opened, format, open};
 use std::alloc::Global;
 
 /// What `StopAt` and `FailOnce` take for no stop and no failure.
-const NEVER: u64 = 0;
+pub(crate) const NEVER: u64 = 0;
 
 /// The device of a run: a disk in memory that may lose power at one of its writes, and of which one call may fail.
 pub type RunDevice = FailOnce<StopAt<MemDevice>>;
@@ -34,7 +34,7 @@ pub fn empty_disk(alloc: Global, measures: &Measures) -> Result<MemDevice, Journ
 
 /// A device over a disk that stops at write `stop`, or never, and of which call `fail` fails, or none. Both are counted from now on.
 pub fn run_device(disk: MemDevice, stop: Option<u64>, fail: Option<u64>) -> RunDevice
-    ensures { disk_behind result ≡ disk }
+    ensures { result ≡ run_device_over disk stop fail }
 {
     FailOnce::new(
         StopAt::new(disk, stop.unwrap_or(NEVER)),
@@ -64,14 +64,19 @@ pub(crate) fn empty_log(
     }
 }
 
-/// The number of this call behind the opening of an empty log, counted from before that.
+/// The number of this call behind the opening of an empty log, counted from before that. It stays at 2^64 - 1.
 fn call_behind_opening(
     alloc: Global,
     measures: &Measures,
     call: Option<u64>,
-) -> Result<Option<u64>, JournalError> {
+) -> Result<Option<u64>, JournalError>
+    ensures { IfOk result (λ behind. MatchOption call (behind ≡ None) (λ k. IsCallBehind k behind)) }
+{
     match call {
-        Some(call) => Ok(call.checked_add(calls_of_opening(alloc, measures)?)),
+        Some(call) => {
+            let calls = calls_of_opening(alloc, measures)?;
+            Ok(Some(calls.saturating_add(call)))
+        }
         None => Ok(None),
     }
 }

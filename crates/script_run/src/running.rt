@@ -1,15 +1,15 @@
 //! A script's operations over a device that stops, or of which a call fails, and then the verdict on what openings give back.
-ghost use Rattle.std.specs.Prelude.{◌≡◌, ℕ, List, [], IfOk, true};
+ghost use Rattle.std.specs.Prelude.{◌≡◌, ◌↔◌, ℕ, List, [], IfOk, IsTrue, true};
 ghost use Rattle.std.specs.BTreeSet.{keys};
 ghost use Rattle.journal_model.specs.declared.number.Area.{Area};
 ghost use Rattle.block_device.specs.Memory.{crashed, state_of, writes_of};
 ghost use Rattle.journal_script.specs.declared.script.Operation.{Operation};
 ghost use Rattle.script_client.specs.Told.{IsLedTo, IsZeroHome};
 ghost use Rattle.script_run.specs.Disks.{run_state};
-ghost use Rattle.script_run.specs.Left.{IsEndOf, IsLeftVerdict, IsRunOf};
+ghost use Rattle.script_run.specs.Left.{IsEndOf, IsLeftVerdict, IsRunOf, IsStoppedBy};
 ghost use Rattle.script_run.specs.Verdict.{IsVerdict};
 
-use crate::disk::{RunDevice, empty_log};
+use crate::disk::{NEVER, RunDevice, empty_log};
 use crate::opening::judge_image;
 use crate::reopening::judge_stopped_opening;
 use crate::stops::{Stop, Stops};
@@ -140,7 +140,8 @@ pub fn run_operations(
     failing_call: Option<u64>,
     out: &mut impl Write,
 ) -> Result<Stopped, Fault>
-    ensures { IfOk result (λ stopped. IsLedTo IsZeroHome script.now.operations.items (state_of stopped.device) stopped.recorded.sealed.items stopped.recorded.acknowledged) }
+    ensures led { IfOk result (λ stopped. IsLedTo IsZeroHome script.now.operations.items (state_of stopped.device) stopped.recorded.sealed.items stopped.recorded.acknowledged) }
+    ensures stop { IfOk result (λ stopped. IsStoppedBy stop stopped) }
 {
     let after = if failing_call.is_some() {
         AfterFailure::GoOn
@@ -167,10 +168,17 @@ pub fn run_operations_over<H: HomeFact>(
     out: &mut impl Write,
 ) -> Result<Stopped, Fault>
     requires { H.holds (run_state opened.device).shape (run_state opened.device).disk }
-    ensures { IfOk result (λ stopped. IsLedTo H.holds operations.now (state_of stopped.device) stopped.recorded.sealed.items stopped.recorded.acknowledged) }
+    ensures led { IfOk result (λ stopped. IsLedTo H.holds operations.now (state_of stopped.device) stopped.recorded.sealed.items stopped.recorded.acknowledged) }
+    ensures stop { IfOk result (λ stopped. IsStoppedBy stop stopped) }
 {
     let performed = perform::<RunDevice, H>(alloc, opened, operations, after, out)?;
-    Ok(stopped_of::<H>(performed, stop))
+    let stopped = stopped_of::<H>(performed, stop);
+    if is_stopped_by(stop, &stopped) {
+        Ok(stopped)
+    } else {
+        // Not met: the device stops at that write, and counts each.
+        Err(Fault::Refused(JournalError::Device))
+    }
 }
 
 /// What the performed operations leave.
@@ -186,6 +194,17 @@ fn stopped_of<H: HomeFact>(performed: Performed<RunDevice>, stop: Option<u64>) -
             sealed: performed.sealed,
             acknowledged: performed.acknowledged,
         },
+    }
+}
+
+/// Whether a device that was to stop at this write did so, or made fewer writes.
+fn is_stopped_by(stop: Option<u64>, stopped: &Stopped) -> bool
+    ensures { IsTrue result ↔ IsStoppedBy stop stopped.now }
+{
+    match (stop, stopped.at_write) {
+        (Some(k), Some(at)) => at == k && stopped.device.writes() == k,
+        (Some(k), None) => k == NEVER || stopped.device.writes() < k,
+        (None, at_write) => at_write.is_none(),
     }
 }
 

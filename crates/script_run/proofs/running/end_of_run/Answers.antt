@@ -11,7 +11,9 @@ returns g c =
     subst (λ (r : Record). IsEndOf c.args.script.now c.args.stop left.image r.sealed.items r.acknowledged c.in-Ok.named) (sym c.crash.ensures.recorded)
     (record {
       device = stopped.device;
-      led = c.in_ok-stopped.ensures;
+      led = c.in_ok-stopped.ensures.led;
+      at_write = stopped.at_write;
+      stops = c.in_ok-stopped.ensures.stop;
       crash = record { each = c.crash.ensures.image; shape_is = c.crash.ensures.shape };
       names = c.in-Ok.ensures;
     })
