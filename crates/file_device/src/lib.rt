@@ -11,8 +11,12 @@ mod device;
 mod gathered;
 mod history;
 mod laws;
+mod locks;
+mod settling;
 mod unmeasured;
 
 pub use device::{Contents, FileDevice, UnknownContents};
 pub use laws::{answers_that_agree_keep_the_premise, what_is_gathered_may_be_lost};
+pub use locks::{Unlocked, lock, lock_shared};
+pub use settling::settle;
 pub use unmeasured::Unmeasured;
