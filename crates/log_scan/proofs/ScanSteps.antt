@@ -1,5 +1,5 @@
 -- Where one step of the way over a log leads.
-use Rattle.std.proofs.Common.{◌≡◌, ℕ, suc, ◌+◌, ◌<◌, List, [], ◌∷◌, ◌++◌, length, take, drop, slice_get, Some, ◌∙◌, ◌⊎◌, inl, inr, subst, sym, ap, refl, arith}
+use Rattle.std.proofs.Common.{◌≡◌, ℕ, suc, ◌+◌, ◌<◌, List, [], ◌∷◌, ◌++◌, length, take, drop, slice_get, None, Some, ◌∙◌, ◌⊎◌, inl, inr, subst, sym, ap, refl, arith}
 use Rattle.std.proofs.lemmas.Option.{slice_get_within}
 use Rattle.journal_model.proofs.ListElements.{get-front}
 use Rattle.log_model.specs.declared.log.Piece.{Piece}
@@ -17,11 +17,11 @@ use Rattle.log_format.specs.Accepted.{IsAccepted}
 use Rattle.log_scan.specs.declared.cursor.Cursor.{Cursor}
 use Rattle.log_scan.specs.declared.finding.Found.{Found}
 use Rattle.log_scan.specs.declared.finding.Found.TheVariants.{RevokeBlock, Descriptor, CommitBlock, Malformed, Nothing}
-use Rattle.log_scan.specs.Scanning.{AreTextsOf, IsDamageOf, IsScanned}
+use Rattle.log_scan.specs.Scanning.{AreTextsOf, IsEndOf}
 use Rattle.log_scan.specs.Finding.{BlockBegins, DescriptorBegins, FinderValue, IsFound, NothingBegins, RevokeBlockBegins, blocks_from}
 use Rattle.log_scan.specs.Passing.{CommitPassed, CopiesPassed, IsPassed, LeadsTo, RevokesPassed, cursor_behind}
 use Rattle.log_scan.proofs.Laps.{from-at}
-use Rattle.log_scan.proofs.SoFar.{so-far-chain, so-far-damaged, so-far-none, so-far-piece, so-far-text, so-far-undamaged}
+use Rattle.log_scan.proofs.SoFar.{so-far-chain, so-far-damaged, so-far-none, so-far-piece, so-far-stopped, so-far-text, so-far-undamaged}
 
 -- two calls that changed nothing, one after the other
 pub stays-joins : (s t u : DeviceState) → Stays s t → Stays t u → Stays s u
@@ -106,8 +106,10 @@ module _
     leads-found (RevokeBlock n) is = leads-revokes n is
     leads-found (Descriptor n) is = leads-copies n is
     leads-found CommitBlock is = leads-commit is
-    leads-found Malformed is =
-        so-far-damaged (layout_of s) limit s.s_sequence (omega arith) (lap (ring_of s) image s.s_start) texts pieces cursor.transactions cursor.position so is
+    leads-found Malformed is = (
+      so-far-stopped (layout_of s) limit s.s_sequence (omega arith) (lap (ring_of s) image s.s_start) texts pieces cursor.transactions cursor.position so is,
+      so-far-damaged (layout_of s) limit s.s_sequence (omega arith) (lap (ring_of s) image s.s_start) texts pieces cursor.transactions cursor.position so is,
+    )
     leads-found Nothing is = leads-nowhere is
 
 -- so many texts were counted
@@ -166,13 +168,18 @@ module _ (s : Super) (limit : ℕ) (image : Image) (f : FinderValue) (old new : 
   goes-on found (inr (inr is)) led = commit-passed (subst (HasLed s limit image f old new) is led)
 
   -- at a malformed block
-  pub led-damage : (e : JournalError) (place : ℕ) → e ≡ Damage place → place ≡ place_from (ring_of s) s.s_start old.position →
-      HasLed s limit image f old new Malformed → IsDamageOf s limit image e
-  led-damage e place is at led = record { k = old.position; damaged = led.leads; refusal = is ∙ ap Damage at }
+  pub led-damage : (place : ℕ) → place ≡ place_from (ring_of s) s.s_start old.position → HasLed s limit image f old new Malformed →
+      IsEndOf s limit image (record { transactions = old.transactions; damaged = Some place })
+  led-damage place at led = record {
+    texts = led.texts;
+    chain = led.leads.0;
+    number = led.count;
+    behind = record { k = old.position; damaged = led.leads.1; refusal = ap Damage at };
+  }
 
   -- where nothing more stands
-  pub led-end : HasLed s limit image f old new Nothing → IsScanned s limit image old.transactions
-  led-end led = record { texts = led.texts; are = led.leads; number = led.count }
+  pub led-end : HasLed s limit image f old new Nothing → IsEndOf s limit image (record { transactions = old.transactions; damaged = None })
+  led-end led = record { texts = led.texts; chain = led.leads.chain; number = led.count; behind = led.leads }
 
 -- in a device that stays
 pub led-there : (s : Super) (limit : ℕ) (old mid : DeviceState) (f : FinderValue) (from to : Cursor) (found : Found) → Stays old mid →

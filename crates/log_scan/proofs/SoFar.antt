@@ -126,15 +126,20 @@ module _
       text : Text
       text = ended-text commit.block
 
-    -- a malformed block at the position is the damaged one
+    -- where a malformed block stands at the position, the texts are the chain
+    pub so-far-stopped : BlockBegins (IsMalformed l count (sequence + number)) (drop taken blocks) → IsChain l count sequence blocks texts
+    so-far-stopped bad =
+        texts_are_chain l count sequence blocks texts (sequence + number) so.before so.whole (drop so.before blocks) refl some
+        (no-text-malformed l count (sequence + number) some (drop so.before blocks) pieces so.inside so.begun
+        (subst (BlockBegins (IsMalformed l count (sequence + number))) here bad))
+
+    -- and it is the damaged one
     pub so-far-damaged : BlockBegins (IsMalformed l count (sequence + number)) (drop taken blocks) → IsDamaged l count sequence blocks taken
     so-far-damaged bad =
         let there : BlockBegins (IsMalformed l count (sequence + number)) (drop so.inside (drop so.before blocks)) =
         subst (BlockBegins (IsMalformed l count (sequence + number))) here bad in
-        let last = no-text-malformed l count (sequence + number) some (drop so.before blocks) pieces so.inside so.begun there in
         subst (IsDamaged l count sequence blocks) (sym so.place)
-        (malformed_is_damaged l count sequence blocks texts (sequence + number) so.before so.whole (drop so.before blocks) refl
-        (texts_are_chain l count sequence blocks texts (sequence + number) so.before so.whole (drop so.before blocks) refl some last)
+        (malformed_is_damaged l count sequence blocks texts (sequence + number) so.before so.whole (drop so.before blocks) refl (so-far-stopped bad)
         pieces so.inside so.begun (drop so.inside (drop so.before blocks)) refl there.block there.behind there.split there.is)
 
     module _ (nothing : NothingBegins l count (sequence + number) (drop taken blocks)) where

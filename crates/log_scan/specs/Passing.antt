@@ -14,7 +14,7 @@ use Rattle.log_scan.specs.declared.cursor.Cursor.{Cursor}
 use Rattle.log_scan.specs.declared.finding.Found.{Found}
 use Rattle.log_scan.specs.declared.finding.Found.TheVariants.{RevokeBlock, Descriptor, CommitBlock, Malformed, Nothing}
 use Rattle.log_scan.specs.Finding.{FinderValue, log_block}
-use Rattle.log_scan.specs.Scanning.{AreTextsOf}
+use Rattle.log_scan.specs.Scanning.{AreTextsOf, IsChainOf}
 
 -- these texts, and then these pieces of the next one, are the first blocks, so many of each
 pub record StandBefore (l : Layout) (count sequence : ℕ) (blocks : List (List ℕ)) (texts : List Text) (pieces : List Piece) (number taken : ℕ) : Type 0 where
@@ -65,5 +65,5 @@ abbrev pub LeadsTo : Super → ℕ → Image → List Text → List Piece → Fi
 LeadsTo s limit image texts pieces f old new (RevokeBlock n) = RevokesPassed s limit image texts pieces (take n f.numbers) new
 LeadsTo s limit image texts pieces f old new (Descriptor n) = CopiesPassed s limit image texts pieces (take n f.tags) old.position n new
 LeadsTo s limit image texts pieces f old new CommitBlock = CommitPassed s limit image texts pieces new
-LeadsTo s limit image texts pieces f old new Malformed = IsDamaged (layout_of s) limit s.s_sequence (lap (ring_of s) image s.s_start) old.position
+LeadsTo s limit image texts pieces f old new Malformed = IsChainOf s limit image texts × IsDamaged (layout_of s) limit s.s_sequence (lap (ring_of s) image s.s_start) old.position
 LeadsTo s limit image texts pieces f old new Nothing = AreTextsOf s limit image texts

@@ -16,4 +16,4 @@ pub use buffer::BlockBuffer;
 pub use cursor::Cursor;
 pub use finding::{Finder, Found};
 pub use log::Log;
-pub use scanning::scan;
+pub use scanning::{ChainEnd, find_end, scan};

@@ -16,7 +16,7 @@ use Rattle.log_model.specs.Superblock.{Super, super_in, super_refusal}
 use Rattle.block_device.specs.State.{DeviceState, IsDeviceFailure, Stays, one_more_fault}
 use Rattle.log_model.proofs.ReadingTexts.{one_chain_of}
 use Rattle.log_scan.specs.Finding.{most_bytes}
-use Rattle.log_scan.specs.Scanning.{AreTextsOf}
+use Rattle.log_scan.specs.Scanning.{AreTextsOf, IsChainOf}
 use Rattle.log_scan.proofs.Listed.{damage-around, damage-device, damage-memory, super-device, super-memory}
 use Rattle.log_epochs.specs.OpeningSteps.{Found, HasTexts, IsFound}
 use Rattle.log_epochs.specs.OpeningSteps.HasTexts.{NoTexts, Texts}
@@ -32,7 +32,7 @@ pub record IsTaken (shape : Shape) (image : Image) : Type 0 where
   pub accepted : super_refusal shape (image Log 0) ≡ None
 
 -- what was read and is accepted is
-taken : (shape : Shape) (image : Image) (superblock : List ℕ) (fields : Super) → IsWellRead shape superblock fields → superblock ≡ image Log 0 → IsTaken shape image
+pub taken : (shape : Shape) (image : Image) (superblock : List ℕ) (fields : Super) → IsWellRead shape superblock fields → superblock ≡ image Log 0 → IsTaken shape image
 taken shape image superblock fields well read =
     record { size = ap length (sym read) ∙ well.size; accepted = ap (super_refusal shape) (sym read) ∙ well.tested }
 
@@ -46,7 +46,7 @@ chain-image shape image texts is started are = record {
 }
 
 -- the limit of what it holds
-limit-image : (shape : Shape) (image : Image) (transactions : ℕ) → IsTaken shape image → HasTransactions (super_of image) shape.home_blocks image transactions →
+pub limit-image : (shape : Shape) (image : Image) (transactions : ℕ) → IsTaken shape image → HasTransactions (super_of image) shape.home_blocks image transactions →
     HasLimit shape image ((super_of image).s_sequence + transactions)
 limit-image shape image transactions is has =
     elim (cases_eq (super_of image).s_start 0) [
@@ -61,7 +61,7 @@ limit-image shape image transactions is has =
     ]
 
 -- what the log is refused for, the image is
-refused-image : (shape : Shape) (image : Image) (e : JournalError) → IsTaken shape image → IsRefusedLog (super_of image) shape.home_blocks image e →
+pub refused-image : (shape : Shape) (image : Image) (e : JournalError) → IsTaken shape image → IsRefusedLog (super_of image) shape.home_blocks image e →
     IsRefused shape image e
 refused-image shape image e is (ForDamage f started damage) =
     subst (IsRefused shape image) (sym damage.refusal)
@@ -76,7 +76,7 @@ record Finds (shape : Shape) (disk : Disk) (transactions : ℕ) : Type 0 where
   found : Found
   is : IsFoundOn shape found disk
   count : transactions ≡ length found.texts
-  texts : (super_of (reading disk)).s_start ≢ 0 → AreTextsOf (super_of (reading disk)) shape.home_blocks (reading disk) found.texts
+  texts : (super_of (reading disk)).s_start ≢ 0 → IsChainOf (super_of (reading disk)) shape.home_blocks (reading disk) found.texts
 
 -- in a clean log, no texts
 finds-clean : (shape : Shape) (disk : Disk) (transactions : ℕ) → IsTaken shape (reading disk) →
@@ -120,7 +120,7 @@ finds-chain shape disk transactions is tested small started =
         };
       };
       count = count;
-      texts = λ other. scanned.are;
+      texts = λ other. scanned.are.chain;
     }
 
 finds : (shape : Shape) (disk : Disk) (transactions : ℕ) → IsTaken shape (reading disk) →
@@ -135,7 +135,7 @@ finds shape disk transactions is tested small =
 -- what was read, tested and gathered stands on the disk
 pub examined-on : (shape : Shape) (disk : Disk) (superblock : List ℕ) (fields : Super) (transactions : ℕ) (tables : TablesValue) → IsWellRead shape superblock fields →
     superblock ≡ reading disk Log 0 → IsTested fields shape.home_blocks (reading disk) transactions → fields.s_sequence + transactions < greatest_number →
-    ((texts : List Text) → AreTextsOf fields shape.home_blocks (reading disk) texts → transactions ≡ length texts → tables ≡ tables_of fields.s_sequence texts) →
+    ((texts : List Text) → IsChainOf fields shape.home_blocks (reading disk) texts → transactions ≡ length texts → tables ≡ tables_of fields.s_sequence texts) →
     (found : Found) × IsExaminedOn shape disk superblock fields transactions tables found
 examined-on shape disk superblock fields transactions tables well read tested small gathered =
     let same : fields ≡ super_of (reading disk) = well.fields_are ∙ ap super_in read in
@@ -143,8 +143,8 @@ examined-on shape disk superblock fields transactions tables well read tested sm
     finds shape disk transactions (taken shape (reading disk) superblock fields well read)
     (subst (λ (s : Super). IsTested s shape.home_blocks (reading disk) transactions) same tested)
     (subst (λ (s : Super). s.s_sequence + transactions < greatest_number) same small) in
-    let texts : fields.s_start ≢ 0 → AreTextsOf fields shape.home_blocks (reading disk) is.found.texts =
-    λ started. subst (λ (s : Super). AreTextsOf s shape.home_blocks (reading disk) is.found.texts) (sym same)
+    let texts : fields.s_start ≢ 0 → IsChainOf fields shape.home_blocks (reading disk) is.found.texts =
+    λ started. subst (λ (s : Super). IsChainOf s shape.home_blocks (reading disk) is.found.texts) (sym same)
     (is.texts (subst (λ (s : Super). s.s_start ≢ 0) same started)) in (
       is.found,
       record {
@@ -196,12 +196,12 @@ content-refused honest s t e stays same other more listed refused = record {
 }
 
 -- a refusal of the ring is neither the device's nor want of memory
-ring-device : (first end : ℕ) (e : JournalError) → IsRingRefusal first end e → e ≢ Device
+pub ring-device : (first end : ℕ) (e : JournalError) → IsRingRefusal first end e → e ≢ Device
 ring-device first end e (NamesDamaged f names) = damage-device first end e names
 ring-device first end e (NamesAhead place from below) = λ same. cc
 ring-device first end e NoNumber = λ same. cc
 
-ring-memory : (first end : ℕ) (e : JournalError) → IsRingRefusal first end e → e ≢ Memory
+pub ring-memory : (first end : ℕ) (e : JournalError) → IsRingRefusal first end e → e ≢ Memory
 ring-memory first end e (NamesDamaged f names) = damage-memory first end e names
 ring-memory first end e (NamesAhead place from below) = λ same. cc
 ring-memory first end e NoNumber = λ same. cc
@@ -236,7 +236,7 @@ no-log-refused honest s none =
     (λ trust. BySuperblock BadLength (let test : (s.shape.log_blocks == 0) ≡ true = grind (arith, nat_tests) in rw test refl))
 
 -- a failure of the device behind reads that did not fail
-later-failure : (s t u : DeviceState) (e : JournalError) → t.faults ≡ s.faults → IsDeviceFailure t u e → IsDeviceFailure s u e
+pub later-failure : (s t u : DeviceState) (e : JournalError) → t.faults ≡ s.faults → IsDeviceFailure t u e → IsDeviceFailure s u e
 later-failure s t u e same (is, counted) = (is, counted ∙ ap one_more_fault same)
 
 -- what the ring is refused for
@@ -299,10 +299,10 @@ tested-sound honest s t superblock fields transactions well read stays tested sm
 
 -- a log that was scanned is gathered, whatever its transactions
 never-refused : (fields : Super) (count transactions : ℕ) (image : Image) → IsTested fields count image transactions → 0 < transactions →
-    ((texts : List Text) → AreTextsOf fields count image texts → transactions ≡ length texts → ⊥) → ⊥
+    ((texts : List Text) → IsChainOf fields count image texts → transactions ≡ length texts → ⊥) → ⊥
 never-refused fields count transactions image tested some other =
     let scanned = tested.has.scanned (λ clean. let none : transactions ≡ 0 = tested.has.clean clean in omega arith) in
-    other scanned.texts scanned.are scanned.number
+    other scanned.texts scanned.are.chain scanned.number
 
 -- why gathering is refused
 pub gather-refused : (honest : Type 0) (s t u v : DeviceState) (superblock : List ℕ) (fields : Super) (transactions : ℕ) (e : JournalError) →
@@ -321,4 +321,4 @@ gather-refused honest s t u v superblock fields transactions e well first second
     (λ trust.
     absurd
     (never-refused fields t.shape.home_blocks transactions (reading t.disk) (tested trust) otherwise.some
-    (on-stays (λ (m : Shape) (d : Disk). (texts : List Text) → AreTextsOf fields m.home_blocks (reading d) texts → transactions ≡ length texts → ⊥) t u second (otherwise.never trust))))
+    (on-stays (λ (m : Shape) (d : Disk). (texts : List Text) → IsChainOf fields m.home_blocks (reading d) texts → transactions ≡ length texts → ⊥) t u second (otherwise.never trust))))

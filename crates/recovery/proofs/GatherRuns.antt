@@ -17,7 +17,7 @@ use Rattle.log_scan.specs.declared.finding.Found.{Found}
 use Rattle.log_scan.specs.declared.finding.Found.TheVariants.{Malformed, Nothing}
 use Rattle.log_scan.specs.Finding.{FinderValue}
 use Rattle.log_scan.specs.Passing.{CommitPassed, CopiesPassed, IsPassed, LeadsTo, RevokesPassed}
-use Rattle.log_scan.specs.Scanning.{AreTextsOf}
+use Rattle.log_scan.specs.Scanning.{IsChainOf}
 use Rattle.log_scan.proofs.ScanSteps.{passed-count, passed-none}
 use Rattle.block_tables.specs.Copies.{copies_of, copy_notes, placed_all}
 use Rattle.block_tables.specs.Revokes.{noted_all, notes_of}
@@ -135,12 +135,12 @@ module _ (s : Super) (limit : ℕ) (image : Image) (old new : Cursor) (transacti
         count = so.count ∙ ap length (sym (copies-begun (so.texts ++ done ∷ []) ∙ copies-finished so.texts done));
       }
 
-  module _ (chain : List Text) (are : AreTextsOf s limit image chain) (all : transactions ≡ length chain) where
+  module _ (chain : List Text) (are : IsChainOf s limit image chain) (all : transactions ≡ length chain) where
     -- all are gathered
     pub gathers-all : old.transactions ≡ transactions → tables ≡ tables_of s.s_sequence chain
     gathers-all end =
         let texts : chain ≡ so.texts =
-        is-chain (layout_of s) limit s.s_sequence (omega arith) (lap (ring_of s) image s.s_start) so.texts so.pieces old.transactions old.position so.passed chain are.chain.begins
+        is-chain (layout_of s) limit s.s_sequence (omega arith) (lap (ring_of s) image s.s_start) so.texts so.pieces old.transactions old.position so.passed chain are.begins
         (end ∙ all) in
         let none : so.pieces ≡ [] = so.whole end in
         so.tables_are ∙ ap (λ (ps : List Piece). tables_of s.s_sequence (texts_so so.texts ps)) none
@@ -148,10 +148,10 @@ module _ (s : Super) (limit : ℕ) (image : Image) (old new : Cursor) (transacti
         ∙ ap (tables_of s.s_sequence) (sym texts)
 
     -- the chain does not end before
-    pub no-end : old.transactions < transactions → AreTextsOf s limit image so.texts → ⊥
+    pub no-end : old.transactions < transactions → IsChainOf s limit image so.texts → ⊥
     no-end below others =
         let same : so.texts ≡ chain =
-        one_chain_of (layout_of s) limit (omega arith) s.s_sequence (lap (ring_of s) image s.s_start) so.texts chain others.chain are.chain in
+        one_chain_of (layout_of s) limit (omega arith) s.s_sequence (lap (ring_of s) image s.s_start) so.texts chain others are in
         let sizes = ap length same in
         let count = counted in
         omega arith
@@ -168,8 +168,8 @@ led-on s limit old mid f from to found stays texts pieces passed step =
 -- the chain goes on where a step found neither a piece nor a commit block, so an honest device can't have led there
 pub led-nowhere : (s : Super) (limit : ℕ) (image : Image) (f : FinderValue) (old new : Cursor) (found : Found) (transactions copies : ℕ) (tables : TablesValue)
     (so : Gathers s limit image old transactions copies tables) → (found ≡ Malformed) ⊎ (found ≡ Nothing) → LeadsTo s limit image so.texts so.pieces f old new found →
-    (chain : List Text) → AreTextsOf s limit image chain → transactions ≡ length chain → old.transactions < transactions → ⊥
+    (chain : List Text) → IsChainOf s limit image chain → transactions ≡ length chain → old.transactions < transactions → ⊥
 led-nowhere s limit image f old new found transactions copies tables so (inl is) leads chain are all below =
-    are.undamaged old.position (subst (LeadsTo s limit image so.texts so.pieces f old new) is leads)
+    no-end s limit image old new transactions copies tables so chain are all below (subst (LeadsTo s limit image so.texts so.pieces f old new) is leads).0
 led-nowhere s limit image f old new found transactions copies tables so (inr is) leads chain are all below =
-    no-end s limit image old new transactions copies tables so chain are all below (subst (LeadsTo s limit image so.texts so.pieces f old new) is leads)
+    no-end s limit image old new transactions copies tables so chain are all below (subst (LeadsTo s limit image so.texts so.pieces f old new) is leads).chain

@@ -1,4 +1,8 @@
 -- The lemmas of this crate: none above it cites them.
+mod BeforeCalls
+mod BeforeImages
+mod BeforeReading
+mod BeforeRecovering
 mod Beginnings
 mod ChainChanges
 mod ChoiceSteps
@@ -6,6 +10,7 @@ mod Choosing
 mod CopiesReplayed
 mod CopyRuns
 mod CopySteps
+mod CountRuns
 mod Examining
 mod GatherRuns
 mod LastCopies
@@ -17,10 +22,12 @@ mod OpeningMoments
 mod OpeningPaths
 mod PassCalls
 mod PlaceNotes
+mod Plans
 mod Reading
 mod Recovering
 mod ReplayRuns
 mod SameLogs
+mod Surveys
 mod Testing
 mod UnfinishedTables
 mod Zeroed

@@ -21,7 +21,7 @@ use Rattle.recovery.specs.Calls.IsInterrupted.{Before, Within}
 use Rattle.recovery.proofs.OpeningPaths.{IsDue, IsPath, calls-reached, opening-path}
 
 -- P holds of each disk before one of these calls
-abbrev BeforeEach : (Disk → Type 0) → List Call → Disk → Type 0
+abbrev pub BeforeEach : (Disk → Type 0) → List Call → Disk → Type 0
 BeforeEach P [] disk = ⊤
 BeforeEach P (call ∷ calls) disk = P disk × BeforeEach P calls (after_success call disk)
 
@@ -37,7 +37,7 @@ pub record HasPast (P : Disk → Type 0) (calls : List Call) (disk : Disk) (past
   pub each : AllByRecursion P since
 
 -- they are those before the calls
-past-each : (P : Disk → Type 0) (calls : List Call) (disk : Disk) (past : List Disk) → BeforeEach P calls disk → HasPast P calls disk past
+pub past-each : (P : Disk → Type 0) (calls : List Call) (disk : Disk) (past : List Disk) → BeforeEach P calls disk → HasPast P calls disk past
 past-each P [] disk past each = record { since = []; past_is = refl; each = tt }
 past-each P (call ∷ calls) disk past each =
     let rest = past-each P calls (after_success call disk) (disk ∷ past) each.1 in

@@ -6,13 +6,13 @@ use Rattle.std.proofs.lemmas.Bool.Decides.{nat_tests}
 use Rattle.log_model.specs.declared.log.Text.{Text}
 use Rattle.journal_model.specs.declared.number.Area.TheVariants.{Log}
 use Rattle.journal_model.specs.declared.refusal.JournalError.{JournalError}
-use Rattle.log_model.specs.Chain.{IsChain, IsDamaged, Ring, lap}
+use Rattle.log_model.specs.Chain.{IsChain, Ring, lap}
 use Rattle.journal_model.specs.Disk.{Cell, Disk, Image, Shape, flushed, reading}
 use Rattle.log_model.specs.Opening.{layout_of, ring_of, super_of}
 use Rattle.log_model.specs.Superblock.{Super, super_in, with_tail}
 use Rattle.block_device.specs.State.{DeviceState, IsDeviceFailure, Moves, Stays, one_more_fault}
 use Rattle.log_scan.proofs.Listed.{damage-around, damage-device, damage-memory}
-use Rattle.log_scan.specs.Scanning.{AreTextsOf}
+use Rattle.log_scan.specs.Scanning.{IsChainOf}
 use Rattle.journal_world.specs.Call.{Call}
 use Rattle.journal_world.specs.Call.Call.{Flush}
 use Rattle.log_epochs.specs.OpeningSteps.{Found, HasTexts, clean_superblock, next_of}
@@ -37,22 +37,15 @@ lap-flushed r disk place = refl
 
 -- so the texts of a log are the same behind the flush
 pub texts-flushed : (s t u : DeviceState) (fields : Super) (texts : List Text) → Stays s t → Moves t u (flushed t.disk Log) →
-    AreTextsOf fields s.shape.home_blocks (reading s.disk) texts → AreTextsOf fields u.shape.home_blocks (reading u.disk) texts
+    IsChainOf fields s.shape.home_blocks (reading s.disk) texts → IsChainOf fields u.shape.home_blocks (reading u.disk) texts
 texts-flushed s t u fields texts stays moves are =
     let r : Ring = ring_of fields in
     let home : u.shape.home_blocks ≡ s.shape.home_blocks = ap (λ (m : Shape). m.home_blocks) (moves.shape ∙ stays.shape) in
     let read : lap r (reading u.disk) fields.s_start ≡ lap r (reading s.disk) fields.s_start =
     ap (λ (d : Disk). lap r (reading d) fields.s_start) moves.now ∙ lap-flushed r t.disk fields.s_start
     ∙ ap (λ (d : Disk). lap r (reading d) fields.s_start) stays.disk in
-    record {
-      chain =
-          subst (λ (n : ℕ). IsChain (layout_of fields) n fields.s_sequence (lap r (reading u.disk) fields.s_start) texts) (sym home)
-          (subst (λ (blocks : List (List ℕ)). IsChain (layout_of fields) s.shape.home_blocks fields.s_sequence blocks texts) (sym read) are.chain);
-      undamaged = λ k damaged.
-          are.undamaged k
-          (subst (λ (blocks : List (List ℕ)). IsDamaged (layout_of fields) s.shape.home_blocks fields.s_sequence blocks k) read
-          (subst (λ (n : ℕ). IsDamaged (layout_of fields) n fields.s_sequence (lap r (reading u.disk) fields.s_start) k) home damaged));
-    }
+    subst (λ (n : ℕ). IsChain (layout_of fields) n fields.s_sequence (lap r (reading u.disk) fields.s_start) texts) (sym home)
+    (subst (λ (blocks : List (List ℕ)). IsChain (layout_of fields) s.shape.home_blocks fields.s_sequence blocks texts) (sym read) are)
 
 -- the limit of what was found
 found-limit : (shape : Shape) (image : Image) (texts : List Text) (limit : ℕ) → HasTexts shape image texts limit →
@@ -141,7 +134,7 @@ module _ (s : DeviceState) (superblock : List ℕ) (fields : Super) (transaction
       omega arith
 
   -- the next number
-  examined-next : (next : ℕ) → next ≡ fields.s_sequence + transactions + 1 → next ≡ next_of found
+  pub examined-next : (next : ℕ) → next ≡ fields.s_sequence + transactions + 1 → next ≡ next_of found
   examined-next next number = let limit = examined-limit in omega arith
 
   -- where it begins
@@ -159,7 +152,7 @@ module _ (s : DeviceState) (superblock : List ℕ) (fields : Super) (transaction
 
   -- what is made of its texts behind the flush is made of what was found
   pub of-found : (P : List Text → Type 0) (t u : DeviceState) → fields.s_start ≢ 0 → Stays s t → Moves t u (flushed t.disk Log) →
-      ((texts : List Text) → AreTextsOf fields u.shape.home_blocks (reading u.disk) texts → transactions ≡ length texts → tables ≡ tables_of fields.s_sequence texts → P texts) →
+      ((texts : List Text) → IsChainOf fields u.shape.home_blocks (reading u.disk) texts → transactions ≡ length texts → tables ≡ tables_of fields.s_sequence texts → P texts) →
       P found.texts
   of-found P t u started stays moves made =
       made found.texts (texts-flushed s t u fields found.texts stays moves (on.texts started)) on.count (on.tables_are started)

@@ -20,7 +20,7 @@ use Rattle.log_scan.specs.declared.finding.Found.{Found}
 use Rattle.log_scan.specs.declared.finding.Found.TheVariants.{CommitBlock, Malformed, Nothing, RevokeBlock}
 use Rattle.log_scan.specs.Finding.{FinderValue}
 use Rattle.log_scan.specs.Passing.{CommitPassed, CopiesPassed, IsPassed, LeadsTo, RevokesPassed, StandAt, cursor_behind}
-use Rattle.log_scan.specs.Scanning.{AreTextsOf}
+use Rattle.log_scan.specs.Scanning.{IsChainOf}
 use Rattle.log_scan.proofs.ScanSteps.{passed-count, passed-none}
 use Rattle.block_tables.specs.Copies.{copies_of}
 use Rattle.recovery.specs.Calls.{HasBegun, HasMade, writes_home}
@@ -77,7 +77,7 @@ module _ (tables : TablesValue) (first : ℕ) where
       ∙ chosen_all-push tables.revokes tables.copies first 0 texts done ∙ sym (so-split texts pieces)
 
   -- without pieces
-  so-whole : (texts : List Text) → chosen_so tables first texts [] ≡ chosen_all tables.revokes tables.copies first 0 texts
+  pub so-whole : (texts : List Text) → chosen_so tables first texts [] ≡ chosen_all tables.revokes tables.copies first 0 texts
   so-whole texts = so-split texts [] ∙ append-nil (chosen_all tables.revokes tables.copies first 0 texts)
 
   -- texts and pieces at the beginning of a chain
@@ -103,7 +103,7 @@ module _ (tables : TablesValue) (first : ℕ) where
       )
 
 -- by the tables of a chain go home the copies that are to
-chain-chosen : (tables : TablesValue) (first : ℕ) (chain : List Text) → tables ≡ tables_of first chain →
+pub chain-chosen : (tables : TablesValue) (first : ℕ) (chain : List Text) → tables ≡ tables_of first chain →
     chosen_all tables.revokes tables.copies first 0 chain ≡ home_copies chain
 chain-chosen tables first chain is = ap (λ (t : TablesValue). chosen_all t.revokes t.copies first 0 chain) is ∙ home-chosen first chain
 
@@ -207,12 +207,12 @@ module _
       }
 
       -- or a failure among them
-      pub replays-begun : (chain : List Text) → AreTextsOf s limit image chain → transactions ≡ length chain → tables ≡ tables_of s.s_sequence chain →
+      pub replays-begun : (chain : List Text) → IsChainOf s limit image chain → transactions ≡ length chain → tables ≡ tables_of s.s_sequence chain →
           from.transactions < transactions → to.transactions ≡ from.transactions → (next new : DeviceState) → Stays mid next →
           HasBegun (writes_home (chosen_behind tables tid place tags passed.copies)) next new → HasBegun (writes_home (home_copies chain)) old new
       replays-begun chain are all tables_are below same next new stays begun =
           let is = begins-chain (layout_of s) limit s.s_sequence (omega arith) (lap (ring_of s) image s.s_start) so.texts
-          (so.pieces ++ Copies passed.block tags passed.copies ∷ []) to.transactions to.position passed.passed chain are.chain.begins (omega arith) in
+          (so.pieces ++ Copies passed.block tags passed.copies ∷ []) to.transactions to.position passed.passed chain are.begins (omega arith) in
           let rest = so-beginning tables s.s_sequence so.texts (so.pieces ++ Copies passed.block tags passed.copies ∷ []) chain is in
           chain-begun tables s chain tables_are (chosen_so tables s.s_sequence so.texts (so.pieces ++ Copies passed.block tags passed.copies ∷ [])) rest.0 rest.1 old new
           (subst (λ (calls : List Call). HasBegun calls old new) (sym more-calls)
@@ -220,20 +220,20 @@ module _
           (made-stays (writes_home (chosen_so tables s.s_sequence so.texts so.pieces)) old mid next so.made stays) begun))
 
     -- the chain does not end before
-    pub ends-later : (chain : List Text) → AreTextsOf s limit image chain → transactions ≡ length chain → from.transactions < transactions → AreTextsOf s limit image so.texts → ⊥
+    pub ends-later : (chain : List Text) → IsChainOf s limit image chain → transactions ≡ length chain → from.transactions < transactions → IsChainOf s limit image so.texts → ⊥
     ends-later chain are all below others =
         let same : so.texts ≡ chain =
-        one_chain_of (layout_of s) limit (omega arith) s.s_sequence (lap (ring_of s) image s.s_start) so.texts chain others.chain are.chain in
+        one_chain_of (layout_of s) limit (omega arith) s.s_sequence (lap (ring_of s) image s.s_start) so.texts chain others are in
         let sizes = ap length same in
         let count = counted in
         omega arith
 
-    module _ (chain : List Text) (are : AreTextsOf s limit image chain) (all : transactions ≡ length chain) (tables_are : tables ≡ tables_of s.s_sequence chain) where
+    module _ (chain : List Text) (are : IsChainOf s limit image chain) (all : transactions ≡ length chain) (tables_are : tables ≡ tables_of s.s_sequence chain) where
       -- a read failed
       pub replays-unread : from.transactions < transactions → (new : DeviceState) → Stays mid new → HasBegun (writes_home (home_copies chain)) old new
       replays-unread below new stays =
           let is = begins-chain (layout_of s) limit s.s_sequence (omega arith) (lap (ring_of s) image s.s_start) so.texts so.pieces from.transactions from.position so.passed
-          chain are.chain.begins (omega arith) in
+          chain are.begins (omega arith) in
           let rest = so-beginning tables s.s_sequence so.texts so.pieces chain is in
           chain-begun tables s chain tables_are (chosen_so tables s.s_sequence so.texts so.pieces) rest.0 rest.1 old new
           (begun-made (writes_home (chosen_so tables s.s_sequence so.texts so.pieces)) old new
@@ -243,7 +243,7 @@ module _
       pub replays-all : from.transactions ≡ transactions → HasMade (writes_home (home_copies chain)) old mid
       replays-all end =
           let texts : chain ≡ so.texts =
-          is-chain (layout_of s) limit s.s_sequence (omega arith) (lap (ring_of s) image s.s_start) so.texts so.pieces from.transactions from.position so.passed chain are.chain.begins
+          is-chain (layout_of s) limit s.s_sequence (omega arith) (lap (ring_of s) image s.s_start) so.texts so.pieces from.transactions from.position so.passed chain are.begins
           (end ∙ all) in
           subst (λ (cs : List (ℕ × List ℕ)). HasMade (writes_home cs) old mid)
           (ap (chosen_so tables s.s_sequence so.texts) (so.whole end) ∙ so-whole tables s.s_sequence so.texts
@@ -282,11 +282,12 @@ module _ (s : Super) (limit : ℕ) (image : Image) (from to : Cursor) (f : Finde
         replays-commit s limit image from to transactions place tables old mid so new stays (subst (LeadsTo s limit image so.texts so.pieces f from to) is leads)
 
     -- the chain does not end there
-    pub replays-nowhere : (chain : List Text) → AreTextsOf s limit image chain → transactions ≡ length chain → from.transactions < transactions →
+    pub replays-nowhere : (chain : List Text) → IsChainOf s limit image chain → transactions ≡ length chain → from.transactions < transactions →
         (found ≡ Malformed) ⊎ (found ≡ Nothing) → ⊥
-    replays-nowhere chain are all below (inl is) = are.undamaged from.position (subst (LeadsTo s limit image so.texts so.pieces f from to) is leads)
+    replays-nowhere chain are all below (inl is) =
+        ends-later s limit image from to transactions place tables old mid so chain are all below (subst (LeadsTo s limit image so.texts so.pieces f from to) is leads).0
     replays-nowhere chain are all below (inr is) =
-        ends-later s limit image from to transactions place tables old mid so chain are all below (subst (LeadsTo s limit image so.texts so.pieces f from to) is leads)
+        ends-later s limit image from to transactions place tables old mid so chain are all below (subst (LeadsTo s limit image so.texts so.pieces f from to) is leads).chain
 
 -- the cursor is farther on
 pub on-farther : (from to : Cursor) (found : Found) → ((n : ℕ) × (found ≡ RevokeBlock n)) ⊎ (found ≡ CommitBlock) → to ≡ cursor_behind from found → from.position < to.position

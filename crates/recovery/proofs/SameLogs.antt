@@ -67,5 +67,8 @@ module _ (s : Super) (limit : ℕ) (image other : Image) (same : other Log ≡ i
     passed = passed-same texts (pieces ++ Copies leads.block (take n f.tags) leads.copies ∷ []) to leads.passed;
   }
   leads-same texts pieces f from to CommitBlock leads = record { commit = leads.commit; passed = passed-same (texts ++ record { pieces = pieces; commit = leads.commit } ∷ []) [] to leads.passed }
-  leads-same texts pieces f from to Malformed leads = subst (λ (blocks : List (List ℕ)). IsDamaged (layout_of s) limit s.s_sequence blocks from.position) laps leads
+  leads-same texts pieces f from to Malformed leads = (
+    subst (λ (blocks : List (List ℕ)). IsChain (layout_of s) limit s.s_sequence blocks texts) laps leads.0,
+    subst (λ (blocks : List (List ℕ)). IsDamaged (layout_of s) limit s.s_sequence blocks from.position) laps leads.1,
+  )
   leads-same texts pieces f from to Nothing leads = texts-same texts leads

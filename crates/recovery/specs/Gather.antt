@@ -1,5 +1,5 @@
 -- What an opening gathers of a chain before it writes home.
-use Rattle.std.specs.Prelude.{◌≡◌, ◌⊎◌, ℕ, suc, ◌<◌, List, [], ◌∷◌, length, map, refl}
+use Rattle.std.specs.Prelude.{◌≡◌, ◌⊎◌, ℕ, suc, ◌+◌, ◌<◌, if◌then◌else◌, List, [], ◌∷◌, length, map, refl}
 use Rattle.std.specs.Coded.{Coded, code_by, coded×, coded_ℕ}
 use Rattle.std.specs.FinMap as fin_map
 use Rattle.std.specs.FinMap.{empty}
@@ -15,10 +15,10 @@ use Rattle.log_model.specs.Superblock.{Super}
 use Rattle.block_device.specs.State.{DeviceState, IsDeviceFailure, IsFailure}
 use Rattle.log_scan.specs.Finding.{log_block}
 use Rattle.log_scan.specs.Refusals.{NamesDamage}
-use Rattle.log_scan.specs.Scanning.{AreTextsOf}
+use Rattle.log_scan.specs.Scanning.{IsChainOf}
 use Rattle.journal_world.specs.Call.{Call}
 use Rattle.recovery.specs.Calls.{write_home}
-use Rattle.recovery.specs.Choice.{chosen}
+use Rattle.recovery.specs.Choice.{chosen, goes_by}
 use Rattle.block_tables.specs.Copies.{placed_all, places_of}
 use Rattle.block_tables.specs.Revokes.{BlockTable, noted_all, notes_of, revokes_of}
 
@@ -60,7 +60,7 @@ pub record ReadsOtherwise (honest : Type 0) (s : Super) (transactions : ℕ) (ol
   pub names : NamesDamage s.s_first s.s_maxlen e
   pub no_fault : new.faults ≡ old.faults
   pub some : 0 < transactions
-  pub never : honest → (texts : List Text) → AreTextsOf s old.shape.home_blocks (reading old.disk) texts → transactions ≡ length texts → ⊥
+  pub never : honest → (texts : List Text) → IsChainOf s old.shape.home_blocks (reading old.disk) texts → transactions ≡ length texts → ⊥
 
 -- why gathering is refused: the device failed, or memory ran out, or the log reads otherwise than it was scanned
 abbrev pub IsGatherRefused : (honest : Type 0) → Super → ℕ → DeviceState → DeviceState → JournalError → Type 0
@@ -74,6 +74,12 @@ IsReplayRefused honest s transactions old new e = IsDeviceFailure old new e ⊎ 
 abbrev pub chosen_behind : TablesValue → ℕ → ℕ → List Tag → List (List ℕ) → List (ℕ × List ℕ)
 chosen_behind tables tid place tags blocks =
     chosen tables.revokes tables.copies tid place (map (λ p. (p.0.block, unescaped p.0.escaped p.1)) (zip tags blocks))
+
+-- how many of the copies with these tags go home by the tables, where the first has this place
+abbrev pub count_chosen : TablesValue → ℕ → ℕ → List Tag → ℕ
+count_chosen tables tid place [] = 0
+count_chosen tables tid place (tag ∷ tags) =
+    (if goes_by tables.revokes tables.copies tid place tag.block then 1 else 0) + count_chosen tables tid (suc place) tags
 
 -- the write home of the copy with this tag, which stands at this position of the ring
 abbrev pub copy_calls : Super → Image → ℕ → Tag → List Call

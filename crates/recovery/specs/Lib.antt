@@ -1,6 +1,9 @@
 pub mod HomeCopies
+pub mod Before
+pub mod BeforeSteps
 pub mod Calls
 pub mod Choice
 pub mod Gather
 pub mod Opening
+pub mod Planned
 pub mod Values

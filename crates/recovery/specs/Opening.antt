@@ -1,5 +1,5 @@
 -- What formatting and opening leave, why an opening is refused, and which calls it makes.
-use Rattle.std.specs.Prelude.{◌≡◌, ◌≢◌, ◌⊎◌, ℕ, ◌+◌, ◌<◌, ◌≤◌, Bool, true, false, List, length, replicate, Option, Some, None, MatchOption, ⊤}
+use Rattle.std.specs.Prelude.{◌≡◌, ◌≢◌, ◌⊎◌, ℕ, ◌+◌, ◌<◌, ◌≤◌, Bool, true, false, List, length, replicate, Option, Some, None}
 use Rattle.log_model.specs.declared.log.Text.{Text}
 use Rattle.journal_model.specs.declared.number.Area.TheVariants.{Log, Home}
 use Rattle.journal_model.specs.declared.refusal.JournalError.{JournalError}
@@ -13,7 +13,7 @@ use Rattle.log_format.specs.Accepted.{IsAccepted}
 use Rattle.log_format.specs.Size.{IsBlockSize}
 use Rattle.log_scan.specs.Finding.{most_bytes}
 use Rattle.log_scan.specs.Refusals.{NamesDamage, super_refusals}
-use Rattle.log_scan.specs.Scanning.{AreTextsOf, IsDamageOf, IsScanned}
+use Rattle.log_scan.specs.Scanning.{IsChainOf, IsDamageOf, IsScanned}
 use Rattle.journal_world.specs.Opening.{cleaned}
 use Rattle.journal_world.specs.Sound.{durable_cell}
 use Rattle.log_epochs.specs.OpeningRun.{IsFoundOn}
@@ -129,10 +129,6 @@ pub record HasTransactions (s : Super) (count : ℕ) (image : Image) (transactio
 abbrev pub NoneAhead : Super → Image → ℕ → Type 0
 NoneAhead s image limit = (place : ℕ) → IsAhead (ring_of s) image limit place → ⊥
 
--- the place of a block of the ring, where one is named
-abbrev pub IsWithinRing : Super → Option ℕ → Type 0
-IsWithinRing s found = MatchOption found ⊤ (λ place. (s.s_first ≤ place) × (place < s.s_maxlen))
-
 -- the lowest ring block that has one
 pub record IsLowestAhead (s : Super) (image : Image) (limit place : ℕ) : Type 0 where
   pub ahead : IsAhead (ring_of s) image limit place
@@ -170,5 +166,5 @@ pub record IsExaminedOn (shape : Shape) (disk : Disk) (superblock : List ℕ) (f
   pub superblock_is : superblock ≡ found.image Log 0
   pub fields_are : fields ≡ super_of found.image
   pub count : transactions ≡ length found.texts
-  pub texts : fields.s_start ≢ 0 → AreTextsOf fields shape.home_blocks (reading disk) found.texts
+  pub texts : fields.s_start ≢ 0 → IsChainOf fields shape.home_blocks (reading disk) found.texts
   pub tables_are : fields.s_start ≢ 0 → tables ≡ tables_of fields.s_sequence found.texts

@@ -6,8 +6,9 @@ ghost use Rattle.log_model.specs.Opening.{greatest_number, layout_of, ring_of};
 ghost use Rattle.block_device.specs.State.{IsDeviceFailure, Stays};
 ghost use Rattle.log_format.specs.Accepted.{IsAccepted};
 ghost use Rattle.log_scan.specs.Finding.{most_bytes};
+ghost use Rattle.log_scan.specs.Scanning.{IsWithinRing};
 ghost use Rattle.log_epochs.specs.OpeningSteps.{Found};
-ghost use Rattle.recovery.specs.Opening.{HasTransactions, IsExamined, IsExaminedOn, IsLowestAhead, IsReadingRefused, IsTestRefused, IsTested, IsWellRead, IsWithinRing, NoneAhead, OpeningRefused};
+ghost use Rattle.recovery.specs.Opening.{HasTransactions, IsExamined, IsExaminedOn, IsLowestAhead, IsReadingRefused, IsTestRefused, IsTested, IsWellRead, NoneAhead, OpeningRefused};
 
 use crate::gathering::{Tables, gather};
 use block_device::{Device, read_block};
@@ -55,7 +56,10 @@ pub(crate) fn examine<D: Device>(alloc: Global, device: &mut D) -> Result<Examin
 }
 
 /// Reads block 0 and tests it.
-fn read_super<D: Device>(alloc: Global, device: &mut D) -> Result<(BlockBuffer, Log), JournalError>
+pub(crate) fn read_super<D: Device>(
+    alloc: Global,
+    device: &mut D,
+) -> Result<(BlockBuffer, Log), JournalError>
     requires some { 0 < (D.state device.old).shape.log_blocks }
     ensures well { IfOk result (λ r. IsWellRead (D.state device.old).shape r.0 r.1) }
     ensures read { IfOk result (λ r. D.honest device.new → r.0 ≡ reading (D.state device.old).disk LogArea 0) }
@@ -140,7 +144,7 @@ fn count_transactions<D: Device>(
 }
 
 /// The lowest place of a ring block that begins with the magic and has a sequence above the limit.
-fn lowest_ahead<D: Device>(
+pub(crate) fn lowest_ahead<D: Device>(
     device: &mut D,
     log: &Log,
     limit: u64,

@@ -6,7 +6,7 @@ ghost use Rattle.journal_model.specs.Disk.{reading};
 ghost use Rattle.log_model.specs.Opening.{greatest_number, layout_of};
 ghost use Rattle.block_device.specs.State.{Stays};
 ghost use Rattle.log_format.specs.Accepted.{IsAccepted};
-ghost use Rattle.log_scan.specs.Scanning.{AreTextsOf};
+ghost use Rattle.log_scan.specs.Scanning.{IsChainOf};
 ghost use Rattle.block_tables.specs.Revokes.{noted_all, notes_of};
 ghost use Rattle.block_tables.specs.Copies.{placed_all};
 ghost use Rattle.recovery.specs.Choice.{goes_by};
@@ -108,7 +108,7 @@ pub fn gather<D: Device>(
     requires accepted { IsAccepted (D.state device.old).shape.block_size (D.state device.old).shape.log_blocks log.now }
     requires numbers { log.now.s_sequence + transactions ≤ greatest_number }
     ensures layout { finder.new.layout ≡ finder.old.layout }
-    ensures tables { IfOk result (λ tables. D.honest device.new → (texts : List Text) → AreTextsOf log.now (D.state device.old).shape.home_blocks (reading (D.state device.old).disk) texts →
+    ensures tables { IfOk result (λ tables. D.honest device.new → (texts : List Text) → IsChainOf log.now (D.state device.old).shape.home_blocks (reading (D.state device.old).disk) texts →
         transactions ≡ length texts → tables ≡ tables_of log.now.s_sequence texts) }
     ensures refused { IfErr result (IsGatherRefused (D.honest device.new) log.now transactions (D.state device.old) (D.state device.new)) }
     ensures faults { OnOk result ((D.state device.new).faults ≡ (D.state device.old).faults) }

@@ -8,14 +8,19 @@
 //! lists of these calls to the definitions of replay.
 #![tactic(auto)]
 
+mod before_damage;
 mod empty_log;
 mod examine;
 mod gathering;
 pub mod laws;
 mod opening;
+mod planning;
 mod replaying;
+mod surveying;
 
+pub use before_damage::open_before_damage;
 pub use empty_log::format;
 pub use gathering::{Tables, gather};
 pub use opening::{Opened, Report, open};
+pub use planning::{Plan, plan_before_damage, plan_opening};
 pub use replaying::replay;

@@ -35,10 +35,10 @@ pub struct Report {
 /// back.
 #[derive(Drop)]
 pub struct Opened<D: Device> {
-    device: D,
-    superblock: Vec<u8>,
-    next: Tid,
-    report: Report,
+    pub(crate) device: D,
+    pub(crate) superblock: Vec<u8>,
+    pub(crate) next: Tid,
+    pub(crate) report: Report,
 }
 
 impl<D: Device> Model for Opened<D> {
@@ -188,7 +188,7 @@ impl<D: Device> Opened<D> {
 }
 
 /// The number of the next transaction, behind the transactions that end at this number.
-fn number_from(limit: u64) -> u32
+pub(crate) fn number_from(limit: u64) -> u32
     requires { limit < greatest_number }
     ensures { result ≡ limit + 1 }
 {

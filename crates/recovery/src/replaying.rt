@@ -5,12 +5,12 @@ ghost use Rattle.journal_model.specs.declared.number.Area.TheVariants.{Log as Lo
 ghost use Rattle.journal_model.specs.Disk.{reading};
 ghost use Rattle.log_model.specs.Opening.{greatest_number, layout_of, ring_of};
 ghost use Rattle.log_model.specs.Superblock.{with_tail};
-ghost use Rattle.block_device.specs.State.{IsDeviceFailure};
+ghost use Rattle.block_device.specs.State.{IsDeviceFailure, Stays};
 ghost use Rattle.log_format.specs.Accepted.{IsAccepted};
 ghost use Rattle.log_format.specs.Size.{IsBlockSize};
 ghost use Rattle.log_scan.specs.Finding.{MakesCalls};
 ghost use Rattle.log_scan.specs.Passing.{StandAt};
-ghost use Rattle.log_scan.specs.Scanning.{AreTextsOf};
+ghost use Rattle.log_scan.specs.Scanning.{IsChainOf};
 ghost use Rattle.recovery.specs.Calls.{HasBegun, HasMade, cleaning_calls, writes_home};
 ghost use Rattle.recovery.specs.Gather.{IsReplayRefused, chosen_behind, copy_calls, tables_of};
 ghost use Rattle.recovery.specs.HomeCopies.{home_copies};
@@ -56,10 +56,11 @@ pub fn replay<D: Device>(
     requires layout { finder.old.layout ≡ layout_of log.now }
     requires accepted { IsAccepted (D.state device.old).shape.block_size (D.state device.old).shape.log_blocks log.now }
     requires numbers { log.now.s_sequence + transactions ≤ greatest_number }
-    ensures made { OnOk result (D.honest device.new → (texts : List Text) → AreTextsOf log.now (D.state device.old).shape.home_blocks (reading (D.state device.old).disk) texts →
+    ensures made { OnOk result (D.honest device.new → (texts : List Text) → IsChainOf log.now (D.state device.old).shape.home_blocks (reading (D.state device.old).disk) texts →
         transactions ≡ length texts → tables.now ≡ tables_of log.now.s_sequence texts → HasMade (writes_home (home_copies texts)) (D.state device.old) (D.state device.new)) }
-    ensures begun { OnErr result (D.honest device.new → (texts : List Text) → AreTextsOf log.now (D.state device.old).shape.home_blocks (reading (D.state device.old).disk) texts →
+    ensures begun { OnErr result (D.honest device.new → (texts : List Text) → IsChainOf log.now (D.state device.old).shape.home_blocks (reading (D.state device.old).disk) texts →
         transactions ≡ length texts → tables.now ≡ tables_of log.now.s_sequence texts → HasBegun (writes_home (home_copies texts)) (D.state device.old) (D.state device.new)) }
+    ensures none { transactions ≡ 0 → Stays (D.state device.old) (D.state device.new) }
     ensures passed { OnOk result (MakesCalls transactions (D.state device.old) (D.state device.new)) }
     ensures refused { IfErr result (IsReplayRefused (D.honest device.new) log.now transactions (D.state device.old) (D.state device.new)) }
     ensures faults { OnOk result ((D.state device.new).faults ≡ (D.state device.old).faults) }

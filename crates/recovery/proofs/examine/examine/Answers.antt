@@ -4,7 +4,7 @@ use Rattle.std.proofs.lemmas.Result.{err_from_is_err_and}
 use Rattle.log_model.specs.declared.log.Text.{Text}
 use Rattle.journal_model.specs.Disk.{Disk, Shape, reading}
 use Rattle.block_device.specs.State.{DeviceState}
-use Rattle.log_scan.specs.Scanning.{AreTextsOf}
+use Rattle.log_scan.specs.Scanning.{IsChainOf}
 use Rattle.recovery.specs.Gather.{tables_of}
 use Rattle.recovery.specs.Opening.{IsTested, IsWellRead}
 use Rattle.recovery.proofs.Examining.{examined-on, gather-refused, memory-refused, on-stays, reading-refused, stays-joined, test-refused, tested-sound}
@@ -82,5 +82,5 @@ returns-clause-on g c = λ honest.
     (on-stays (λ (m : Shape) (d : Disk). IsTested c.in_ok-block.log m.home_blocks (reading d) c.in_ok-transactions.transactions) s t
     c.read_super.ensures.stays (c.in_ok-transactions.ensures.tested tested))
     c.in_ok-transactions.ensures.number
-    (on-stays (λ (m : Shape) (d : Disk). (texts : List Text) → AreTextsOf c.in_ok-block.log m.home_blocks (reading d) texts → c.in_ok-transactions.transactions ≡ length texts → c.in_ok-tables.tables ≡ tables_of c.in_ok-block.log.s_sequence texts) s u
+    (on-stays (λ (m : Shape) (d : Disk). (texts : List Text) → IsChainOf c.in_ok-block.log m.home_blocks (reading d) texts → c.in_ok-transactions.transactions ≡ length texts → c.in_ok-tables.tables ≡ tables_of c.in_ok-block.log.s_sequence texts) s u
     (stays-joined s t u c.read_super.ensures.stays c.test_log.ensures.stays) (c.in_ok-tables.ensures.tables honest))

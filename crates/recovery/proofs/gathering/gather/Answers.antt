@@ -7,7 +7,7 @@ use Rattle.log_model.specs.Superblock.{Super}
 use Rattle.block_device.specs.State.{DeviceState}
 use Rattle.log_scan.specs.declared.cursor.Cursor.{Cursor}
 use Rattle.log_scan.specs.Passing.{LeadsTo}
-use Rattle.log_scan.specs.Scanning.{AreTextsOf}
+use Rattle.log_scan.specs.Scanning.{IsChainOf}
 use Rattle.log_scan.proofs.ScanSteps.{stays-joins}
 use Rattle.recovery.specs.Gather.{TablesValue, with_copies, with_revokes}
 use Rattle.recovery.proofs.GatherRuns.{Gathers, gathers-all, gathers-commit, gathers-copies, gathers-none, gathers-revokes, led-nowhere, led-on}
@@ -130,7 +130,7 @@ returns-in-Malformed-clause-refused g c =
           c.loop-cursor.tables so c.in-Malformed.is
           (led-on s c.blocks-2.result old (g.D.Device.state c.loop-cursor.device) c.advance.new.finder c.loop-cursor.cursor c.advance.new.self c.in_ok-count.field-0 before.stays
           so.texts so.pieces so.passed (c.in_ok-count.ensures.leads h))
-          texts (subst (λ (n : ℕ). AreTextsOf s n (reading old.disk) texts) (sym c.blocks-2.ensures) are) all c.loop-cursor-test.true;
+          texts (subst (λ (n : ℕ). IsChainOf s n (reading old.disk) texts) (sym c.blocks-2.ensures) are) all c.loop-cursor-test.true;
     })
 
 -- all are gathered
@@ -140,5 +140,5 @@ returns-clause-tables g c = λ h texts are all.
     let old : DeviceState = g.D.Device.state c.args.device.now in
     let before = c.loop-cursor.invariant in
     gathers-all s c.blocks-2.result (reading old.disk) c.loop-cursor.cursor c.loop-cursor.cursor c.args.transactions c.loop-cursor.copies c.loop-cursor.tables (before.gathers h)
-    texts (subst (λ (n : ℕ). AreTextsOf s n (reading old.disk) texts) (sym c.blocks-2.ensures) are) all
+    texts (subst (λ (n : ℕ). IsChainOf s n (reading old.disk) texts) (sym c.blocks-2.ensures) are) all
     (let below = before.below in let end = c.loop-cursor-test.false in omega arith)

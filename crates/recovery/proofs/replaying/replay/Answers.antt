@@ -9,7 +9,7 @@ use Rattle.block_device.specs.State.{DeviceState}
 use Rattle.log_scan.specs.declared.cursor.Cursor.{Cursor}
 use Rattle.log_scan.specs.Finding.{reads_of}
 use Rattle.log_scan.specs.Passing.{LeadsTo}
-use Rattle.log_scan.specs.Scanning.{AreTextsOf}
+use Rattle.log_scan.specs.Scanning.{IsChainOf}
 use Rattle.recovery.proofs.PassCalls.{calls-fewer, calls-join, calls-none, passed-reads}
 use Rattle.recovery.proofs.ReplayRuns.{on-below, on-farther, replay-led, replay-stand, replays-all, replays-begun, replays-copies, replays-none, replays-nowhere, replays-on, replays-unread}
 use Rattle.recovery.proofs.replaying.replay.Goals as goal
@@ -25,6 +25,7 @@ loop-cursor-init g c = rw c.new-cursor.ensures (record {
   shape = refl;
   faults = refl;
   log = refl;
+  none = λ all. record { shape = refl; disk = refl; past = refl };
   calls = calls-none (g.D.Device.state c.args.device.now);
   honest = λ h. h;
   replays = λ h. replays-none c.args.log.now c.blocks-2.result (reading (g.D.Device.state c.args.device.now).disk) c.args.transactions c.args.tables.now (g.D.Device.state c.args.device.now);
@@ -47,6 +48,7 @@ loop-cursor-preserved-in-RevokeBlock g c =
       shape = c.advance.ensures.stays.shape ∙ before.shape;
       faults = c.in_ok-advance.ensures.faults ∙ before.faults;
       log = ap (λ (d : Disk). d Log) c.advance.ensures.stays.disk ∙ before.log;
+      none = λ all. let some = c.loop-cursor-test.true in absurd (omega arith);
       calls =
           calls-fewer c.advance.new.self.transactions (c.loop-cursor.cursor.transactions + reads_of c.in_ok-advance.field-0) old (g.D.Device.state c.advance.new.device)
           (passed-reads c.loop-cursor.cursor c.advance.new.self c.in_ok-advance.field-0 c.in-RevokeBlock.is c.in_ok-advance.ensures.behind)
@@ -82,6 +84,7 @@ loop-cursor-preserved g c =
       shape = c.write_copies.ensures.shape ∙ c.advance.ensures.stays.shape ∙ before.shape;
       faults = c.in_ok-write_copies-in-Descriptor.ensures.faults ∙ c.in_ok-advance.ensures.faults ∙ before.faults;
       log = c.write_copies.ensures.log ∙ ap (λ (d : Disk). d Log) c.advance.ensures.stays.disk ∙ before.log;
+      none = λ all. let some = c.loop-cursor-test.true in absurd (omega arith);
       calls =
           let reads : ℕ = reads_of c.in_ok-advance.field-0 in
           calls-fewer c.advance.new.self.transactions ((c.loop-cursor.cursor.transactions + reads) + 0) old (g.D.Device.state c.write_copies.new.device) (omega arith)
@@ -113,7 +116,7 @@ returns-in_err-advance-clause-begun g c =
     (λ h texts are all tables_are.
     replays-unread s c.blocks-2.result (reading old.disk) c.loop-cursor.cursor c.loop-cursor.cursor c.args.transactions c.loop-cursor.place c.args.tables.now old
     (g.D.Device.state c.loop-cursor.device) (before.replays (c.advance.ensures.honest h)) texts
-    (subst (λ (n : ℕ). AreTextsOf s n (reading old.disk) texts) (sym c.blocks-2.ensures) are) all tables_are c.loop-cursor-test.true (g.D.Device.state c.advance.new.device)
+    (subst (λ (n : ℕ). IsChainOf s n (reading old.disk) texts) (sym c.blocks-2.ensures) are) all tables_are c.loop-cursor-test.true (g.D.Device.state c.advance.new.device)
     c.advance.ensures.stays)
 
 -- a copy could not be read or written
@@ -137,7 +140,7 @@ returns-in_err-write_copies-in-Descriptor-clause-begun g c =
     replays-begun s c.blocks-2.result (reading old.disk) c.loop-cursor.cursor c.advance.new.self c.args.transactions c.loop-cursor.place c.args.tables.now old mid so
     (take c.in-Descriptor.count c.advance.new.finder.tags) c.in-Descriptor.count c.number_of-tid.result
     (sym (length-take-le c.in-Descriptor.count c.advance.new.finder.tags fits.0)) c.number_of-tid.ensures leads texts
-    (subst (λ (n : ℕ). AreTextsOf s n (reading old.disk) texts) (sym c.blocks-2.ensures) are) all tables_are c.loop-cursor-test.true same next
+    (subst (λ (n : ℕ). IsChainOf s n (reading old.disk) texts) (sym c.blocks-2.ensures) are) all tables_are c.loop-cursor-test.true same next
     (g.D.Device.state c.write_copies.new.device) c.advance.ensures.stays
     (c.in_err-write_copies-in-Descriptor.ensures.begun h leads.copies
     (replay-stand s c.blocks-2.result c.loop-cursor.cursor c.args.transactions c.loop-cursor.place c.args.tables.now old mid next (c.loop-cursor.cursor.position + 1) c.in-Descriptor.count
@@ -160,7 +163,7 @@ returns-in-Malformed-clause-refused g c =
           c.loop-cursor.place c.args.tables.now old mid so
           (replay-led s c.blocks-2.result c.loop-cursor.cursor c.advance.new.self c.advance.new.finder c.in_ok-advance.field-0 c.args.transactions c.loop-cursor.place c.args.tables.now
           old mid so (c.in_ok-advance.ensures.leads h))
-          texts (subst (λ (n : ℕ). AreTextsOf s n (reading old.disk) texts) (sym c.blocks-2.ensures) are) all c.loop-cursor-test.true c.in-Malformed.is;
+          texts (subst (λ (n : ℕ). IsChainOf s n (reading old.disk) texts) (sym c.blocks-2.ensures) are) all c.loop-cursor-test.true c.in-Malformed.is;
     })
 
 pub returns-in-Malformed-clause-begun : goal.returns-in-Malformed-clause-begun
@@ -173,7 +176,7 @@ returns-in-Malformed-clause-begun g c = λ h texts are all tables_are.
     c.loop-cursor.place c.args.tables.now old mid so
     (replay-led s c.blocks-2.result c.loop-cursor.cursor c.advance.new.self c.advance.new.finder c.in_ok-advance.field-0 c.args.transactions c.loop-cursor.place c.args.tables.now
     old mid so (c.in_ok-advance.ensures.leads h))
-    texts (subst (λ (n : ℕ). AreTextsOf s n (reading old.disk) texts) (sym c.blocks-2.ensures) are) all c.loop-cursor-test.true c.in-Malformed.is in
+    texts (subst (λ (n : ℕ). IsChainOf s n (reading old.disk) texts) (sym c.blocks-2.ensures) are) all c.loop-cursor-test.true c.in-Malformed.is in
     absurd none
 
 -- all are home
@@ -183,5 +186,15 @@ returns-clause-made g c = λ h texts are all tables_are.
     let old : DeviceState = g.D.Device.state c.args.device.now in
     let before = c.loop-cursor.invariant in
     replays-all s c.blocks-2.result (reading old.disk) c.loop-cursor.cursor c.loop-cursor.cursor c.args.transactions c.loop-cursor.place c.args.tables.now old
-    (g.D.Device.state c.loop-cursor.device) (before.replays h) texts (subst (λ (n : ℕ). AreTextsOf s n (reading old.disk) texts) (sym c.blocks-2.ensures) are) all tables_are
+    (g.D.Device.state c.loop-cursor.device) (before.replays h) texts (subst (λ (n : ℕ). IsChainOf s n (reading old.disk) texts) (sym c.blocks-2.ensures) are) all tables_are
     (let below = before.below in let end = c.loop-cursor-test.false in omega arith)
+
+-- without transactions nothing is read
+pub returns-in_err-advance-clause-none : goal.returns-in_err-advance-clause-none
+returns-in_err-advance-clause-none g c = λ all. let some = c.loop-cursor-test.true in absurd (omega arith)
+
+pub returns-in_err-write_copies-in-Descriptor-clause-none : goal.returns-in_err-write_copies-in-Descriptor-clause-none
+returns-in_err-write_copies-in-Descriptor-clause-none g c = λ all. let some = c.loop-cursor-test.true in absurd (omega arith)
+
+pub returns-in-Malformed-clause-none : goal.returns-in-Malformed-clause-none
+returns-in-Malformed-clause-none g c = λ all. let some = c.loop-cursor-test.true in absurd (omega arith)

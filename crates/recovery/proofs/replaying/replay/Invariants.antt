@@ -2,6 +2,7 @@ use Rattle.std.proofs.Common.{◌≡◌, ◌≤◌, ◌-◌}
 use Rattle.journal_model.specs.declared.number.Area.TheVariants.{Log}
 use Rattle.journal_model.specs.Disk.{reading}
 use Rattle.log_model.specs.Opening.{ring_of}
+use Rattle.block_device.specs.State.{Stays}
 use Rattle.log_scan.specs.Finding.{MakesCalls, limit_of}
 use Rattle.recovery.proofs.ReplayRuns.{Replays}
 use Rattle.recovery.proofs.replaying.replay.Given as goal
@@ -17,6 +18,7 @@ invariant-loop-cursor g l = record {
   shape : (g.D.Device.state l.device).shape ≡ (g.D.Device.state l.fn.device).shape;
   faults : (g.D.Device.state l.device).faults ≡ (g.D.Device.state l.fn.device).faults;
   log : (g.D.Device.state l.device).disk Log ≡ (g.D.Device.state l.fn.device).disk Log;
+  none : l.transactions ≡ 0 → Stays (g.D.Device.state l.fn.device) (g.D.Device.state l.device);
   calls : MakesCalls l.cursor.transactions (g.D.Device.state l.fn.device) (g.D.Device.state l.device);
   honest : g.D.Device.honest l.device → g.D.Device.honest l.fn.device;
   replays : g.D.Device.honest l.device →

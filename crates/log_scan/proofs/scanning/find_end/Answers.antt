@@ -1,8 +1,8 @@
-use Rattle.std.proofs.Common.{[], refl, subst, ◌∙◌, arith, inr}
+use Rattle.std.proofs.Common.{[], refl, subst, ◌∙◌, arith}
 use Rattle.journal_model.specs.Disk.{reading}
 use Rattle.log_scan.specs.Finding.{limit_of}
 use Rattle.log_scan.proofs.ScanSteps.{HasLed, farther, goes-on, led-damage, led-end, led-there, passed-none, stays-joins}
-use Rattle.log_scan.proofs.scanning.scan.Goals as goal
+use Rattle.log_scan.proofs.scanning.find_end.Goals as goal
 
 -- nothing is read yet
 pub loop-init : goal.loop-init
@@ -44,23 +44,20 @@ loop-smaller g c =
     omega arith
 
 -- the cursor stays before a malformed block
-pub returns-in-Malformed-clause-refused : goal.returns-in-Malformed-clause-refused
-returns-in-Malformed-clause-refused g c =
+pub returns-in-Malformed-clause-ends : goal.returns-in-Malformed-clause-ends
+returns-in-Malformed-clause-ends g c = λ h.
     let before = c.loop.invariant in
     let stayed = rw c.in-Malformed.is at c.in_ok-advance.ensures.behind in
-    inr (
-      record { place = c.place.result; from = c.place.ensures.ring; below = c.place.ensures.there; refusal = refl },
-      c.in_ok-advance.ensures.faults ∙ before.faults,
-      λ h. led-damage c.args.log.now (limit_of c.args.log.now c.args.home_blocks) (reading (g.D.Device.state c.args.device.now).disk) c.advance.new.finder c.loop.cursor c.advance.new.self
-          _ c.place.result refl (rw stayed at c.place.ensures.place)
-          (subst (HasLed c.args.log.now (limit_of c.args.log.now c.args.home_blocks) (reading (g.D.Device.state c.args.device.now).disk) c.advance.new.finder c.loop.cursor c.advance.new.self) c.in-Malformed.is
-          (led-there c.args.log.now (limit_of c.args.log.now c.args.home_blocks) (g.D.Device.state c.args.device.now) (g.D.Device.state c.loop.device) c.advance.new.finder c.loop.cursor
-          c.advance.new.self c.in_ok-advance.field-0 before.stays (before.passed (c.advance.ensures.honest h)) (c.in_ok-advance.ensures.leads h))),
-    )
+    rw stayed
+    (led-damage c.args.log.now (limit_of c.args.log.now c.args.home_blocks) (reading (g.D.Device.state c.args.device.now).disk) c.advance.new.finder c.loop.cursor c.advance.new.self
+    c.place.result (rw stayed at c.place.ensures.place)
+    (subst (HasLed c.args.log.now (limit_of c.args.log.now c.args.home_blocks) (reading (g.D.Device.state c.args.device.now).disk) c.advance.new.finder c.loop.cursor c.advance.new.self) c.in-Malformed.is
+    (led-there c.args.log.now (limit_of c.args.log.now c.args.home_blocks) (g.D.Device.state c.args.device.now) (g.D.Device.state c.loop.device) c.advance.new.finder c.loop.cursor
+    c.advance.new.self c.in_ok-advance.field-0 before.stays (before.passed (c.advance.ensures.honest h)) (c.in_ok-advance.ensures.leads h))))
 
 -- nothing more stands there
-pub returns-in-Nothing-clause-scanned : goal.returns-in-Nothing-clause-scanned
-returns-in-Nothing-clause-scanned g c = λ h.
+pub returns-in-Nothing-clause-ends : goal.returns-in-Nothing-clause-ends
+returns-in-Nothing-clause-ends g c = λ h.
     let before = c.loop.invariant in
     rw (rw c.in-Nothing.is at c.in_ok-advance.ensures.behind)
     (led-end c.args.log.now (limit_of c.args.log.now c.args.home_blocks) (reading (g.D.Device.state c.args.device.now).disk) c.advance.new.finder c.loop.cursor c.advance.new.self

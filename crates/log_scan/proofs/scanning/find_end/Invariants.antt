@@ -4,7 +4,7 @@ use Rattle.log_model.specs.Opening.{ring_of}
 use Rattle.block_device.specs.State.{Stays}
 use Rattle.log_scan.specs.Finding.{limit_of}
 use Rattle.log_scan.proofs.ScanSteps.{HasPassed}
-use Rattle.log_scan.proofs.scanning.scan.Given as goal
+use Rattle.log_scan.proofs.scanning.find_end.Given as goal
 
 -- what stands before the cursor
 abbrev pub invariant-loop : goal.invariant-loop

@@ -1,0 +1,28 @@
+use Rattle.std.proofs.Common.{◌≡◌, ◌≤◌, ◌-◌}
+use Rattle.journal_model.specs.Disk.{reading}
+use Rattle.log_model.specs.Opening.{ring_of}
+use Rattle.block_device.specs.State.{Stays}
+use Rattle.log_scan.specs.Finding.{limit_of}
+use Rattle.recovery.proofs.CountRuns.{Counts}
+use Rattle.recovery.proofs.planning.count_copies.Given as goal
+
+-- what stands before the cursor and goes home is counted
+abbrev pub invariant-loop-cursor : goal.invariant-loop-cursor
+invariant-loop-cursor g l = record {
+  within : l.cursor.position ≤ (ring_of l.log).blocks;
+  few : l.cursor.transactions ≤ l.cursor.position;
+  held : l.place ≤ l.cursor.position;
+  counted : l.count ≤ l.place;
+  below : l.cursor.transactions ≤ l.transactions;
+  layout : l.finder.layout ≡ l.fn.finder.layout;
+  stays : Stays (g.D.Device.state l.fn.device) (g.D.Device.state l.device);
+  faults : (g.D.Device.state l.device).faults ≡ (g.D.Device.state l.fn.device).faults;
+  honest : g.D.Device.honest l.device → g.D.Device.honest l.fn.device;
+  none : l.transactions ≡ 0 → l.count ≡ 0;
+  counts : g.D.Device.honest l.device →
+      Counts l.log (limit_of l.log l.home_blocks) (reading (g.D.Device.state l.fn.device).disk) l.cursor l.transactions l.place l.count l.tables;
+}
+
+-- the blocks that are left
+abbrev pub decreases-loop-cursor : goal.decreases-loop-cursor
+decreases-loop-cursor g l = (ring_of l.log).blocks - l.cursor.position

@@ -1,0 +1,201 @@
+//! Opening a log in spite of a damaged block, or of blocks that are ahead: the complete transactions before the damage are taken.
+ghost use Rattle.std.specs.Prelude.{◌≡◌, ◌≢◌, ◌+◌, ◌<◌, ◌≤◌, ◌++◌, List, ℕ, length, OnErr, OnOk, IfOk, IfErr, MatchResult};
+ghost use Rattle.journal_model.specs.declared.number.Area.TheVariants.{Log as LogArea};
+ghost use Rattle.journal_model.specs.declared.refusal.JournalError.TheVariants.{BadLength, Device as DeviceFailed};
+ghost use Rattle.journal_model.specs.Disk.{reading};
+ghost use Rattle.log_model.specs.declared.log.Text.{Text};
+ghost use Rattle.log_model.specs.Opening.{greatest_number, layout_of};
+ghost use Rattle.log_model.specs.Superblock.{with_tail};
+ghost use Rattle.block_device.specs.State.{EachMoment, Stays};
+ghost use Rattle.log_format.specs.Accepted.{IsAccepted};
+ghost use Rattle.log_format.specs.Size.{IsBlockSize};
+ghost use Rattle.recovery.specs.Before.{BeforeRefused, IsMomentBefore, IsOpeningBefore, TellsBefore};
+ghost use Rattle.recovery.specs.BeforeSteps.{HoldsTexts, IsBrokenBefore, IsDoneBefore, IsReadBefore, IsReadBeforeOn};
+ghost use Rattle.recovery.specs.Calls.{HasBegun, HasMade, cleaning_calls, writes_home};
+ghost use Rattle.recovery.specs.Gather.{IsReplayRefused, tables_of};
+ghost use Rattle.recovery.specs.HomeCopies.{home_copies};
+ghost use Rattle.recovery.specs.Values.{IsNextNamed};
+
+use crate::examine::{Examined, read_super};
+use crate::gathering::gather;
+use crate::opening::{Opened, Report, number_from};
+use crate::replaying::{clean_log, replay};
+use crate::surveying::survey_ring;
+use block_device::Device;
+use journal_model::layout::GREATEST_NUMBER;
+use journal_model::{Area, JournalError, Tid};
+use log_scan::Finder;
+use std::alloc::Global;
+
+/// A log that was read, whatever stands in it.
+#[derive(Drop)]
+pub(crate) struct ReadLog {
+    pub(crate) examined: Examined,
+    /// The greatest number in use.
+    pub(crate) greatest: u64,
+    /// Why `open` refuses it.
+    pub(crate) stopped_by: Option<JournalError>,
+}
+
+/// Opens the log of a device that `open` refuses with `Damage` or `Ahead`, and takes what can be taken of it: the complete
+/// transactions that stand before the damaged block, or where a block is ahead, those of the chain as it is read. They are replayed
+/// to home, and the log is left clean. What stands behind the damage is given up, also complete transactions of which the chain
+/// can't be followed to them.
+///
+/// Beside the opened log the answer is what `open` refuses the log with, numbers aside, or none where it refuses nothing. The report
+/// tells which transactions were taken: so many, up to the number before `ends_at`. The next number is one more than the greatest in
+/// use, that of `ends_at` or of a ring block that begins with the magic, so that nothing which was given up can be taken for a part of
+/// a later transaction. A log that `open` takes is opened as by it.
+///
+/// The calls are those of `open`, and a flush of home, the write of the superblock and a flush of the log also where a clean log has a
+/// block that is ahead. Once the first flush of the log has succeeded, a stop leaves an image of which the same call makes the same
+/// home.
+///
+/// # Errors
+///
+/// The device comes back with the refusal. `BadMagic` to `ErrnoSet`: the superblock; `SequenceEnd`: no number is left above those in
+/// use; `Memory` where memory ran out: nothing is written. `BadLength` where the log area has no block: no call is made. `Device`
+/// where the device failed: home and the superblock may have been written. `Damage` where the log reads otherwise in a later pass than
+/// in the first, which only a device does whose reads are not honest: some copies may be home, and the log is left as it was.
+/// Source: this project's own; fs/jbd2 takes what it finds before the first block that it can't follow.
+pub fn open_before_damage<D: Device>(
+    alloc: Global,
+    device: D,
+) -> Result<(Opened<D>, Option<JournalError>), (D, JournalError)>
+    ensures opened { IfOk result (λ r. D.honest r.0.device → (texts : List Text) × (greatest : ℕ) ×
+        IsOpeningBefore (D.state device).shape (D.state device).disk (D.state r.0.device).disk texts greatest r.1 r.0.superblock r.0.next
+        × TellsBefore (reading (D.state device).disk) texts r.0.clean r.0.ends_at r.0.transactions) }
+    ensures moments { MatchResult result
+        (λ r. D.honest r.0.device → EachMoment (IsMomentBefore (D.state device).shape (D.state device).disk) (D.state device) (D.state r.0.device))
+        (λ e. D.honest e.0 → EachMoment (IsMomentBefore (D.state device).shape (D.state device).disk) (D.state device) (D.state e.0)) }
+    ensures refused { IfErr result (λ e. BeforeRefused (D.honest e.0) (D.state device) (D.state e.0) e.1) }
+    ensures no_log { MatchResult result
+        (λ _. 0 < (D.state device).shape.log_blocks)
+        (λ e. (D.state device).shape.log_blocks ≡ 0 → (e.0 ≡ device) × (e.1 ≡ BadLength)) }
+    ensures no_fault { IfOk result (λ r. (D.state r.0.device).faults ≡ (D.state device).faults) }
+    ensures shape { MatchResult result (λ r. (D.state r.0.device).shape ≡ (D.state device).shape) (λ e. (D.state e.0).shape ≡ (D.state device).shape) }
+    ensures honest { MatchResult result (λ r. D.honest r.0.device → D.honest device) (λ e. D.honest e.0 → D.honest device) }
+{
+    if device.blocks(Area::Log) == 0 {
+        return Err((device, JournalError::BadLength));
+    }
+    let mut device = device;
+    match recover_before(alloc, &mut device) {
+        Ok((superblock, next, report, stopped_by)) => {
+            let opened = Opened {
+                device,
+                superblock,
+                next,
+                report,
+            };
+            Ok((opened, stopped_by))
+        }
+        Err(e) => Err((device, e)),
+    }
+}
+
+/// Reads the log, takes what stands in its chain, and leaves it clean. The answer is block 0, the number of the next transaction,
+/// what was taken, and why `open` refuses the log.
+fn recover_before<D: Device>(
+    alloc: Global,
+    device: &mut D,
+) -> Result<(Vec<u8>, Tid, Report, Option<JournalError>), JournalError>
+    requires some { 0 < (D.state device.old).shape.log_blocks }
+    ensures named { IfOk result (λ r. IsNextNamed (D.state device.new).shape r.0.items r.1) }
+    ensures done { IfOk result (λ r. D.honest device.new → (texts : List Text) × (greatest : ℕ) × IsDoneBefore (D.state device.old) (D.state device.new) r.3 r.0.items r.1 texts greatest
+        × TellsBefore (reading (D.state device.old).disk) texts r.2.clean r.2.ends_at r.2.transactions) }
+    ensures broken { IfErr result (λ e. D.honest device.new → IsBrokenBefore (D.state device.old) (D.state device.new)) }
+    ensures refused { IfErr result (BeforeRefused (D.honest device.new) (D.state device.old) (D.state device.new)) }
+    ensures no_fault { OnOk result ((D.state device.new).faults ≡ (D.state device.old).faults) }
+    ensures shape { (D.state device.new).shape ≡ (D.state device.old).shape }
+    ensures honest { D.honest device.new → D.honest device.old }
+{
+    let ReadLog {
+        examined,
+        greatest,
+        stopped_by,
+    } = read_log(alloc, device)?;
+    device.flush(Area::Log)?;
+    let next = number_from(greatest);
+    let report = Report {
+        clean: examined.log.is_clean(),
+        ends_at: examined.log.first_number() + examined.transactions,
+        transactions: examined.transactions,
+    };
+    if report.clean && stopped_by.is_none() {
+        return Ok((examined.superblock, Tid(next), report, stopped_by));
+    }
+    let superblock = leave_clean(device, examined, next)?;
+    Ok((superblock, Tid(next), report, stopped_by))
+}
+
+/// Reads the log and goes over its chain and its ring, which takes no memory where blocks have at most 4096 bytes. Then it gathers
+/// what replay goes by. Nothing is written, and all memory that is needed is taken.
+pub(crate) fn read_log<D: Device>(alloc: Global, device: &mut D) -> Result<ReadLog, JournalError>
+    requires some { 0 < (D.state device.old).shape.log_blocks }
+    ensures read { IfOk result (λ r. IsReadBefore (D.state device.old).shape r.examined.superblock.items r.examined.log r.examined.transactions r.greatest r.stopped_by) }
+    ensures layout { IfOk result (λ r. r.examined.finder.layout ≡ layout_of r.examined.log) }
+    ensures on { IfOk result (λ r. D.honest device.new → (texts : List Text) × IsReadBeforeOn (D.state device.old).shape (D.state device.old).disk r.examined.superblock.items r.examined.log r.examined.transactions r.examined.tables r.greatest r.stopped_by texts) }
+    ensures faults { OnOk result ((D.state device.new).faults ≡ (D.state device.old).faults) }
+    ensures refused { IfErr result (BeforeRefused (D.honest device.new) (D.state device.old) (D.state device.new)) }
+    ensures stays { Stays (D.state device.old) (D.state device.new) }
+    ensures honest { D.honest device.new → D.honest device.old }
+{
+    let (block, log) = read_super(alloc, device)?;
+    let mut finder = Finder::new(log.layout());
+    let found = survey_ring(device, &log, &mut finder)?;
+    if found.greatest >= u64::from(GREATEST_NUMBER) {
+        return Err(JournalError::SequenceEnd);
+    }
+    let superblock = block.bytes().to_vec(alloc)?;
+    let tables = gather(alloc, device, &log, found.transactions, &mut finder)?;
+    Ok(ReadLog {
+        examined: Examined {
+            superblock,
+            log,
+            transactions: found.transactions,
+            tables,
+            finder,
+        },
+        greatest: found.greatest,
+        stopped_by: found.stopped_by,
+    })
+}
+
+/// Replays a log that was read and flushed, and leaves it clean with this number. The answer is block 0.
+fn leave_clean<D: Device>(
+    device: &mut D,
+    examined: Examined,
+    next: u32,
+) -> Result<Vec<u8>, JournalError>
+    requires layout { examined.finder.layout ≡ layout_of examined.log }
+    requires accepted { IsAccepted (D.state device.old).shape.block_size (D.state device.old).shape.log_blocks examined.log }
+    requires numbers { examined.log.s_sequence + examined.transactions ≤ greatest_number }
+    requires clean { examined.log.s_start ≡ 0 → examined.transactions ≡ 0 }
+    requires size { length examined.superblock.items ≡ (D.state device.old).shape.block_size }
+    ensures superblock { IfOk result (λ b. b.items ≡ with_tail examined.superblock.items next 0) }
+    ensures made { OnOk result (D.honest device.new → (texts : List Text) → HoldsTexts examined.log (D.state device.old).shape.home_blocks (reading (D.state device.old).disk) texts →
+        examined.transactions ≡ length texts → (examined.log.s_start ≢ 0 → examined.tables ≡ tables_of examined.log.s_sequence texts) →
+        HasMade (writes_home (home_copies texts) ++ cleaning_calls (with_tail examined.superblock.items next 0)) (D.state device.old) (D.state device.new)) }
+    ensures begun { OnErr result (D.honest device.new → (texts : List Text) → HoldsTexts examined.log (D.state device.old).shape.home_blocks (reading (D.state device.old).disk) texts →
+        examined.transactions ≡ length texts → (examined.log.s_start ≢ 0 → examined.tables ≡ tables_of examined.log.s_sequence texts) →
+        HasBegun (writes_home (home_copies texts) ++ cleaning_calls (with_tail examined.superblock.items next 0)) (D.state device.old) (D.state device.new)) }
+    ensures refused { IfErr result (IsReplayRefused (D.honest device.new) examined.log examined.transactions (D.state device.old) (D.state device.new)) }
+    ensures unmarked { IfErr result (λ e. e ≢ DeviceFailed → (D.state device.new).disk LogArea ≡ (D.state device.old).disk LogArea) }
+    ensures faults { OnOk result ((D.state device.new).faults ≡ (D.state device.old).faults) }
+    ensures shape { (D.state device.new).shape ≡ (D.state device.old).shape }
+    ensures honest { D.honest device.new → D.honest device.old }
+{
+    let Examined {
+        superblock,
+        log,
+        transactions,
+        tables,
+        finder,
+    } = examined;
+    let mut finder = finder;
+    let mut superblock = superblock;
+    replay(device, &log, transactions, &tables, &mut finder)?;
+    clean_log(device, &mut superblock, next)?;
+    Ok(superblock)
+}
