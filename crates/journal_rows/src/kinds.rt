@@ -88,6 +88,8 @@ fn found_of_opening(alloc: Global, kind: &str, given: &str) -> Option<Found> {
         "forgetful_openings" => Some(opening_rows::forgetful_openings(alloc, given)),
         "opening_calls" => Some(opening_rows::opening_calls(alloc, given)),
         "openings" => Some(opening_rows::openings(alloc, given)),
+        "openings_before_damage" => Some(opening_rows::openings_before_damage(alloc, given)),
+        "plans" => Some(opening_rows::plans(alloc, given)),
         "random_logs" => Some(opening_rows::random_logs(alloc, given)),
         "second_openings" => Some(opening_rows::second_openings(alloc, given)),
         _ => None,

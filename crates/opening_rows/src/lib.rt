@@ -5,17 +5,21 @@
 #![tactic(auto)]
 
 mod agreement;
+mod before_damage;
 mod calls;
 mod changes;
 mod drawing;
 mod forgetting;
 mod opening;
 mod plain_opening;
+mod plans;
 mod random;
 mod told;
 
+pub use before_damage::openings_before_damage;
 pub use calls::opening_calls;
 pub use changes::changed_bytes;
 pub use forgetting::forgetful_openings;
 pub use opening::{failed_openings, openings, second_openings};
+pub use plans::plans;
 pub use random::random_logs;

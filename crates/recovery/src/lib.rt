@@ -4,6 +4,7 @@
 //! `examine` reads the superblock and goes over the ring, block by block, and tests both. `gathering` goes over the chain of
 //! complete transactions, for what they revoke and for the newest copy of each block; `replaying` goes over it once more, writes
 //! these copies home and then marks the log clean. `opening` puts them together and makes an `Opened`, and `empty_log` formats.
+//! `surveying` and `before_damage` open a log that is refused as damaged or ahead, and `planning` says what openings would do.
 //! Which calls an opening makes is said by `specs/Calls.antt`, and what it answers by `specs/Opening.antt`; `laws` joins the
 //! lists of these calls to the definitions of replay.
 #![tactic(auto)]

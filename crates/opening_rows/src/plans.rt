@@ -1,0 +1,33 @@
+//! Rows of what openings would do.
+use crate::told::report_text;
+use format_rows::RowError;
+use format_rows::telling::refusal_text;
+use log_rows::logs::{device_of, log_of};
+use recovery::{Plan, plan_before_damage, plan_opening};
+use std::alloc::Global;
+
+/// The line of a plan.
+fn plan_text(alloc: Global, plan: Plan) -> Result<String, RowError> {
+    let told = report_text(alloc, plan.report, u64::from(plan.next.0))?;
+    Ok(format!(in alloc; "{told} blocks={}", plan.blocks)?)
+}
+
+/// What openings would do. Given: as for `openings`. Found: a line with what `plan_opening` answers, a line with what
+/// `plan_before_damage` answers and would pass over, and how many writes both made.
+pub fn plans(alloc: Global, given: &str) -> Result<String, RowError> {
+    let mut device = device_of(alloc, &log_of(alloc, given)?)?;
+    let opening = match plan_opening(alloc, &mut device) {
+        Ok(plan) => plan_text(alloc, plan)?,
+        Err(e) => refusal_text(alloc, e)?,
+    };
+    let before = match plan_before_damage(alloc, &mut device) {
+        Ok((plan, None)) => plan_text(alloc, plan)?,
+        Ok((plan, Some(e))) => {
+            let told = plan_text(alloc, plan)?;
+            let passed_over = refusal_text(alloc, e)?;
+            format!(in alloc; "{told}, in spite of {passed_over}")?
+        }
+        Err(e) => refusal_text(alloc, e)?,
+    };
+    Ok(format!(in alloc; "{opening}\n{before}\nwrites {}", device.writes())?)
+}
