@@ -1,11 +1,11 @@
 #!/usr/bin/env -S python3 -B
-"""`jbench` at paths that are no regular files, or the same one twice: one line each, exit status 1, no wait, and nothing is left behind.
+"""`jbench` at paths that are no regular files, or the same one twice: two lines each, exit status 1, no wait, and nothing is left behind.
 
 usage: edges.py [--program PATH]
 
 The gate's own tests make folders, missing files and words that are no text; pipes, devices and sockets are made here, which those can't.
 Each command gets each of them in the place of each of its files. Every call has to end within ten seconds, print just `jbench: file PATH`
-on standard error, and leave the other files as they were. The program is `./jbench`, which is built first, or the one at PATH. Run it by
+and a line with the reason on standard error, and leave the other files as they were. The program is `./jbench`, which is built first, or the one at PATH. Run it by
 hand.
 """
 import os
@@ -43,6 +43,13 @@ def call(program, words):
     return done.returncode, done.stdout.decode(), done.stderr.decode()
 
 
+def first_line(found):
+    """What a call came to, with the first of two lines on standard error, the second of which begins with two spaces."""
+    if isinstance(found, str) or found[2].count("\n") != 2 or not found[2].split("\n")[1].startswith("  "):
+        return found
+    return found[0], found[1], found[2].split("\n")[0]
+
+
 def main(words):
     program = Path(words[1]).resolve() if words[:1] == ["--program"] else TOP / "jbench"
     if words[:1] != ["--program"]:
@@ -68,22 +75,22 @@ def main(words):
                 except subprocess.TimeoutExpired:
                     found = "no end within ten seconds"
                 calls += 1
-                wanted = (1, "", f"jbench: file {path}\n")
+                wanted = (1, "", f"jbench: file {path}")
                 same = {word: other.read_bytes() for word, other in files.items()} == held and sorted(os.listdir(folder)) == names
-                if found != wanted or not same:
+                if first_line(found) != wanted or not same:
                     wrong += 1
                     print(f"{given}\nwanted: {wanted}\nfound: {found}\nthe other files are {'as they were' if same else 'changed'}")
         # a second path that can't be made leaves no first one behind
         for second in (folder / "no_folder" / "home", folder / "folder", folder / "pipe"):
             found = call(program, ["format", folder / "new", second])
             calls += 1
-            if found != (1, "", f"jbench: file {second}\n") or (folder / "new").exists():
+            if first_line(found) != (1, "", f"jbench: file {second}") or (folder / "new").exists():
                 wrong += 1
                 print(f"format new {second}: {found}")
         # a word that is no text
         done = subprocess.run([os.fsencode(program), b"dump", b"\xff\xfe"], capture_output=True, timeout=10)
         calls += 1
-        if done.returncode != 1 or done.stdout or done.stderr.count(b"\n") != 1:
+        if done.returncode != 1 or done.stdout or done.stderr.count(b"\n") != 2:
             wrong += 1
             print(f"dump of a path that is no text: {done}")
     print(f"{calls} calls, {wrong} wrong")

@@ -1,5 +1,5 @@
 #!/usr/bin/env -S python3 -B
-"""`jbench apply` over files, killed at random, and then `jbench recover`: what is left has to be what a separate model says.
+"""`jbench apply --keep-going` over files, killed at random, and then `jbench recover`: what is left has to be what a separate model says.
 
 usage: killed_apply.py [--program PATH] [COUNT] [SEED]                        so many random scripts (default: 200 from seed 1)
        killed_apply.py [--program PATH] --e2fsck | --kernel [COUNT] [SEED]    what is left is also recovered by these
@@ -198,7 +198,7 @@ class Killer:
         apply = Apply(text, stay)
         self.format(apply)
         Path(self.path("script")).write_text(text)
-        words = ["apply", self.path("log"), self.path("home"), self.path("script"), *["--stay"] * stay]
+        words = ["apply", self.path("log"), self.path("home"), self.path("script"), "--keep-going", *["--stay"] * stay]
         given = f"script: {text}\nwords: {words}"
         lines, err, status = self.apply(words, self.draw.randrange(len(apply.lines) + 1) if is_killed else None)
         self.expect("", err, given)

@@ -1,6 +1,6 @@
 //! The files that take the image of a run.
-use crate::files::{LogFiles, LogPair, make_device};
 use crate::run::MakeImage;
+use jbench_logs::{LogFiles, LogPair, make_device};
 use journal_script::Measures;
 use std::alloc::Global;
 use std::io;
@@ -19,6 +19,9 @@ impl MakeImage for ImageFiles {
 
     fn make(self, measures: &Measures) -> io::Result<LogFiles> {
         let ImageFiles { alloc, files } = self;
-        make_device(alloc, measures, files)
+        match make_device(alloc, measures, files) {
+            Ok(device) => Ok(device),
+            Err(unmade) => Err(unmade.error),
+        }
     }
 }

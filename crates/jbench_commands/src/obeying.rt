@@ -1,15 +1,17 @@
 //! Opens the files that the words name, and does what the words tell.
-use crate::files::LogPair;
 use crate::image::ImageFiles;
 use crate::progress::Progress;
-use crate::{apply, check, files, logs, run, sweep};
+use crate::{apply, check, run, sweep};
 use commit_times::bench;
 use file_device::UnknownContents;
+use jbench_logs::{
+    LogFiles, LogPair, RegularFile, device_of, logs, make_device, open_log, open_or_make_pair,
+    open_pair, open_script, open_to_read, show,
+};
 use jbench_words::fault::{Status, refuse_file};
 use jbench_words::words::{
     ApplyWords, BenchWords, FormatWords, LogPaths, RunWords, SweepWords, Words,
 };
-use std::fs::File;
 use std::io;
 use std::io::Write;
 
@@ -26,6 +28,7 @@ pub fn obey<W: Write + Drop, E: Write + Drop>(
         Words::Check(path) => check_file(rt, path, out, err),
         Words::Format(words) => format_files(rt, words, out, err),
         Words::Dump(path) => dump_file(rt, path, out, err),
+        Words::Show(path) => show_file(rt, path, out, err),
         Words::Recover(paths) => recover_files(rt, *paths, out, err),
         Words::Apply(words) => apply_files(rt, words, out, err),
         Words::Bench(words) => bench_files(rt, words, out, err),
@@ -40,8 +43,8 @@ fn run_file<W: Write + Drop, E: Write + Drop>(
     err: E,
 ) -> io::Result<Status> {
     let mut err = err;
-    match files::open_to_read(rt, words.script) {
-        Ok(file) => run_opened(rt, words, file, out, err),
+    match open_to_read(rt, words.script) {
+        Ok(script) => run_opened(rt, words, script, out, err),
         Err(e) => refuse_file(&mut err, words.script, e),
     }
 }
@@ -50,19 +53,19 @@ fn run_file<W: Write + Drop, E: Write + Drop>(
 fn run_opened<W: Write + Drop, E: Write + Drop>(
     rt: &HostRuntime,
     words: &RunWords<'_>,
-    script: File,
+    script: RegularFile,
     out: W,
     err: E,
 ) -> io::Result<Status> {
     let mut err = err;
     let Some(image) = words.image else {
-        return run::run(rt.alloc(), words, script, out, err);
+        return run::run(rt.alloc(), words, script.into_file(), out, err);
     };
-    match files::open_or_make_pair(rt, image, Some(&script)) {
+    match open_or_make_pair(rt, image, Some(&script)) {
         Ok(files) => {
             let alloc = rt.alloc();
             let image = ImageFiles { alloc, files };
-            run::run_with_image(alloc, words, script, image, out, err)
+            run::run_with_image(alloc, words, script.into_file(), image, out, err)
         }
         Err(unopened) => refuse_file(&mut err, unopened.path, unopened.error),
     }
@@ -76,8 +79,15 @@ fn sweep_file<W: Write + Drop, E: Write + Drop>(
     err: E,
 ) -> io::Result<Status> {
     let mut err = err;
-    match files::open_to_read(rt, words.script) {
-        Ok(file) => sweep::sweep(rt.alloc(), words, file, Progress::new(rt), out, err),
+    match open_to_read(rt, words.script) {
+        Ok(file) => sweep::sweep(
+            rt.alloc(),
+            words,
+            file.into_file(),
+            Progress::new(rt),
+            out,
+            err,
+        ),
         Err(e) => refuse_file(&mut err, words.script, e),
     }
 }
@@ -90,8 +100,8 @@ fn check_file<W: Write + Drop, E: Write + Drop>(
     err: E,
 ) -> io::Result<Status> {
     let mut err = err;
-    match files::open_to_read(rt, path) {
-        Ok(file) => check::check(rt.alloc(), path, file, out, err),
+    match open_to_read(rt, path) {
+        Ok(file) => check::check(rt.alloc(), path, file.into_file(), out, err),
         Err(e) => refuse_file(&mut err, path, e),
     }
 }
@@ -104,14 +114,25 @@ fn format_files<W: Write + Drop, E: Write + Drop>(
     err: E,
 ) -> io::Result<Status> {
     let mut err = err;
-    let files = match files::open_or_make_pair(rt, words.paths, None) {
+    let files = match open_or_make_pair(rt, words.paths, None) {
         Ok(files) => files,
         Err(unopened) => return refuse_file(&mut err, unopened.path, unopened.error),
     };
-    match files::make_device(rt.alloc(), &words.measures, files) {
-        Ok(device) => logs::format(words.paths.log, &words.measures, device, out, err),
-        Err(e) => refuse_file(&mut err, words.paths.log, e),
+    match make_device(rt.alloc(), &words.measures, files) {
+        Ok(device) => format_device(words, device, out, err),
+        Err(unmade) => refuse_file(&mut err, unmade.path(words.paths), unmade.error),
     }
+}
+
+/// Makes an empty log on this device.
+fn format_device<W: Write + Drop, E: Write + Drop>(
+    words: &FormatWords<'_>,
+    device: LogFiles,
+    out: W,
+    err: E,
+) -> io::Result<Status> {
+    let mut device = device;
+    logs::format(words.paths.log, &words.measures, &mut device, out, err)
 }
 
 /// Opens a log in two files, both of which are opened before either is read.
@@ -122,12 +143,23 @@ fn recover_files<W: Write + Drop, E: Write + Drop>(
     err: E,
 ) -> io::Result<Status> {
     let mut err = err;
-    let files = match files::open_pair(rt, paths) {
+    let files = match open_pair(rt, paths) {
         Ok(files) => files,
         Err(unopened) => return refuse_file(&mut err, unopened.path, unopened.error),
     };
-    match files::device_of(rt.alloc(), UnknownContents, files) {
-        Ok(device) => logs::recover(rt.alloc(), paths.log, device, Progress::new(rt), out, err),
+    match device_of(rt.alloc(), UnknownContents, files) {
+        Ok(device) => {
+            let progress = Progress::new(rt);
+            let (status, _device) = logs::recover(
+                rt.alloc(),
+                paths.log,
+                device,
+                progress,
+                out,
+                err,
+            )?;
+            Ok(status)
+        }
         Err(e) => refuse_file(&mut err, paths.log, e),
     }
 }
@@ -140,11 +172,11 @@ fn apply_files<W: Write + Drop, E: Write + Drop>(
     err: E,
 ) -> io::Result<Status> {
     let mut err = err;
-    let files = match files::open_pair(rt, words.paths) {
+    let files = match open_pair(rt, words.paths) {
         Ok(files) => files,
         Err(unopened) => return refuse_file(&mut err, unopened.path, unopened.error),
     };
-    match files::open_script(rt, words.script, &files) {
+    match open_script(rt, words.script, &files) {
         Ok(script) => apply_opened(rt, words, files, script, out, err),
         Err(e) => refuse_file(&mut err, words.script, e),
     }
@@ -155,13 +187,19 @@ fn apply_opened<W: Write + Drop, E: Write + Drop>(
     rt: &HostRuntime,
     words: &ApplyWords<'_>,
     files: LogPair,
-    script: File,
+    script: RegularFile,
     out: W,
     err: E,
 ) -> io::Result<Status> {
     let mut err = err;
-    match files::device_of(rt.alloc(), UnknownContents, files) {
-        Ok(device) => apply::apply(rt.alloc(), words, device, script, out, err),
+    match device_of(rt.alloc(), UnknownContents, files) {
+        Ok(device) => {
+            let done = apply::apply(rt.alloc(), words, device, script.into_file(), out, err)?;
+            Ok(match done {
+                Some(_) => Status::Fine,
+                None => Status::Refused,
+            })
+        }
         Err(e) => refuse_file(&mut err, words.paths.log, e),
     }
 }
@@ -174,11 +212,11 @@ fn bench_files<W: Write + Drop, E: Write + Drop>(
     err: E,
 ) -> io::Result<Status> {
     let mut err = err;
-    let files = match files::open_pair(rt, words.paths) {
+    let files = match open_pair(rt, words.paths) {
         Ok(files) => files,
         Err(unopened) => return refuse_file(&mut err, unopened.path, unopened.error),
     };
-    match files::device_of(rt.alloc(), UnknownContents, files) {
+    match device_of(rt.alloc(), UnknownContents, files) {
         Ok(device) => bench::bench(rt.alloc(), words, device, rt, Progress::new(rt), out, err),
         Err(e) => refuse_file(&mut err, words.paths.log, e),
     }
@@ -192,8 +230,22 @@ fn dump_file<W: Write + Drop, E: Write + Drop>(
     err: E,
 ) -> io::Result<Status> {
     let mut err = err;
-    match files::open_log(rt.alloc(), rt, path) {
-        Ok(device) => logs::dump(rt.alloc(), path, device, out, err),
+    match open_log(rt.alloc(), rt, path) {
+        Ok(mut device) => logs::dump(rt.alloc(), path, &mut device, out, err),
+        Err(e) => refuse_file(&mut err, path, e),
+    }
+}
+
+/// Prints the superblock of the log in a file.
+fn show_file<W: Write + Drop, E: Write + Drop>(
+    rt: &HostRuntime,
+    path: &str,
+    out: W,
+    err: E,
+) -> io::Result<Status> {
+    let mut err = err;
+    match open_log(rt.alloc(), rt, path) {
+        Ok(mut device) => show::show(rt.alloc(), path, &mut device, out, err),
         Err(e) => refuse_file(&mut err, path, e),
     }
 }

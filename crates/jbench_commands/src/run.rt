@@ -79,7 +79,7 @@ fn end<E: Write + Drop>(
 /// The file that a fault is of.
 fn path_of<'a>(words: &RunWords<'a>, fault: &Fault) -> &'a str {
     match (&words.image, fault) {
-        (Some(image), Fault::ImageFile) => image.log,
+        (Some(image), Fault::ImageFile(_)) => image.log,
         _ => words.script,
     }
 }

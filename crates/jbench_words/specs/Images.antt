@@ -5,9 +5,9 @@ use Rattle.jbench_words.specs.declared.fault.Fault.TheVariants.{File, BadScript,
 
 -- the files of its image can't be made
 abbrev pub IsUnmade : Fault → Type 0
-IsUnmade File = ⊥
+IsUnmade (File e) = ⊥
 IsUnmade BadScript = ⊥
-IsUnmade ImageFile = ⊤
+IsUnmade (ImageFile e) = ⊤
 IsUnmade Clock = ⊥
 IsUnmade (Refused e) = ⊥
 IsUnmade (Output e) = ⊥

@@ -1,4 +1,7 @@
 //! How a command ends, and what it says where it can't go on.
+ghost use Rattle.std.specs.Prelude.{◌≡◌, IfOk};
+ghost use Rattle.jbench_words.specs.declared.fault.Status.TheVariants.{Refused};
+
 use journal_model::JournalError;
 use journal_script::ScriptError;
 use std::alloc::AllocFailed;
@@ -30,12 +33,12 @@ impl From<Status> for ExitCode {
 /// Why a command can't go on.
 #[derive(Drop)]
 pub enum Fault {
-    /// A file can't be opened or read.
-    File,
+    /// A file can't be opened or read, for this reason.
+    File(io::Error),
     /// The script is no script.
     BadScript,
-    /// The files of an image can't be made.
-    ImageFile,
+    /// The files of an image can't be made, for this reason.
+    ImageFile(io::Error),
     /// The clock can't be read.
     Clock,
     /// The journal refused, or memory ran out.
@@ -49,7 +52,7 @@ impl Fault {
     pub fn of_file(e: io::Error) -> Fault {
         match e.kind() {
             ErrorKind::OutOfMemory => Fault::Refused(JournalError::Memory),
-            _ => Fault::File,
+            _ => Fault::File(e),
         }
     }
 
@@ -65,7 +68,7 @@ impl Fault {
     pub fn of_image(e: io::Error) -> Fault {
         match e.kind() {
             ErrorKind::OutOfMemory => Fault::Refused(JournalError::Memory),
-            _ => Fault::ImageFile,
+            _ => Fault::ImageFile(e),
         }
     }
 }
@@ -117,15 +120,15 @@ impl From<log_dump::Fault> for Fault {
     }
 }
 
-/// Writes the line that says why a command can't go on. `path` names its file. Of output that can't be written there is
-/// nothing to say.
+/// Writes the line that says why a command can't go on. `path` names its file, of which a second line gives the system's reason. Of
+/// output that can't be written there is nothing to say.
 ///
 /// # Errors
 ///
 /// The line can't be written.
 fn report(err: &mut impl Write, path: &str, fault: &Fault) -> io::Result<()> {
     match fault {
-        Fault::File | Fault::ImageFile => writeln!(err, "jbench: file {path}"),
+        Fault::File(e) | Fault::ImageFile(e) => report_file(err, path, e),
         Fault::BadScript => writeln!(err, "jbench: bad script"),
         Fault::Clock => writeln!(err, "jbench: clock"),
         Fault::Refused(e) => writeln!(err, "jbench: refusal {} {e}", e.number()),
@@ -133,24 +136,37 @@ fn report(err: &mut impl Write, path: &str, fault: &Fault) -> io::Result<()> {
     }
 }
 
-/// Writes the line that says why a command can't go on: `path` names its file. The command is then refused.
+/// Writes which file a command can't go on for, and behind it why.
+fn report_file(err: &mut impl Write, path: &str, e: &io::Error) -> io::Result<()> {
+    writeln!(err, "jbench: file {path}")?;
+    match e.kind() {
+        ErrorKind::WouldBlock => writeln!(err, "  another program has it"),
+        _ => writeln!(err, "  {e}"),
+    }
+}
+
+/// Writes the lines that say why a command can't go on: `path` names its file. The command is then refused.
 ///
 /// # Errors
 ///
 /// The line can't be written.
-pub fn refuse(err: &mut impl Write, path: &str, fault: &Fault) -> io::Result<Status> {
+pub fn refuse(err: &mut impl Write, path: &str, fault: &Fault) -> io::Result<Status>
+    ensures { IfOk result (λ status. status ≡ Refused) }
+{
     match report(err, path, fault) {
         Ok(()) => Ok(Status::Refused),
         Err(e) => Err(e),
     }
 }
 
-/// Says that the file of this path can't be opened, or that memory ran out. The command is then refused.
+/// Says that the file of this path can't be opened, and why, or that memory ran out. The command is then refused.
 ///
 /// # Errors
 ///
 /// The line can't be written.
-pub fn refuse_file(err: &mut impl Write, path: &str, e: io::Error) -> io::Result<Status> {
+pub fn refuse_file(err: &mut impl Write, path: &str, e: io::Error) -> io::Result<Status>
+    ensures { IfOk result (λ status. status ≡ Refused) }
+{
     refuse(err, path, &Fault::of_file(e))
 }
 

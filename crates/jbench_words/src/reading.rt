@@ -177,6 +177,7 @@ fn apply_words<'a>(matches: &ArgMatches<'a>) -> ApplyWords<'a> {
         paths: log_paths(matches),
         script: matches.get_str("script").unwrap_or(""),
         stay: matches.get_flag("stay"),
+        keep_going: matches.get_flag("keep-going"),
     }
 }
 
@@ -213,6 +214,9 @@ pub(crate) fn words_of<'a>(alloc: Global, matches: &ArgMatches<'a>) -> Result<Wo
     }
     if let Some(bench) = matches.subcommand_matches("bench") {
         return bench_words(bench).map(Words::Bench);
+    }
+    if let Some(show) = matches.subcommand_matches("show") {
+        return Ok(Words::Show(show.get_str("log").unwrap_or("")));
     }
     match matches.subcommand_matches("dump") {
         Some(dump) => Ok(Words::Dump(dump.get_str("log").unwrap_or(""))),

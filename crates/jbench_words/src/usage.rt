@@ -35,8 +35,10 @@ check SCRIPT: says whether a script is good, and why it is not.
 format LOG HOME [--block B] [--length M] [--home N] [--uuid DIGITS]: two files become an empty log of M blocks (default: 33) and
 a home area of N zero blocks (default: 64), of B bytes each (default: 1024).
 dump LOG: prints the log in a file.
+show LOG: prints each field of the superblock in a file, and why an opening would refuse it.
 recover LOG HOME: opens the log in a file, and brings home what its complete transactions copied.
-apply LOG HOME SCRIPT [--stay]: opens the log in a file, and does the operations of a script over it and its home area.
+apply LOG HOME SCRIPT [--stay] [--keep-going]: opens the log in a file, and does the operations of a script over it and its home
+area.
 bench LOG HOME [--seconds N] [--transactions N] [--copies K]: opens the log in a file, and tells how long transactions take.
 
 Exit status: 0 done, 1 refused (words, file, script, refusal), 2 a verdict is false.
@@ -199,8 +201,9 @@ pub(crate) const FORMAT: Usage = Usage {
     about: "Makes two files an empty log and a home area of zeros",
     after_help: "\
 Both files are made where there are none, and lose what they held. LOG gets M blocks of B bytes: the superblock, and zeros.
-HOME gets N blocks of zeros. No file is changed before both could be opened; one that was made is taken away again where the
-other can't be opened. Linux takes logs of 1024 blocks and more alone: give --length 1024 to a log that it is to read.
+HOME gets N blocks of zeros, each of which is written: a disk that is full later has room for them. No file is changed before both
+could be opened and locked; one that was made is taken away again where the other can't be opened. Linux takes logs of 1024 blocks
+and more alone: give --length 1024 to a log that it is to read.
 
 Exit status: 0 done; 1 refused: the words, a file, or the device.
 
@@ -264,16 +267,40 @@ Example: jbench dump log",
     }],
 };
 
+/// The command `show`.
+pub(crate) const SHOW: Usage = Usage {
+    name: "show",
+    about: "Prints each field of the superblock of the log in a file by its name, whatever its value is",
+    after_help: "\
+Below a field that fails a test of an opening stands the refusal, and what is wanted of it; features have their names. The last
+lines say whether an opening takes the superblock, and where a feature keeps it from that, what the owner of the log can do about
+it. The bytes of a block are what stands at 0x0c of LOG where that is 1024, 2048 or 4096, else 1024. LOG is not written.
+
+Exit status: 0 done, whatever the superblock is; 1 refused: the words, the file, or a log of not one block.
+
+Example: jbench show log",
+    words: &[Word {
+        name: "log",
+        value: "LOG",
+        is_option: false,
+        help: "The file of the log",
+    }],
+};
+
 /// The command `recover`.
 pub(crate) const RECOVER: Usage = Usage {
     name: "recover",
     about: "Opens the log in a file: brings home what its complete transactions copied, and leaves it clean",
     after_help: "\
 The bytes of a block are what stands at 0x0c of LOG where that is 1024, 2048 or 4096, else 1024. Of each block of HOME the newest
-copy is written that no revoke covers; a clean log is opened without a write. Where the log is refused nothing is written,
-but for want of memory or a failing file: then call it again. It prints 'clean next=N', or
+copy is written that no revoke covers; a clean log is opened without a write. Before it is read, what is relied on in LOG is
+written once more just as it is, and synced. Where the log is refused nothing else is written, but for want of memory or a failing
+file: then call it again. It prints 'clean next=N', or
 'recovered end=E next=N transactions=C': N is the number of the next transaction, E the number behind the last complete
 one, C how many complete ones there were.
+
+Behind 'refusal 2 Device', of this command or another one, see to the disk first: the system may show what its disk lacks. Then
+recover, with no other program on the files; where in doubt, unmount their file system and mount it again before.
 
 Exit status: 0 done; 1 refused: the words, a file, or the log.
 
@@ -306,8 +333,9 @@ that are open at the end are stopped.
 
 The script is one of run: jbench run --help says what that is. Its keys that speak of the device have to agree with the files, where
 they stand. What one handle writes is there whole or not at all, whenever the power goes away; what a 'wait' or a 'status' line shows
-committed is there. An operation that is refused because a file failed ends the work, and so does a refusal to close; one that is
-refused for another cause is printed with that, and the work goes on.
+committed is there. The first operation that is refused ends the work behind its line, and so does a refusal to close: the journal is
+not closed, what was committed stands in the log, and of the running transaction nothing is there. With --keep-going only one that
+is refused because a file failed ends it; any other is printed with its refusal, and the work goes on.
 
 Exit status: 0 done; 1 refused: the words, a file, the script, the log, or the end of the work.
 
@@ -338,6 +366,12 @@ Example: blocks 9 and 10 of the home area change together:
             value: "",
             is_option: true,
             help: "Do not close the journal: leave what was committed in the log",
+        },
+        Word {
+            name: "keep-going",
+            value: "",
+            is_option: true,
+            help: "Go on behind an operation that is refused, unless a file failed",
         },
     ],
 };
@@ -395,8 +429,8 @@ Example: jbench bench log home --seconds 10 --copies 4",
 };
 
 /// The commands, as the help names them.
-pub(crate) const COMMANDS: [&Usage; 8] = [
-    &RUN, &SWEEP, &CHECK, &FORMAT, &DUMP, &RECOVER, &APPLY, &BENCH,
+pub(crate) const COMMANDS: [&Usage; 9] = [
+    &RUN, &SWEEP, &CHECK, &FORMAT, &DUMP, &SHOW, &RECOVER, &APPLY, &BENCH,
 ];
 
 /// What the command of this name is, if there is one.

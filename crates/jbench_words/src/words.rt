@@ -26,6 +26,8 @@ pub enum Words<'a> {
     Format(FormatWords<'a>),
     /// To print the log in this file.
     Dump(&'a str),
+    /// To print the superblock of the log in this file.
+    Show(&'a str),
     /// To open the log in these files.
     Recover(LogPaths<'a>),
     /// To do the operations of a script over a log.
@@ -84,6 +86,8 @@ pub struct ApplyWords<'a> {
     pub script: &'a str,
     /// The journal is not to be closed.
     pub stay: bool,
+    /// The work goes on behind an operation that is refused.
+    pub keep_going: bool,
 }
 
 /// The files of a log.

@@ -7,7 +7,7 @@
 
 use anyhow::{Result, bail};
 use block_device::Device;
-use file_device::{FileDevice, UnknownContents};
+use file_device::{FileDevice, UnknownContents, lock};
 use group_commit::{Handle, Journal, Receipt, Seat, Status, Ticket};
 use journal_model::{BlockNo, JournalError, Tid};
 use recovery::Opened;
@@ -48,13 +48,16 @@ pub fn work<D: Device + Drop>(alloc: Global, device: D) -> Result<Done> {
     Ok(Done { tid, first, home })
 }
 
-/// Opens a file of so many bytes, makes it where there is none, and makes its length durable: a device changes no length.
+/// Opens a file of so many bytes, makes it where there is none, takes its lock, so that no other program that asks for it has the file too,
+/// and makes its length durable: a device changes no length. A log that was there would be brought to its disk by
+/// `file_device::settle` next.
 fn file_of(rt: &HostRuntime, path: &str, bytes: u64) -> Result<File> {
     let file = OpenOptions::new()
         .read(true)
         .write(true)
         .create(true)
         .open(rt, path)?;
+    lock(&file)?;
     file.set_len(bytes)?;
     file.sync_all()?;
     Ok(file)
@@ -64,7 +67,7 @@ fn file_of(rt: &HostRuntime, path: &str, bytes: u64) -> Result<File> {
 ///
 /// # Errors
 ///
-/// A file can't be opened, made or measured, or memory ran out.
+/// A file can't be opened, made, locked or measured, or memory ran out.
 pub fn device(rt: &HostRuntime) -> Result<FileDevice<UnknownContents>> {
     let log = file_of(rt, "example_log", u64::from(LOG_BLOCKS) * BLOCK_SIZE as u64)?;
     let home = file_of(rt, "example_home", HOME_BLOCKS * BLOCK_SIZE as u64)?;

@@ -2,7 +2,8 @@
 use block_device::MemDevice;
 use format_rows::RowError;
 use format_rows::words::cut;
-use jbench_commands::{check, logs, run, sweep};
+use jbench_commands::{check, run, sweep};
+use jbench_logs::{logs, show};
 use jbench_words::fault::Status;
 use jbench_words::watch::Unwatched;
 use jbench_words::words::{
@@ -91,11 +92,17 @@ pub fn format(alloc: Global, given: &str) -> Result<String, RowError> {
 fn format_device(
     alloc: Global,
     words: &FormatWords<'_>,
-    device: MemDevice,
+    mut device: MemDevice,
 ) -> Result<String, RowError> {
     let mut out = Vec::new(alloc);
     let mut err = Vec::new(alloc);
-    match logs::format(words.paths.log, &words.measures, device, &mut out, &mut err) {
+    match logs::format(
+        words.paths.log,
+        &words.measures,
+        &mut device,
+        &mut out,
+        &mut err,
+    ) {
         Ok(status) => text_of(alloc, &out, &err, status),
         Err(_) => Err(RowError::Memory),
     }
@@ -132,6 +139,27 @@ fn recover_device(
     let mut out = Vec::new(alloc);
     let mut err = Vec::new(alloc);
     match logs::recover(alloc, paths.log, device, Unwatched, &mut out, &mut err) {
+        Ok((status, _)) => text_of(alloc, &out, &err, status),
+        Err(_) => Err(RowError::Memory),
+    }
+}
+
+/// A superblock that is shown. Given: the words of the program on a line, and a log as `log_rows` spells it, on a device in memory.
+/// Found: as of a run.
+pub fn show(alloc: Global, given: &str) -> Result<String, RowError> {
+    let (line, log) = cut(given, "\n")?;
+    let words = words_in(alloc, line)?;
+    match parse(alloc, &words) {
+        Ok(Words::Show(path)) => show_device(alloc, path, log_on_device(alloc, log)?),
+        _ => Err(RowError::Unread),
+    }
+}
+
+/// What `show` says of the log on this device.
+fn show_device(alloc: Global, path: &str, mut device: MemDevice) -> Result<String, RowError> {
+    let mut out = Vec::new(alloc);
+    let mut err = Vec::new(alloc);
+    match show::show(alloc, path, &mut device, &mut out, &mut err) {
         Ok(status) => text_of(alloc, &out, &err, status),
         Err(_) => Err(RowError::Memory),
     }
@@ -155,6 +183,7 @@ fn told(alloc: Global, words: &Words<'_>) -> Result<String, RowError> {
         Words::Check(script) => Ok(format!(in alloc; "check {script}")?),
         Words::Format(words) => told_format(alloc, words),
         Words::Dump(log) => Ok(format!(in alloc; "dump {log}")?),
+        Words::Show(log) => Ok(format!(in alloc; "show {log}")?),
         Words::Recover(paths) => Ok(format!(in alloc; "recover {} {}", paths.log, paths.home)?),
         Words::Apply(words) => Ok(told_apply(alloc, words)?),
         Words::Bench(words) => Ok(told_bench(alloc, words)?),
@@ -224,11 +253,12 @@ fn answered(alloc: Global, e: &clap::Error) -> Result<String, RowError> {
 /// What words tell `apply`.
 fn told_apply(alloc: Global, words: &ApplyWords<'_>) -> Result<String, AllocError> {
     format!(in alloc;
-        "apply {} {} {}{}",
+        "apply {} {} {}{}{}",
         words.paths.log,
         words.paths.home,
         words.script,
-        if words.stay { ", stay" } else { "" }
+        if words.stay { ", stay" } else { "" },
+        if words.keep_going { ", keep going" } else { "" }
     )
 }
 

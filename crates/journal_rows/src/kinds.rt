@@ -56,6 +56,7 @@ fn found_of_command(alloc: Global, kind: &str, given: &str) -> Option<Found> {
         "help" => Some(commands::help(alloc, given)),
         "recover" => Some(commands::recover(alloc, given)),
         "run" => Some(commands::run(alloc, given)),
+        "show" => Some(commands::show(alloc, given)),
         "sweep" => Some(commands::sweep(alloc, given)),
         "usages" => Some(commands::usages(alloc, given)),
         "words" => Some(commands::words(alloc, given)),

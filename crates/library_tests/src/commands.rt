@@ -6,6 +6,7 @@ use std::str::from_utf8;
 use std::test::Fail;
 
 mod faults;
+mod locks;
 mod log_files;
 mod paths;
 mod sessions;

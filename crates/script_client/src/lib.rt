@@ -15,4 +15,4 @@ mod slots;
 pub use client::{AnyHome, HomeFact, ZeroHome};
 pub use fault::Fault;
 pub use outcome::{Hex, PRINTED_BYTES};
-pub use performing::{AfterFailure, Applied, Ending, Performed, apply, perform};
+pub use performing::{AfterFailure, AfterRefusal, Applied, Ending, Performed, apply, perform};

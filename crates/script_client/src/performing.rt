@@ -25,6 +25,15 @@ pub enum AfterFailure {
     GoOn,
 }
 
+/// What comes behind an operation that is refused.
+#[derive(Clone, Copy, Debug, PartialEq, Eq)]
+pub enum AfterRefusal {
+    /// Nothing: the first operation that is refused is the last one, so that no half of a change is committed.
+    End,
+    /// Those behind it are performed, but for one that was refused because the device failed: that is the last one.
+    GoOn,
+}
+
 /// What is left of a journal when operations were performed on it.
 #[derive(Drop)]
 pub struct Performed<D> {
@@ -81,11 +90,12 @@ pub fn perform<D: Device + Drop, H: HomeFact>(
     }
 }
 
-/// Performs operations on a new journal on an opened log, of whose disk `H` is known, up to the first that is refused because the
-/// device failed, and prints a line for each. All open handles are stopped behind the last, and then the journal is closed, where
-/// `ending` tells so. What is left comes back however the work ended: `Fault::Output` where a line could not be written, `Device`
-/// where an operation was refused with it, and the refusal of the close. The journal is closed in none of these cases, nor where
-/// `ending` tells that it stays; what was committed by then is in the log or at home.
+/// Performs operations on a new journal on an opened log, of whose disk `H` is known, and prints a line for each. `after` tells which
+/// refused one is the last; one that is refused because the device failed always is. All open handles are stopped behind the last, and
+/// then the journal is closed, where `ending` tells so. What is left comes back however the work ended: `Fault::Output` where a line
+/// could not be written, the refusal of the operation that was the last one, and the refusal of the close. The journal is closed in none
+/// of these cases, nor where `ending` tells that it stays; what was committed by then is in the log or at home, and of a transaction
+/// that was not, nothing is.
 ///
 /// # Errors
 ///
@@ -94,6 +104,7 @@ pub fn apply<D: Device + Drop, H: HomeFact>(
     alloc: Global,
     opened: Opened<D>,
     operations: &[Operation],
+    after: AfterRefusal,
     ending: Ending,
     out: &mut impl Write,
 ) -> Result<Applied<D>, JournalError>
@@ -106,27 +117,50 @@ pub fn apply<D: Device + Drop, H: HomeFact>(
         IsLedTo H.holds operations.now (D.state applied.left.device) applied.left.sealed.items applied.left.acknowledged) }
 {
     let mut interpreter = Interpreter::<D, H>::new(alloc, opened, operations)?;
-    let performed = perform_all(&mut interpreter, operations, AfterFailure::End, out);
-    Ok(end_of(interpreter, performed, ending))
+    let applied = apply_all(&mut interpreter, operations, after, out);
+    Ok(end_of(interpreter, applied, ending))
+}
+
+/// Performs operations up to the one that is the last, and prints a line for each.
+///
+/// # Errors
+///
+/// `Fault::Refused`: the last one was refused, and was to be the last for that. `Fault::Output`: its line can't be written.
+fn apply_all<D: Device + Drop, H: HomeFact>(
+    interpreter: &mut Interpreter<'_, D, H>,
+    operations: &[Operation],
+    after: AfterRefusal,
+    out: &mut impl Write,
+) -> Result<(), Fault>
+    requires { interpreter.old.client.operations ≡ operations.now }
+    ensures { interpreter.new.client.operations ≡ interpreter.old.client.operations }
+{
+    for operation in operations {
+        let outcome = interpreter.perform(operation);
+        writeln!(out, "{operation} = {outcome}")?;
+        if let Outcome::Refused(e) = outcome
+            && (after == AfterRefusal::End || e == JournalError::Device)
+        {
+            return Err(Fault::Refused(e));
+        }
+    }
+    Ok(())
 }
 
 /// Ends the journal, as `ending` tells where all operations were performed.
 fn end_of<D: Device + Drop, H: HomeFact>(
     interpreter: Interpreter<'_, D, H>,
-    performed: io::Result<()>,
+    applied: Result<(), Fault>,
     ending: Ending,
 ) -> Applied<D>
     ensures ended { D.honest result.left.device → IsEnded H.holds interpreter.entry.client.operations (D.state result.left.device) result.left.sealed.items result.left.acknowledged }
     ensures closed { ending ≡ Close → OnOk result.end (D.honest result.left.device → IsLeftClosed (D.state result.left.device) result.left.sealed.items) }
     ensures stays { ending ≡ Stay → D.honest result.left.device → IsLedTo H.holds interpreter.entry.client.operations (D.state result.left.device) result.left.sealed.items result.left.acknowledged }
 {
-    if let Err(e) = performed {
-        return stay(interpreter, Err(Fault::Output(e)));
+    match applied {
+        Ok(()) => end_as(interpreter, ending),
+        Err(fault) => stay(interpreter, Err(fault)),
     }
-    if interpreter.is_aborted() {
-        return stay(interpreter, Err(Fault::Refused(JournalError::Device)));
-    }
-    end_as(interpreter, ending)
 }
 
 /// Ends the journal as this tells.

@@ -71,7 +71,10 @@ fn said_of_no_script(alloc: Global) -> Result<String, Fail> {
 #[test]
 fn a_script_that_cannot_be_read(rt: HostRuntime) -> Result<(), Fail> {
     let said = said_of_no_script(rt.alloc())?;
-    assert_eq!(rt; said.as_str(), "| jbench: file a.json\nRefused");
+    assert_eq!(rt;
+        said.as_str(),
+        "| jbench: file a.json\n  other error\nRefused"
+    );
     Ok(())
 }
 

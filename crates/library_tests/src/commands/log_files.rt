@@ -1,7 +1,7 @@
 //! The commands `format` and `dump`, over files.
 use super::text_of;
-use jbench_commands::files::{LogFiles, make_device, open_log, open_or_make_pair};
-use jbench_commands::logs::{dump, format};
+use jbench_logs::logs::{dump, format};
+use jbench_logs::{LogFiles, make_device, open_log, open_or_make_pair};
 use jbench_words::words::LogPaths;
 use journal_script::{DEFAULTS, Measures};
 use std::alloc::Global;
@@ -10,18 +10,19 @@ use std::test::Fail;
 
 /// What `dump` says of the log in this file.
 fn dump_of(rt: &HostRuntime, log: &str) -> Result<String, Fail> {
-    let device = open_log(rt.alloc(), rt, log)?;
+    let mut device = open_log(rt.alloc(), rt, log)?;
     let mut out = Vec::new(rt.alloc());
     let mut err = Vec::new(rt.alloc());
-    let status = dump(rt.alloc(), "a.log", device, &mut out, &mut err)?;
+    let status = dump(rt.alloc(), "a.log", &mut device, &mut out, &mut err)?;
     text_of(rt.alloc(), &out, &err, status)
 }
 
 /// What `format` says of an empty log on this device.
 fn format_of(alloc: Global, measures: &Measures, device: LogFiles) -> Result<String, Fail> {
+    let mut device = device;
     let mut out = Vec::new(alloc);
     let mut err = Vec::new(alloc);
-    let status = format("a.log", measures, device, &mut out, &mut err)?;
+    let status = format("a.log", measures, &mut device, &mut out, &mut err)?;
     text_of(alloc, &out, &err, status)
 }
 
@@ -32,11 +33,10 @@ fn make(rt: &HostRuntime, measures: &Measures) -> Result<String, Fail> {
         home: "empty_home",
     };
     match open_or_make_pair(rt, paths, None) {
-        Ok(files) => format_of(
-            rt.alloc(),
-            measures,
-            make_device(rt.alloc(), measures, files)?,
-        ),
+        Ok(files) => match make_device(rt.alloc(), measures, files) {
+            Ok(device) => format_of(rt.alloc(), measures, device),
+            Err(unmade) => Err(Fail::from(unmade.error)),
+        },
         Err(unopened) => Err(Fail::from(unopened.error)),
     }
 }

@@ -13,7 +13,7 @@ const FOLDER: &str = "session";
 type Script = (&'static str, &'static str);
 
 /// The scripts.
-const SCRIPTS: [Script; 7] = [
+const SCRIPTS: [Script; 8] = [
     (
         "session/two.json",
         r#"{"ops": [["start",1,2],["write",1,9,"11"],["write",1,10,"22"],["stop",1],["request",1],["commit"],["wait",1]]}"#,
@@ -30,6 +30,10 @@ const SCRIPTS: [Script; 7] = [
         "session/past.json",
         r#"{"ops": [["start",1,1],["revoke",1,9],["stop",1],["request",1],["commit"],["direct",9,"44"],["sync"]]}"#,
     ),
+    (
+        "session/half.json",
+        r#"{"ops": [["start",1,2],["write",1,9,"55"],["write",1,99,"66"],["stop",1],["request",1],["commit"],["wait",1]]}"#,
+    ),
     ("session/longer.json", r#"{"length": 34, "ops": []}"#),
     ("session/wrong.json", r#"{"ops": [["stop",1]]}"#),
     (
@@ -43,7 +47,7 @@ type Step = (&'static str, &'static str);
 
 /// Commands over one log, in their order. The numbers follow the rules of the format: an opening passes over one number, and
 /// a close names the number that its next transaction would have got.
-const STEPS: [Step; 30] = [
+const STEPS: [Step; 37] = [
     (
         "jbench format session/log session/home",
         "formatted 33 blocks of 1024\n| Fine",
@@ -169,6 +173,58 @@ closed next=15
         "clean next=15\n| Fine",
     ),
     (
+        "jbench apply session/log session/home session/half.json",
+        "\
+clean next=15
+start 1 2 = 15
+write 1 9 = ok
+write 1 99 = refused 8 BadBlock
+| jbench: refusal 8 BadBlock
+Refused",
+    ),
+    (
+        "jbench recover session/log session/home",
+        "clean next=15\n| Fine",
+    ),
+    (
+        "jbench apply session/log session/home session/half.json --keep-going",
+        "\
+clean next=15
+start 1 2 = 15
+write 1 9 = ok
+write 1 99 = refused 8 BadBlock
+stop 1 = 15
+request 1 = ok
+commit = 15
+wait 1 = 15
+closed next=17
+| Fine",
+    ),
+    (
+        "jbench recover session/log session/home",
+        "clean next=17\n| Fine",
+    ),
+    (
+        "jbench apply session/log session/home session/one.json --stay",
+        "\
+clean next=17
+start 1 1 = 17
+write 1 9 = ok
+stop 1 = 17
+request 1 = ok
+commit = 17
+wait 1 = 17
+| Fine",
+    ),
+    (
+        "jbench apply session/log session/home session/same.json",
+        "recovered end=18 next=19 transactions=1\nclosed next=20\n| Fine",
+    ),
+    (
+        "jbench recover session/log session/home",
+        "clean next=20\n| Fine",
+    ),
+    (
         "jbench run session/two.json --image-log session/image --image-home session/image_home",
         "\
 start 1 2 = 2
@@ -256,15 +312,15 @@ verdict ok
     ),
     (
         "jbench apply session/log session/log session/same.json",
-        "| jbench: file session/log\nRefused",
+        "| jbench: file session/log\n  it is given twice\nRefused",
     ),
     (
         "jbench apply session/log session/home session/home",
-        "| jbench: file session/home\nRefused",
+        "| jbench: file session/home\n  it is given twice\nRefused",
     ),
     (
         "jbench apply session/log session/missing session/same.json",
-        "| jbench: file session/missing\nRefused",
+        "| jbench: file session/missing\n  No such file or directory (os error 2)\nRefused",
     ),
     (
         "jbench apply session/home session/log session/same.json",
@@ -272,9 +328,12 @@ verdict ok
     ),
     (
         "jbench run session/two.json --image-log session/log --image-home session/two.json",
-        "| jbench: file session/two.json\nRefused",
+        "| jbench: file session/two.json\n  it is given twice\nRefused",
     ),
-    ("jbench dump session", "| jbench: file session\nRefused"),
+    (
+        "jbench dump session",
+        "| jbench: file session\n  it is no regular file\nRefused",
+    ),
 ];
 
 /// Makes the folder with its scripts.
@@ -342,7 +401,7 @@ fn commands_over_one_log(rt: HostRuntime) -> Result<(), Fail> {
     prepare(&rt)?;
     let other = first_other(&rt)?;
     assert_eq!(rt; other.as_ref().map(String::as_str), None);
-    assert_eq!(rt; beginnings(&rt, "session/home")?, [0, 0x44, 0x22, 0]);
+    assert_eq!(rt; beginnings(&rt, "session/home")?, [0, 0x33, 0x22, 0]);
     assert_eq!(rt; beginnings(&rt, "session/image_home")?, [0, 0x11, 0x22, 0]);
     fs::remove_dir_all(&rt, FOLDER)?;
     Ok(())

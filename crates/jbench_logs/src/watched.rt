@@ -20,12 +20,12 @@ impl<D: Drop, W> Watched<D, W> {
         Watched { device, watch }
     }
 
-    /// Who was told of the calls.
-    pub fn into_watch(self) -> W
-        ensures { result ≡ self.watch }
+    /// The device, and who was told of the calls.
+    pub fn into_parts(self) -> (D, W)
+        ensures { result ≡ (self.device, self.watch) }
     {
-        let Watched { device: _, watch } = self;
-        watch
+        let Watched { device, watch } = self;
+        (device, watch)
     }
 }
 

@@ -1,0 +1,7 @@
+-- Files that are two. This project's own.
+use Rattle.std.specs.Prelude.{◌≡◌}
+use Rattle.jbench_logs.specs.declared.regular.RegularFile.{RegularFile}
+
+-- the system tells them apart
+abbrev pub AreApart : RegularFile → RegularFile → Type 0
+AreApart one other = ¬ (one.identity ≡ other.identity)

@@ -1,0 +1,23 @@
+//! The log in files that a command of `jbench` is told: how its files are opened and locked, devices over them, and the commands that
+//! need no more than a log.
+//!
+//! `regular` opens regular files and says which one a file is, `locked` takes the lock of a file that is to be written, `pairs` opens
+//! the two files of a log, and `devices` makes devices of them. No file's bytes are read or written before it is locked. `logs` has the
+//! commands `format`, `dump` and `recover`, over devices, `show` the command of that name, with the names of `features`; `reasons` says
+//! why a log is refused, where its refusal does not, and `watched` is a device that tells of its calls.
+#![tactic(auto)]
+
+mod devices;
+mod features;
+mod locked;
+pub mod logs;
+mod pairs;
+mod reasons;
+mod regular;
+pub mod show;
+pub mod watched;
+
+pub use devices::{LogFiles, Unmade, device_of, make_device, open_log};
+pub use locked::LockedFile;
+pub use pairs::{LogPair, Unopened, open_or_make_pair, open_pair, open_script};
+pub use regular::{Identity, RegularFile, open_to_read};

@@ -1,0 +1,190 @@
+//! The commands `format`, `dump` and `recover`, over devices.
+ghost use Rattle.std.specs.Prelude.{◌≡◌, IfOk, IsOk, OnOk};
+ghost use Rattle.block_device.specs.State.{Stays};
+ghost use Rattle.jbench_words.specs.declared.fault.Status.TheVariants.{Fine, Refused};
+ghost use Rattle.jbench_logs.specs.Done.{IsMade, IsRecovered};
+
+use crate::reasons::say_why;
+use crate::watched::Watched;
+use block_device::Device;
+use jbench_words::fault::{self, Fault, Status};
+use jbench_words::watch::Watch;
+use journal_model::{Area, JournalError, Tid};
+use journal_script::Measures;
+use recovery::Report;
+use std::alloc::Global;
+use std::io;
+use std::io::{BufWriter, Write};
+
+/// Makes an empty log on a device, which has these measures, and home durable as it reads, and prints what it made. `path` names the
+/// log's file. Where it can't go on, one line on `err` says why.
+///
+/// # Errors
+///
+/// The output can't be written.
+pub fn format<D: Device, W: Write + Drop, E: Write + Drop>(
+    path: &str,
+    measures: &Measures,
+    device: &mut D,
+    out: W,
+    err: E,
+) -> io::Result<Status>
+    ensures { IfOk result (λ status. status ≡ Fine → IsMade measures.now.log_blocks measures.now.uuid (D.state device.old) (D.state device.new)) }
+{
+    match make_log(measures, device) {
+        Ok(()) => end(path, say_made(measures, out), err),
+        Err(fault) => end(path, Err(fault), err),
+    }
+}
+
+/// Makes an empty log, and makes home durable.
+fn make_log<D: Device>(measures: &Measures, device: &mut D) -> Result<(), Fault>
+    ensures { OnOk result (IsMade measures.now.log_blocks measures.now.uuid (D.state device.old) (D.state device.new)) }
+{
+    recovery::format(device, measures.log_blocks, &measures.uuid)?;
+    match device.flush(Area::Home) {
+        Ok(()) => Ok(()),
+        Err(e) => Err(Fault::Refused(e.into())),
+    }
+}
+
+/// Says what was made.
+fn say_made<W: Write + Drop>(measures: &Measures, mut out: W) -> Result<(), Fault> {
+    writeln!(
+        out,
+        "formatted {} blocks of {}",
+        measures.log_blocks, measures.block_size
+    )
+    .map_err(Fault::from)
+}
+
+/// Prints the log of a device. `path` names its file. Where the log is refused nothing is printed, and one line on `err` says
+/// why.
+///
+/// # Errors
+///
+/// The output can't be written.
+pub fn dump<D: Device, W: Write + Drop, E: Write + Drop>(
+    alloc: Global,
+    path: &str,
+    device: &mut D,
+    out: W,
+    err: E,
+) -> io::Result<Status>
+    ensures { Stays (D.state device.old) (D.state device.new) }
+{
+    end(path, dump_device(alloc, device, out), err)
+}
+
+/// Prints the log of a device.
+fn dump_device<D: Device, W: Write + Drop>(
+    alloc: Global,
+    device: &mut D,
+    out: W,
+) -> Result<(), Fault>
+    ensures { Stays (D.state device.old) (D.state device.new) }
+{
+    let mut out = BufWriter::new(alloc, out)?;
+    log_dump::dump(alloc, device, &mut out)?;
+    out.flush()?;
+    Ok(())
+}
+
+/// Opens the log of a device, which brings home what its complete transactions copied and leaves the log clean, and prints what
+/// was found. `path` names the log's file. Where the log is refused one line on `err` says why, and a second one where home is too
+/// short for it. `watch` is told of each read and write, and of their end before anything is said. The device comes back.
+///
+/// # Errors
+///
+/// The output can't be written.
+pub fn recover<D: Device + Drop, H: Watch + Drop, W: Write + Drop, E: Write + Drop>(
+    alloc: Global,
+    path: &str,
+    device: D,
+    watch: H,
+    out: W,
+    err: E,
+) -> io::Result<(Status, D)>
+    ensures { IfOk result (λ done. done.0 ≡ Fine → D.honest done.1 → IsRecovered (D.state device) (D.state done.1)) }
+{
+    let (mut out, mut err) = (out, err);
+    match open_watched(alloc, device, watch) {
+        Ok((device, report, next)) => {
+            let status = end(path, say_opened(report, next, &mut out), err)?;
+            Ok((status, device))
+        }
+        Err((device, e)) => {
+            let mut device = device;
+            let status = refuse(alloc, path, &mut device, e, &mut err)?;
+            Ok((status, device))
+        }
+    }
+}
+
+/// Opens the log of a device. `watch` is told of each read and write, and then of their end.
+fn open_watched<D: Device + Drop, H: Watch + Drop>(
+    alloc: Global,
+    device: D,
+    watch: H,
+) -> Result<(D, Report, Tid), (D, JournalError)>
+    ensures { IfOk result (λ opened. D.honest opened.0 → IsRecovered (D.state device) (D.state opened.0)) }
+{
+    match recovery::open(alloc, Watched::new(device, watch)) {
+        Ok(opened) => {
+            let (report, next) = (opened.report(), opened.next());
+            let (device, mut watch) = opened.into_device().into_parts();
+            watch.ends();
+            Ok((device, report, next))
+        }
+        Err((device, e)) => {
+            let (device, mut watch) = device.into_parts();
+            watch.ends();
+            Err((device, e))
+        }
+    }
+}
+
+/// Says why the log of a device is refused. `path` names its file. The command is then refused.
+///
+/// # Errors
+///
+/// The lines can't be written.
+pub fn refuse<D: Device>(
+    alloc: Global,
+    path: &str,
+    device: &mut D,
+    e: JournalError,
+    err: &mut impl Write,
+) -> io::Result<Status>
+    ensures refused { IfOk result (λ status. status ≡ Refused) }
+    ensures stays { Stays (D.state device.old) (D.state device.new) }
+{
+    let status = fault::refuse(err, path, &Fault::Refused(e))?;
+    say_why(alloc, device, e, err)?;
+    Ok(status)
+}
+
+/// Says what an opening found.
+pub fn say_opened<W: Write>(report: Report, next: Tid, out: &mut W) -> Result<(), Fault> {
+    if report.clean {
+        writeln!(out, "clean next={}", next.0).map_err(Fault::from)
+    } else {
+        writeln!(
+            out,
+            "recovered end={} next={} transactions={}",
+            report.ends_at, next.0, report.transactions
+        )
+        .map_err(Fault::from)
+    }
+}
+
+/// How a command ends, and the line that says why it couldn't go on.
+fn end<E: Write + Drop>(path: &str, done: Result<(), Fault>, mut err: E) -> io::Result<Status>
+    ensures { IfOk result (λ status. status ≡ Fine → IsOk done) }
+{
+    match done {
+        Ok(()) => Ok(Status::Fine),
+        Err(Fault::Output(e)) => Err(e),
+        Err(fault) => fault::refuse(&mut err, path, &fault),
+    }
+}

@@ -1,0 +1,250 @@
+//! The two files of a log, each of which is opened and locked before either is read.
+ghost use Rattle.std.specs.Prelude.{◌≡◌, IfOk, IfSome};
+ghost use Rattle.jbench_logs.specs.Apart.{AreApart};
+
+use crate::locked::LockedFile;
+use crate::regular::{RegularFile, given_twice, make, open_there, open_to_read};
+use jbench_words::words::LogPaths;
+use std::fs::{File, Files};
+use std::io::ErrorKind;
+use std::path::Path;
+use std::{fs, io};
+
+/// The two files of a log, which are not one, each with its lock.
+#[derive(Drop)]
+pub struct LogPair {
+    log: LockedFile,
+    home: LockedFile,
+    pub ghost are_two: { AreApart log.file home.file },
+}
+
+impl LogPair {
+    /// The two files of a log.
+    fn new(log: LockedFile, home: LockedFile) -> LogPair
+        requires { AreApart log.file home.file }
+    {
+        LogPair { log, home }
+    }
+
+    /// The file of the log and that of the home area, which have their locks until they are let go.
+    pub fn into_files(self) -> (File, File) {
+        let LogPair { log, home } = self;
+        (log.into_file(), home.into_file())
+    }
+}
+
+/// A file that can't be opened.
+#[derive(Drop)]
+pub struct Unopened<'a> {
+    /// Its path.
+    pub path: &'a str,
+    /// Why it can't.
+    pub error: io::Error,
+}
+
+impl<'a> Unopened<'a> {
+    /// The file of this path.
+    fn new(path: &'a str, error: io::Error) -> Unopened<'a> {
+        Unopened { path, error }
+    }
+}
+
+/// A file that was opened, and its path where it was not there before.
+#[derive(Drop)]
+struct Opened<'a, F> {
+    file: F,
+    made: Option<&'a str>,
+}
+
+impl<F: Drop> Opened<'_, F> {
+    /// Takes the file away again where it was made. Where that fails it stays, with no bytes.
+    fn undo<R: Files<File = File>>(self, rt: &R) {
+        if let Some(path) = self.made {
+            let _gone = fs::remove_file(rt, path);
+        }
+    }
+}
+
+/// Opens a script to be read, which is neither file of this log.
+///
+/// # Errors
+///
+/// There is no regular file of this path, it can't be read, or it is a file of the log.
+pub fn open_script<R: Files<File = File>>(
+    rt: &R,
+    path: &str,
+    files: &LogPair,
+) -> io::Result<RegularFile> {
+    let script = open_to_read(rt, path)?.other_than(files.log.file())?;
+    script.other_than(files.home.file())
+}
+
+/// Opens the two files of a log, which are two, to be read and written, and takes the lock of each at its opening. What they hold stays.
+///
+/// # Errors
+///
+/// The first of the two that is no regular file, that can't be read and written, that is the other, or that another program has.
+pub fn open_pair<'a, R: Files<File = File>>(
+    rt: &R,
+    paths: LogPaths<'a>,
+) -> Result<LogPair, Unopened<'a>> {
+    let log = match open_locked(rt, paths.log) {
+        Ok(log) => log,
+        Err(error) => return Err(Unopened::new(paths.log, error)),
+    };
+    match open_home_of(rt, paths.home, log.file()) {
+        Ok(home) => Ok(LogPair::new(log, home)),
+        Err(error) => Err(Unopened::new(paths.home, error)),
+    }
+}
+
+/// Opens a file that is there to be read and written, and takes its lock.
+fn open_locked<R: Files<File = File>>(rt: &R, path: &str) -> io::Result<LockedFile> {
+    LockedFile::take(rt, path, open_there(rt, path)?)
+}
+
+/// Opens the file of a home area that is there, which is not this log's, and takes its lock.
+fn open_home_of<R: Files<File = File>>(
+    rt: &R,
+    path: &str,
+    log: &RegularFile,
+) -> io::Result<LockedFile>
+    ensures { IfOk result (λ home. AreApart log.now home.file) }
+{
+    let home = open_there(rt, path)?.other_than(log)?;
+    LockedFile::take(rt, path, home)
+}
+
+/// Opens the two files of a log to be read and written, makes each where there is none, and takes the lock of each. They are two files,
+/// and neither is this script's. What they hold stays. Their folders are synced, so that a stop does not take their names away.
+///
+/// # Errors
+///
+/// The first of the two that is no regular file, that can't be read and written or made, that is another one of the three, that
+/// another program has, or whose folder can't be synced. Then neither file is there that was not there before, but for one that another
+/// program has by now.
+pub fn open_or_make_pair<'a, R: Files<File = File>>(
+    rt: &R,
+    paths: LogPaths<'a>,
+    script: Option<&RegularFile>,
+) -> Result<LogPair, Unopened<'a>> {
+    match claim(rt, paths.log, script, None) {
+        Ok(log) => claim_home(rt, paths, script, log),
+        Err(error) => Err(Unopened::new(paths.log, error)),
+    }
+}
+
+/// Opens the home area's file beside that of its log, and makes it where there is none.
+fn claim_home<'a, R: Files<File = File>>(
+    rt: &R,
+    paths: LogPaths<'a>,
+    script: Option<&RegularFile>,
+    log: Opened<'a, LockedFile>,
+) -> Result<LogPair, Unopened<'a>> {
+    match claim(rt, paths.home, script, Some(log.file.file())) {
+        Ok(home) => named(rt, paths, log, home),
+        Err(error) => {
+            log.undo(rt);
+            Err(Unopened::new(paths.home, error))
+        }
+    }
+}
+
+/// Opens a file of a log, which is neither of these others, makes it where there is none, and takes its lock.
+fn claim<'a, R: Files<File = File>>(
+    rt: &R,
+    path: &'a str,
+    script: Option<&RegularFile>,
+    log: Option<&RegularFile>,
+) -> io::Result<Opened<'a, LockedFile>>
+    ensures { IfOk result (λ claimed. IfSome log.entry (λ log. AreApart log.now claimed.file.file)) }
+{
+    let opened = open_or_make(rt, path)?;
+    let opened = apart_from(rt, script, opened)?;
+    let opened = apart_from(rt, log, opened)?;
+    Ok(Opened {
+        file: LockedFile::take(rt, path, opened.file)?,
+        made: opened.made,
+    })
+}
+
+/// Opens a file to be read and written, and makes it where there is none. What it holds stays.
+fn open_or_make<'a, R: Files<File = File>>(
+    rt: &R,
+    path: &'a str,
+) -> io::Result<Opened<'a, RegularFile>> {
+    match open_there(rt, path) {
+        Ok(file) => Ok(Opened { file, made: None }),
+        Err(e) if e.kind() == ErrorKind::NotFound => Ok(Opened {
+            file: make(rt, path)?,
+            made: Some(path),
+        }),
+        Err(e) => Err(e),
+    }
+}
+
+/// This file, where it is not the other one. Else it is taken away again if it was made.
+fn apart_from<'a, R: Files<File = File>>(
+    rt: &R,
+    other: Option<&RegularFile>,
+    opened: Opened<'a, RegularFile>,
+) -> io::Result<Opened<'a, RegularFile>>
+    ensures same { IfOk result (λ same. same ≡ opened.entry) }
+    ensures apart { IfOk result (λ apart. IfSome other.entry (λ other. AreApart other.now apart.file)) }
+{
+    match other {
+        Some(other) if other.is(&opened.file) => {
+            opened.undo(rt);
+            Err(given_twice())
+        }
+        _ => Ok(opened),
+    }
+}
+
+/// These two files, whose names are made durable.
+fn named<'a, R: Files<File = File>>(
+    rt: &R,
+    paths: LogPaths<'a>,
+    log: Opened<'a, LockedFile>,
+    home: Opened<'a, LockedFile>,
+) -> Result<LogPair, Unopened<'a>>
+    requires { AreApart log.file.file home.file.file }
+{
+    match sync_folders(rt, paths) {
+        Ok(()) => Ok(LogPair::new(log.file, home.file)),
+        Err(unopened) => {
+            log.undo(rt);
+            home.undo(rt);
+            Err(unopened)
+        }
+    }
+}
+
+/// Makes durable which files are in the folders of these.
+fn sync_folders<'a, R: Files<File = File>>(
+    rt: &R,
+    paths: LogPaths<'a>,
+) -> Result<(), Unopened<'a>> {
+    for path in [paths.log, paths.home] {
+        if let Err(error) = sync_folder(rt, path) {
+            return Err(Unopened::new(path, error));
+        }
+    }
+    Ok(())
+}
+
+/// Makes durable which files are in the folder of this one.
+fn sync_folder<R: Files<File = File>>(rt: &R, path: &str) -> io::Result<()> {
+    match fs::open(rt, folder_of(path)) {
+        Ok(folder) => folder.sync_all(),
+        Err(e) => Err(e),
+    }
+}
+
+/// The folder of the file that has this path.
+fn folder_of(path: &str) -> &str {
+    match Path::new(path).parent() {
+        Some(folder) if !folder.as_str().is_empty() => folder.as_str(),
+        _ => ".",
+    }
+}

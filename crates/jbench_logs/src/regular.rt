@@ -1,0 +1,140 @@
+//! Regular files: how one is opened so that what it holds stays, and which one it is.
+ghost use Rattle.std.specs.Prelude.{◌≡◌, ◌↔◌, false, true, IfOk};
+ghost use Rattle.std.specs.Fs.{asks_truncate};
+ghost use Rattle.jbench_logs.specs.Apart.{AreApart};
+
+use std::fs::{File, Files, Metadata, OpenOptions};
+use std::io::ErrorKind;
+use std::os::unix::fs::MetadataExt;
+use std::{fs, io};
+
+/// Which file of the system a file is: no two that are there at once have the same.
+#[derive(Clone, Copy, Debug, PartialEq, Eq)]
+pub struct Identity {
+    device: u64,
+    inode: u64,
+}
+
+impl Identity {
+    /// That of the file of which this is told.
+    pub(crate) fn of(metadata: &Metadata) -> Identity {
+        Identity {
+            device: metadata.dev(),
+            inode: metadata.ino(),
+        }
+    }
+}
+
+/// An open regular file, and which one it is.
+#[derive(Drop)]
+pub struct RegularFile {
+    pub(crate) file: File,
+    pub(crate) identity: Identity,
+}
+
+impl RegularFile {
+    /// A file that was opened.
+    ///
+    /// # Errors
+    ///
+    /// It is no regular file, or the system can tell nothing of it.
+    fn of(file: File) -> io::Result<RegularFile> {
+        let metadata = file.metadata()?;
+        if !metadata.is_file() {
+            return Err(no_regular_file());
+        }
+        Ok(RegularFile {
+            file,
+            identity: Identity::of(&metadata),
+        })
+    }
+
+    /// Whether two files are one.
+    pub fn is(&self, other: &RegularFile) -> bool
+        ensures { result ≡ false ↔ AreApart self.now other.now }
+    {
+        self.identity == other.identity
+    }
+
+    /// This file, where it is not the other one.
+    ///
+    /// # Errors
+    ///
+    /// `InvalidInput`: it is.
+    pub fn other_than(self, other: &RegularFile) -> io::Result<RegularFile>
+        ensures same { IfOk result (λ file. file ≡ self) }
+        ensures apart { IfOk result (λ file. AreApart other.now file) }
+    {
+        if other.is(&self) {
+            Err(given_twice())
+        } else {
+            Ok(self)
+        }
+    }
+
+    /// The file.
+    pub fn into_file(self) -> File
+        ensures { result ≡ self.file }
+    {
+        self.file
+    }
+}
+
+/// What is opened holds no log and no script.
+fn no_regular_file() -> io::Error {
+    io::Error::new(ErrorKind::InvalidInput, "it is no regular file")
+}
+
+/// One file can't be two of a command's files.
+pub(crate) fn given_twice() -> io::Error {
+    io::Error::new(ErrorKind::InvalidInput, "it is given twice")
+}
+
+/// Opens a file to be read. Before it is opened it has to be a regular one: a pipe would wait for whoever writes to it.
+///
+/// # Errors
+///
+/// There is no regular file of this path, or it can't be read.
+pub fn open_to_read<R: Files<File = File>>(rt: &R, path: &str) -> io::Result<RegularFile> {
+    require_regular(rt, path)?;
+    open_as(rt, OpenOptions::new().read(true), path)
+}
+
+/// Opens a file to be read and written, which has to be a regular one. What it holds stays.
+///
+/// # Errors
+///
+/// There is no regular file of this path, or it can't be read and written.
+pub(crate) fn open_there<R: Files<File = File>>(rt: &R, path: &str) -> io::Result<RegularFile> {
+    require_regular(rt, path)?;
+    open_as(rt, OpenOptions::new().read(true).write(true), path)
+}
+
+/// Makes a file to be read and written, where there is none.
+///
+/// # Errors
+///
+/// There is a file of this path, or none can be made.
+pub(crate) fn make<R: Files<File = File>>(rt: &R, path: &str) -> io::Result<RegularFile> {
+    open_as(
+        rt,
+        OpenOptions::new().read(true).write(true).create_new(true),
+        path,
+    )
+}
+
+/// Opens a file in a way that leaves it what it holds.
+fn open_as<R: Files<File = File>>(rt: &R, how: &OpenOptions, path: &str) -> io::Result<RegularFile>
+    requires { asks_truncate how.now ≡ false }
+{
+    RegularFile::of(how.open(rt, path)?)
+}
+
+/// Fails where there is no regular file of this path. It opens nothing.
+fn require_regular<R: Files<File = File>>(rt: &R, path: &str) -> io::Result<()> {
+    if fs::metadata(rt, path)?.is_file() {
+        Ok(())
+    } else {
+        Err(no_regular_file())
+    }
+}

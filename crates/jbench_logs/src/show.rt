@@ -1,0 +1,263 @@
+//! The command `show`: every field of a superblock by its name, whatever its value is, with the test that it fails; and below, whether
+//! an opening takes it, and what keeps it from a log of another maker.
+ghost use Rattle.std.specs.Prelude.{◌+◌, ◌≤◌, length};
+ghost use Rattle.block_device.specs.State.{Stays};
+
+use crate::features::{
+    COMPATIBLE, INCOMPATIBLE, READ_ONLY_COMPATIBLE, REVOKE, write_features, write_ways_out,
+};
+use block_device::{Device, read_block};
+use byteorder::{BigEndian, ByteOrder};
+use jbench_words::fault::{self, Fault, Status};
+use journal_model::layout::{GREATEST_LENGTH, LEAST_LENGTH, MAGIC, SUPER_TYPE};
+use journal_model::{Area, Block, JournalError};
+use journal_script::is_block_size;
+use log_format::Super;
+use std::alloc::Global;
+use std::io::Write;
+use std::{fmt, io};
+
+/// Bytes of a superblock.
+const SUPER_BYTES: usize = 1024;
+
+/// The fewest blocks of a ring.
+const LEAST_RING: u32 = 16;
+
+/// Bytes, which are written in hex digits.
+#[derive(Clone, Copy)]
+struct Hex<'a>(&'a [u8]);
+
+impl fmt::Display for Hex<'_> {
+    fn fmt<W: fmt::Write>(&self, f: &mut fmt::Formatter<W>) -> fmt::Result {
+        for byte in self.0 {
+            write!(f, "{byte:02x}")?;
+        }
+        Ok(())
+    }
+}
+
+/// Prints the superblock of the log of a device, and whether an opening takes it. `path` names the log's file. The device is read, and
+/// stays as it was. Where the log has no whole block, or it can't be read, nothing is printed, and one line on `err` says so.
+///
+/// # Errors
+///
+/// The output can't be written.
+pub fn show<D: Device, W: Write + Drop, E: Write + Drop>(
+    alloc: Global,
+    path: &str,
+    device: &mut D,
+    out: W,
+    err: E,
+) -> io::Result<Status>
+    ensures { Stays (D.state device.old) (D.state device.new) }
+{
+    let (mut out, mut err) = (out, err);
+    match show_device(alloc, device, &mut out) {
+        Ok(()) => Ok(Status::Fine),
+        Err(Fault::Output(e)) => Err(e),
+        Err(fault) => fault::refuse(&mut err, path, &fault),
+    }
+}
+
+/// Prints the superblock of the log of a device.
+fn show_device<D: Device, W: Write>(alloc: Global, device: &mut D, out: &mut W) -> Result<(), Fault>
+    ensures { Stays (D.state device.old) (D.state device.new) }
+{
+    let blocks = device.blocks(Area::Log);
+    let block = read_first(alloc, device)?;
+    let bytes = block.bytes();
+    if bytes.len() < SUPER_BYTES {
+        return Err(Fault::Refused(JournalError::BadLength));
+    }
+    show_superblock(bytes, blocks, out)?;
+    Ok(())
+}
+
+/// Reads block 0 of the log.
+fn read_first<D: Device>(alloc: Global, device: &mut D) -> Result<Block, JournalError>
+    ensures { Stays (D.state device.old) (D.state device.new) }
+{
+    if device.blocks(Area::Log) == 0 {
+        return Err(JournalError::BadLength);
+    }
+    read_block(alloc, device, Area::Log, 0)
+}
+
+/// Prints the superblock that a block of a log holds, which has so many of them.
+fn show_superblock(bytes: &[u8], blocks: u64, out: &mut impl Write) -> io::Result<()>
+    requires { 1024 ≤ length bytes.now }
+{
+    writeln!(out, "log blocks={blocks} blocksize={}", bytes.len())?;
+    let fields = Super::fields(bytes);
+    show_header(bytes, out)?;
+    show_lengths(&fields, bytes.len(), blocks, out)?;
+    show_tail(&fields, out)?;
+    show_features(&fields, out)?;
+    show_rest(bytes, out)?;
+    tell(bytes, &fields, blocks, out)
+}
+
+/// The number at a place of a superblock.
+fn number(bytes: &[u8], at: usize) -> u32
+    requires { at + 4 ≤ length bytes.now }
+{
+    BigEndian::read_u32(&bytes[at..])
+}
+
+/// Says below a field that does not pass its test which refusal it comes to, and what is wanted of it.
+fn say_test(out: &mut impl Write, passes: bool, e: JournalError, wanted: &str) -> io::Result<()> {
+    if passes {
+        Ok(())
+    } else {
+        writeln!(out, "  refusal {} {e}: wanted is {wanted}", e.number())
+    }
+}
+
+/// Prints the fields of the header.
+fn show_header(bytes: &[u8], out: &mut impl Write) -> io::Result<()>
+    requires { 1024 ≤ length bytes.now }
+{
+    writeln!(out, "h_magic {}", Hex(&bytes[..4]))?;
+    say_test(
+        out,
+        bytes.starts_with(&MAGIC),
+        JournalError::BadMagic,
+        "c03b3998",
+    )?;
+    let block_type = number(bytes, 4);
+    writeln!(out, "h_blocktype {block_type}")?;
+    say_test(
+        out,
+        block_type == SUPER_TYPE,
+        JournalError::BadType,
+        "4, a superblock of version 2",
+    )?;
+    writeln!(out, "h_sequence {}", number(bytes, 8))
+}
+
+/// Prints the fields of lengths and places, of a log in blocks of so many bytes, which has so many of them.
+fn show_lengths(
+    fields: &Super,
+    block_size: usize,
+    blocks: u64,
+    out: &mut impl Write,
+) -> io::Result<()> {
+    let size = u64::from(fields.s_blocksize);
+    writeln!(out, "s_blocksize {size}")?;
+    let passes = is_block_size(size) && size == block_size as u64;
+    say_test(
+        out,
+        passes,
+        JournalError::BadBlockSize,
+        "1024, 2048 or 4096",
+    )?;
+    let length = fields.s_maxlen;
+    writeln!(out, "s_maxlen {length}")?;
+    let passes = LEAST_LENGTH <= length && length <= GREATEST_LENGTH && u64::from(length) <= blocks;
+    say_test(
+        out,
+        passes,
+        JournalError::BadLength,
+        "17 to 1048576, and no more than the log has blocks",
+    )?;
+    let first = fields.s_first;
+    writeln!(out, "s_first {first}")?;
+    let passes = first > 0 && length.saturating_sub(first) >= LEAST_RING;
+    say_test(
+        out,
+        passes,
+        JournalError::BadFirst,
+        "1 or more, and 16 below s_maxlen or less",
+    )
+}
+
+/// Prints the fields of the tail and of an error.
+fn show_tail(fields: &Super, out: &mut impl Write) -> io::Result<()> {
+    writeln!(out, "s_sequence {}", fields.s_sequence)?;
+    let start = fields.s_start;
+    writeln!(out, "s_start {start}")?;
+    let passes = start == 0 || (fields.s_first <= start && start < fields.s_maxlen);
+    say_test(
+        out,
+        passes,
+        JournalError::BadStart,
+        "0, of a clean log, or a place from s_first on and below s_maxlen",
+    )?;
+    writeln!(out, "s_errno {}", fields.s_errno)?;
+    say_test(
+        out,
+        fields.s_errno == 0,
+        JournalError::ErrnoSet,
+        "0, no error that its file system noted",
+    )
+}
+
+/// Prints the fields of features, the UUID, and the count of users.
+fn show_features(fields: &Super, out: &mut impl Write) -> io::Result<()> {
+    let compatible = fields.s_feature_compat;
+    write_features(out, "s_feature_compat", compatible, &COMPATIBLE)?;
+    say_test(out, compatible == 0, JournalError::BadFeature, "0")?;
+    let incompatible = fields.s_feature_incompat;
+    write_features(out, "s_feature_incompat", incompatible, &INCOMPATIBLE)?;
+    say_test(
+        out,
+        incompatible == REVOKE,
+        JournalError::BadFeature,
+        "0x1, revoke alone",
+    )?;
+    let read_only = fields.s_feature_ro_compat;
+    write_features(out, "s_feature_ro_compat", read_only, &READ_ONLY_COMPATIBLE)?;
+    say_test(out, read_only == 0, JournalError::BadFeature, "0")?;
+    writeln!(out, "s_uuid {}", Hex(&fields.s_uuid))?;
+    writeln!(out, "s_nr_users {}", fields.s_nr_users)?;
+    say_test(
+        out,
+        fields.s_nr_users == 1,
+        JournalError::BadFeature,
+        "1, a log of one file system",
+    )
+}
+
+/// Prints the fields that nothing here reads.
+/// Source: journal.rst, "Super Block".
+fn show_rest(bytes: &[u8], out: &mut impl Write) -> io::Result<()>
+    requires { 1024 ≤ length bytes.now }
+{
+    writeln!(out, "s_dynsuper {}", number(bytes, 0x44))?;
+    writeln!(out, "s_max_transaction {}", number(bytes, 0x48))?;
+    writeln!(out, "s_max_trans_data {}", number(bytes, 0x4c))?;
+    writeln!(out, "s_checksum_type {}", bytes[0x50])?;
+    writeln!(out, "s_num_fc_blks {}", number(bytes, 0x54))?;
+    writeln!(out, "s_head {}", number(bytes, 0x58))?;
+    writeln!(out, "s_checksum {}", Hex(&bytes[0xfc..0x100]))?;
+    writeln!(out, "s_users {}", Hex(&bytes[0x100..0x110]))
+}
+
+/// Says whether an opening takes the superblock, and where it does not for its features, what an owner of the log does about each.
+fn tell(bytes: &[u8], fields: &Super, blocks: u64, out: &mut impl Write) -> io::Result<()> {
+    match Super::read(bytes, blocks) {
+        Ok(_) => writeln!(out, "an opening takes this superblock"),
+        Err(e) => {
+            writeln!(
+                out,
+                "an opening refuses this superblock: {} {e}",
+                e.number()
+            )?;
+            tell_ways_out(fields, out)
+        }
+    }
+}
+
+/// Says of each feature that keeps an opening from a log what its owner does about it.
+fn tell_ways_out(fields: &Super, out: &mut impl Write) -> io::Result<()> {
+    write_ways_out(out, fields.s_feature_compat, 0, &COMPATIBLE)?;
+    write_ways_out(out, fields.s_feature_incompat, REVOKE, &INCOMPATIBLE)?;
+    write_ways_out(out, fields.s_feature_ro_compat, 0, &READ_ONLY_COMPATIBLE)?;
+    if fields.s_feature_incompat & REVOKE == 0 {
+        writeln!(
+            out,
+            "  without revoke: mount its file system and write to it, so that the kernel writes the superblock anew"
+        )?;
+    }
+    Ok(())
+}

@@ -1,0 +1,212 @@
+//! Commands over files that another program has.
+use super::text_of;
+use file_device::{Unlocked, lock, lock_shared};
+use jbench_commands::obeying::obey;
+use jbench_words::words::parse;
+use std::alloc::{AllocError, Global};
+use std::fs;
+use std::fs::{File, OpenOptions};
+use std::test::Fail;
+
+/// The folder of the files.
+const FOLDER: &str = "locked";
+
+/// A script that writes nothing.
+const SCRIPT: &str = r#"{"ops": []}"#;
+
+/// A command, and what it says while another program has the file that it is refused for.
+type Row = (&'static str, &'static str);
+
+/// Commands while another program reads and writes the log. Nothing is made, so a file that is not there stays so.
+const LOG_IS_WRITTEN: [Row; 7] = [
+    (
+        "jbench format locked/log locked/home",
+        "| jbench: file locked/log\n  another program has it\nRefused",
+    ),
+    (
+        "jbench dump locked/log",
+        "| jbench: file locked/log\n  another program has it\nRefused",
+    ),
+    (
+        "jbench recover locked/log locked/home",
+        "| jbench: file locked/log\n  another program has it\nRefused",
+    ),
+    (
+        "jbench apply locked/log locked/home locked/script",
+        "| jbench: file locked/log\n  another program has it\nRefused",
+    ),
+    (
+        "jbench bench locked/log locked/home --transactions 1",
+        "| jbench: file locked/log\n  another program has it\nRefused",
+    ),
+    (
+        "jbench run locked/script --image-log locked/new --image-home locked/log",
+        "| jbench: file locked/log\n  another program has it\nRefused",
+    ),
+    (
+        "jbench format locked/new locked/log",
+        "| jbench: file locked/log\n  another program has it\nRefused",
+    ),
+];
+
+/// Commands while another program writes the home area.
+const HOME_IS_WRITTEN: [Row; 3] = [
+    (
+        "jbench format locked/log locked/home",
+        "| jbench: file locked/home\n  another program has it\nRefused",
+    ),
+    (
+        "jbench recover locked/log locked/home",
+        "| jbench: file locked/home\n  another program has it\nRefused",
+    ),
+    (
+        "jbench apply locked/log locked/home locked/script --stay",
+        "| jbench: file locked/home\n  another program has it\nRefused",
+    ),
+];
+
+/// Commands while another program reads the log.
+const LOG_IS_READ: [Row; 3] = [
+    (
+        "jbench dump locked/log",
+        "super blocksize=1024 maxlen=33 first=1 sequence=1 start=0\nempty sequence=1\n| Fine",
+    ),
+    (
+        "jbench recover locked/log locked/home",
+        "| jbench: file locked/log\n  another program has it\nRefused",
+    ),
+    (
+        "jbench format locked/log locked/home",
+        "| jbench: file locked/log\n  another program has it\nRefused",
+    ),
+];
+
+/// Commands while nobody else has a file. Each leaves its locks behind it.
+const NOBODY: [Row; 4] = [
+    (
+        "jbench format locked/log locked/home",
+        "formatted 33 blocks of 1024\n| Fine",
+    ),
+    (
+        "jbench dump locked/log",
+        "super blocksize=1024 maxlen=33 first=1 sequence=1 start=0\nempty sequence=1\n| Fine",
+    ),
+    (
+        "jbench apply locked/log locked/log locked/script",
+        "| jbench: file locked/log\n  it is given twice\nRefused",
+    ),
+    (
+        "jbench dump locked/log",
+        "super blocksize=1024 maxlen=33 first=1 sequence=1 start=0\nempty sequence=1\n| Fine",
+    ),
+];
+
+/// The words of a line.
+fn words_of(alloc: Global, line: &'static str) -> Result<Vec<&'static str>, AllocError> {
+    let mut words = Vec::new(alloc);
+    for word in line.split(' ') {
+        words.push(word)?;
+    }
+    Ok(words)
+}
+
+/// What a command says.
+fn said(rt: &HostRuntime, line: &'static str) -> Result<String, Fail> {
+    let words = words_of(rt.alloc(), line)?;
+    let mut out = Vec::new(rt.alloc());
+    let mut err = Vec::new(rt.alloc());
+    match parse(rt.alloc(), &words) {
+        Ok(words) => {
+            let status = obey(rt, &words, &mut out, &mut err)?;
+            text_of(rt.alloc(), &out, &err, status)
+        }
+        Err(_) => Err(Fail::new("words are refused")),
+    }
+}
+
+/// The first of the rows whose command says something else, and what that is.
+fn first_other(rt: &HostRuntime, rows: &[Row]) -> Result<Option<String>, Fail> {
+    for (line, wanted) in rows {
+        let found = said(rt, line)?;
+        if found.as_str() != *wanted {
+            return Ok(Some(format!(in rt.alloc(); "{line}\n{found}")?));
+        }
+    }
+    Ok(None)
+}
+
+/// The first of the rows that comes to something else while this file is written by another program.
+fn first_while_written(rt: &HostRuntime, path: &str, rows: &[Row]) -> Result<Option<String>, Fail> {
+    let file = opened(rt, path)?;
+    lock(&file)?;
+    first_other(rt, rows)
+}
+
+/// The first of the rows that comes to something else while this file is read by another program.
+fn first_while_read(rt: &HostRuntime, path: &str, rows: &[Row]) -> Result<Option<String>, Fail> {
+    let file = opened(rt, path)?;
+    lock_shared(&file)?;
+    first_other(rt, rows)
+}
+
+/// A file that is there.
+fn opened(rt: &HostRuntime, path: &str) -> Result<File, Fail> {
+    Ok(OpenOptions::new().read(true).write(true).open(rt, path)?)
+}
+
+/// Whether the files hold what they held, and none was made.
+fn is_untouched(rt: &HostRuntime, log: &[u8], home: &[u8]) -> Result<bool, Fail> {
+    let same_log = fs::read(rt, "locked/log")?.as_slice() == log;
+    let same_home = fs::read(rt, "locked/home")?.as_slice() == home;
+    Ok(same_log && same_home && !fs::exists(rt, "locked/new")?)
+}
+
+/// Which of these come to something else than is wanted, while other programs have files.
+fn others(rt: &HostRuntime) -> Result<[Option<String>; 3], Fail> {
+    Ok([
+        first_while_written(rt, "locked/log", &LOG_IS_WRITTEN)?,
+        first_while_written(rt, "locked/home", &HOME_IS_WRITTEN)?,
+        first_while_read(rt, "locked/log", &LOG_IS_READ)?,
+    ])
+}
+
+/// Whether a lock was not taken since another opening has one.
+fn is_held(taken: Result<(), Unlocked>) -> bool {
+    matches!(taken, Err(Unlocked::Held))
+}
+
+/// Which locks two openings of a file can have at once: two readers, a reader and then a writer, a writer and then either.
+fn held(rt: &HostRuntime) -> Result<[bool; 4], Fail> {
+    let (one, other) = (opened(rt, "locked/log")?, opened(rt, "locked/log")?);
+    lock_shared(&one)?;
+    let two_readers = is_held(lock_shared(&other));
+    lock_shared(&other)?;
+    let reader_and_writer = is_held(lock(&one));
+    drop(one);
+    lock(&other)?;
+    let one = opened(rt, "locked/log")?;
+    Ok([
+        two_readers,
+        reader_and_writer,
+        is_held(lock_shared(&one)),
+        is_held(lock(&one)),
+    ])
+}
+
+#[test]
+fn files_that_another_program_has(rt: HostRuntime) -> Result<(), Fail> {
+    let _ = fs::remove_dir_all(&rt, FOLDER);
+    fs::create_dir(&rt, FOLDER)?;
+    fs::write(&rt, "locked/script", SCRIPT.as_bytes())?;
+    let alone = first_other(&rt, &NOBODY)?;
+    assert_eq!(rt; alone.as_ref().map(String::as_str), None);
+    let (log, home) = (fs::read(&rt, "locked/log")?, fs::read(&rt, "locked/home")?);
+    let [log_written, home_written, log_read] = others(&rt)?;
+    assert_eq!(rt; log_written.as_ref().map(String::as_str), None);
+    assert_eq!(rt; home_written.as_ref().map(String::as_str), None);
+    assert_eq!(rt; log_read.as_ref().map(String::as_str), None);
+    assert!(rt; is_untouched(&rt, &log, &home)?, "refused commands");
+    assert_eq!(rt; held(&rt)?, [false, true, true, true]);
+    fs::remove_dir_all(&rt, FOLDER)?;
+    Ok(())
+}
