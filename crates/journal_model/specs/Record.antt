@@ -1,6 +1,6 @@
 -- What a history keeps of its handles: each in one transaction, each read answered by the last write.
 -- Source: journalling.rst (a handle belongs to one transaction), the GoJournal paper (atomic operations).
-use Rattle.std.specs.Prelude.{◌≡◌, ℕ, ◌==◌, nat_eq, nat_le, List, ◌∷◌, ◌++◌, filter, count_by, Some, Contains, All}
+use Rattle.std.specs.Prelude.{◌≡◌, ℕ, nat_eq, nat_le, List, ◌∷◌, ◌++◌, count_by, Some, Contains, All}
 use Rattle.std.specs.List.{flat_map, list_any, IsDistinct}
 use Rattle.journal_model.specs.declared.entry.Entry.TheVariants.{Copy}
 use Rattle.journal_model.specs.declared.transaction.Op.TheVariants.{Read}
@@ -10,10 +10,6 @@ use Rattle.journal_model.specs.Transaction.{History, effect}
 -- all steps of a history, in order
 abbrev pub steps_of : History → List Step
 steps_of ts = flat_map (λ t. t.steps) ts
-
--- the steps of one handle, in order
-abbrev pub steps_of_handle : ℕ → List Step → List Step
-steps_of_handle h ss = filter (λ s. s.handle == h) ss
 
 -- no handle number stands twice in the history, and each step is of a handle of its transaction: so all of a
 -- handle's steps lie in the one transaction that names it

@@ -74,8 +74,3 @@ pub record IsAhead (r : Ring) (image : Image) (limit place : ℕ) : Type 0 where
   pub high : place < r.first + r.blocks
   pub magic : begins_with_magic (image Log place) ≡ true
   pub above : limit < sequence_in (image Log place)
-
--- a ring block that is left from an earlier lap: its sequence is below the next transaction's
-pub record IsStale (next : ℕ) (block : List ℕ) : Type 0 where
-  pub magic : begins_with_magic block ≡ true
-  pub below : sequence_in block < next

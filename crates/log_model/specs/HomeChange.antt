@@ -3,11 +3,9 @@
 use Rattle.std.specs.Prelude.{◌≡◌, ◌⊎◌, ℕ, ◌<◌, List, Some, slice_get}
 use Rattle.journal_model.specs.declared.entry.Content.TheVariants.{Copy as CopyContent, Direct}
 use Rattle.journal_model.specs.declared.entry.Entry.TheVariants.{Copy}
-use Rattle.log_model.specs.declared.log.Text.{Text}
 use Rattle.journal_model.specs.declared.number.Area.TheVariants.{Home}
 use Rattle.journal_model.specs.Disk.{Disk, IsOneOf, held}
 use Rattle.journal_model.specs.Reading.{HasDirectRight}
-use Rattle.log_model.specs.Replay.{IsLive}
 use Rattle.journal_model.specs.Transaction.{Transaction, History, Volume, after, effect}
 
 -- what may be added to what a home block holds: a fact about the block and the bytes
@@ -23,10 +21,6 @@ pub record HomeAddsOnly (may : Addition) (old new : Disk) : Type 0 where
 -- a checkpoint may add the copy that the committed transactions leave of the block
 abbrev pub IsCommittedCopy : History → ℕ → Addition
 IsCommittedCopy ts committed b v = after ts committed b ≡ CopyContent v
-
--- an opening may add the live copies of its chain
-abbrev pub IsChainCopy : List Text → Addition
-IsChainCopy texts b v = (i : ℕ) × (k : ℕ) × IsLive texts b i k v
 
 -- a direct write may add its bytes to its block, where that block may be written directly
 abbrev pub IsDirectWrite : History → ℕ → ℕ → ℕ → List ℕ → Addition
