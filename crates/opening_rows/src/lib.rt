@@ -12,7 +12,7 @@ mod drawing;
 mod forgetting;
 mod opening;
 mod plain_opening;
-mod plans;
+mod planning;
 mod random;
 mod told;
 
@@ -21,5 +21,5 @@ pub use calls::opening_calls;
 pub use changes::changed_bytes;
 pub use forgetting::forgetful_openings;
 pub use opening::{failed_openings, openings, second_openings};
-pub use plans::plans;
+pub use planning::plans;
 pub use random::random_logs;

@@ -90,7 +90,8 @@ pub(crate) fn number_of(log: &Log, transactions: u64) -> Tid
 }
 
 /// Goes over the complete transactions of a log that is not clean, and notes their revokes and copies. One block is read at a
-/// time, and no copy is. `transactions` is what `scan` answered.
+/// time, and no copy is. `transactions` is what `scan` answered. Numbers do not begin again behind the greatest one: an opening
+/// that finds none left for the next transaction refuses the log before it gathers, so the numbers of all that are gone over fit.
 /// Source: fs/jbd2/recovery.c by behaviour; the table of copies is this project's own.
 ///
 /// # Errors

@@ -38,7 +38,8 @@ struct Copies {
 /// Writes home the copies of a log that is not clean, in the order of its chain: of each block the newest one, unescaped, where
 /// neither its own transaction nor a later one revokes the block. `transactions` is what `scan` answered, and `tables` what
 /// `gather` did. One block is read and written at a time, no memory is taken, and no block is written twice. Nothing is written to
-/// the log. Ok comes only once each of the transactions was passed, which takes a read for each at least.
+/// the log. Ok comes only once each of the transactions was passed, which takes a read for each at least. Their numbers fit, as
+/// `gather` says.
 /// Source: fs/jbd2/recovery.c by behaviour; that a block is written once is this project's own.
 ///
 /// # Errors
