@@ -19,7 +19,7 @@ use Rattle.log_dump.specs.declared.fault.Fault.{Fault}
 use Rattle.log_dump.specs.declared.fault.Fault.TheVariants.{Refused, Output}
 use Rattle.log_scan.specs.Scanning.{AreTextsOf, IsScanned, IsScanRefused, IsDamageOf}
 use Rattle.log_scan.specs.Refusals.{NamesDamage}
-use Rattle.log_scan.proofs.Listed.{damage-around, damage-device, damage-memory, super-device}
+use Rattle.log_scan.proofs.Listed.{damage-around, damage-device, damage-memory, super-device, super-memory}
 use Rattle.log_dump.specs.Dumping.{DumpRefused, HasDump, IsContentRefusal, IsDumpFault, IsLogRefused, IsPrintRefused, IsReadLog, shape_of}
 use Rattle.log_scan.specs.Finding.{every_block}
 use Rattle.log_dump.specs.Lines.{ended, placed_lines}
@@ -74,22 +74,22 @@ tested-for fields size blocks length_is count block other answer long many same 
 
 -- why the superblock is refused is why the log is
 pub log-refused : (honest unwritten : Type 0) (old new : DeviceState) (e : JournalError) → unwritten → IsLogRefused honest old new e → DumpRefused honest unwritten old new e
-log-refused honest unwritten old new e nothing (inl (inl failed)) = record {
+log-refused honest unwritten old new e nothing (inl failed) = record {
   device = λ is. failed.1;
   no_fault = λ other. absurd (other failed.0);
-  memory = λ is. nothing;
+  memory = λ is. let wrong = failed.0 in absurd (cc);
   content = λ other more. absurd (other failed.0);
 }
-log-refused honest unwritten old new e nothing (inl (inr failed)) = record {
+log-refused honest unwritten old new e nothing (inr (inl failed)) = record {
   device = λ is. let wrong = failed.0 in absurd (cc);
   no_fault = λ other. failed.1;
-  memory = λ is. nothing;
+  memory = λ is. (failed.2, nothing);
   content = λ other more. absurd (more failed.0);
 }
-log-refused honest unwritten old new e nothing (inr refused) = record {
+log-refused honest unwritten old new e nothing (inr (inr refused)) = record {
   device = λ is. absurd (super-device e refused.0 is);
   no_fault = λ other. refused.1;
-  memory = λ is. nothing;
+  memory = λ is. absurd (super-memory e refused.0 is);
   content = λ other more. (inl refused.0, λ h. (BySuperblock e (refused.2 h), nothing));
 }
 
@@ -137,13 +137,13 @@ pub count-refused : (honest unwritten : Type 0) (s : Super) (old mid new : Devic
 count-refused honest unwritten s old mid new e nothing started faults disk accepted read (inl failed) = record {
   device = λ is. failed.1 ∙ ap one_more_fault faults;
   no_fault = λ other. absurd (other failed.0);
-  memory = λ is. nothing;
+  memory = λ is. let wrong = failed.0 in absurd (cc);
   content = λ other more. absurd (other failed.0);
 }
 count-refused honest unwritten s old mid new e nothing started faults disk accepted read (inr (names, kept, damage)) = record {
   device = λ is. absurd (damage-device s.s_first s.s_maxlen e names is);
   no_fault = λ other. kept ∙ faults;
-  memory = λ is. nothing;
+  memory = λ is. absurd (damage-memory s.s_first s.s_maxlen e names is);
   content = λ other more. (
     damage-content old.shape s e accepted names,
     λ h. (

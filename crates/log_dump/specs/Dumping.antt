@@ -1,5 +1,5 @@
 -- What a dump makes of a device, and why there is none.
-use Rattle.std.specs.Prelude.{◌≡◌, ◌≢◌, ◌⊎◌, ℕ, ◌+◌, List, Option, Some, None}
+use Rattle.std.specs.Prelude.{◌≡◌, ◌≢◌, ◌⊎◌, ℕ, ◌+◌, ◌<◌, List, Option, Some, None}
 use Rattle.std.specs.Io.KnownBytes.{Appends}
 use Rattle.log_model.specs.declared.log.Text.{Text}
 use Rattle.journal_model.specs.declared.number.Area.TheVariants.{Log}
@@ -10,8 +10,8 @@ use Rattle.log_model.specs.Dump.{IsDump, IsDumpRefused, dump_shape, text_caption
 use Rattle.log_model.specs.Opening.{layout_of, super_of}
 use Rattle.log_model.specs.ReadingLog.{TextBegins}
 use Rattle.log_model.specs.Superblock.{Super, super_refusal}
-use Rattle.block_device.specs.State.{DeviceState, IsDeviceFailure, IsFailure, one_more_fault}
-use Rattle.log_scan.specs.Finding.{blocks_from, every_block}
+use Rattle.block_device.specs.State.{DeviceState, IsDeviceFailure, one_more_fault}
+use Rattle.log_scan.specs.Finding.{blocks_from, every_block, most_bytes}
 use Rattle.log_scan.specs.Refusals.{NamesDamage, super_refusals}
 use Rattle.log_dump.specs.Lines.{placed_lines}
 use Rattle.log_dump.specs.declared.fault.Fault.{Fault}
@@ -51,12 +51,12 @@ pub record PrintsDump (shape : Shape) (image : Image) (old new : Option (List �
 abbrev pub IsContentRefusal : Shape → JournalError → Type 0
 IsContentRefusal shape e = IsOneOf super_refusals e ⊎ NamesDamage 1 shape.log_blocks e
 
--- Why a log is refused: the device failed; memory ran out, and nothing was written; or else nothing was written, and what
--- was read is refused for what stands in it.
+-- Why a log is refused: the device failed; memory ran out, which is taken for a block that is larger than any log's alone, and
+-- nothing was written; or else nothing was written, and what was read is refused for what stands in it.
 pub record DumpRefused (honest unwritten : Type 0) (old new : DeviceState) (e : JournalError) : Type 0 where
   pub device : e ≡ Device → new.faults ≡ one_more_fault old.faults
   pub no_fault : e ≢ Device → new.faults ≡ old.faults
-  pub memory : e ≡ Memory → unwritten
+  pub memory : e ≡ Memory → (most_bytes < old.shape.block_size) × unwritten
   pub content : e ≢ Device → e ≢ Memory → IsContentRefusal old.shape e × (honest → IsDumpRefused (shape_of old) (reading old.disk) e × unwritten)
 
 -- why there is no dump, or only a part of one: the log is refused; or the output can't be written, and the log has a dump
@@ -64,11 +64,12 @@ abbrev pub IsDumpFault : (honest unwritten : Type 0) → DeviceState → DeviceS
 IsDumpFault honest unwritten old new (Refused e) = DumpRefused honest unwritten old new e
 IsDumpFault honest unwritten old new (Output e) = (new.faults ≡ old.faults) × (honest → HasDump (shape_of old) (reading old.disk))
 
--- the superblock can't be read, or is refused
+-- the superblock can't be read, where memory is taken for a block that is larger than any log's alone; or it is refused
 abbrev pub IsLogRefused : (honest : Type 0) → DeviceState → DeviceState → JournalError → Type 0
 IsLogRefused honest old new e =
-    IsFailure old new e
-    ⊎ (IsOneOf super_refusals e × (new.faults ≡ old.faults) × (honest → super_refusal (shape_of old) (old.disk Log 0).reads ≡ Some e))
+    IsDeviceFailure old new e
+    ⊎ (((e ≡ Memory) × (new.faults ≡ old.faults) × (most_bytes < old.shape.block_size))
+    ⊎ (IsOneOf super_refusals e × (new.faults ≡ old.faults) × (honest → super_refusal (shape_of old) (old.disk Log 0).reads ≡ Some e)))
 
 -- the superblock is accepted, and these are its fields
 pub record IsReadLog (shape : Shape) (image : Image) (s : Super) : Type 0 where

@@ -1,5 +1,5 @@
 //! Printing the log of a device.
-ghost use Rattle.std.specs.Prelude.{◌≡◌, ◌≢◌, ◌⊎◌, ◌≤◌, List, [], length, IfOk, IfErr, OnOk, OnErr, MatchResult};
+ghost use Rattle.std.specs.Prelude.{◌≡◌, ◌≢◌, ◌⊎◌, ◌<◌, ◌≤◌, List, [], length, IfOk, IfErr, OnOk, OnErr, MatchResult};
 ghost use Rattle.std.specs.Io.KnownBytes.{Appends};
 ghost use Rattle.log_model.specs.declared.log.Text.{Text};
 ghost use Rattle.journal_model.specs.Disk.{reading};
@@ -7,7 +7,7 @@ ghost use Rattle.log_model.specs.Dump.{dump_text};
 ghost use Rattle.log_model.specs.Opening.{layout_of, ring_of};
 ghost use Rattle.block_device.specs.State.{Stays};
 ghost use Rattle.log_format.specs.Accepted.{IsAccepted};
-ghost use Rattle.log_scan.specs.Finding.{every_block};
+ghost use Rattle.log_scan.specs.Finding.{every_block, most_bytes};
 ghost use Rattle.log_scan.specs.Scanning.{AreTextsOf};
 ghost use Rattle.log_dump.specs.Dumping.{HasDump, IsDumpFault, IsLogRefused, IsPrintRefused, IsReadLog, PrintsDump, shape_of};
 
@@ -17,7 +17,7 @@ use crate::printing::write_transactions;
 use block_device::{Device, read_block};
 use journal_model::{Area, JournalError};
 use log_format::Super;
-use log_scan::{Finder, Log, scan};
+use log_scan::{BlockBuffer, Finder, Log, scan};
 use std::alloc::Global;
 use std::io;
 use std::io::Write;
@@ -28,14 +28,15 @@ use std::io::Write;
 ///
 /// The home area is not known, so block numbers are not tested, and neither is what is left in the ring from earlier laps,
 /// nor whether a number is left for a further transaction. All other tests of an opening are made, and nothing is written
-/// before all have passed. Memory is taken for block 0 alone. No block is read more than twice, and the device is not written.
+/// before all have passed. It holds a block, and room for the tags and numbers of one, without taking memory. (Where the device's
+/// blocks are larger than 4096 bytes, which no log's are, block 0 is read in memory.) No block is read more than twice, and the device is not written.
 /// Source: fs/jbd2/recovery.c by behaviour; the refusals and the lines are this project's own.
 ///
 /// # Errors
 ///
 /// `BadMagic` to `ErrnoSet` and `BadLength`: the superblock is refused, or there is none. `Damage`: a descriptor or revoke
 /// block behind the complete transactions, of the number that is due there, is malformed, and stands at this place of the
-/// log area. `Memory`. At these nothing was written. `Device`: a read failed, and the first lines may have been written.
+/// log area. `Memory`, of which nothing but such a large block 0 is taken. At these nothing was written. `Device`: a read failed, and the first lines may have been written.
 /// `Fault::Output`: the log is not refused and the output can't be written; a part of the dump may have been. The device is
 /// as it was in each case.
 pub fn dump<D: Device, W: Write>(alloc: Global, device: &mut D, out: &mut W) -> Result<(), Fault>
@@ -68,9 +69,32 @@ fn read_log<D: Device>(alloc: Global, device: &mut D) -> Result<Log, JournalErro
     if log_blocks == 0 {
         return Err(JournalError::BadLength);
     }
-    let superblock = read_block(alloc, device, Area::Log, 0)?;
+    if device.block_size() > BlockBuffer::MOST_BYTES {
+        return Err(refusal_of_large(alloc, device));
+    }
+    let mut superblock = BlockBuffer::new(device.block_size());
+    superblock.read(device, Area::Log, 0)?;
     let fields = Super::read(superblock.bytes(), log_blocks)?;
     Ok(Log::new(fields))
+}
+
+/// Why a log is refused whose blocks are larger than any log's. Block 0 is read in memory.
+fn refusal_of_large<D: Device>(alloc: Global, device: &mut D) -> JournalError
+    requires some { 0 < (D.state device.old).shape.log_blocks }
+    requires large { most_bytes < (D.state device.old).shape.block_size }
+    ensures refused { IsLogRefused (D.honest device.new) (D.state device.old) (D.state device.new) result }
+    ensures stays { Stays (D.state device.old) (D.state device.new) }
+    ensures honest { D.honest device.new → D.honest device.old }
+{
+    let block = match read_block(alloc, device, Area::Log, 0) {
+        Ok(block) => block,
+        Err(e) => return e,
+    };
+    match Super::read(block.bytes(), device.blocks(Area::Log)) {
+        // Not met: no log has such blocks.
+        Ok(_) => JournalError::BadBlockSize,
+        Err(e) => e,
+    }
 }
 
 /// Prints the dump of a clean log.

@@ -1,26 +1,25 @@
 -- What holds at each moment of an opening that takes what stands before a damaged block, and what its calls leave.
-use Rattle.std.proofs.Common.{refl, sym, ◌∙◌, ap, subst, arith, inl, inr}
-use Rattle.std.specs.Prelude.{◌≡◌, ◌≢◌, ℕ, ◌+◌, ◌<◌, ◌≤◌, List, [], ◌∷◌, ◌++◌, length, None, Option, Contains}
+use Rattle.std.proofs.Common.{refl, sym, ◌∙◌, subst, arith, inr}
+use Rattle.std.specs.Prelude.{◌≡◌, ℕ, ◌+◌, ◌<◌, List, [], ◌∷◌, ◌++◌, length, None, Option, Contains}
 use Rattle.journal_model.specs.declared.number.Area.TheVariants.{Log, Home}
 use Rattle.journal_model.specs.declared.refusal.JournalError.{JournalError}
-use Rattle.journal_model.specs.Disk.{Disk, IsOneOf, Shape, flushed, held, reading, written}
+use Rattle.journal_model.specs.Disk.{Disk, Shape, flushed, reading, written}
 use Rattle.journal_model.proofs.ListElements.{contains-behind, contains-first}
 use Rattle.log_model.specs.declared.log.Text.{Text}
-use Rattle.log_model.specs.Opening.{greatest_number, ring_of, super_of}
+use Rattle.log_model.specs.Opening.{greatest_number, super_of}
 use Rattle.log_model.specs.Replay.{HasNoLive, IsNewest, IsReplayed}
 use Rattle.log_model.specs.Superblock.{super_in}
 use Rattle.block_device.specs.State.{DeviceState, EachMoment}
 use Rattle.block_device.proofs.Moments.{each-joins, each-moves, each-stays}
 use Rattle.journal_world.specs.Call.{Call, IsAfterFault, after_success}
-use Rattle.journal_world.specs.Call.Call.{Flush, Write}
+use Rattle.journal_world.specs.Call.Call.{Flush}
 use Rattle.journal_world.specs.Call.IsAfterFault.{Undone}
 use Rattle.journal_world.specs.Opening.{IsOpenedLog}
-use Rattle.journal_world.specs.Sound.{durable_cell}
 use Rattle.journal_world.proofs.Places.{held-durable, held-flushed, is_write-fault, is_write-written}
 use Rattle.log_epochs.proofs.CleanLogs.{clean-tail, opened-log}
-use Rattle.recovery.specs.Before.{IsMomentBefore, IsOpeningBefore, Takes, end_of}
+use Rattle.recovery.specs.Before.{IsMomentBefore, IsOpeningBefore, Takes}
 use Rattle.recovery.specs.Before.IsMomentBefore.{Unwritten}
-use Rattle.recovery.specs.Calls.{HasBegun, HasMade, IsInterrupted, before_calls, cleaning_calls, disk_after, past_after, writes_home}
+use Rattle.recovery.specs.Calls.{HasBegun, HasMade, IsInterrupted, before_calls, cleaning_calls, disk_after, writes_home}
 use Rattle.recovery.specs.Calls.IsInterrupted.{Before, Within}
 use Rattle.recovery.specs.HomeCopies.{home_copies}
 use Rattle.recovery.proofs.BeforeImages.{CopiesDone, CopiesGo, none-live, done-flushed, done-moment, done-written, go-done, go-fault, go-flushed, go-moment, go-written, tail_of, taken-accepted}

@@ -1,15 +1,15 @@
 -- What a stop leaves of a disk while transactions are taken of its log: the same home comes of each such image.
 use Rattle.std.proofs.Common.{refl, sym, ◌∙◌, ap, subst, arith, inl, inr, zero, ⊎_elim}
-use Rattle.std.specs.Prelude.{◌≡◌, ◌≢◌, ◌⊎◌, ℕ, suc, ◌+◌, ◌<◌, ◌≤◌, List, [], length, None, Some, Option, slice_get}
+use Rattle.std.specs.Prelude.{◌≡◌, ◌≢◌, ◌⊎◌, ℕ, suc, ◌+◌, ◌<◌, List, [], length, None, Some, Option, slice_get}
 use Rattle.std.proofs.lemmas.Bool.{cases_eq}
 use Rattle.journal_model.specs.declared.number.Area.TheVariants.{Log, Home}
 use Rattle.journal_model.specs.declared.refusal.JournalError.{JournalError}
-use Rattle.journal_model.specs.Disk.{Cell, Disk, Image, IsOneOf, Leaves, Shape, disk_of, flushed, handed_over, held, reading, written}
+use Rattle.journal_model.specs.Disk.{Cell, Disk, Image, IsOneOf, Leaves, Shape, disk_of, flushed, held, reading, written}
 use Rattle.journal_model.specs.Transaction.{Volume}
 use Rattle.log_model.specs.declared.log.Text.{Text}
 use Rattle.log_model.specs.Chain.{IsChain}
 use Rattle.log_model.specs.HomeChange.{Addition, HomeAddsOnly}
-use Rattle.log_model.specs.Opening.{IsClean, IsStarted, greatest_number, layout_of, log_lap, super_of}
+use Rattle.log_model.specs.Opening.{greatest_number, layout_of, log_lap, super_of}
 use Rattle.log_model.specs.Replay.{HasNoLive, IsNewest, IsReplayed}
 use Rattle.log_model.specs.Superblock.{super_in, super_refusal, with_tail}
 use Rattle.journal_world.specs.Call.{IsAfterFault}

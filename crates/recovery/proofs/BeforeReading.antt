@@ -1,6 +1,6 @@
 -- Reading a log whose refusals are passed over: what is taken of it, and why it is refused all the same.
 use Rattle.std.proofs.Common.{refl, sym, ◌∙◌, ap, subst, arith, inl, inr}
-use Rattle.std.specs.Prelude.{◌≡◌, ◌≢◌, ◌⊎◌, ℕ, ◌+◌, ◌<◌, ◌≤◌, ◌==◌, true, List, length, Option, None, Some, MatchOption}
+use Rattle.std.specs.Prelude.{◌≡◌, ◌≢◌, ℕ, ◌+◌, ◌<◌, ◌≤◌, ◌==◌, true, List, length, Option, None, Some, MatchOption}
 use Rattle.std.proofs.lemmas.Bool.{cases_eq}
 use Rattle.std.proofs.lemmas.Bool.Decides.{nat_tests}
 use Rattle.journal_model.specs.declared.number.Area.TheVariants.{Log}
@@ -16,7 +16,7 @@ use Rattle.block_device.specs.State.{DeviceState, IsDeviceFailure, Stays}
 use Rattle.log_scan.specs.Finding.{most_bytes}
 use Rattle.log_scan.proofs.Listed.{damage-around}
 use Rattle.log_epochs.proofs.Keeping.{one-limit}
-use Rattle.recovery.specs.Before.{AreTaken, BeforeRefused, HasGreatest, IsGreatest, IsPassedOver, Takes, end_of}
+use Rattle.recovery.specs.Before.{AreTaken, BeforeRefused, HasGreatest, IsGreatest, IsPassedOver, Takes}
 use Rattle.recovery.specs.Before.AreTaken.{OfChain, OfClean}
 use Rattle.recovery.specs.Before.BeforeRefused.{ByDevice, ByMemory, ByNumber as RefusedByNumber, ByReading, BySuperblock}
 use Rattle.recovery.specs.BeforeSteps.{HoldsTexts, IsReadBeforeOn, IsSurveyed}

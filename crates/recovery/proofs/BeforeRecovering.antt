@@ -1,6 +1,6 @@
 -- A log that was read is flushed, replayed and left clean: what comes of it.
 use Rattle.std.proofs.Common.{refl, sym, ◌∙◌, ap, ap₂, subst, arith, inl, inr}
-use Rattle.std.specs.Prelude.{◌≡◌, ◌≢◌, ◌⊎◌, ℕ, ◌+◌, ◌<◌, ◌≤◌, ◌==◌, Bool, true, false, not, List, [], ◌∷◌, ◌++◌, length, Option, None, Some}
+use Rattle.std.specs.Prelude.{◌≡◌, ◌≢◌, ℕ, ◌+◌, ◌==◌, Bool, true, false, not, List, [], ◌∷◌, ◌++◌, length, Option, None, Some}
 use Rattle.std.specs.Option.{is_some}
 use Rattle.std.proofs.lemmas.Bool.{cases_eq}
 use Rattle.journal_model.specs.declared.number.Area.TheVariants.{Log}
@@ -8,20 +8,19 @@ use Rattle.journal_model.specs.declared.refusal.JournalError.{JournalError}
 use Rattle.journal_model.specs.declared.refusal.JournalError.TheVariants.{Device}
 use Rattle.journal_model.specs.Disk.{Cell, Disk, Image, Shape, flushed, reading}
 use Rattle.log_model.specs.declared.log.Text.{Text}
-use Rattle.log_model.specs.Opening.{greatest_number, super_of}
+use Rattle.log_model.specs.Opening.{super_of}
 use Rattle.log_model.specs.Superblock.{Super, super_in, with_tail}
 use Rattle.block_device.specs.State.{DeviceState, EachMoment, Moves, Stays}
 use Rattle.block_device.proofs.Moments.{each-stays}
-use Rattle.journal_world.specs.Call.{Call}
 use Rattle.journal_world.specs.Call.Call.{Flush}
 use Rattle.journal_world.specs.Opening.{IsOpenedLog}
 use Rattle.log_epochs.proofs.CleanLogs.{clean-tail}
 use Rattle.log_scan.specs.Scanning.{IsChainOf}
 use Rattle.log_scan.proofs.Listed.{damage-around, damage-device}
-use Rattle.recovery.specs.Before.{BeforeRefused, IsMomentBefore, IsOpeningBefore, TellsBefore, end_of}
+use Rattle.recovery.specs.Before.{BeforeRefused, IsMomentBefore, IsOpeningBefore, TellsBefore}
 use Rattle.recovery.specs.Before.BeforeRefused.{ByReading}
 use Rattle.recovery.specs.Before.IsMomentBefore.{Unwritten}
-use Rattle.recovery.specs.BeforeSteps.{HoldsTexts, IsBrokenBefore, IsDoneBefore, IsLeftClean, IsMadeClean, IsReadBefore, IsReadBeforeOn}
+use Rattle.recovery.specs.BeforeSteps.{HoldsTexts, IsBrokenBefore, IsDoneBefore, IsReadBefore, IsReadBeforeOn}
 use Rattle.recovery.specs.BeforeSteps.IsBrokenBefore.{Reading, Writing}
 use Rattle.recovery.specs.Calls.{HasBegun, HasMade, before_calls, cleaning_calls, writes_home}
 use Rattle.recovery.specs.Gather.{IsReplayRefused, TablesValue, tables_of}

@@ -20,7 +20,7 @@ use Rattle.log_scan.specs.Passing.{CommitPassed, CopiesPassed, IsPassed, LeadsTo
 use Rattle.log_scan.specs.Scanning.{IsChainOf}
 use Rattle.log_scan.proofs.ScanSteps.{passed-count, passed-none}
 use Rattle.block_tables.specs.Copies.{copies_of}
-use Rattle.recovery.specs.Choice.{chosen, chosen_all, goes_by}
+use Rattle.recovery.specs.Choice.{chosen_all, goes_by}
 use Rattle.recovery.specs.Gather.{TablesValue, chosen_behind, count_chosen, tables_of}
 use Rattle.recovery.specs.HomeCopies.{home_copies}
 use Rattle.recovery.proofs.Beginnings.{is-chain}

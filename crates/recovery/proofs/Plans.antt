@@ -1,5 +1,5 @@
 -- What a plan of an opening says is what the opening does.
-use Rattle.std.proofs.Common.{refl, sym, ◌∙◌, ap, subst, arith, inl, inr}
+use Rattle.std.proofs.Common.{refl, sym, ◌∙◌, arith, inl, inr}
 use Rattle.std.specs.Prelude.{◌≡◌, ◌≢◌, ℕ, ◌+◌, ◌<◌, ◌==◌, Bool, List, [], ◌∷◌, length, Option}
 use Rattle.std.proofs.lemmas.Bool.{cases_eq}
 use Rattle.journal_model.specs.declared.refusal.JournalError.{JournalError}

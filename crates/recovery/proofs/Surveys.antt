@@ -1,11 +1,11 @@
 -- What a log holds, as it is surveyed.
 use Rattle.std.proofs.Common.{refl, sym, ◌∙◌, ap, subst, arith, inl, inr, ⊎_elim}
-use Rattle.std.specs.Prelude.{◌≡◌, ◌≢◌, ◌⊎◌, ℕ, suc, ◌+◌, ◌<◌, ◌≤◌, Bool, true, false, List, [], length, Option, None, Some, MatchOption}
+use Rattle.std.specs.Prelude.{◌≡◌, ◌≢◌, ◌⊎◌, ℕ, ◌+◌, ◌<◌, ◌≤◌, Bool, true, false, List, [], length, Option, None, Some, MatchOption}
 use Rattle.std.specs.Option.{is_some}
 use Rattle.std.proofs.lemmas.Bool.{cases_eq, cases_lt}
 use Rattle.journal_model.specs.declared.number.Area.TheVariants.{Log}
 use Rattle.journal_model.specs.declared.refusal.JournalError.{JournalError}
-use Rattle.journal_model.specs.declared.refusal.JournalError.TheVariants.{Ahead, Damage, SequenceEnd}
+use Rattle.journal_model.specs.declared.refusal.JournalError.TheVariants.{Damage, SequenceEnd}
 use Rattle.journal_model.specs.Disk.{Disk, Image, reading}
 use Rattle.journal_model.specs.Layout.{begins_with_magic, sequence_in}
 use Rattle.log_model.specs.declared.log.Text.{Text}

@@ -1,4 +1,4 @@
-use Rattle.std.proofs.Common.{◌≡◌, ◌∙◌, ℕ, List, arith, subst, sym}
+use Rattle.std.proofs.Common.{◌∙◌, ℕ, List, arith, subst, sym}
 use Rattle.std.proofs.lemmas.Result.{err_from_is_err_and}
 use Rattle.block_device.specs.State.{DeviceState}
 use Rattle.recovery.specs.Opening.{IsWellRead}

@@ -1,4 +1,4 @@
-use Rattle.std.proofs.Common.{ℕ, ◌+◌, refl, sym, ◌∙◌, ap, subst, arith, inr}
+use Rattle.std.proofs.Common.{ℕ, refl, sym, ◌∙◌, ap, subst, arith, inr}
 use Rattle.std.specs.Prelude.{List, length, take}
 use Rattle.std.proofs.lemmas.List.{length-take-le}
 use Rattle.log_model.specs.declared.log.Tag.{Tag}

@@ -1,5 +1,4 @@
-use Rattle.std.proofs.Common.{◌≡◌, ◌∙◌, ◌+◌, ℕ, ap, sym, arith}
-use Rattle.std.specs.Prelude.{Bool, if◌then◌else◌}
+use Rattle.std.proofs.Common.{◌∙◌, sym, arith}
 use Rattle.recovery.proofs.CountRuns.{count-more}
 use Rattle.recovery.proofs.planning.count_tagged.Goals as goal
 use Rattle.recovery.proofs.planning.count_tagged.Goals.{then-goes_home, else-goes_home}

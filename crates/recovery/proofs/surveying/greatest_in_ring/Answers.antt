@@ -1,4 +1,4 @@
-use Rattle.std.proofs.Common.{ℕ, ◌∙◌, ap, arith, subst}
+use Rattle.std.proofs.Common.{◌∙◌, ap, arith, subst}
 use Rattle.journal_model.specs.Disk.{Disk, reading}
 use Rattle.log_model.specs.Superblock.{Super}
 use Rattle.log_scan.specs.Finding.{IsSequenceOf, log_block}
