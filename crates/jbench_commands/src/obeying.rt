@@ -5,12 +5,13 @@ use crate::{apply, check, run, sweep};
 use commit_times::bench;
 use file_device::UnknownContents;
 use jbench_logs::{
-    LogFiles, LogPair, RegularFile, device_of, logs, make_device, open_log, open_or_make_pair,
-    open_pair, open_script, open_to_read, show,
+    LogFiles, LogPair, RegularFile, Unmade, Unopened, damage, device_of, device_to_read,
+    home_bytes, logs, make_device, make_log_device, open_log, open_or_make_log, open_or_make_pair,
+    open_pair, open_pair_to_read, open_script, open_to_read, plans, show,
 };
 use jbench_words::fault::{Status, refuse_file};
 use jbench_words::words::{
-    ApplyWords, BenchWords, FormatWords, LogPaths, RunWords, SweepWords, Words,
+    ApplyWords, BenchWords, FormatWords, RecoverWords, RunWords, SweepWords, Words,
 };
 use std::io;
 use std::io::Write;
@@ -29,7 +30,7 @@ pub fn obey<W: Write + Drop, E: Write + Drop>(
         Words::Format(words) => format_files(rt, words, out, err),
         Words::Dump(path) => dump_file(rt, path, out, err),
         Words::Show(path) => show_file(rt, path, out, err),
-        Words::Recover(paths) => recover_files(rt, *paths, out, err),
+        Words::Recover(words) => recover_files(rt, words, out, err),
         Words::Apply(words) => apply_files(rt, words, out, err),
         Words::Bench(words) => bench_files(rt, words, out, err),
     }
@@ -114,13 +115,35 @@ fn format_files<W: Write + Drop, E: Write + Drop>(
     err: E,
 ) -> io::Result<Status> {
     let mut err = err;
-    let files = match open_or_make_pair(rt, words.paths, None) {
+    let files = match open_to_format(rt, words) {
         Ok(files) => files,
         Err(unopened) => return refuse_file(&mut err, unopened.path, unopened.error),
     };
-    match make_device(rt.alloc(), &words.measures, files) {
+    match make_formatted(rt, words, files) {
         Ok(device) => format_device(words, device, out, err),
         Err(unmade) => refuse_file(&mut err, unmade.path(words.paths), unmade.error),
+    }
+}
+
+/// Opens the files of a log that is to be made, or of one that is made beside a home area that is kept.
+fn open_to_format<'a>(rt: &HostRuntime, words: &FormatWords<'a>) -> Result<LogPair, Unopened<'a>> {
+    if words.keep_home {
+        open_or_make_log(rt, words.paths, home_bytes(&words.measures))
+    } else {
+        open_or_make_pair(rt, words.paths, None)
+    }
+}
+
+/// Gives these files the lengths of a log that is to be made. A home area that is kept stays as it is.
+fn make_formatted(
+    rt: &HostRuntime,
+    words: &FormatWords<'_>,
+    files: LogPair,
+) -> Result<LogFiles, Unmade> {
+    if words.keep_home {
+        make_log_device(rt.alloc(), &words.measures, files)
+    } else {
+        make_device(rt.alloc(), &words.measures, files)
     }
 }
 
@@ -135,32 +158,64 @@ fn format_device<W: Write + Drop, E: Write + Drop>(
     logs::format(words.paths.log, &words.measures, &mut device, out, err)
 }
 
-/// Opens a log in two files, both of which are opened before either is read.
+/// Opens a log in two files, both of which are opened before either is read; or says what that would do.
 fn recover_files<W: Write + Drop, E: Write + Drop>(
     rt: &HostRuntime,
-    paths: LogPaths<'_>,
+    words: &RecoverWords<'_>,
     out: W,
     err: E,
 ) -> io::Result<Status> {
+    if words.dry_run {
+        return plan_files(rt, words, out, err);
+    }
     let mut err = err;
-    let files = match open_pair(rt, paths) {
+    let files = match open_pair(rt, words.paths) {
         Ok(files) => files,
         Err(unopened) => return refuse_file(&mut err, unopened.path, unopened.error),
     };
     match device_of(rt.alloc(), UnknownContents, files) {
+        Ok(device) => recover_device(rt, words, device, out, err),
+        Err(e) => refuse_file(&mut err, words.paths.log, e),
+    }
+}
+
+/// Opens the log on this device.
+fn recover_device<W: Write + Drop, E: Write + Drop>(
+    rt: &HostRuntime,
+    words: &RecoverWords<'_>,
+    device: LogFiles,
+    out: W,
+    err: E,
+) -> io::Result<Status> {
+    let (alloc, path) = (rt.alloc(), words.paths.log);
+    let progress = Progress::new(rt);
+    let (status, _device) = if words.before_damage {
+        damage::recover_before_damage(alloc, path, device, progress, out, err)?
+    } else {
+        logs::recover(alloc, path, device, progress, out, err)?
+    };
+    Ok(status)
+}
+
+/// Says what an opening of a log in two files would do. Both are opened to be read alone.
+fn plan_files<W: Write + Drop, E: Write + Drop>(
+    rt: &HostRuntime,
+    words: &RecoverWords<'_>,
+    out: W,
+    err: E,
+) -> io::Result<Status> {
+    let mut err = err;
+    let files = match open_pair_to_read(rt, words.paths) {
+        Ok(files) => files,
+        Err(unopened) => return refuse_file(&mut err, unopened.path, unopened.error),
+    };
+    match device_to_read(rt.alloc(), UnknownContents, files) {
         Ok(device) => {
             let progress = Progress::new(rt);
-            let (status, _device) = logs::recover(
-                rt.alloc(),
-                paths.log,
-                device,
-                progress,
-                out,
-                err,
-            )?;
+            let (status, _device) = plans::plan(rt.alloc(), words, device, progress, out, err)?;
             Ok(status)
         }
-        Err(e) => refuse_file(&mut err, paths.log, e),
+        Err(e) => refuse_file(&mut err, words.paths.log, e),
     }
 }
 

@@ -86,6 +86,30 @@ pub fn device_of<C: Contents>(
 ) -> io::Result<FileDevice<C>> {
     let (log, home) = files.into_files();
     settle(alloc, &log, relied_on(&log)?)?;
+    device_over(alloc, contents, log, home)
+}
+
+/// A device over the files of a log and of its home area that are to be read. Nothing is written.
+///
+/// # Errors
+///
+/// The log can't be read, or nothing can be told of a file.
+pub fn device_to_read<C: Contents>(
+    alloc: Global,
+    contents: C,
+    files: LogPair,
+) -> io::Result<FileDevice<C>> {
+    let (log, home) = files.into_files();
+    device_over(alloc, contents, log, home)
+}
+
+/// A device over the files of a log and of its home area, in blocks as the log's superblock tells.
+fn device_over<C: Contents>(
+    alloc: Global,
+    contents: C,
+    log: File,
+    home: File,
+) -> io::Result<FileDevice<C>> {
     let size = block_size_of(&log)?;
     Ok(FileDevice::new(alloc, contents, size, log, Some(home))?)
 }
@@ -111,19 +135,56 @@ fn relied_on(log: &File) -> io::Result<u64> {
 /// both held may be lost.
 pub fn make_device(alloc: Global, measures: &Measures, files: LogPair) -> Result<LogFiles, Unmade> {
     let (log, home) = files.into_files();
-    let size = measures.block_size as u64;
-    if !is_block_size(size) {
-        return Err(Unmade::of(Area::Log, io::Error::from(ErrorKind::InvalidInput)));
-    }
-    let log_bytes = u64::from(measures.log_blocks).saturating_mul(size);
-    if let Err(error) = clear(&log, log_bytes) {
-        return Err(Unmade::of(Area::Log, error));
-    }
-    let home_bytes = measures.home_blocks.saturating_mul(size);
-    if let Err(error) = clear_and_fill(alloc, &home, home_bytes) {
+    let size = clear_log(measures, &log)?;
+    if let Err(error) = clear_and_fill(alloc, &home, home_bytes(measures)) {
         return Err(Unmade::of(Area::Home, error));
     }
-    match FileDevice::new(alloc, UnknownContents, measures.block_size, log, Some(home)) {
+    device_in(alloc, size, log, home)
+}
+
+/// Makes the file of a log as long as these measures say, all zeros, durably, and a device of it and of the home area's file, which
+/// stays as it is.
+///
+/// # Errors
+///
+/// A block can't have so many bytes, and the log is as it was; or it can't be made so long or synced, and what it held may be lost.
+pub fn make_log_device(
+    alloc: Global,
+    measures: &Measures,
+    files: LogPair,
+) -> Result<LogFiles, Unmade> {
+    let (log, home) = files.into_files();
+    let size = clear_log(measures, &log)?;
+    device_in(alloc, size, log, home)
+}
+
+/// How many bytes the home area of these measures has.
+pub fn home_bytes(measures: &Measures) -> u64 {
+    measures
+        .home_blocks
+        .saturating_mul(measures.block_size as u64)
+}
+
+/// Makes the file of a log as long as these measures say, all zeros, durably. The answer is how many bytes a block has.
+fn clear_log(measures: &Measures, log: &File) -> Result<usize, Unmade>
+    ensures { IfOk result IsBlockSize }
+{
+    let size = measures.block_size;
+    if !is_block_size(size as u64) {
+        return Err(Unmade::of(Area::Log, io::Error::from(ErrorKind::InvalidInput)));
+    }
+    let bytes = u64::from(measures.log_blocks).saturating_mul(size as u64);
+    match clear(log, bytes) {
+        Ok(()) => Ok(size),
+        Err(error) => Err(Unmade::of(Area::Log, error)),
+    }
+}
+
+/// A device over these files, in blocks of so many bytes.
+fn device_in(alloc: Global, size: usize, log: File, home: File) -> Result<LogFiles, Unmade>
+    requires { IsBlockSize size }
+{
+    match FileDevice::new(alloc, UnknownContents, size, log, Some(home)) {
         Ok(device) => Ok(device),
         Err(e) => Err(Unmade::of(e.area, e.error)),
     }

@@ -4,20 +4,28 @@
 //! `regular` opens regular files and says which one a file is, `locked` takes the lock of a file that is to be written, `pairs` opens
 //! the two files of a log, and `devices` makes devices of them. No file's bytes are read or written before it is locked. `logs` has the
 //! commands `format`, `dump` and `recover`, over devices, `show` the command of that name, with the names of `features`; `reasons` says
-//! why a log is refused, where its refusal does not, and `watched` is a device that tells of its calls.
+//! why a log is refused, where its refusal does not, and `watched` is a device that tells of its calls. `damage` opens a log that is
+//! refused as damaged or ahead, and `plans` says what openings would do.
 #![tactic(auto)]
 
+pub mod damage;
 mod devices;
 mod features;
 mod locked;
 pub mod logs;
 mod pairs;
+pub mod plans;
 mod reasons;
 mod regular;
 pub mod show;
 pub mod watched;
 
-pub use devices::{LogFiles, Unmade, device_of, make_device, open_log};
+pub use devices::{
+    LogFiles, Unmade, device_of, device_to_read, home_bytes, make_device, make_log_device, open_log,
+};
 pub use locked::LockedFile;
-pub use pairs::{LogPair, Unopened, open_or_make_pair, open_pair, open_script};
+pub use pairs::{
+    LogPair, Unopened, open_or_make_log, open_or_make_pair, open_pair, open_pair_to_read,
+    open_script,
+};
 pub use regular::{Identity, RegularFile, open_to_read};

@@ -1,20 +1,21 @@
-//! Files that are open to be written, with their lock.
+//! Open files with their lock.
 ghost use Rattle.std.specs.Prelude.{◌≡◌, IfOk};
 
 use crate::regular::{Identity, RegularFile};
-use file_device::lock;
+use file_device::{lock, lock_shared};
 use std::fs::{File, Files};
 use std::io::ErrorKind;
 use std::{fs, io};
 
-/// A regular file that is to be written, with the lock of that: while it is there no other program gets a lock of it.
+/// A regular file with its lock. While one that is to be written is there no other program gets a lock of it, and while one that is
+/// to be read is there none gets that of a writer.
 #[derive(Drop)]
 pub struct LockedFile {
     pub(crate) file: RegularFile,
 }
 
 impl LockedFile {
-    /// Takes the lock of a file that was opened by this path.
+    /// Takes the lock of a file that was opened by this path to be written.
     ///
     /// # Errors
     ///
@@ -33,6 +34,18 @@ impl LockedFile {
         } else {
             Err(io::Error::from(ErrorKind::NotFound))
         }
+    }
+
+    /// Takes the lock of a reader of a file that was opened to be read.
+    ///
+    /// # Errors
+    ///
+    /// `WouldBlock` where another program has the lock of a writer; else what the system answers.
+    pub(crate) fn take_shared(file: RegularFile) -> io::Result<LockedFile>
+        ensures { IfOk result (λ locked. locked.file ≡ file) }
+    {
+        lock_shared(&file.file)?;
+        Ok(LockedFile { file })
     }
 
     /// The file.

@@ -179,7 +179,11 @@ pub fn say_opened<W: Write>(report: Report, next: Tid, out: &mut W) -> Result<()
 }
 
 /// How a command ends, and the line that says why it couldn't go on.
-fn end<E: Write + Drop>(path: &str, done: Result<(), Fault>, mut err: E) -> io::Result<Status>
+pub(crate) fn end<E: Write + Drop>(
+    path: &str,
+    done: Result<(), Fault>,
+    mut err: E,
+) -> io::Result<Status>
     ensures { IfOk result (λ status. status ≡ Fine → IsOk done) }
 {
     match done {

@@ -115,6 +115,41 @@ fn open_home_of<R: Files<File = File>>(
     LockedFile::take(rt, path, home)
 }
 
+/// Opens the two files of a log, which are two, to be read, and takes the lock of a reader of each at its opening.
+///
+/// # Errors
+///
+/// The first of the two that is no regular file, that can't be read, that is the other, or that another program writes.
+pub fn open_pair_to_read<'a, R: Files<File = File>>(
+    rt: &R,
+    paths: LogPaths<'a>,
+) -> Result<LogPair, Unopened<'a>> {
+    let log = match open_shared(rt, paths.log) {
+        Ok(log) => log,
+        Err(error) => return Err(Unopened::new(paths.log, error)),
+    };
+    match open_shared_home(rt, paths.home, log.file()) {
+        Ok(home) => Ok(LogPair::new(log, home)),
+        Err(error) => Err(Unopened::new(paths.home, error)),
+    }
+}
+
+/// Opens a file that is there to be read, and takes the lock of a reader.
+fn open_shared<R: Files<File = File>>(rt: &R, path: &str) -> io::Result<LockedFile> {
+    LockedFile::take_shared(open_to_read(rt, path)?)
+}
+
+/// Opens the file of a home area that is there to be read, which is not this log's, and takes the lock of a reader.
+fn open_shared_home<R: Files<File = File>>(
+    rt: &R,
+    path: &str,
+    log: &RegularFile,
+) -> io::Result<LockedFile>
+    ensures { IfOk result (λ home. AreApart log.now home.file) }
+{
+    LockedFile::take_shared(open_to_read(rt, path)?.other_than(log)?)
+}
+
 /// Opens the two files of a log to be read and written, makes each where there is none, and takes the lock of each. They are two files,
 /// and neither is this script's. What they hold stays. Their folders are synced, so that a stop does not take their names away.
 ///
@@ -148,6 +183,56 @@ fn claim_home<'a, R: Files<File = File>>(
             Err(Unopened::new(paths.home, error))
         }
     }
+}
+
+/// Opens the file of a log, makes it where there is none, and opens the file of a home area that is there, has so many bytes at least
+/// and is kept. They are two files. Each is to be read and written, and its lock is taken. What they hold stays. Their folders are
+/// synced.
+///
+/// # Errors
+///
+/// The first of the two that is no regular file, that can't be read and written or made, that is the other, that another program has,
+/// that is not there or too short as a home area, or whose folder can't be synced. Then no log is there that was not there before, but
+/// for one that another program has by now.
+pub fn open_or_make_log<'a, R: Files<File = File>>(
+    rt: &R,
+    paths: LogPaths<'a>,
+    home_bytes: u64,
+) -> Result<LogPair, Unopened<'a>> {
+    match claim(rt, paths.log, None, None) {
+        Ok(log) => keep_home(rt, paths, home_bytes, log),
+        Err(error) => Err(Unopened::new(paths.log, error)),
+    }
+}
+
+/// Opens the home area's file, which is kept, beside that of its log.
+fn keep_home<'a, R: Files<File = File>>(
+    rt: &R,
+    paths: LogPaths<'a>,
+    bytes: u64,
+    log: Opened<'a, LockedFile>,
+) -> Result<LogPair, Unopened<'a>> {
+    match open_kept_home(rt, paths.home, log.file.file(), bytes) {
+        Ok(file) => named(rt, paths, log, Opened { file, made: None }),
+        Err(error) => {
+            log.undo(rt);
+            Err(Unopened::new(paths.home, error))
+        }
+    }
+}
+
+/// Opens the file of a home area that is there and has so many bytes at least, which is not this log's, and takes its lock.
+fn open_kept_home<R: Files<File = File>>(
+    rt: &R,
+    path: &str,
+    log: &RegularFile,
+    bytes: u64,
+) -> io::Result<LockedFile>
+    ensures { IfOk result (λ home. AreApart log.now home.file) }
+{
+    let home = open_home_of(rt, path, log)?;
+    home.file().require_bytes(bytes)?;
+    Ok(home)
 }
 
 /// Opens a file of a log, which is neither of these others, makes it where there is none, and takes its lock.

@@ -23,7 +23,8 @@ pub(crate) fn say_why<D: Device>(
     e: JournalError,
     err: &mut impl Write,
 ) -> io::Result<()>
-    ensures { Stays (D.state device.old) (D.state device.new) }
+    ensures stays { Stays (D.state device.old) (D.state device.new) }
+    ensures honest { D.honest device.new → D.honest device.old }
 {
     let JournalError::Damage(place) = e else {
         return Ok(());
@@ -45,7 +46,8 @@ fn is_whole_without_home<D: Device>(
     device: &mut D,
     place: u64,
 ) -> Result<bool, JournalError>
-    ensures { Stays (D.state device.old) (D.state device.new) }
+    ensures stays { Stays (D.state device.old) (D.state device.new) }
+    ensures honest { D.honest device.new → D.honest device.old }
 {
     let log = read_log(alloc, device)?;
     let mut finder = Finder::new(log.layout());
@@ -60,6 +62,7 @@ fn is_whole_without_home<D: Device>(
 fn read_log<D: Device>(alloc: Global, device: &mut D) -> Result<Log, JournalError>
     ensures accepted { IfOk result (λ log. IsAccepted (D.state device.old).shape.block_size (D.state device.old).shape.log_blocks log) }
     ensures stays { Stays (D.state device.old) (D.state device.new) }
+    ensures honest { D.honest device.new → D.honest device.old }
 {
     let log_blocks = device.blocks(Area::Log);
     if log_blocks == 0 {

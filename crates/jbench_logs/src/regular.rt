@@ -72,6 +72,22 @@ impl RegularFile {
         }
     }
 
+    /// Fails where it has fewer bytes than these.
+    ///
+    /// # Errors
+    ///
+    /// `InvalidInput`: it has; else what the system answers.
+    pub(crate) fn require_bytes(&self, bytes: u64) -> io::Result<()> {
+        if self.file.metadata()?.len() < bytes {
+            Err(io::Error::new(
+                ErrorKind::InvalidInput,
+                "it has fewer blocks than are wanted",
+            ))
+        } else {
+            Ok(())
+        }
+    }
+
     /// The file.
     pub fn into_file(self) -> File
         ensures { result ≡ self.file }

@@ -5,7 +5,8 @@ ghost use Rattle.log_format.specs.Size.{IsBlockSize};
 
 use crate::wanted::Wanted;
 use crate::words::{
-    ApplyWords, BenchWords, FormatWords, LogPaths, RunWords, StopWords, SweepWords, Words,
+    ApplyWords, BenchWords, FormatWords, LogPaths, RecoverWords, RunWords, StopWords, SweepWords,
+    Words,
 };
 use clap::ArgMatches;
 use journal_script::{DEFAULTS, HOMES, LENGTHS, Measures, is_block_size, limited, uuid_of};
@@ -132,26 +133,39 @@ fn uuid_told(alloc: Global, matches: &ArgMatches<'_>) -> Result<[u8; 16], Wanted
     }
 }
 
+/// The blocks of a home area that `format` is told. One that is kept needs no more than one block where nothing is told.
+fn home_blocks_told(matches: &ArgMatches<'_>, keep_home: bool) -> Result<u64, Wanted>
+    ensures some { IfOk result (λ blocks. 1 ≤ blocks) }
+    ensures most { IfOk result (λ blocks. blocks ≤ 1048576) }
+{
+    match number_of(matches, "home", wide(HOMES), Wanted::HomeBlocks)? {
+        Some(blocks) => Ok(blocks),
+        None if keep_home => Ok(1),
+        None => Ok(DEFAULTS.home_blocks),
+    }
+}
+
 /// The measures that `format` is told.
-fn measures_of(alloc: Global, matches: &ArgMatches<'_>) -> Result<Measures, Wanted>
+fn measures_of(alloc: Global, matches: &ArgMatches<'_>, keep_home: bool) -> Result<Measures, Wanted>
     ensures { IfOk result AreLimited }
 {
     let block_size = block_size_told(matches)?;
     let log_blocks = number_of(matches, "length", wide(LENGTHS), Wanted::LogBlocks)?;
-    let home_blocks = number_of(matches, "home", wide(HOMES), Wanted::HomeBlocks)?;
     Ok(Measures {
         block_size,
         log_blocks: log_blocks.unwrap_or(u64::from(DEFAULTS.log_blocks)) as u32,
-        home_blocks: home_blocks.unwrap_or(DEFAULTS.home_blocks),
+        home_blocks: home_blocks_told(matches, keep_home)?,
         uuid: uuid_told(alloc, matches)?,
     })
 }
 
 /// What `format` is told.
 fn format_words<'a>(alloc: Global, matches: &ArgMatches<'a>) -> Result<FormatWords<'a>, Wanted> {
+    let keep_home = matches.get_flag("keep-home");
     Ok(FormatWords {
         paths: log_paths(matches),
-        measures: measures_of(alloc, matches)?,
+        measures: measures_of(alloc, matches, keep_home)?,
+        keep_home,
     })
 }
 
@@ -168,6 +182,15 @@ fn log_paths<'a>(matches: &ArgMatches<'a>) -> LogPaths<'a> {
     LogPaths {
         log: matches.get_str("log").unwrap_or(""),
         home: matches.get_str("home_file").unwrap_or(""),
+    }
+}
+
+/// What `recover` is told.
+fn recover_words<'a>(matches: &ArgMatches<'a>) -> RecoverWords<'a> {
+    RecoverWords {
+        paths: log_paths(matches),
+        before_damage: matches.get_flag("before-damage"),
+        dry_run: matches.get_flag("dry-run"),
     }
 }
 
@@ -207,7 +230,7 @@ pub(crate) fn words_of<'a>(alloc: Global, matches: &ArgMatches<'a>) -> Result<Wo
         return format_words(alloc, format).map(Words::Format);
     }
     if let Some(recover) = matches.subcommand_matches("recover") {
-        return Ok(Words::Recover(log_paths(recover)));
+        return Ok(Words::Recover(recover_words(recover)));
     }
     if let Some(apply) = matches.subcommand_matches("apply") {
         return Ok(Words::Apply(apply_words(apply)));

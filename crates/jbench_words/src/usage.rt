@@ -32,11 +32,12 @@ script is.
 sweep SCRIPT [--fail]: runs a script with a stop at each of its writes and judges what each leaves; with --fail also once for each
 device call, which fails.
 check SCRIPT: says whether a script is good, and why it is not.
-format LOG HOME [--block B] [--length M] [--home N] [--uuid DIGITS]: two files become an empty log of M blocks (default: 33) and
-a home area of N zero blocks (default: 64), of B bytes each (default: 1024).
+format LOG HOME [--block B] [--length M] [--home N] [--uuid DIGITS] [--keep-home]: two files become an empty log of M blocks
+(default: 33) and a home area of N zero blocks (default: 64), of B bytes each (default: 1024), or only the first does.
 dump LOG: prints the log in a file.
 show LOG: prints each field of the superblock in a file, and why an opening would refuse it.
-recover LOG HOME: opens the log in a file, and brings home what its complete transactions copied.
+recover LOG HOME [--before-damage] [--dry-run]: opens the log in a file, and brings home what its complete transactions copied,
+where that is told also those of a damaged log; or says what it would do.
 apply LOG HOME SCRIPT [--stay] [--keep-going]: opens the log in a file, and does the operations of a script over it and its home
 area.
 bench LOG HOME [--seconds N] [--transactions N] [--copies K]: opens the log in a file, and tells how long transactions take.
@@ -198,12 +199,16 @@ Example: jbench check examples/two_blocks.json",
 /// The command `format`.
 pub(crate) const FORMAT: Usage = Usage {
     name: "format",
-    about: "Makes two files an empty log and a home area of zeros",
+    about: "Makes two files an empty log and a home area of zeros, or makes a log beside a home area that is kept",
     after_help: "\
 Both files are made where there are none, and lose what they held. LOG gets M blocks of B bytes: the superblock, and zeros.
 HOME gets N blocks of zeros, each of which is written: a disk that is full later has room for them. No file is changed before both
 could be opened and locked; one that was made is taken away again where the other can't be opened. Linux takes logs of 1024 blocks
 and more alone: give --length 1024 to a log that it is to read.
+
+With --keep-home HOME stays as it is, byte for byte, and is synced. It has to be there, and not to be shorter than N blocks (default:
+1). What LOG held is lost all the same, also transactions that were not home yet: recover them first, or what can be had of them, by
+recover with --before-damage.
 
 Exit status: 0 done; 1 refused: the words, a file, or the device.
 
@@ -237,13 +242,19 @@ Example: jbench format log home --block 4096 --length 1024",
             name: "home",
             value: "N",
             is_option: true,
-            help: "Blocks of the home area, 1 to 1048576 [default: 64]",
+            help: "Blocks of the home area, 1 to 1048576 [default: 64]; with --keep-home the fewest that it has to have [default: 1]",
         },
         Word {
             name: "uuid",
             value: "DIGITS",
             is_option: true,
             help: "The journal's UUID, 32 hex digits [default: aa 16 times]",
+        },
+        Word {
+            name: "keep-home",
+            value: "",
+            is_option: true,
+            help: "Leave HOME as it is: make an empty log beside it",
         },
     ],
 };
@@ -302,9 +313,22 @@ one, C how many complete ones there were.
 Behind 'refusal 2 Device', of this command or another one, see to the disk first: the system may show what its disk lacks. Then
 recover, with no other program on the files; where in doubt, unmount their file system and mount it again before.
 
+With --before-damage a log that is refused with 22 Damage or 21 Ahead is opened in spite of that. Damage: what is brought home are
+the complete transactions before the damaged block. Ahead: those of the log as it reads, as if no block were ahead. All that stands
+behind is given up, so keep a copy of both files, and look at --dry-run before. A second line, '  transactions A to B, stopped by
+refusal 22 Damage K', has the numbers of the transactions that were taken, or '  no transactions', and block K of LOG. A log that is
+not refused is opened as without it, and so are all other refusals as they were. Where it ends with '10 SequenceEnd' no number is left
+above those in the log: make an empty one by format with --keep-home.
+
+With --dry-run nothing is written: both files are read, and other programs may read them too. It prints what the same command without
+it would find: 'clean next=N', or 'would recover end=E next=N transactions=C blocks=H', where H is how many blocks of HOME it would
+write; and the second line of --before-damage.
+
 Exit status: 0 done; 1 refused: the words, a file, or the log.
 
-Example: jbench recover log home",
+Examples:
+  jbench recover log home
+  jbench recover log home --before-damage --dry-run",
     words: &[
         Word {
             name: "log",
@@ -317,6 +341,18 @@ Example: jbench recover log home",
             value: "HOME",
             is_option: false,
             help: "The file of the home area",
+        },
+        Word {
+            name: "before-damage",
+            value: "",
+            is_option: true,
+            help: "Take the complete transactions before the damage, where the log is refused as damaged or ahead",
+        },
+        Word {
+            name: "dry-run",
+            value: "",
+            is_option: true,
+            help: "Write nothing, and tell what would be done",
         },
     ],
 };

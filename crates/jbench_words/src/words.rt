@@ -28,8 +28,8 @@ pub enum Words<'a> {
     Dump(&'a str),
     /// To print the superblock of the log in this file.
     Show(&'a str),
-    /// To open the log in these files.
-    Recover(LogPaths<'a>),
+    /// To open the log in these files, or to say what that would do.
+    Recover(RecoverWords<'a>),
     /// To do the operations of a script over a log.
     Apply(ApplyWords<'a>),
     /// To tell how long transactions on a log take.
@@ -90,6 +90,17 @@ pub struct ApplyWords<'a> {
     pub keep_going: bool,
 }
 
+/// The words of `recover`.
+#[derive(Clone, Copy)]
+pub struct RecoverWords<'a> {
+    /// The files of the log.
+    pub paths: LogPaths<'a>,
+    /// A log that is refused as damaged or ahead is opened in spite of that.
+    pub before_damage: bool,
+    /// Nothing is written: what would be done is said.
+    pub dry_run: bool,
+}
+
 /// The files of a log.
 #[derive(Clone, Copy)]
 pub struct LogPaths<'a> {
@@ -104,8 +115,10 @@ pub struct LogPaths<'a> {
 pub struct FormatWords<'a> {
     /// The files that are made.
     pub paths: LogPaths<'a>,
-    /// What is made, within its limits.
+    /// What is made, within its limits. Of a home area that is kept, the fewest blocks that it has to have.
     pub measures: Measures,
+    /// The home area is there, and stays as it is.
+    pub keep_home: bool,
 }
 
 /// The words of `run`.

@@ -3,12 +3,12 @@ use block_device::MemDevice;
 use format_rows::RowError;
 use format_rows::words::cut;
 use jbench_commands::{check, run, sweep};
-use jbench_logs::{logs, show};
+use jbench_logs::{damage, logs, plans, show};
 use jbench_words::fault::Status;
 use jbench_words::watch::Unwatched;
 use jbench_words::words::{
-    ApplyWords, BenchWords, FormatWords, LogPaths, RunWords, StopWords, SweepWords, Words, answer,
-    parse,
+    ApplyWords, BenchWords, FormatWords, RecoverWords, RunWords, StopWords, SweepWords, Words,
+    answer, parse,
 };
 use run_rows::scripts::measures_text;
 use run_rows::texts::{numbers_in, written};
@@ -120,7 +120,7 @@ pub fn recover(alloc: Global, given: &str) -> Result<String, RowError> {
     let (line, log) = cut(given, "\n")?;
     let words = words_in(alloc, line)?;
     match parse(alloc, &words) {
-        Ok(Words::Recover(paths)) => recover_device(alloc, paths, log_on_device(alloc, log)?),
+        Ok(Words::Recover(words)) => recover_device(alloc, &words, log_on_device(alloc, log)?),
         _ => Err(RowError::Unread),
     }
 }
@@ -133,12 +133,20 @@ fn log_on_device(alloc: Global, log: &str) -> Result<MemDevice, RowError> {
 /// What `recover` says of the log on this device.
 fn recover_device(
     alloc: Global,
-    paths: LogPaths<'_>,
+    words: &RecoverWords<'_>,
     device: MemDevice,
 ) -> Result<String, RowError> {
     let mut out = Vec::new(alloc);
     let mut err = Vec::new(alloc);
-    match logs::recover(alloc, paths.log, device, Unwatched, &mut out, &mut err) {
+    let log = words.paths.log;
+    let said = if words.dry_run {
+        plans::plan(alloc, words, device, Unwatched, &mut out, &mut err)
+    } else if words.before_damage {
+        damage::recover_before_damage(alloc, log, device, Unwatched, &mut out, &mut err)
+    } else {
+        logs::recover(alloc, log, device, Unwatched, &mut out, &mut err)
+    };
+    match said {
         Ok((status, _)) => text_of(alloc, &out, &err, status),
         Err(_) => Err(RowError::Memory),
     }
@@ -184,7 +192,7 @@ fn told(alloc: Global, words: &Words<'_>) -> Result<String, RowError> {
         Words::Format(words) => told_format(alloc, words),
         Words::Dump(log) => Ok(format!(in alloc; "dump {log}")?),
         Words::Show(log) => Ok(format!(in alloc; "show {log}")?),
-        Words::Recover(paths) => Ok(format!(in alloc; "recover {} {}", paths.log, paths.home)?),
+        Words::Recover(words) => Ok(told_recover(alloc, words)?),
         Words::Apply(words) => Ok(told_apply(alloc, words)?),
         Words::Bench(words) => Ok(told_bench(alloc, words)?),
     }
@@ -230,9 +238,26 @@ fn write_stop(text: &mut String, words: &StopWords) -> Result<(), AllocError> {
 fn told_format(alloc: Global, words: &FormatWords<'_>) -> Result<String, RowError> {
     let measures = measures_text(alloc, &words.measures)?;
     Ok(format!(in alloc;
-        "format {} {}: {measures}",
-        words.paths.log, words.paths.home
+        "format {} {}: {measures}{}",
+        words.paths.log,
+        words.paths.home,
+        if words.keep_home { ", home stays" } else { "" }
     )?)
+}
+
+/// What words tell `recover`.
+fn told_recover(alloc: Global, words: &RecoverWords<'_>) -> Result<String, AllocError> {
+    format!(in alloc;
+        "recover {} {}{}{}",
+        words.paths.log,
+        words.paths.home,
+        if words.before_damage {
+            ", before damage"
+        } else {
+            ""
+        },
+        if words.dry_run { ", dry run" } else { "" }
+    )
 }
 
 /// What is said of words that tell nothing to do.

@@ -1,10 +1,13 @@
 //! What the commands of the program say of real files, and of readers and writers that fail. All else that they say is in rows
 //! of the program `journal_rows`.
+use jbench_commands::obeying::obey;
 use jbench_words::fault::Status;
-use std::alloc::Global;
+use jbench_words::words::parse;
+use std::alloc::{AllocError, Global};
 use std::str::from_utf8;
 use std::test::Fail;
 
+mod damage;
 mod faults;
 mod locks;
 mod log_files;
@@ -25,4 +28,46 @@ fn name_of(status: Status) -> &'static str {
         Status::Refused => "Refused",
         Status::VerdictFalse => "VerdictFalse",
     }
+}
+
+/// The words of a command, and what it says.
+type Step = (&'static str, &'static str);
+
+/// The words of a line.
+fn words_of(alloc: Global, line: &'static str) -> Result<Vec<&'static str>, AllocError> {
+    let mut words = Vec::new(alloc);
+    for word in line.split(' ') {
+        words.push(word)?;
+    }
+    Ok(words)
+}
+
+/// What a command says.
+fn said(rt: &HostRuntime, line: &'static str) -> Result<String, Fail> {
+    let words = words_of(rt.alloc(), line)?;
+    let mut out = Vec::new(rt.alloc());
+    let mut err = Vec::new(rt.alloc());
+    match parse(rt.alloc(), &words) {
+        Ok(words) => {
+            let status = obey(rt, &words, &mut out, &mut err)?;
+            text_of(rt.alloc(), &out, &err, status)
+        }
+        Err(_) => Err(Fail::new("words are refused")),
+    }
+}
+
+/// The first of the steps whose command says something else, and what that is.
+fn first_other(rt: &HostRuntime, steps: &[Step]) -> Result<Option<String>, Fail> {
+    for (line, wanted) in steps {
+        let found = said(rt, line)?;
+        if found.as_str() != *wanted {
+            return Ok(Some(format!(in rt.alloc(); "{line}\n{found}")?));
+        }
+    }
+    Ok(None)
+}
+
+/// The byte at this place, ff where there is none.
+fn byte_at(bytes: &[u8], place: usize) -> u8 {
+    bytes.get(place).copied().unwrap_or(0xff)
 }

@@ -1,9 +1,6 @@
 //! Commands over files that another program has.
-use super::text_of;
+use super::{Step, first_other};
 use file_device::{Unlocked, lock, lock_shared};
-use jbench_commands::obeying::obey;
-use jbench_words::words::parse;
-use std::alloc::{AllocError, Global};
 use std::fs;
 use std::fs::{File, OpenOptions};
 use std::test::Fail;
@@ -14,11 +11,8 @@ const FOLDER: &str = "locked";
 /// A script that writes nothing.
 const SCRIPT: &str = r#"{"ops": []}"#;
 
-/// A command, and what it says while another program has the file that it is refused for.
-type Row = (&'static str, &'static str);
-
 /// Commands while another program reads and writes the log. Nothing is made, so a file that is not there stays so.
-const LOG_IS_WRITTEN: [Row; 7] = [
+const LOG_IS_WRITTEN: [Step; 9] = [
     (
         "jbench format locked/log locked/home",
         "| jbench: file locked/log\n  another program has it\nRefused",
@@ -29,6 +23,14 @@ const LOG_IS_WRITTEN: [Row; 7] = [
     ),
     (
         "jbench recover locked/log locked/home",
+        "| jbench: file locked/log\n  another program has it\nRefused",
+    ),
+    (
+        "jbench recover locked/log locked/home --dry-run",
+        "| jbench: file locked/log\n  another program has it\nRefused",
+    ),
+    (
+        "jbench format locked/log locked/home --keep-home",
         "| jbench: file locked/log\n  another program has it\nRefused",
     ),
     (
@@ -50,7 +52,7 @@ const LOG_IS_WRITTEN: [Row; 7] = [
 ];
 
 /// Commands while another program writes the home area.
-const HOME_IS_WRITTEN: [Row; 3] = [
+const HOME_IS_WRITTEN: [Step; 5] = [
     (
         "jbench format locked/log locked/home",
         "| jbench: file locked/home\n  another program has it\nRefused",
@@ -60,16 +62,28 @@ const HOME_IS_WRITTEN: [Row; 3] = [
         "| jbench: file locked/home\n  another program has it\nRefused",
     ),
     (
+        "jbench recover locked/log locked/home --dry-run",
+        "| jbench: file locked/home\n  another program has it\nRefused",
+    ),
+    (
+        "jbench format locked/new locked/home --keep-home",
+        "| jbench: file locked/home\n  another program has it\nRefused",
+    ),
+    (
         "jbench apply locked/log locked/home locked/script --stay",
         "| jbench: file locked/home\n  another program has it\nRefused",
     ),
 ];
 
 /// Commands while another program reads the log.
-const LOG_IS_READ: [Row; 3] = [
+const LOG_IS_READ: [Step; 4] = [
     (
         "jbench dump locked/log",
         "super blocksize=1024 maxlen=33 first=1 sequence=1 start=0\nempty sequence=1\n| Fine",
+    ),
+    (
+        "jbench recover locked/log locked/home --dry-run",
+        "clean next=2\n| Fine",
     ),
     (
         "jbench recover locked/log locked/home",
@@ -82,7 +96,7 @@ const LOG_IS_READ: [Row; 3] = [
 ];
 
 /// Commands while nobody else has a file. Each leaves its locks behind it.
-const NOBODY: [Row; 4] = [
+const NOBODY: [Step; 4] = [
     (
         "jbench format locked/log locked/home",
         "formatted 33 blocks of 1024\n| Fine",
@@ -101,49 +115,19 @@ const NOBODY: [Row; 4] = [
     ),
 ];
 
-/// The words of a line.
-fn words_of(alloc: Global, line: &'static str) -> Result<Vec<&'static str>, AllocError> {
-    let mut words = Vec::new(alloc);
-    for word in line.split(' ') {
-        words.push(word)?;
-    }
-    Ok(words)
-}
-
-/// What a command says.
-fn said(rt: &HostRuntime, line: &'static str) -> Result<String, Fail> {
-    let words = words_of(rt.alloc(), line)?;
-    let mut out = Vec::new(rt.alloc());
-    let mut err = Vec::new(rt.alloc());
-    match parse(rt.alloc(), &words) {
-        Ok(words) => {
-            let status = obey(rt, &words, &mut out, &mut err)?;
-            text_of(rt.alloc(), &out, &err, status)
-        }
-        Err(_) => Err(Fail::new("words are refused")),
-    }
-}
-
-/// The first of the rows whose command says something else, and what that is.
-fn first_other(rt: &HostRuntime, rows: &[Row]) -> Result<Option<String>, Fail> {
-    for (line, wanted) in rows {
-        let found = said(rt, line)?;
-        if found.as_str() != *wanted {
-            return Ok(Some(format!(in rt.alloc(); "{line}\n{found}")?));
-        }
-    }
-    Ok(None)
-}
-
 /// The first of the rows that comes to something else while this file is written by another program.
-fn first_while_written(rt: &HostRuntime, path: &str, rows: &[Row]) -> Result<Option<String>, Fail> {
+fn first_while_written(
+    rt: &HostRuntime,
+    path: &str,
+    rows: &[Step],
+) -> Result<Option<String>, Fail> {
     let file = opened(rt, path)?;
     lock(&file)?;
     first_other(rt, rows)
 }
 
 /// The first of the rows that comes to something else while this file is read by another program.
-fn first_while_read(rt: &HostRuntime, path: &str, rows: &[Row]) -> Result<Option<String>, Fail> {
+fn first_while_read(rt: &HostRuntime, path: &str, rows: &[Step]) -> Result<Option<String>, Fail> {
     let file = opened(rt, path)?;
     lock_shared(&file)?;
     first_other(rt, rows)

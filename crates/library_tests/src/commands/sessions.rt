@@ -1,8 +1,5 @@
 //! Commands one after the other over the same files: what each prints, and what the files then hold.
-use super::text_of;
-use jbench_commands::obeying::obey;
-use jbench_words::words::parse;
-use std::alloc::{AllocError, Global};
+use super::{Step, byte_at, first_other};
 use std::fs;
 use std::test::Fail;
 
@@ -41,9 +38,6 @@ const SCRIPTS: [Script; 8] = [
         r#"{"block": 1024, "length": 33, "home": 64, "uuid": "AAAAAAAAAAAAAAAAaaaaaaaaaaaaaaaa", "ops": []}"#,
     ),
 ];
-
-/// The words of a command, and what it says.
-type Step = (&'static str, &'static str);
 
 /// Commands over one log, in their order. The numbers follow the rules of the format: an opening passes over one number, and
 /// a close names the number that its next transaction would have got.
@@ -346,45 +340,6 @@ fn prepare(rt: &HostRuntime) -> Result<(), Fail> {
     Ok(())
 }
 
-/// The words of a line.
-fn words_of(alloc: Global, line: &'static str) -> Result<Vec<&'static str>, AllocError> {
-    let mut words = Vec::new(alloc);
-    for word in line.split(' ') {
-        words.push(word)?;
-    }
-    Ok(words)
-}
-
-/// What a command says.
-fn said(rt: &HostRuntime, line: &'static str) -> Result<String, Fail> {
-    let words = words_of(rt.alloc(), line)?;
-    let mut out = Vec::new(rt.alloc());
-    let mut err = Vec::new(rt.alloc());
-    match parse(rt.alloc(), &words) {
-        Ok(words) => {
-            let status = obey(rt, &words, &mut out, &mut err)?;
-            text_of(rt.alloc(), &out, &err, status)
-        }
-        Err(_) => Err(Fail::new("words are refused")),
-    }
-}
-
-/// The first step whose command says something else, and what that is.
-fn first_other(rt: &HostRuntime) -> Result<Option<String>, Fail> {
-    for (line, wanted) in STEPS {
-        let found = said(rt, line)?;
-        if found.as_str() != wanted {
-            return Ok(Some(format!(in rt.alloc(); "{line}\n{found}")?));
-        }
-    }
-    Ok(None)
-}
-
-/// The byte at this place, ff where there is none.
-fn byte_at(bytes: &[u8], place: usize) -> u8 {
-    bytes.get(place).copied().unwrap_or(0xff)
-}
-
 /// How the blocks 8 to 11 of this file of a home area begin, of 1024 bytes each.
 fn beginnings(rt: &HostRuntime, path: &str) -> Result<[u8; 4], Fail> {
     let home = fs::read(rt, path)?;
@@ -399,7 +354,7 @@ fn beginnings(rt: &HostRuntime, path: &str) -> Result<[u8; 4], Fail> {
 #[test]
 fn commands_over_one_log(rt: HostRuntime) -> Result<(), Fail> {
     prepare(&rt)?;
-    let other = first_other(&rt)?;
+    let other = first_other(&rt, &STEPS)?;
     assert_eq!(rt; other.as_ref().map(String::as_str), None);
     assert_eq!(rt; beginnings(&rt, "session/home")?, [0, 0x33, 0x22, 0]);
     assert_eq!(rt; beginnings(&rt, "session/image_home")?, [0, 0x11, 0x22, 0]);

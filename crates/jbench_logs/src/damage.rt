@@ -1,0 +1,113 @@
+//! The command `recover --before-damage`, over devices: opens a log in spite of a damaged block, or of one that is ahead.
+ghost use Rattle.std.specs.Prelude.{◌≡◌, IfOk};
+ghost use Rattle.jbench_words.specs.declared.fault.Status.TheVariants.{Fine};
+ghost use Rattle.jbench_logs.specs.Done.{IsRecoveredBefore, IsTakenBefore};
+
+use crate::logs::{end, refuse, say_opened};
+use crate::watched::Watched;
+use block_device::Device;
+use jbench_words::fault::{Fault, Status};
+use jbench_words::watch::Watch;
+use journal_model::{JournalError, Tid};
+use recovery::Report;
+use std::alloc::Global;
+use std::io;
+use std::io::Write;
+
+/// What was taken of a log.
+#[derive(Drop)]
+pub struct Taken {
+    /// Which transactions they are.
+    pub report: Report,
+    /// The number of the next transaction.
+    pub next: Tid,
+    /// What an opening refuses the log with, where it does.
+    pub stopped_by: Option<JournalError>,
+}
+
+/// Opens the log of a device as `recover` does; one that is refused as damaged or ahead is opened in spite of that: the complete
+/// transactions before the damage go home, or those of the log as it is read, and the log is left clean. Prints what was found, and
+/// where something stopped there, which transactions were taken and what it was. `path` names the log's file. Where the log is refused
+/// all the same one line on `err` says why. `watch` is told of each read and write, and of their end before anything is said. The
+/// device comes back.
+///
+/// # Errors
+///
+/// The output can't be written.
+pub fn recover_before_damage<D: Device + Drop, H: Watch + Drop, W: Write + Drop, E: Write + Drop>(
+    alloc: Global,
+    path: &str,
+    device: D,
+    watch: H,
+    out: W,
+    err: E,
+) -> io::Result<(Status, D)>
+    ensures { IfOk result (λ done. done.0 ≡ Fine → D.honest done.1 → IsRecoveredBefore (D.state device) (D.state done.1)) }
+{
+    let (mut out, mut err) = (out, err);
+    match open_watched(alloc, device, watch) {
+        Ok((device, taken)) => {
+            let status = end(path, say_taken(&taken, &mut out), err)?;
+            Ok((status, device))
+        }
+        Err((device, e)) => {
+            let mut device = device;
+            let status = refuse(alloc, path, &mut device, e, &mut err)?;
+            Ok((status, device))
+        }
+    }
+}
+
+/// Opens the log of a device, whatever stands behind what can be taken of it. `watch` is told of each read and write, and then of
+/// their end.
+fn open_watched<D: Device + Drop, H: Watch + Drop>(
+    alloc: Global,
+    device: D,
+    watch: H,
+) -> Result<(D, Taken), (D, JournalError)>
+    ensures { IfOk result (λ opened. D.honest opened.0 → IsTakenBefore (D.state device) (D.state opened.0) opened.1) }
+{
+    match recovery::open_before_damage(alloc, Watched::new(device, watch)) {
+        Ok((opened, stopped_by)) => {
+            let taken = Taken {
+                report: opened.report(),
+                next: opened.next(),
+                stopped_by,
+            };
+            let (device, mut watch) = opened.into_device().into_parts();
+            watch.ends();
+            Ok((device, taken))
+        }
+        Err((device, e)) => {
+            let (device, mut watch) = device.into_parts();
+            watch.ends();
+            Err((device, e))
+        }
+    }
+}
+
+/// Says what was taken of a log.
+fn say_taken<W: Write>(taken: &Taken, out: &mut W) -> Result<(), Fault> {
+    say_opened(taken.report, taken.next, out)?;
+    say_stopped(taken.report, taken.stopped_by, out)
+}
+
+/// Says which transactions are taken of a log, and what stops an opening behind them, where something does.
+pub(crate) fn say_stopped<W: Write>(
+    report: Report,
+    stopped_by: Option<JournalError>,
+    out: &mut W,
+) -> Result<(), Fault> {
+    let Some(e) = stopped_by else {
+        return Ok(());
+    };
+    if report.transactions == 0 {
+        write!(out, "  no transactions")?;
+    } else {
+        let first = report.ends_at.saturating_sub(report.transactions);
+        let last = report.ends_at.saturating_sub(1);
+        write!(out, "  transactions {first} to {last}")?;
+    }
+    writeln!(out, ", stopped by refusal {} {e}", e.number())?;
+    Ok(())
+}

@@ -1,0 +1,135 @@
+//! The command `recover --dry-run`, over devices: says what an opening would do, and writes nothing.
+ghost use Rattle.std.specs.Prelude.{◌≡◌, IfOk, true, false};
+ghost use Rattle.block_device.specs.State.{Stays};
+ghost use Rattle.jbench_words.specs.declared.fault.Status.TheVariants.{Fine};
+ghost use Rattle.jbench_logs.specs.Done.{IsFoundOut, IsPlanOf};
+
+use crate::damage::say_stopped;
+use crate::logs::{end, refuse};
+use crate::reasons::say_why;
+use crate::watched::Watched;
+use block_device::Device;
+use jbench_words::fault::{Fault, Status};
+use jbench_words::watch::Watch;
+use jbench_words::words::RecoverWords;
+use journal_model::JournalError;
+use recovery::{Plan, plan_before_damage, plan_opening};
+use std::alloc::Global;
+use std::io;
+use std::io::Write;
+
+/// What an opening would do.
+#[derive(Drop)]
+pub struct Planned {
+    /// What it would find, and which blocks and numbers.
+    pub plan: Plan,
+    /// What it would open the log in spite of, where there is something.
+    pub stopped_by: Option<JournalError>,
+}
+
+/// Prints what these words of `recover` would do to the log of a device, in the words of `recover` and with the count of home blocks
+/// that would be written. Where the log is refused one line on `err` says why, as there. The device is read alone, and stays as it was;
+/// it comes back. `watch` is told of each read, and of their end before anything is said.
+///
+/// # Errors
+///
+/// The output can't be written.
+pub fn plan<D: Device + Drop, H: Watch + Drop, W: Write + Drop, E: Write + Drop>(
+    alloc: Global,
+    words: &RecoverWords<'_>,
+    device: D,
+    watch: H,
+    out: W,
+    err: E,
+) -> io::Result<(Status, D)>
+    ensures stays { IfOk result (λ done. Stays (D.state device) (D.state done.1)) }
+    ensures planned { IfOk result (λ done. done.0 ≡ Fine → D.honest done.1 → IsFoundOut words.now.before_damage (D.state device)) }
+{
+    let (mut out, mut err) = (out, err);
+    let path = words.paths.log;
+    let (device, planned) = plan_watched(alloc, words.before_damage, device, watch);
+    let mut device = device;
+    match planned {
+        Ok(planned) => {
+            let status = end(path, say_plan(alloc, &mut device, &planned, &mut out), err)?;
+            Ok((status, device))
+        }
+        Err(e) => {
+            let status = refuse(alloc, path, &mut device, e, &mut err)?;
+            Ok((status, device))
+        }
+    }
+}
+
+/// Finds out what an opening would do. `watch` is told of each read, and then of their end.
+fn plan_watched<D: Device + Drop, H: Watch + Drop>(
+    alloc: Global,
+    before_damage: bool,
+    device: D,
+    watch: H,
+) -> (D, Result<Planned, JournalError>)
+    ensures stays { Stays (D.state device) (D.state result.0) }
+    ensures planned { IfOk result.1 (λ planned. D.honest result.0 → IsPlanOf before_damage (D.state device) planned) }
+{
+    let mut watched = Watched::new(device, watch);
+    let planned = plan_of(alloc, before_damage, &mut watched);
+    let (device, mut watch) = watched.into_parts();
+    watch.ends();
+    (device, planned)
+}
+
+/// What an opening would do to the log of a device.
+fn plan_of<D: Device>(
+    alloc: Global,
+    before_damage: bool,
+    device: &mut D,
+) -> Result<Planned, JournalError>
+    ensures stays { Stays (D.state device.old) (D.state device.new) }
+    ensures planned { IfOk result (λ planned. D.honest device.new → IsPlanOf before_damage (D.state device.old) planned) }
+{
+    if before_damage {
+        let (plan, stopped_by) = plan_before_damage(alloc, device)?;
+        return Ok(Planned { plan, stopped_by });
+    }
+    let plan = plan_opening(alloc, device)?;
+    Ok(Planned {
+        plan,
+        stopped_by: None,
+    })
+}
+
+/// Says what an opening would do, and where it would be stopped by a home area that is too short, that it would.
+fn say_plan<D: Device, W: Write>(
+    alloc: Global,
+    device: &mut D,
+    planned: &Planned,
+    out: &mut W,
+) -> Result<(), Fault>
+    ensures stays { Stays (D.state device.old) (D.state device.new) }
+    ensures honest { D.honest device.new → D.honest device.old }
+{
+    say_planned(planned, out)?;
+    if let Some(e) = planned.stopped_by {
+        say_why(alloc, device, e, out)?;
+    }
+    Ok(())
+}
+
+/// Says what was planned.
+fn say_planned<W: Write>(planned: &Planned, out: &mut W) -> Result<(), Fault> {
+    let Plan {
+        report,
+        blocks,
+        next,
+    } = planned.plan;
+    if report.clean {
+        writeln!(out, "clean next={}", next.0)?;
+    } else {
+        writeln!(
+            out,
+            "would recover end={} next={} transactions={} blocks={blocks}",
+            report.ends_at, next.0, report.transactions
+        )?;
+    }
+    say_stopped(report, planned.stopped_by, out)
+}
