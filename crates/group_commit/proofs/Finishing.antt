@@ -1,6 +1,6 @@
 -- The way of a journal to its end: what the turns of a close come to, one after the other.
 use Rattle.std.proofs.Common.{refl, sym, ◌∙◌, ap, ap₂, subst, arith, inl, inr}
-use Rattle.std.specs.Prelude.{◌≡◌, ◌≢◌, ℕ, ◌<◌, ◌≤◌, true, false, List, [], ◌∷◌, ◌++◌, length, Result, Ok, Err, IfErr, OnOk}
+use Rattle.std.specs.Prelude.{◌≡◌, ◌≢◌, ℕ, ◌/◌, ◌<◌, ◌≤◌, true, false, List, [], ◌∷◌, ◌++◌, length, Result, Ok, Err, IfErr, OnOk}
 use Rattle.std.proofs.lemmas.Bool.{true≢false}
 use Rattle.std.proofs.lemmas.Option.{none-some}
 use Rattle.journal_model.specs.declared.refusal.JournalError.{JournalError}
@@ -30,10 +30,10 @@ use Rattle.journal_steps.specs.declared.turn.Turn.{Turn}
 use Rattle.journal_steps.specs.declared.turn.Turn.TheVariants.{Idle as IdleTurn, Waiting, Step, Sealed, Committed}
 use Rattle.log_epochs.specs.EngineWorld.Phase.{Running}
 use Rattle.log_epochs.specs.JournalWorld.{with_directs}
-use Rattle.group_commit.specs.Close.{CloseRefused, ComesTo, FitsRing, GoesOn, HasSealed, IsFinished, SealRefused, StaysUnsealed, Went, WentWrong, closing, locked_journal, with_running}
-use Rattle.group_commit.specs.Close.CloseRefused.{CloseAborted, CloseFailed, NoMemory, RingTooShort}
+use Rattle.group_commit.specs.Close.{CloseRefused, ComesTo, GoesOn, HasSealed, IsFinished, SealRefused, StaysUnsealed, Went, WentWrong, closing, locked_journal, with_running}
+use Rattle.group_commit.specs.Close.CloseRefused.{CloseAborted, CloseFailed, NoMemory}
 use Rattle.group_commit.specs.Close.SealRefused.{NoMemoryForIt, NoRoomForIt}
-use Rattle.journal_steps.specs.Journal.{Agrees, CheckTurnDid, CheckTurnRefused, Does, FailsAndTells, HasRoomFor, NothingToRelease, TurnDid, TurnRefused, need_of}
+use Rattle.journal_steps.specs.Journal.{Agrees, CheckTurnDid, CheckTurnRefused, Does, FailsAndTells, FitsQuarter, HasRoomFor, NothingToRelease, TurnDid, TurnRefused, need_of}
 use Rattle.journal_steps.specs.Journal.CheckTurnRefused.{CheckAborted, CheckFailed}
 use Rattle.journal_steps.specs.Journal.TurnRefused.{DeviceFailed, MemoryIsShort, RingIsShort, WasAborted}
 use Rattle.journal_steps.specs.Values.{JournalValue}
@@ -328,6 +328,10 @@ module _ {D : Type 0} (state : D → DeviceState) where
   pub all-free : (j : Journal) → IsPlain j.engine → NothingToRelease j.engine → j.engine.start ≡ j.engine.tail
   all-free j plain nothing = plain.start ∙ ap (position j.engine) (sym nothing.released) ∙ sym plain.tail
 
+  -- a whole ring has as many blocks as the running transaction needs
+  abbrev FitsRing : Journal → Type 0
+  FitsRing j = need_of j.engine.layout j.front.running ≤ j.engine.ring.blocks
+
   -- a whole ring is as long behind steps of commits and of rounds
   fits-on : (old mid : JournalValue D) → Went state old mid → FitsRing old.journal → FitsRing mid.journal
   fits-on old mid went fits =
@@ -337,10 +341,19 @@ module _ {D : Type 0} (state : D → DeviceState) where
       (subst (λ (t : Transaction). need_of old.journal.engine.layout t ≤ old.journal.engine.ring.blocks)
       (sym on.transaction) fits))
 
-  -- then it has room for the running transaction, where a whole ring has
-  pub free-room : (old new : JournalValue D) → Went state old new → new.journal.engine.start ≡ new.journal.engine.tail → FitsRing old.journal →
-      HasRoomFor new.journal
-  free-room old new went free fits = let here = fits-on old new went fits in omega arith
+  -- then it has room for the running transaction, which needs a quarter at most
+  pub free-room : (old new : JournalValue D) → Went state old new → new.journal.engine.start ≡ new.journal.engine.tail →
+      need_of old.journal.engine.layout old.journal.front.running ≤ old.journal.engine.ring.blocks / 4 → HasRoomFor new.journal
+  free-room old new went free quarter =
+      let fits : FitsRing old.journal = omega arith in
+      let here = fits-on old new went fits in
+      omega arith
+
+  -- so it is behind rounds that released everything
+  pub room-made : {A E : Type 0} (r : Result A E) (old new : JournalValue D) → FitsQuarter old.journal → OnOk r (Went state old new) →
+      OnOk r (new.journal.engine.start ≡ new.journal.engine.tail) → OnOk r (HasRoomFor new.journal)
+  room-made (Ok a) old new quarter went free = free-room old new went free quarter
+  room-made (Err e) old new quarter went free = went
 
   -- why the running transaction is not sealed
   pub seal-wrong : (old mid new : JournalValue D) (e : JournalError) → mid ≡ locked_journal old → old.journal.engine.aborted ≡ false →
@@ -494,11 +507,10 @@ module _ {D : Type 0} (state : D → DeviceState) where
 
   -- and so does a seal that is refused
   pub seal-refused : (old mid new : JournalValue D) (e : JournalError) → old.journal.engine.aborted ≡ false → Went state old mid →
-      0 < length mid.journal.front.running.handles → (FitsRing old.journal → HasRoomFor mid.journal) →
+      0 < length mid.journal.front.running.handles → HasRoomFor mid.journal →
       mid.journal.engine.committed ≡ length mid.journal.front.sealed → SealRefused mid.journal e → new ≡ locked_journal mid →
       CloseRefused state old new.device new.journal.front.sealed new.journal.engine.committed e
-  seal-refused old mid new e running went joined room all (NoRoomForIt none) is =
-      RingTooShort running (unsealed old mid new went joined all is) (λ fits. none (room fits)) (ap (λ (v : JournalValue D). (state v.device).faults) is ∙ went.faults)
+  seal-refused old mid new e running went joined room all (NoRoomForIt none) is = absurd (none room)
   seal-refused old mid new e running went joined room all (NoMemoryForIt has) is =
       NoMemory running (unsealed old mid new went joined all is) (ap (λ (v : JournalValue D). (state v.device).faults) is ∙ went.faults)
 
@@ -523,8 +535,6 @@ module _ {D : Type 0} (state : D → DeviceState) where
       let low : old.journal.engine.committed ≤ mid.journal.engine.committed = went.on.committed in
       let high : mid.journal.engine.committed ≤ committed = more in
       CloseFailed running (inr (all ∙ same-closing old mid went.on)) (omega arith) (counted ∙ ap one_more_fault went.faults)
-  refused-on old mid device sealed committed e running went (RingTooShort on stays none counted) =
-      RingTooShort running (stays-on old mid sealed committed went stays) (λ fits. none (fits-on old mid went fits)) (counted ∙ went.faults)
   refused-on old mid device sealed committed e running went (NoMemory on stays counted) =
       NoMemory running (stays-on old mid sealed committed went stays) (counted ∙ went.faults)
 

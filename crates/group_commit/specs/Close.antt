@@ -12,7 +12,7 @@ use Rattle.log_epochs.specs.EngineWorld.Phase.{Closed, Running, Shut}
 use Rattle.log_epochs.specs.Epoch.{Epoch}
 use Rattle.log_epochs.specs.JournalWorld.{JournalWorld, Leads, Move}
 use Rattle.log_engine.specs.Close.{IsAllReleased}
-use Rattle.journal_steps.specs.Journal.{HasRoomFor, need_of}
+use Rattle.journal_steps.specs.Journal.{HasRoomFor}
 use Rattle.journal_steps.specs.Values.{JournalValue}
 
 -- the sealed transactions, with the running one where these handles have joined it
@@ -27,10 +27,6 @@ closing f = with_running f.sealed f.running f.running.handles
 -- those that are sealed while it is closed: first those of before, then all that it seals
 abbrev pub IsSealedInClose : Front → History → Type 0
 IsSealedInClose f ts = (ts ≡ f.sealed) ⊎ (ts ≡ closing f)
-
--- a whole ring has as many blocks as the running transaction needs
-abbrev pub FitsRing : Journal → Type 0
-FitsRing j = need_of j.engine.layout j.front.running ≤ j.engine.ring.blocks
 
 -- the world in which this journal, in this epoch, works on this disk
 abbrev pub world_with : JournalWorld → Epoch → Journal → Disk → Phase → JournalWorld
@@ -108,15 +104,12 @@ pub record StaysUnsealed (old : Journal) (sealed : History) (committed : ℕ) : 
   pub all : committed ≡ length sealed
 
 -- Why a close is refused, and what it leaves sealed and committed: the device failed before, and nothing was done; it failed
--- in a step of the close; or the running transaction could not be sealed, since a whole ring is too short for it, or memory
--- ran out.
+-- in a step of the close; or the running transaction could not be sealed, since memory ran out.
 pub data CloseRefused {D : Type 0} (state : D → DeviceState) (old : JournalValue D) (device : D) (sealed : History) (committed : ℕ) : JournalError → Type 0 where
   CloseAborted : old.journal.engine.aborted ≡ true → device ≡ old.device → sealed ≡ old.journal.front.sealed → committed ≡ old.journal.engine.committed →
       CloseRefused state old device sealed committed Aborted
   CloseFailed : old.journal.engine.aborted ≡ false → IsSealedInClose old.journal.front sealed → old.journal.engine.committed ≤ committed →
       (state device).faults ≡ one_more_fault (state old.device).faults → CloseRefused state old device sealed committed Device
-  RingTooShort : old.journal.engine.aborted ≡ false → StaysUnsealed old.journal sealed committed → (FitsRing old.journal → ⊥) →
-      (state device).faults ≡ (state old.device).faults → CloseRefused state old device sealed committed NeedSpace
   NoMemory : old.journal.engine.aborted ≡ false → StaysUnsealed old.journal sealed committed → (state device).faults ≡ (state old.device).faults →
       CloseRefused state old device sealed committed Memory
 

@@ -4,7 +4,7 @@ ghost use Rattle.std.specs.Prelude.{◌≡◌, ◌<◌, ◌≤◌, false, length
 ghost use Rattle.journal_model.specs.declared.refusal.JournalError.TheVariants.{Device as DeviceFailed};
 ghost use Rattle.journal_world.specs.declared.stage.Stage.TheVariants.{Idle};
 ghost use Rattle.log_epochs.specs.EngineWorld.Phase.{Running};
-ghost use Rattle.group_commit.specs.Close.{CloseRefused, ComesTo, FitsRing, HasSealed, IsFinished, Went, WentWrong};
+ghost use Rattle.group_commit.specs.Close.{CloseRefused, ComesTo, HasSealed, IsFinished, Went, WentWrong};
 ghost use Rattle.journal_steps.specs.Journal.{HasRoomFor, NothingToRelease};
 
 use crate::journal::Journal;
@@ -74,10 +74,11 @@ fn make_room<D: Device, R: Record>(journal: &mut Journal<D, R>) -> Result<(), Jo
     requires idle { journal.old.journal.engine.stage ≡ Idle }
     ensures ok { OnOk result (Went D.state journal.old journal.new) }
     ensures idle { OnOk result (journal.new.journal.engine.stage ≡ Idle) }
-    ensures room { OnOk result (FitsRing journal.old.journal → HasRoomFor journal.new.journal) }
+    ensures room { OnOk result (HasRoomFor journal.new.journal) }
     ensures err { IfErr result (λ e. (e ≡ DeviceFailed) × WentWrong D.state journal.old journal.new) }
     ensures honest { D.honest journal.new.device → D.honest journal.old.device }
 {
+    journal.recall_invariant();
     if journal.has_room() {
         return Ok(());
     }

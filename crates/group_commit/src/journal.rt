@@ -9,16 +9,17 @@ ghost use Rattle.journal_world.specs.Front.{held, next_handle};
 ghost use Rattle.journal_world.specs.Front.FrontEvent.{GiveBack, Join, Reserve, RevokeBlock, StopHandle, WriteBlock};
 ghost use Rattle.journal_world.specs.Sound.{IsPlain};
 ghost use Rattle.journal_world.specs.Journal.{IsFresh};
-ghost use Rattle.journal_world.specs.Journal.Event.{FrontStep, Seal};
+ghost use Rattle.journal_world.specs.Journal.Event.{FrontStep, ReadBlock, Seal};
 ghost use Rattle.log_epochs.specs.EngineWorld.Phase.{Running, Shut};
 ghost use Rattle.log_epochs.specs.JournalPromise.{IsClosed};
 ghost use Rattle.log_epochs.specs.JournalWorld.{Begins};
 ghost use Rattle.log_engine.specs.Call.{IsOneMoment};
 ghost use Rattle.log_engine.specs.Close.{IsAllReleased};
 ghost use Rattle.log_engine.specs.Left.{commit_calls};
-ghost use Rattle.journal_steps.specs.Journal.{Agrees, CheckTurnDid, CheckTurnRefused, Does, HasCopyKept, HasRoomFor, IsDuringCheckTurn, IsDuringTurn, IsSeen, LeavesFewerRounds, OpensNow, OpensOver, ReadRefused, Requests, SealIsDue, TurnDid, TurnRefused};
+ghost use Rattle.journal_steps.specs.Journal.{Agrees, CheckTurnDid, CheckTurnRefused, Does, FitsQuarter, HasRoomFor, IsDuringCheckTurn, IsDuringTurn, LeavesFewerRounds, NotesRead, OpensNow, OpensOver, ReadRefused, Requests, SealIsDue, TurnDid, TurnRefused};
+ghost use Rattle.journal_steps.specs.Values.{together};
 ghost use Rattle.group_commit.specs.Close.{CloseDid, CloseRefused, EndsWith, SealRefused, closing, locked_journal};
-ghost use Rattle.journal_front.specs.Front.{IsOpenHandle, JoinRefused, MayTouch, ReserveRefused, Spends, TouchRefused};
+ghost use Rattle.journal_front.specs.Front.{IsOpenHandle, JoinRefused, ReserveRefused, Spends, TouchRefused};
 ghost use Rattle.group_commit.specs.Values.{StatusIs};
 
 use crate::close::finish;
@@ -90,6 +91,14 @@ impl<D: Device, R: Record> Journal<D, R> {
         let credits = Layout::capacity(layout, engine.ring_blocks());
         let front = Front::new(alloc, layout, engine.home_blocks(), credits, next);
         Ok((Journal { front, engine }, Seat::new()))
+    }
+
+    /// A journal of a front and an engine that agree.
+    pub fn of(front: Front<R>, engine: Engine<D>) -> Self
+        requires { Agrees (together front engine).journal }
+        ensures { result ≡ together front engine }
+    {
+        Journal { front, engine }
     }
 
     /// How many bytes a block has.
@@ -212,37 +221,38 @@ impl<D: Device, R: Record> Journal<D, R> {
     }
 
     /// Reads a block of the home area into a buffer of one block: the running transaction's copy, else that of the one that
-    /// is being committed, else the newest committed copy, else what home reads. Isolation between handles is left to the
-    /// caller. A block with a copy that is not home for good is read without a device call, any other with one.
+    /// is being committed, else the newest committed copy, else what home reads. What the handle sees is a step of its
+    /// transaction, and takes no credit. Isolation between handles is left to the caller. A block with a copy that is not home
+    /// for good is read without a device call, any other with one.
     ///
     /// # Errors
     ///
-    /// `Aborted` after a device failure; `BadBlock` where home has no such block, or its number is not below 2^32; `Revoked`
-    /// where its last entry in the transactions that are not committed is a revoke: nothing changes. `Device` where the device failed: the journal is aborted, and the buffer's bytes are unspecified.
+    /// The first that applies; the buffer stays as it is. `Aborted` after a device failure; `BadBlock` where home has no such
+    /// block, or its number is not below 2^32; `NoCredit` where the handle is none of this journal's open ones; `Revoked` where
+    /// the block's last entry in the transactions that are not committed is a revoke: nothing changes. `Memory` where it ran out
+    /// for the step: the journal stays as it is. `Device` where the device failed: the journal is aborted.
     /// Source: journalling.rst (handles see the running transaction).
     pub fn read(
         &mut self,
-        _handle: &mut Handle,
+        handle: &mut Handle,
         block: BlockNo,
         into: &mut [u8],
     ) -> Result<(), JournalError>
         requires { length into.old ≡ (D.state self.old.device).shape.block_size }
-        ensures may { OnOk result ((self.old.journal.engine.aborted ≡ false) × MayTouch self.old.journal.front block) }
-        ensures seen { OnOk result (D.honest self.new.device → IsSeen self.old.journal (D.state self.old.device).disk block into.new) }
-        ensures same { OnOk result (self.new.journal ≡ self.old.journal) }
-        // Where a copy is kept there is no device call.
-        ensures kept { OnOk result (HasCopyKept self.old.journal block → self.new ≡ self.old) }
-        ensures err { IfErr result (λ e. ReadRefused D.state self.old block self.new e) }
-        ensures untouched { IfErr result (λ e. e ≢ DeviceFailed → into.new ≡ into.old) }
+        ensures ok { OnOk result (D.honest self.new.device → Does D.state self.old (ReadBlock handle.old.number block into.new) self.new) }
+        // Also where reads were not honest. Where a copy is kept there is no device call.
+        ensures noted { OnOk result (NotesRead D.state self.old handle.old block into.new self.new) }
+        ensures err { IfErr result (ReadRefused D.state self.old handle.old block self.new) }
+        ensures untouched { IfErr result (λ e. into.new ≡ into.old) }
         ensures stays { Stays (D.state self.old.device) (D.state self.new.device) }
         ensures opens { D.honest self.old.device → OpensNow self.new.journal (D.state self.new.device).disk }
         ensures calls { MakesAtMostOneCall (D.state self.old.device) (D.state self.new.device) }
         ensures no_fault { OnOk result ((D.state self.new.device).faults ≡ (D.state self.old.device).faults) }
         ensures honest { D.honest self.new.device → D.honest self.old.device }
         ensures length { length into.new ≡ length into.old }
-        ensures handle { _handle.new ≡ _handle.old }
+        ensures handle { handle.new ≡ handle.old }
     {
-        steps::read(&mut self.front, &mut self.engine, block, into)
+        steps::read(&mut self.front, &mut self.engine, handle, block, into)
     }
 
     /// Ends a handle. Its credits that are left come back. It always succeeds, after a device failure too. Where the handle is
@@ -449,14 +459,17 @@ impl<D: Device, R: Record> Journal<D, R> {
         steps::room_for(&self.front, &self.engine).is_some()
     }
 
-    /// States what every journal keeps, for the proofs of callers: its engine knows what agrees, and front and engine agree.
+    /// States what every journal keeps, for the proofs of callers: its engine knows what agrees, front and engine agree, and the
+    /// running transaction needs at most a quarter of the ring.
     /// It does nothing.
     pub fn recall_invariant(&self)
         ensures plain { IsPlain self.now.journal.engine }
         ensures agrees { Agrees self.now.journal }
         ensures shape { self.now.journal.engine.shape ≡ (D.state self.now.device).shape }
+        ensures quarter { FitsQuarter self.now.journal }
     {
         self.engine.recall_invariant();
+        steps::recall_quarter(&self.front, &self.engine);
     }
 
     /// Seals the running transaction, of which no handle is open, and hands its entries to the engine.
@@ -484,8 +497,8 @@ impl<D: Device, R: Record> Journal<D, R> {
     ///
     /// What is left of the journal comes back: what was sealed and committed by then stays so, and what a stop leaves of the
     /// device opens as it says. `Aborted` after a device failure: nothing was done. `Device` where the device failed. `Memory`
-    /// where it ran out for the seal of the running transaction, and `NeedSpace` where a whole ring is too short for that,
-    /// as it may be with handles of another journal: it is not sealed, and all before it is committed.
+    /// where it ran out for the seal of the running transaction: it is not sealed, and all before it is committed. (A whole ring
+    /// has room for it, since it needs at most a quarter.)
     /// Source: fs/jbd2/journal.c by behaviour (`jbd2_journal_destroy`).
     pub fn close(self) -> Result<Parts<D, R>, (Parts<D, R>, JournalError)>
         requires { self.journal.front.open_handles ≡ [] }

@@ -2,5 +2,6 @@
 mod Counting
 mod EntriesOfSteps
 mod Holding
+mod Noting
 mod Touching
 mod Unfinished

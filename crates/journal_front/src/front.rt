@@ -7,7 +7,7 @@ ghost use Rattle.journal_model.specs.declared.refusal.JournalError.TheVariants.{
 ghost use Rattle.journal_model.specs.Layout.{IsTaken};
 ghost use Rattle.log_model.specs.Opening.{greatest_number};
 ghost use Rattle.journal_model.specs.Transaction.{copied, entries, last_effect, revoked};
-ghost use Rattle.journal_world.specs.Front.{FrontHappens, IsUntouched, aborting, finishing, fresh_front, held, next_handle, sealing, unfinished};
+ghost use Rattle.journal_world.specs.Front.{FrontHappens, IsOpen, IsUntouched, aborting, finishing, fresh_front, held, next_handle, reading_block, sealing, unfinished};
 ghost use Rattle.journal_world.specs.Front.FrontEvent.{ExtendHandle, GiveBack, Join, Lock, Raise, Reserve, RevokeBlock, StopHandle, WriteBlock};
 ghost use Rattle.journal_world.specs.Journal.{batch_of};
 ghost use Rattle.journal_front.specs.Front.{ExtendRefused, IsKeptOut, IsOpenHandle, JoinRefused, MayExtend, MayStep, MayTouch, ReserveRefused, Spends, TouchRefused};
@@ -17,7 +17,9 @@ use crate::record::Record;
 use crate::{Entries, Transaction};
 use indexmap::IndexMap;
 use journal_model::layout::GREATEST_NUMBER;
-use journal_model::{Batch, BlockNo, Entry, HandleNo, JournalError, LogLayout, Tid};
+use journal_model::{
+    Batch, Block, BlockNo, Entry, HandleNo, JournalError, LogLayout, Op, Step, Tid,
+};
 use std::alloc::Global;
 use std::marker::Model;
 
@@ -231,8 +233,13 @@ impl<R: Record> Front<R> {
         self.newest(block).is_none()
     }
 
-    /// Whether a handle may make a step on the block, but for the credit of a first touch.
-    fn admit(&self, handle: &Handle, block: BlockNo) -> Result<(), JournalError>
+    /// Whether a handle may make a step on the block, but for the credit of a first touch. A read takes none.
+    ///
+    /// # Errors
+    ///
+    /// The first that applies of `Aborted` after a device failure, `BadBlock` where the block is none that may be touched, and
+    /// `NoCredit` where the handle is none of the open ones.
+    pub fn admit(&self, handle: &Handle, block: BlockNo) -> Result<(), JournalError>
         ensures ok { OnOk result (MayStep self.now handle.now block) }
         ensures err { IfErr result (λ e. IsKeptOut self.now handle.now block e) }
     {
@@ -289,6 +296,43 @@ impl<R: Record> Front<R> {
             Ok(_) => Ok(()),
             Err(_) => unreachable!(),
         }
+    }
+
+    /// Makes room for the step of a read, and for the bytes of the block that it sees.
+    ///
+    /// # Errors
+    ///
+    /// `Memory`.
+    pub fn room_for_read(&mut self) -> Result<Vec<u8>, JournalError>
+        ensures length { IfOk result (λ bytes. length bytes.items ≡ self.old.layout.block_size) }
+        ensures same { self.new ≡ self.old }
+        ensures err { IfErr result (λ e. e ≡ Memory) }
+    {
+        self.running.reserve()?;
+        Ok(vec![in self.alloc; 0; self.layout.block_size]?)
+    }
+
+    /// An open handle has read a block, and these are the bytes that it saw: its transaction has one step more.
+    ///
+    /// # Errors
+    ///
+    /// `Memory`: nothing changes. Behind `room_for_read` one step takes no memory.
+    pub fn note_read(
+        &mut self,
+        handle: &Handle,
+        block: BlockNo,
+        bytes: Block,
+    ) -> Result<(), JournalError>
+        requires { MayStep self.old handle.now block }
+        ensures ok { OnOk result (self.new ≡ reading_block self.old handle.now.number block bytes) }
+        ensures open { IsOpen self.old handle.now.number }
+        ensures err { IfErr result (λ e. (e ≡ Memory) × (self.new ≡ self.old)) }
+    {
+        self.running.reserve()?;
+        let op = Op::Read(bytes);
+        let handle = handle.number();
+        self.running.note(Step { handle, block, op }, None);
+        Ok(())
     }
 
     /// Whether an open handle may get n further credits.

@@ -28,7 +28,7 @@ use Rattle.journal_steps.specs.Direct.DirectSyncRefused.{SyncAborted, SyncFailed
 use Rattle.journal_steps.specs.Direct.DirectWriteRefused.{WriteFailed, WriteNotDirect}
 use Rattle.journal_front.specs.Front.{MayTouch}
 use Rattle.journal_steps.specs.Journal.{Agrees, OpensNow}
-use Rattle.journal_steps.proofs.Reading.{all, few, finished-is, last-from, unfinished-is}
+use Rattle.journal_steps.proofs.Reading.{all, few, finished-is, last-from}
 use Rattle.journal_steps.proofs.Rounding.{told-again}
 use Rattle.journal_steps.proofs.Sealing.{agrees-told, allowed-here}
 use Rattle.journal_steps.proofs.Turning.{opens-now}
@@ -54,7 +54,7 @@ module _ (j : Journal) (agrees : Agrees j) (plain : IsPlain j.engine) (b : ℕ) 
       ∙ ap₂ (λ (ts us : History). later (last_effect b ts) (last_effect b us)) (take-append_seam (drop c j.front.sealed) (j.front.running ∷ []))
       (drop-append_seam (drop c j.front.sealed) (j.front.running ∷ [])) in
       let count : drop (finished_count j.front) (all j agrees plain) ≡ drop c (all j agrees plain) =
-      unfinished-is j agrees plain ∙ ap (λ (n : ℕ). drop n (all j agrees plain)) (finished-is j agrees plain) in
+      ap (λ (n : ℕ). drop n (all j agrees plain)) (finished-is j agrees plain) in
       first-none (last_effect b (drop c j.front.sealed)) (effect b j.front.running.steps)
       (sym both ∙ ap (last_effect b) (sym behind) ∙ ap (last_effect b) (sym count) ∙ untouched)
 
@@ -102,7 +102,7 @@ pub agrees-direct_fault : (f front : Front) (old new : Engine) (disk after : Dis
 agrees-direct_fault f front old new disk after call agrees told fault =
     subst (λ (x : Front). Agrees (record { front = x; engine = new })) (sym told)
     (subst (λ (e : Engine). Agrees (record { front = aborting f; engine = e })) (sym fault.engine)
-    (agrees-told f old (record old { aborted = true }) agrees (record { shape = refl; layout = refl; accepted = refl; first = refl }) true refl refl))
+    (agrees-told f old (record old { aborted = true }) agrees (record { shape = refl; layout = refl; accepted = refl; first = refl; ring = refl }) true refl refl))
 
 -- where a direct write is refused before its call, what holds now holds at the one moment
 pub each-unwritten : (j : Journal) (b : ℕ) (v : List ℕ) (state : DeviceState) → OpensNow j state.disk → EachMoment (IsDuringDirectWrite j b v state.disk) state state

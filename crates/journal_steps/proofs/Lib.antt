@@ -1,7 +1,10 @@
 -- The lemmas of this crate that crates above it cite.
+pub mod Kept
 pub mod Turning
 -- The others.
 mod Directs
+mod Noting
+mod Quarter
 mod Reading
 mod Rounding
 mod Sealing

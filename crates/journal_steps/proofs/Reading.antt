@@ -1,5 +1,5 @@
 -- What a read answers: what the front keeps, or else what the engine reads, is what the block's last effect makes of home.
-use Rattle.std.proofs.Common.{◌≡◌, inl, inr, ℕ, zero, suc, ◌+◌, ◌-◌, ◌<◌, ◌≤◌, List, [], ◌∷◌, ◌++◌, length, take, drop, Option, Some, None, Ok, arith, refl, sym, ap, ap₂, subst, ◌∙◌}
+use Rattle.std.proofs.Common.{◌≡◌, inl, inr, ℕ, zero, suc, ◌<◌, ◌≤◌, List, [], ◌∷◌, ◌++◌, length, take, drop, Option, Some, None, Ok, arith, refl, sym, ap, ap₂, subst, ◌∙◌}
 use Rattle.std.specs.Cmp.{nat_eq_equiv}
 use Rattle.std.specs.List.{Contains, slice_get}
 use Rattle.std.proofs.Math.Seq.{drop-append_seam, take-append_seam}
@@ -15,7 +15,7 @@ use Rattle.journal_model.specs.declared.entry.Entry.{Entry}
 use Rattle.journal_model.specs.declared.entry.Entry.TheVariants.{Copy, Revoke}
 use Rattle.journal_model.specs.declared.number.Area.TheVariants.{Home}
 use Rattle.journal_model.specs.Disk.{Disk}
-use Rattle.journal_model.specs.Reading.{answer_of}
+use Rattle.journal_model.specs.Reading.{answer_of, seen}
 use Rattle.journal_model.specs.Transaction.{History, copied, copy_of, effect, last_effect, later}
 use Rattle.journal_world.specs.Checkpoint.{IsNewestCopy, IsPending, IsRead}
 use Rattle.journal_world.specs.Engine.{Engine, AreBatchesOf, IsBatch}
@@ -27,10 +27,14 @@ use Rattle.journal_world.proofs.Lasts.{IsLastIn, last-in, none-in}
 use Rattle.journal_world.proofs.Pending.{contains-map}
 use Rattle.journal_world.proofs.Positions.{committed-few}
 use Rattle.journal_world.proofs.Suffixes.{get-take}
-use Rattle.journal_world.specs.Front.{unfinished}
-use Rattle.journal_steps.specs.Journal.{Agrees, HasCopyKept, IsSeen, finished}
+use Rattle.journal_world.specs.Front.{finished_count, transactions, unfinished}
+use Rattle.journal_steps.specs.Journal.{Agrees, HasCopyKept}
 use Rattle.journal_steps.specs.Journal.HasCopyKept.{OfPending, OfUnfinished}
 use Rattle.journal_steps.proofs.Sealing.{copy-good}
+
+-- a read of the block is to answer these bytes
+abbrev pub IsSeen : Journal → Disk → ℕ → List ℕ → Type 0
+IsSeen j disk b v = seen (transactions j.front) (finished_count j.front) b (disk Home b).reads ≡ Ok v
 
 -- the last effect of transactions is that of the first, and then of those behind
 pub last-from : (b r : ℕ) (ts : History) → last_effect b ts ≡ later (last_effect b (take r ts)) (last_effect b (drop r ts))
@@ -116,8 +120,12 @@ module _ (e : Engine) (ts : History) (b : ℕ) (plain : IsPlain e) (are : AreBat
 
 module _ (j : Journal) (agrees : Agrees j) (plain : IsPlain j.engine) where
   -- as many transactions are finished as are committed
-  pub finished-is : finished j ≡ j.engine.committed
-  finished-is = let told = agrees.finished in omega arith
+  pub finished-is : finished_count j.front ≡ j.engine.committed
+  finished-is =
+      let same = same-length j.front.sealed j.engine.accepted agrees.batches in
+      let number = agrees.number in
+      let told = agrees.finished in
+      omega arith
 
   -- they are among the sealed ones
   pub few : j.engine.committed ≤ length j.front.sealed
@@ -128,35 +136,26 @@ module _ (j : Journal) (agrees : Agrees j) (plain : IsPlain j.engine) where
 
   -- all transactions
   abbrev pub all : History
-  all = j.front.sealed ++ j.front.running ∷ []
+  all = transactions j.front
 
-  -- the front leaves the others
-  pub unfinished-is : unfinished j.front ≡ drop (finished j) all
-  unfinished-is =
-      let same = same-length j.front.sealed j.engine.accepted agrees.batches in
-      let number = agrees.number in
-      let told = agrees.finished in
-      ap (λ (n : ℕ). drop n all) {x = j.front.finished + 1 + length j.front.sealed - j.front.running.tid} {y = finished j} (omega arith)
-
-  -- their last effect on a block is that of all
+  -- the last effect on a block of those that are not finished is that of all
   pub last-of : (b : ℕ) (e : Entry) → last_effect b (unfinished j.front) ≡ Some e → last_effect b all ≡ Some e
   last-of b e made =
-      last-from b (finished j) all ∙ ap (later (last_effect b (take (finished j) all))) (ap (last_effect b) (sym unfinished-is) ∙ made)
+      last-from b (finished_count j.front) all ∙ ap (later (last_effect b (take (finished_count j.front) all))) made
 
   -- where it is a copy, a read answers that
   pub seen-kept : (disk : Disk) (b : ℕ) (v : List ℕ) → last_effect b (unfinished j.front) ≡ Some (Copy v) → IsSeen j disk b v
   seen-kept disk b v made =
-      ap (λ (o : Option Entry). answer_of o (last_effect b (drop (finished j) all)) (disk Home b).reads) (last-of b (Copy v) made)
+      ap (λ (o : Option Entry). answer_of o (last_effect b (unfinished j.front)) (disk Home b).reads) (last-of b (Copy v) made)
 
   -- where they have none, what the engine reads is
   pub seen-read : (disk : Disk) (b : ℕ) (v : List ℕ) → last_effect b (unfinished j.front) ≡ None → IsRead j.engine disk b v → IsSeen j disk b v
   seen-read disk b v none read =
-      let behind : last_effect b (drop (finished j) all) ≡ None = ap (last_effect b) (sym unfinished-is) ∙ none in
-      let first : take (finished j) all ≡ take j.engine.committed j.front.sealed =
+      let first : take (finished_count j.front) all ≡ take j.engine.committed j.front.sealed =
       ap (λ (n : ℕ). take n all) finished-is ∙ take-append-le j.engine.committed j.front.sealed (j.front.running ∷ []) few in
       let whole : last_effect b all ≡ last_effect b (take j.engine.committed j.front.sealed) =
-      last-from b (finished j) all ∙ ap₂ later (ap (last_effect b) first) behind in
-      ap₂ (λ (o u : Option Entry). answer_of o u (disk Home b).reads) whole behind
+      last-from b (finished_count j.front) all ∙ ap₂ later (ap (last_effect b) first) none in
+      ap₂ (λ (o u : Option Entry). answer_of o u (disk Home b).reads) whole none
       ∙ read-answers j.engine j.front.sealed b plain agrees.batches disk v read
 
 -- a copy among entries is one of their copies

@@ -1,6 +1,6 @@
 -- A checkpoint turn and a read beside the front: front and engine agree after them, and what refuses them.
 use Rattle.std.proofs.Common.{refl, sym, ap, ap₂, subst, ◌∙◌}
-use Rattle.std.specs.Prelude.{◌≡◌, ℕ, Bool, true, false, None, length}
+use Rattle.std.specs.Prelude.{◌≡◌, ℕ, List, Bool, true, false, None, length}
 use Rattle.std.proofs.lemmas.Bool.{true≢false}
 use Rattle.journal_model.specs.declared.refusal.JournalError.{JournalError}
 use Rattle.journal_model.specs.Block.{IsAllowedBlock}
@@ -19,9 +19,12 @@ use Rattle.journal_steps.specs.declared.turn.CheckTurn.TheVariants.{Idle as Idle
 use Rattle.journal_steps.specs.Journal.{Agrees, CheckTurnDid, CheckTurnRefused, OpensNow, OpensOver, ReadRefused as JournalReadRefused}
 use Rattle.journal_steps.specs.Journal.CheckTurnRefused.{CheckAborted, CheckFailed}
 use Rattle.journal_steps.specs.Journal.ReadRefused.{ReadFailed as FailedRead}
-use Rattle.journal_world.specs.Front.{unfinished}
-use Rattle.journal_front.specs.Front.{MayTouch}
-use Rattle.journal_steps.proofs.Reading.{kept-pending}
+use Rattle.journal_world.specs.Front.{IsOpen, reading_block, unfinished}
+use Rattle.journal_world.specs.Journal.{Happens}
+use Rattle.journal_world.specs.Journal.Event.{ReadBlock}
+use Rattle.journal_front.specs.Front.{MayStep}
+use Rattle.journal_front.specs.Values.{HandleValue}
+use Rattle.journal_steps.proofs.Reading.{IsSeen, kept-pending}
 use Rattle.journal_steps.proofs.Sealing.{agrees-moved, agrees-told, allowed-here}
 use Rattle.journal_steps.proofs.Turning.{round-fault-keeps, round-keeps}
 
@@ -36,7 +39,7 @@ agrees-round f old new disk after (Done tid) agrees did =
 
 -- a front and an aborted engine agree once the front is told
 agrees-aborted : (f : Front) (e : Engine) → Agrees (record { front = f; engine = e }) → e.aborted ≡ true → Agrees (record { front = aborting f; engine = e })
-agrees-aborted f e agrees is = agrees-told f e e agrees (record { shape = refl; layout = refl; accepted = refl; first = refl }) true refl is
+agrees-aborted f e agrees is = agrees-told f e e agrees (record { shape = refl; layout = refl; accepted = refl; first = refl; ring = refl }) true refl is
 
 -- and after one that was refused
 pub agrees-round_refused : (f front : Front) (old new : Engine) (before after : DeviceState) (e : JournalError) → Agrees (record { front = f; engine = old }) →
@@ -94,22 +97,30 @@ agrees-read_refused state f front old new b e agrees running may told (ReadAbort
 agrees-read_refused state f front old new b e agrees running may told (ReadOutside on none same) = absurd (none may)
 agrees-read_refused state f front old new b e agrees running may told (ReadFailed on touched none same counted) =
     let now : Agrees (record { front = aborting f; engine = record old.engine { aborted = true } }) =
-    agrees-told f old.engine (record old.engine { aborted = true }) agrees (record { shape = refl; layout = refl; accepted = refl; first = refl }) true refl refl in
+    agrees-told f old.engine (record old.engine { aborted = true }) agrees (record { shape = refl; layout = refl; accepted = refl; first = refl; ring = refl }) true refl refl in
     subst (λ (x : Front). Agrees (record { front = x; engine = new.engine })) (sym told)
     (subst (λ (x : Engine). Agrees (record { front = aborting f; engine = x })) (sym same) now)
 
 -- the engine refuses a read of a block that may be touched, of which the front keeps no copy, where the device failed in it
-pub refused-read : {D : Type 0} (state : D → DeviceState) (f front : Front) (old new : EngineValue D) (b : ℕ) (e : JournalError) →
-    Agrees (record { front = f; engine = old.engine }) → old.engine.aborted ≡ false → MayTouch f b → last_effect b (unfinished f) ≡ None →
+pub refused-read : {D : Type 0} (state : D → DeviceState) (f front : Front) (old new : EngineValue D) (h : HandleValue) (b : ℕ) (e : JournalError) →
+    Agrees (record { front = f; engine = old.engine }) → MayStep f h b → last_effect b (unfinished f) ≡ None →
     Stays (state old.device) (state new.device) → front ≡ aborting f → ReadRefused state old b new e →
-    JournalReadRefused state (record { device = old.device; journal = record { front = f; engine = old.engine } }) b
+    JournalReadRefused state (record { device = old.device; journal = record { front = f; engine = old.engine } }) h b
     (record { device = new.device; journal = record { front = front; engine = new.engine } }) e
-refused-read state f front old new b e agrees running may none stays told (ReadAborted is same) = absurd (true≢false (sym is ∙ running))
-refused-read state f front old new b e agrees running may none stays told (ReadOutside on outside same) =
-    absurd (outside (allowed-here agrees.layout agrees.home_blocks may))
-refused-read state f front old new b e agrees running may none stays told (ReadFailed on touched unkept same counted) =
+refused-read state f front old new h b e agrees may none stays told (ReadAborted is same) =
+    absurd (true≢false (sym is ∙ sym agrees.aborted ∙ may.running))
+refused-read state f front old new h b e agrees may none stays told (ReadOutside on outside same) =
+    absurd (outside (allowed-here agrees.layout agrees.home_blocks may.allowed))
+refused-read state f front old new h b e agrees may none stays told (ReadFailed on touched unkept same counted) =
     FailedRead may none (kept-pending (record { front = f; engine = old.engine }) b ⊥ none unkept)
-    (record { running = running; front = told; engine = same; disk_is = stays.disk }) counted
+    (record { running = sym agrees.aborted ∙ may.running; front = told; engine = same; disk_is = stays.disk }) counted refl
+
+-- the handle sees what it is to see
+pub reads-block : (f front : Front) (old new : Engine) (disk after : Disk) (h : HandleValue) (b : ℕ) (v : List ℕ) → MayStep f h b → IsOpen f h.number →
+    IsSeen (record { front = f; engine = old }) disk b v → front ≡ reading_block f h.number b v → new ≡ old → after ≡ disk →
+    Happens (record { front = f; engine = old }) disk (ReadBlock h.number b v) (record { front = front; engine = new }) after
+reads-block f front old new disk after h b v may is sees noted same stays =
+    record { running = may.running; handle = is; allowed = may.allowed; sees = sees; front = noted; engine = same; disk_is = stays }
 
 -- what a stop leaves opens as before, where the disk, the sealed transactions and the count of the committed ones are the same
 opens-same : (f front : Front) (old new : Engine) (disk after : Disk) → front.sealed ≡ f.sealed → new.shape ≡ old.shape → new.committed ≡ old.committed →
@@ -133,8 +144,8 @@ opens-unread {D} state f front old new b e opens told stays (ReadOutside on none
 opens-unread {D} state f front old new b e opens told stays (ReadFailed on touched none same counted) =
     opens-same f front old.engine new.engine _ _ (ap (λ (x : Front). x.sealed) told) (ap (λ (x : Engine). x.shape) same) (ap (λ (x : Engine). x.committed) same) stays.disk opens
 
--- and where it answered one
-pub opens-read : (f : Front) (old new : Engine) (disk after : Disk) → new ≡ old → after ≡ disk → OpensNow (record { front = f; engine = old }) disk →
-    OpensNow (record { front = f; engine = new }) after
-opens-read f old new disk after same stays opens =
-    opens-same f f old new disk after refl (ap (λ (x : Engine). x.shape) same) (ap (λ (x : Engine). x.committed) same) stays opens
+-- and where it answered one, or memory ran out behind it
+pub opens-read : (f front : Front) (old new : Engine) (disk after : Disk) → front.sealed ≡ f.sealed → new ≡ old → after ≡ disk →
+    OpensNow (record { front = f; engine = old }) disk → OpensNow (record { front = front; engine = new }) after
+opens-read f front old new disk after sealed same stays opens =
+    opens-same f front old new disk after sealed (ap (λ (x : Engine). x.shape) same) (ap (λ (x : Engine). x.committed) same) stays opens

@@ -1,6 +1,6 @@
 -- The batch of a transaction whose steps are good ones, and a front and an engine that still agree after each step.
 use Rattle.std.proofs.Common.{arith, refl, sym, ap, ap₂, subst, ◌∙◌, length-append}
-use Rattle.std.specs.Prelude.{◌≡◌, ◌≢◌, ⊤, ℕ, ◌+◌, ◌<◌, ◌≤◌, ◌==◌, max, Bool, true, false, if◌then◌else◌, List, [], ◌∷◌, ◌++◌, length, Option, Some, None, option_map, option_to_list, nat_eq}
+use Rattle.std.specs.Prelude.{◌≡◌, ◌≢◌, ⊤, ℕ, ◌+◌, ◌/◌, ◌<◌, ◌≤◌, ◌==◌, max, Bool, true, false, if◌then◌else◌, List, [], ◌∷◌, ◌++◌, length, Option, Some, None, option_map, option_to_list, nat_eq}
 use Rattle.std.specs.List.{AllByRecursion, IsDistinct, filter_map}
 use Rattle.std.proofs.Math.Nat.{max-eq_left, max-eq_right}
 use Rattle.std.proofs.lemmas.Bool.Decides.{nat_tests}
@@ -16,11 +16,13 @@ use Rattle.journal_model.specs.declared.transaction.Op.{Op}
 use Rattle.journal_model.specs.declared.transaction.Op.TheVariants.{Write, Revoke as RevokeOp, Read}
 use Rattle.journal_model.specs.declared.transaction.Step.{Step}
 use Rattle.journal_model.specs.Block.{IsAllowedBlock}
-use Rattle.journal_model.specs.Layout.{Layout}
+use Rattle.journal_model.specs.Layout.{IsTaken, Layout}
 use Rattle.log_model.specs.Text.{text_blocks}
+use Rattle.log_model.specs.Chain.{Ring}
 use Rattle.log_model.specs.Opening.{greatest_number}
+use Rattle.log_model.specs.Room.{IsCapacity}
 use Rattle.journal_model.specs.Transaction.{History, Transaction, copied, effect, entries, entry_of, later, touched}
-use Rattle.journal_model.proofs.Effects.{entries-blocks, touched-distinct}
+use Rattle.journal_model.proofs.Effects.{entries-blocks, entries-push_read, touched-distinct}
 use Rattle.journal_model.proofs.ListElements.{each-append}
 use Rattle.log_model.proofs.OwnTextWhole.{length_own_text}
 use Rattle.journal_world.specs.declared.stage.Stage.{Stage}
@@ -28,10 +30,11 @@ use Rattle.journal_world.specs.declared.stage.Stage.TheVariants.{Idle, Superbloc
 use Rattle.block_device.specs.State.{DeviceState}
 use Rattle.journal_world.specs.Call.{Call}
 use Rattle.journal_world.specs.Engine.{AreBatchesOf, CommitSteps, Engine, HasRoom, IsBatch, accepting, call_due, call_in, stepped_from, text_of}
-use Rattle.journal_world.specs.Front.{Front, FrontEvent, FrontHappens, Raises, RevokesBlock, WritesBlock, aborting, finishing, next_handle, raising, revoke_step, sealing, write_step}
+use Rattle.journal_world.specs.Front.{Front, FrontEvent, FrontHappens, Raises, RevokesBlock, WritesBlock, aborting, finishing, held, next_handle, raising, read_step, reading_block, revoke_step, sealing, write_step}
 use Rattle.journal_world.specs.Front.FrontEvent.{Reserve, RefuseReserve, TakeBack, GiveBack, LoadCredits, LoadMark, Join, ExtendHandle, WriteBlock, RevokeBlock, StopHandle, Lock, Raise}
 use Rattle.journal_world.specs.Journal.{batch_of}
 use Rattle.journal_world.proofs.Batches.{batches-last}
+use Rattle.journal_world.proofs.Credits.{held-within}
 use Rattle.journal_world.proofs.Onward.{step-unfailed}
 use Rattle.journal_world.specs.Sound.{IsPlain, StageAgrees}
 use Rattle.journal_model.proofs.Taken.{taken-layout}
@@ -40,8 +43,9 @@ use Rattle.log_engine.specs.Engine.{AcceptRefused, StepRefused}
 use Rattle.log_engine.specs.Engine.AcceptRefused.{AfterFailure, MemoryIsShort}
 use Rattle.log_engine.specs.Engine.StepRefused.{WasAborted, DeviceFailed}
 use Rattle.journal_steps.specs.Journal.TurnRefused.{DeviceFailed as FailedTurn, MemoryIsShort as NoMemory}
-use Rattle.journal_steps.specs.Journal.{Agrees, FinishesCommit, HasRoomFor, IsGoodStep, IsWholeTouch, SealIsDue, TurnRefused, need_of}
+use Rattle.journal_steps.specs.Journal.{Agrees, FinishesCommit, FitsQuarter, HasRoomFor, IsGoodStep, IsWhole, SealIsDue, TurnRefused, need_of}
 use Rattle.journal_steps.specs.Values.{JournalValue}
+use Rattle.journal_steps.proofs.Quarter.{needs-quarter}
 use Rattle.journal_steps.proofs.Turning.{Keeps, fault-keeps, step-keeps}
 
 -- a block that may be touched may be, by the same layout and count
@@ -60,13 +64,13 @@ record IsGoodEntry (l : Layout) (shape : Shape) (p : ℕ × Entry) : Type 0 wher
   allowed : IsAllowedBlock l shape.home_blocks p.0
 
 -- what one good step leaves
-op-good : (l : Layout) (shape : Shape) (b : ℕ) (op : Op) (e : Entry) → IsWholeTouch shape.block_size op → IsAllowedBlock l shape.home_blocks b →
+op-good : (l : Layout) (shape : Shape) (b : ℕ) (op : Op) (e : Entry) → IsWhole shape.block_size op → IsAllowedBlock l shape.home_blocks b →
     entry_of op ≡ Some e → IsGoodEntry l shape (b, e)
 op-good l shape b (Write v) e whole allowed leaves =
     subst (λ x. IsGoodEntry l shape (b, x)) (same_Some (Copy v) e leaves) (record { whole = whole; allowed = allowed })
 op-good l shape b RevokeOp e whole allowed leaves =
     subst (λ x. IsGoodEntry l shape (b, x)) (same_Some Revoke e leaves) (record { whole = tt; allowed = allowed })
-op-good l shape b (Read v) e whole allowed leaves = absurd whole
+op-good l shape b (Read v) e whole allowed leaves = absurd (none-some e leaves)
 
 -- of its own block
 step-good : (l : Layout) (shape : Shape) (b : ℕ) (s : Step) (e : Entry) (here : Bool) → IsGoodStep l shape s → (s.block == b) ≡ here →
@@ -197,6 +201,9 @@ module _ (f : Front) (old new : Engine) (agrees : Agrees (record { front = f; en
   steps-kept = subst (λ (l : Layout). AllByRecursion (IsGoodStep l new.shape) f.running.steps) (sym keeps.layout)
       (subst (λ (s : Shape). AllByRecursion (IsGoodStep old.layout s) f.running.steps) (sym keeps.shape) agrees.steps)
 
+  capacity-kept : IsCapacity f.layout new.ring.blocks f.capacity
+  capacity-kept = subst (λ (x : Ring). IsCapacity f.layout x.blocks f.capacity) (sym keeps.ring) agrees.capacity
+
   -- front and engine agree after a step that commits nothing, where the front knows whether the engine is aborted
   pub agrees-told : (aborted : Bool) → new.committed ≡ old.committed → new.aborted ≡ aborted → Agrees (record { front = record f { aborted = aborted }; engine = new })
   agrees-told aborted same told = record {
@@ -210,6 +217,8 @@ module _ (f : Front) (old new : Engine) (agrees : Agrees (record { front = f; en
     steps = steps-kept;
     joined = agrees.joined;
     locked = agrees.locked;
+    capacity = capacity-kept;
+    credits = agrees.credits;
   }
 
   -- so it is where the step succeeds
@@ -230,6 +239,8 @@ module _ (f : Front) (old new : Engine) (agrees : Agrees (record { front = f; en
     steps = steps-kept;
     joined = agrees.joined;
     locked = agrees.locked;
+    capacity = capacity-kept;
+    credits = agrees.credits;
   }
 
 -- and after the seal of a transaction whose entries the engine took
@@ -252,7 +263,15 @@ agrees-sealed f old new agrees after =
       steps = tt;
       joined = λ some. absurd (omega arith);
       locked = λ is. absurd (true≢false (sym is));
+      capacity = subst (λ (x : Ring). IsCapacity f.layout x.blocks f.capacity) (sym (ap (λ (e : Engine). e.ring) after)) agrees.capacity;
+      credits = let within : held f ≤ f.capacity = agrees.credits in omega arith;
     }
+
+-- such a transaction takes at most a quarter of the ring
+pub quarter : (f : Front) (e : Engine) → Agrees (record { front = f; engine = e }) → IsPlain e → FitsQuarter (record { front = f; engine = e })
+quarter f e agrees plain =
+    let taken : IsTaken f.layout = subst IsTaken (sym agrees.layout) plain.layout.0 in
+    subst (λ (l : Layout). need_of l f.running ≤ e.ring.blocks / 4) agrees.layout (needs-quarter f e.ring.blocks taken agrees.capacity agrees.credits)
 
 -- the engine may be handed the batch of a transaction that is due to be sealed
 pub may-hand_over : (f : Front) (e : Engine) → Agrees (record { front = f; engine = e }) → IsPlain e → SealIsDue (record { front = f; engine = e }) →
@@ -286,7 +305,7 @@ pub agrees-refused : (f front : Front) (old new : Engine) (before after : Device
 agrees-refused f front old new before after e agrees told (WasAborted is same stays counted) =
     subst (λ (x : Front). Agrees (record { front = x; engine = new })) (sym told)
     (subst (λ (x : Engine). Agrees (record { front = aborting f; engine = x })) (sym same)
-    (agrees-told f old old agrees (record { shape = refl; layout = refl; accepted = refl; first = refl }) true refl is))
+    (agrees-told f old old agrees (record { shape = refl; layout = refl; accepted = refl; first = refl; ring = refl }) true refl is))
 agrees-refused f front old new before after e agrees told (DeviceFailed fault counted) =
     subst (λ (x : Front). Agrees (record { front = x; engine = new })) (sym told)
     (agrees-told f old new agrees (fault-keeps old new before.disk after.disk fault) true (ap (λ (x : Engine). x.committed) fault.engine)
@@ -394,8 +413,8 @@ IsTouch (Raise t) = ⊥
 agrees-like : (f made : Front) (e : Engine) → Agrees (record { front = f; engine = e }) → made.layout ≡ f.layout → made.home_blocks ≡ f.home_blocks →
     made.aborted ≡ f.aborted → made.sealed ≡ f.sealed → made.running.tid ≡ f.running.tid → made.finished ≡ f.finished → made.mark ≡ f.mark →
     AllByRecursion (IsGoodStep e.layout e.shape) made.running.steps → (0 < length made.running.handles → made.running.tid ≤ greatest_number) →
-    (made.locked ≡ true → 0 < length made.running.handles) → Agrees (record { front = made; engine = e })
-agrees-like f made e agrees layout home_blocks aborted sealed tid finished mark steps joined locked = record {
+    (made.locked ≡ true → 0 < length made.running.handles) → made.capacity ≡ f.capacity → held made ≤ made.capacity → Agrees (record { front = made; engine = e })
+agrees-like f made e agrees layout home_blocks aborted sealed tid finished mark steps joined locked capacity credits = record {
   layout = layout ∙ agrees.layout;
   home_blocks = home_blocks ∙ agrees.home_blocks;
   aborted = aborted ∙ agrees.aborted;
@@ -406,43 +425,60 @@ agrees-like f made e agrees layout home_blocks aborted sealed tid finished mark 
   steps = steps;
   joined = joined;
   locked = locked;
+  capacity =
+      subst (λ (l : Layout). IsCapacity l e.ring.blocks made.capacity) (sym layout)
+      (subst (IsCapacity f.layout e.ring.blocks) (sym capacity) agrees.capacity);
+  credits = credits;
 }
+
+-- no more credits are held than may be, after a step of the front
+within : (f front made : Front) (event : FrontEvent) → FrontHappens f event front → front ≡ made → held f ≤ f.capacity → held made ≤ made.capacity
+within f front made event step is fits = subst (λ (x : Front). held x ≤ x.capacity) is (held-within f front event step fits)
 
 -- front and engine agree after a step of the front alone that touches no block
 pub agrees-untouched : (f front : Front) (e : Engine) (event : FrontEvent) → (IsTouch event → ⊥) → FrontHappens f event front →
     Agrees (record { front = f; engine = e }) → Agrees (record { front = front; engine = e })
 agrees-untouched f front e (Reserve n) other step agrees =
     subst (λ (x : Front). Agrees (record { front = x; engine = e })) (sym step.after)
-    (agrees-like f _ e agrees refl refl refl refl refl refl refl agrees.steps agrees.joined agrees.locked)
+    (agrees-like f _ e agrees refl refl refl refl refl refl refl agrees.steps agrees.joined agrees.locked
+    refl (within f front _ (Reserve n) step step.after agrees.credits))
 agrees-untouched f front e (RefuseReserve n) other step agrees =
     subst (λ (x : Front). Agrees (record { front = x; engine = e })) (sym step.after)
-    (agrees-like f _ e agrees refl refl refl refl refl refl refl agrees.steps agrees.joined agrees.locked)
+    (agrees-like f _ e agrees refl refl refl refl refl refl refl agrees.steps agrees.joined agrees.locked
+    refl (within f front _ (RefuseReserve n) step step.after agrees.credits))
 agrees-untouched f front e (TakeBack n) other step agrees =
     subst (λ (x : Front). Agrees (record { front = x; engine = e })) (sym step.after)
-    (agrees-like f _ e agrees refl refl refl refl refl refl refl agrees.steps agrees.joined agrees.locked)
+    (agrees-like f _ e agrees refl refl refl refl refl refl refl agrees.steps agrees.joined agrees.locked
+    refl (within f front _ (TakeBack n) step step.after agrees.credits))
 agrees-untouched f front e (GiveBack n) other step agrees =
     subst (λ (x : Front). Agrees (record { front = x; engine = e })) (sym step.after)
-    (agrees-like f _ e agrees refl refl refl refl refl refl refl agrees.steps agrees.joined agrees.locked)
+    (agrees-like f _ e agrees refl refl refl refl refl refl refl agrees.steps agrees.joined agrees.locked
+    refl (within f front _ (GiveBack n) step step.after agrees.credits))
 agrees-untouched f front e (LoadCredits found) other step agrees = subst (λ (x : Front). Agrees (record { front = x; engine = e })) (sym step.after) agrees
 agrees-untouched f front e (LoadMark found) other step agrees = subst (λ (x : Front). Agrees (record { front = x; engine = e })) (sym step.after) agrees
 agrees-untouched f front e (ExtendHandle h n) other step agrees =
     subst (λ (x : Front). Agrees (record { front = x; engine = e })) (sym step.after)
-    (agrees-like f _ e agrees refl refl refl refl refl refl refl agrees.steps agrees.joined agrees.locked)
+    (agrees-like f _ e agrees refl refl refl refl refl refl refl agrees.steps agrees.joined agrees.locked
+    refl (within f front _ (ExtendHandle h n) step step.after agrees.credits))
 agrees-untouched f front e (Join n) other step agrees =
     let one = length-append f.running.handles (next_handle f ∷ []) in
     subst (λ (x : Front). Agrees (record { front = x; engine = e })) (sym step.after)
-    (agrees-like f _ e agrees refl refl refl refl refl refl refl agrees.steps (λ some. step.may.number) (λ is. omega arith))
+    (agrees-like f _ e agrees refl refl refl refl refl refl refl agrees.steps (λ some. step.may.number) (λ is. omega arith)
+    refl (within f front _ (Join n) step step.after agrees.credits))
 agrees-untouched f front e (WriteBlock h b v) other step agrees = absurd (other tt)
 agrees-untouched f front e (RevokeBlock h b) other step agrees = absurd (other tt)
 agrees-untouched f front e (StopHandle h) other step agrees =
     subst (λ (x : Front). Agrees (record { front = x; engine = e })) (sym step.after)
-    (agrees-like f _ e agrees refl refl refl refl refl refl refl agrees.steps agrees.joined agrees.locked)
+    (agrees-like f _ e agrees refl refl refl refl refl refl refl agrees.steps agrees.joined agrees.locked
+    refl (within f front _ (StopHandle h) step step.after agrees.credits))
 agrees-untouched f front e Lock other step agrees =
     subst (λ (x : Front). Agrees (record { front = x; engine = e })) (sym step.after)
-    (agrees-like f _ e agrees refl refl refl refl refl refl refl agrees.steps agrees.joined (λ is. step.joined))
+    (agrees-like f _ e agrees refl refl refl refl refl refl refl agrees.steps agrees.joined (λ is. step.joined)
+    refl (within f front _ Lock step step.after agrees.credits))
 agrees-untouched f front e (Raise t) other step agrees =
     subst (λ (x : Front). Agrees (record { front = x; engine = e })) (sym step.after)
-    (agrees-like f _ e agrees refl refl refl refl refl refl (max-eq_left (let mark = agrees.mark in let low = step.finished in omega arith)) agrees.steps agrees.joined agrees.locked)
+    (agrees-like f _ e agrees refl refl refl refl refl refl (max-eq_left (let mark = agrees.mark in let low = step.finished in omega arith)) agrees.steps agrees.joined agrees.locked
+    refl (within f front _ (Raise t) step step.after agrees.credits))
 
 -- and after a write
 pub agrees-written : (f front : Front) (e : Engine) (h b : ℕ) (v : List ℕ) → Agrees (record { front = f; engine = e }) →
@@ -454,7 +490,8 @@ agrees-written f front e h b v agrees size step =
     } in
     subst (λ (x : Front). Agrees (record { front = x; engine = e })) (sym step.after)
     (agrees-like f _ e agrees refl refl refl refl refl refl refl
-    (each-append (IsGoodStep e.layout e.shape) f.running.steps (write_step h b v ∷ []) agrees.steps (good, tt)) agrees.joined agrees.locked)
+    (each-append (IsGoodStep e.layout e.shape) f.running.steps (write_step h b v ∷ []) agrees.steps (good, tt)) agrees.joined agrees.locked
+    refl (within f front _ (WriteBlock h b v) step step.after agrees.credits))
 
 -- and after a revoke
 pub agrees-revoked : (f front : Front) (e : Engine) (h b : ℕ) → Agrees (record { front = f; engine = e }) → RevokesBlock f h b front →
@@ -463,4 +500,18 @@ agrees-revoked f front e h b agrees step =
     let good : IsGoodStep e.layout e.shape (revoke_step h b) = record { whole = tt; allowed = allowed-here agrees.layout agrees.home_blocks step.allowed } in
     subst (λ (x : Front). Agrees (record { front = x; engine = e })) (sym step.after)
     (agrees-like f _ e agrees refl refl refl refl refl refl refl
-    (each-append (IsGoodStep e.layout e.shape) f.running.steps (revoke_step h b ∷ []) agrees.steps (good, tt)) agrees.joined agrees.locked)
+    (each-append (IsGoodStep e.layout e.shape) f.running.steps (revoke_step h b ∷ []) agrees.steps (good, tt)) agrees.joined agrees.locked
+    refl (within f front _ (RevokeBlock h b) step step.after agrees.credits))
+
+-- and after a read
+pub agrees-read : (f front : Front) (e : Engine) (h b : ℕ) (v : List ℕ) → Agrees (record { front = f; engine = e }) → length v ≡ e.shape.block_size →
+    IsAllowedBlock f.layout f.home_blocks b → front ≡ reading_block f h b v → Agrees (record { front = front; engine = e })
+agrees-read f front e h b v agrees whole allowed after =
+    let good : IsGoodStep e.layout e.shape (read_step h b v) = record { whole = whole; allowed = allowed-here agrees.layout agrees.home_blocks allowed } in
+    let same : length (entries (f.running.steps ++ read_step h b v ∷ [])) ≡ length (entries f.running.steps) =
+    ap (λ (es : List (ℕ × Entry)). length es) (entries-push_read f.running.steps (read_step h b v) refl) in
+    let fits : held f ≤ f.capacity = agrees.credits in
+    subst (λ (x : Front). Agrees (record { front = x; engine = e })) (sym after)
+    (agrees-like f _ e agrees refl refl refl refl refl refl refl
+    (each-append (IsGoodStep e.layout e.shape) f.running.steps (read_step h b v ∷ []) agrees.steps (good, tt)) agrees.joined agrees.locked
+    refl (omega arith))

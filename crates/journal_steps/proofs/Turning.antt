@@ -81,41 +81,42 @@ pub record Keeps (old new : Engine) : Type 0 where
   pub layout : new.layout ≡ old.layout
   pub accepted : new.accepted ≡ old.accepted
   pub first : new.first ≡ old.first
+  pub ring : new.ring ≡ old.ring
 
 keeps-at : (e : Engine) (stage : Stage) → Keeps e (stepped_from e stage)
-keeps-at e Idle = record { shape = refl; layout = refl; accepted = refl; first = refl }
-keeps-at e SuperblockWrite = record { shape = refl; layout = refl; accepted = refl; first = refl }
-keeps-at e SuperblockFlush = record { shape = refl; layout = refl; accepted = refl; first = refl }
-keeps-at e (Blocks k) = record { shape = refl; layout = refl; accepted = refl; first = refl }
-keeps-at e CommitWrite = record { shape = refl; layout = refl; accepted = refl; first = refl }
-keeps-at e CommitFlush = record { shape = refl; layout = refl; accepted = refl; first = refl }
+keeps-at e Idle = record { shape = refl; layout = refl; accepted = refl; first = refl; ring = refl }
+keeps-at e SuperblockWrite = record { shape = refl; layout = refl; accepted = refl; first = refl; ring = refl }
+keeps-at e SuperblockFlush = record { shape = refl; layout = refl; accepted = refl; first = refl; ring = refl }
+keeps-at e (Blocks k) = record { shape = refl; layout = refl; accepted = refl; first = refl; ring = refl }
+keeps-at e CommitWrite = record { shape = refl; layout = refl; accepted = refl; first = refl; ring = refl }
+keeps-at e CommitFlush = record { shape = refl; layout = refl; accepted = refl; first = refl; ring = refl }
 
 pub step-keeps : (old new : Engine) (disk after : Disk) → CommitSteps old disk new after → Keeps old new
 step-keeps old new disk after step = subst (Keeps old) (sym step.engine) (keeps-at old old.stage)
 
 pub fault-keeps : (old new : Engine) (disk after : Disk) → CommitFaults old disk new after → Keeps old new
-fault-keeps old new disk after fault = subst (Keeps old) (sym fault.engine) (record { shape = refl; layout = refl; accepted = refl; first = refl })
+fault-keeps old new disk after fault = subst (Keeps old) (sym fault.engine) (record { shape = refl; layout = refl; accepted = refl; first = refl; ring = refl })
 
 -- where a round begins
 begun-keeps : (e : Engine) (round : Round) → Keeps e (begun_from e round) × ((begun_from e round).committed ≡ e.committed)
-begun-keeps e NoRound = (record { shape = refl; layout = refl; accepted = refl; first = refl }, refl)
-begun-keeps e (Copies transaction block) = (record { shape = refl; layout = refl; accepted = refl; first = refl }, refl)
-begun-keeps e TailWrite = (record { shape = refl; layout = refl; accepted = refl; first = refl }, refl)
-begun-keeps e TailFlush = (record { shape = refl; layout = refl; accepted = refl; first = refl }, refl)
+begun-keeps e NoRound = (record { shape = refl; layout = refl; accepted = refl; first = refl; ring = refl }, refl)
+begun-keeps e (Copies transaction block) = (record { shape = refl; layout = refl; accepted = refl; first = refl; ring = refl }, refl)
+begun-keeps e TailWrite = (record { shape = refl; layout = refl; accepted = refl; first = refl; ring = refl }, refl)
+begun-keeps e TailFlush = (record { shape = refl; layout = refl; accepted = refl; first = refl; ring = refl }, refl)
 
 -- by each call of a round
 call-keeps : (e : Engine) (round : Round) (call : Call) (new : Engine) → RoundCall e round call new → Keeps e new × (new.committed ≡ e.committed)
-call-keeps e round call new (CopyHome transaction block i b v next) = (record { shape = refl; layout = refl; accepted = refl; first = refl }, refl)
-call-keeps e round call new (FlushHome transaction block none) = (record { shape = refl; layout = refl; accepted = refl; first = refl }, refl)
-call-keeps e round call new WriteTail = (record { shape = refl; layout = refl; accepted = refl; first = refl }, refl)
-call-keeps e round call new FlushTail = (record { shape = refl; layout = refl; accepted = refl; first = refl }, refl)
+call-keeps e round call new (CopyHome transaction block i b v next) = (record { shape = refl; layout = refl; accepted = refl; first = refl; ring = refl }, refl)
+call-keeps e round call new (FlushHome transaction block none) = (record { shape = refl; layout = refl; accepted = refl; first = refl; ring = refl }, refl)
+call-keeps e round call new WriteTail = (record { shape = refl; layout = refl; accepted = refl; first = refl; ring = refl }, refl)
+call-keeps e round call new FlushTail = (record { shape = refl; layout = refl; accepted = refl; first = refl; ring = refl }, refl)
 
 -- a step of a round commits nothing
 pub round-keeps : (old new : Engine) (disk after : Disk) → RoundSteps old disk new after → Keeps old new × (new.committed ≡ old.committed)
 round-keeps old new disk after step =
     let begins = begun-keeps old old.round in
     let calls = call-keeps (begun old) (begun old).round step.call new step.due in (
-      record { shape = calls.0.shape ∙ begins.0.shape; layout = calls.0.layout ∙ begins.0.layout; accepted = calls.0.accepted ∙ begins.0.accepted; first = calls.0.first ∙ begins.0.first },
+      record { shape = calls.0.shape ∙ begins.0.shape; layout = calls.0.layout ∙ begins.0.layout; accepted = calls.0.accepted ∙ begins.0.accepted; first = calls.0.first ∙ begins.0.first; ring = calls.0.ring ∙ begins.0.ring },
       calls.1 ∙ begins.1,
     )
 
@@ -124,12 +125,13 @@ pub round-fault-keeps : (old new : Engine) (disk after : Disk) → RoundFaults o
 round-fault-keeps old new disk after fault =
     let begins = begun-keeps old old.round in
     subst (λ (e : Engine). Keeps old e × (e.committed ≡ old.committed)) (sym fault.engine)
-    (record { shape = begins.0.shape; layout = begins.0.layout; accepted = begins.0.accepted; first = begins.0.first }, begins.1)
+    (record { shape = begins.0.shape; layout = begins.0.layout; accepted = begins.0.accepted; first = begins.0.first; ring = begins.0.ring }, begins.1)
 
 -- front and engine of a journal that was just made agree
 pub fresh-agrees : (shape : Shape) (superblock : List ℕ) (next capacity : ℕ) (j : Journal) → j.engine ≡ fresh_engine shape superblock next →
-    j.front ≡ fresh_front j.engine.layout j.engine.shape.home_blocks capacity next → 0 < next → Agrees j
-fresh-agrees shape superblock next capacity j engine front some =
+    j.front ≡ fresh_front j.engine.layout j.engine.shape.home_blocks capacity next → IsCapacity j.engine.layout j.engine.ring.blocks capacity →
+    0 < next → Agrees j
+fresh-agrees shape superblock next capacity j engine front is some =
     let e : Engine = j.engine in
     let accepted : e.accepted ≡ [] = ap (λ (x : Engine). x.accepted) engine in
     let none : length e.accepted ≡ 0 = ap (λ (bs : List Batch). length bs) accepted in
@@ -147,6 +149,8 @@ fresh-agrees shape superblock next capacity j engine front some =
       steps = tt;
       joined = λ none. absurd (omega arith);
       locked = λ lock. cc;
+      capacity = is;
+      credits = omega arith;
     } in
     subst Agrees (sym (ap (λ (f : Front). record { front = f; engine = e }) front)) agrees
 

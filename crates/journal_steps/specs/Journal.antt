@@ -1,10 +1,9 @@
 -- What the calls of a journal do, each as one step of the pure machine, and why they are refused.
-use Rattle.std.specs.Prelude.{◌≡◌, ◌≢◌, ⊤, ℕ, ◌+◌, ◌-◌, ◌<◌, ◌≤◌, true, false, List, [], ◌∷◌, ◌++◌, length, Some, None, Ok}
+use Rattle.std.specs.Prelude.{◌≡◌, ◌≢◌, ⊤, ℕ, ◌+◌, ◌/◌, ◌<◌, ◌≤◌, true, false, List, [], length, Some, None}
 use Rattle.std.specs.List.{AllByRecursion}
 use Rattle.journal_model.specs.declared.entry.Entry.TheVariants.{Copy, Revoke as RevokeEntry}
-use Rattle.journal_model.specs.declared.number.Area.TheVariants.{Home}
 use Rattle.journal_model.specs.declared.refusal.JournalError.{JournalError}
-use Rattle.journal_model.specs.declared.refusal.JournalError.TheVariants.{Aborted, BadBlock, Device, Memory, NeedSpace, Revoked}
+use Rattle.journal_model.specs.declared.refusal.JournalError.TheVariants.{Aborted, Device, Memory, NeedSpace, Revoked}
 use Rattle.journal_model.specs.declared.transaction.Op.{Op}
 use Rattle.journal_model.specs.declared.transaction.Op.TheVariants.{Write, Revoke, Read}
 use Rattle.journal_model.specs.declared.transaction.Step.{Step as HandleStep}
@@ -12,15 +11,14 @@ use Rattle.journal_model.specs.Block.{IsAllowedBlock}
 use Rattle.journal_model.specs.Disk.{Disk, Image, Leaves, Shape}
 use Rattle.journal_model.specs.Layout.{Layout}
 use Rattle.log_model.specs.Opening.{Opens, IsCountOf, greatest_number}
-use Rattle.journal_model.specs.Reading.{seen}
-use Rattle.log_model.specs.Room.{need}
+use Rattle.log_model.specs.Room.{IsCapacity, need}
 use Rattle.journal_model.specs.Transaction.{History, Transaction, copied, entries, last_effect, revoked}
 use Rattle.block_device.specs.State.{DeviceState, Stays, one_more_fault}
 use Rattle.journal_world.specs.declared.round.Round.TheVariants.{Idle as NoRound}
 use Rattle.journal_world.specs.declared.stage.Stage.TheVariants.{Idle}
 use Rattle.journal_world.specs.Checkpoint.{IsPending}
 use Rattle.journal_world.specs.Engine.{AreBatchesOf, Engine}
-use Rattle.journal_world.specs.Front.{unfinished}
+use Rattle.journal_world.specs.Front.{Front, held, reading_block, unfinished}
 use Rattle.journal_world.specs.Front.FrontEvent.{Lock, Raise}
 use Rattle.journal_world.specs.Journal.{Event, Happens, Journal}
 use Rattle.journal_world.specs.Journal.Event.{AbortMark, CheckpointFault, CheckpointStep, CommitFault, CommitStep, Finish, FrontStep, ReadFault, Seal}
@@ -30,26 +28,28 @@ use Rattle.journal_steps.specs.declared.turn.CheckTurn.TheVariants.{Idle as Idle
 use Rattle.journal_steps.specs.declared.turn.Turn.{Turn}
 use Rattle.journal_steps.specs.declared.turn.Turn.TheVariants.{Idle as IdleTurn, Waiting, Step, Sealed, Committed}
 use Rattle.log_engine.specs.Left.{round_calls}
-use Rattle.journal_front.specs.Front.{MayTouch}
+use Rattle.journal_front.specs.Front.{IsKeptOut, MayStep}
+use Rattle.journal_front.specs.Values.{HandleValue}
 use Rattle.journal_steps.specs.Values.{JournalValue}
 
 -- the journal and the disk of its device go from old to new by this one step
 abbrev pub Does : {D : Type 0} → (D → DeviceState) → JournalValue D → Event → JournalValue D → Type 0
 Does state old event new = Happens old.journal (state old.device).disk event new.journal (state new.device).disk
 
--- the write of a whole block, or a revoke
-abbrev pub IsWholeTouch : ℕ → Op → Type 0
-IsWholeTouch size (Write v) = length v ≡ size
-IsWholeTouch size Revoke = ⊤
-IsWholeTouch size (Read v) = ⊥
+-- what is written or read is a whole block
+abbrev pub IsWhole : ℕ → Op → Type 0
+IsWhole size (Write v) = length v ≡ size
+IsWhole size Revoke = ⊤
+IsWhole size (Read v) = length v ≡ size
 
 -- of a block that may be touched
 pub record IsGoodStep (l : Layout) (shape : Shape) (s : HandleStep) : Type 0 where
-  pub whole : IsWholeTouch shape.block_size s.op
+  pub whole : IsWhole shape.block_size s.op
   pub allowed : IsAllowedBlock l shape.home_blocks s.block
 
 -- front and engine agree: what is sealed is what is accepted, what is finished is what is committed, and callers are told
--- just that; and the front knows the measures of log and device, and whether the device has failed
+-- just that; the front knows the measures of log and device, and whether the device has failed; and no more credits are held
+-- than the most that a transaction of this log may have
 pub record Agrees (j : Journal) : Type 0 where
   pub layout : j.front.layout ≡ j.engine.layout
   pub home_blocks : j.front.home_blocks ≡ j.engine.shape.home_blocks
@@ -61,29 +61,37 @@ pub record Agrees (j : Journal) : Type 0 where
   pub steps : AllByRecursion (IsGoodStep j.engine.layout j.engine.shape) j.front.running.steps
   pub joined : 0 < length j.front.running.handles → j.front.running.tid ≤ greatest_number
   pub locked : j.front.locked ≡ true → 0 < length j.front.running.handles
+  pub capacity : IsCapacity j.front.layout j.engine.ring.blocks j.front.capacity
+  pub credits : held j.front ≤ j.front.capacity
 
--- how many transactions since the opening are finished
-abbrev pub finished : Journal → ℕ
-finished j = j.front.finished + 1 - j.engine.first
-
--- a read of the block answers these bytes
-abbrev pub IsSeen : Journal → Disk → ℕ → List ℕ → Type 0
-IsSeen j disk b v = seen (j.front.sealed ++ j.front.running ∷ []) (finished j) b (disk Home b).reads ≡ Ok v
+-- the front's last entry of a block is no copy that a read may hand out: it is a revoke, or memory ran out for a copy's holder
+pub data NoCopy (f : Front) (b : ℕ) (e : JournalError) : Type 0 where
+  OfRevoke : last_effect b (unfinished f) ≡ Some RevokeEntry → e ≡ Revoked → NoCopy f b e
+  OfMemory : (last_effect b (unfinished f) ≡ Some RevokeEntry → ⊥) → e ≡ Memory → NoCopy f b e
 
 -- a copy of the block is kept: it is the last entry of the transactions that are not finished, or one is pending
 pub data HasCopyKept (j : Journal) (b : ℕ) : Type 0 where
   OfUnfinished : (v : List ℕ) → last_effect b (unfinished j.front) ≡ Some (Copy v) → HasCopyKept j b
   OfPending : (i : ℕ) (v : List ℕ) → IsPending j.engine i b v → HasCopyKept j b
 
--- why a read is refused: the device failed before, the block is none that may be touched, the last entry of the transactions
--- that are not finished is a revoke, or no copy of it is kept and the device failed in the read
-pub data ReadRefused {D : Type 0} (state : D → DeviceState) (old : JournalValue D) (b : ℕ) (new : JournalValue D) : JournalError → Type 0 where
-  ReadAborted : old.journal.engine.aborted ≡ true → new ≡ old → ReadRefused state old b new Aborted
-  ReadOutside : old.journal.engine.aborted ≡ false → (MayTouch old.journal.front b → ⊥) → new ≡ old → ReadRefused state old b new BadBlock
-  ReadRevoked : old.journal.engine.aborted ≡ false → MayTouch old.journal.front b →
-      last_effect b (unfinished old.journal.front) ≡ Some RevokeEntry → new ≡ old → ReadRefused state old b new Revoked
-  ReadFailed : MayTouch old.journal.front b → last_effect b (unfinished old.journal.front) ≡ None → (HasCopyKept old.journal b → ⊥) → Does state old ReadFault new →
-      (state new.device).faults ≡ one_more_fault (state old.device).faults → ReadRefused state old b new Device
+-- a read of the block by this handle saw these bytes: the transaction has one step more, and the engine has not changed; where a
+-- copy is kept nor has the device
+pub record NotesRead {D : Type 0} (state : D → DeviceState) (old : JournalValue D) (h : HandleValue) (b : ℕ) (v : List ℕ) (new : JournalValue D) : Type 0 where
+  pub may : MayStep old.journal.front h b
+  pub front : new.journal.front ≡ reading_block old.journal.front h.number b v
+  pub engine : new.journal.engine ≡ old.journal.engine
+  pub kept : HasCopyKept old.journal b → new.device ≡ old.device
+
+-- why a read is refused: the handle may not make a step on the block; the last entry of the transactions that are not finished is
+-- a revoke; memory ran out for its step; or no copy of it is kept and the device failed in the read
+pub data ReadRefused {D : Type 0} (state : D → DeviceState) (old : JournalValue D) (h : HandleValue) (b : ℕ) (new : JournalValue D) (e : JournalError) : Type 0 where
+  ReadKeptOut : IsKeptOut old.journal.front h b e → new ≡ old → ReadRefused state old h b new e
+  ReadRevoked : MayStep old.journal.front h b → last_effect b (unfinished old.journal.front) ≡ Some RevokeEntry → new ≡ old → e ≡ Revoked →
+      ReadRefused state old h b new e
+  ReadUnnoted : MayStep old.journal.front h b → (last_effect b (unfinished old.journal.front) ≡ Some RevokeEntry → ⊥) → new.journal ≡ old.journal →
+      (state new.device).faults ≡ (state old.device).faults → e ≡ Memory → ReadRefused state old h b new e
+  ReadFailed : MayStep old.journal.front h b → last_effect b (unfinished old.journal.front) ≡ None → (HasCopyKept old.journal b → ⊥) → Does state old ReadFault new →
+      (state new.device).faults ≡ one_more_fault (state old.device).faults → e ≡ Device → ReadRefused state old h b new e
 
 -- a request locks the ticket's transaction where that is still running, and a handle has joined it; else it does nothing
 pub record Requests {D : Type 0} (state : D → DeviceState) (tid : ℕ) (old new : JournalValue D) : Type 0 where
@@ -100,6 +108,10 @@ need_of l t = need l (length (copied (entries t.steps))) (length (revoked (entri
 abbrev pub HasRoomFor : Journal → Type 0
 HasRoomFor j =
     j.engine.start + need_of j.engine.layout j.front.running ≤ j.engine.tail + j.engine.ring.blocks
+
+-- the running transaction needs at most a quarter of the ring
+abbrev pub FitsQuarter : Journal → Type 0
+FitsQuarter j = need_of j.engine.layout j.front.running ≤ j.engine.ring.blocks / 4
 
 -- nothing is being committed, and the running transaction takes no further handles and has no open one
 pub record SealIsDue (j : Journal) : Type 0 where
@@ -148,7 +160,7 @@ abbrev pub TurnDid : {D : Type 0} → (D → DeviceState) → Turn → JournalVa
 TurnDid state IdleTurn old new = NothingIsDue old.journal × (new ≡ old)
 TurnDid state Waiting old new = StopIsAwaited old.journal × (new ≡ old)
 TurnDid state Step old new = StepsCommit state old new
-TurnDid state (Sealed tid) old new = Does state old Seal new × (tid ≡ old.journal.front.running.tid)
+TurnDid state (Sealed tid) old new = Does state old Seal new × (tid ≡ old.journal.front.running.tid) × FitsQuarter old.journal
 TurnDid state (Committed tid) old new = FinishesCommit state tid old new
 
 -- why a commit turn is refused: the device failed before, or in this turn; or a seal is due, and the ring or memory is

@@ -1,47 +1,90 @@
 //! The steps that need both the front and the engine: each is lent both, and is one step of the machine, or several in a row
 //! that nobody else sees between. The steps of the front alone are its own, and so are those of the engine (`log_engine`).
 //! Front and engine agree before a step and behind it.
-ghost use Rattle.std.specs.Prelude.{◌≡◌, ◌<◌, ◌≢◌, ◌↔◌, false, length, is_some, IfOk, IfErr, IfSome, OnOk, IsTrue};
-ghost use Rattle.journal_model.specs.declared.refusal.JournalError.TheVariants.{Device as DeviceFailed};
+ghost use Rattle.std.specs.Prelude.{◌≡◌, ◌<◌, ◌≢◌, ◌↔◌, false, length, is_some, option_map, IfOk, IfErr, IfSome, OnOk, IsTrue};
+ghost use Rattle.journal_model.specs.declared.entry.Entry.TheVariants.{Copy};
+ghost use Rattle.journal_model.specs.declared.refusal.JournalError.TheVariants.{Memory};
+ghost use Rattle.journal_model.specs.Transaction.{last_effect};
 ghost use Rattle.block_device.specs.State.{EachMoment, MakesAtMostOneCall, Stays};
 ghost use Rattle.journal_world.specs.declared.stage.Stage.TheVariants.{Idle};
-ghost use Rattle.journal_world.specs.Journal.Event.{DirectSync, DirectWrite};
+ghost use Rattle.journal_world.specs.Front.{IsOpen, reading_block, unfinished};
+ghost use Rattle.journal_world.specs.Journal.Event.{DirectSync, DirectWrite, ReadBlock};
 ghost use Rattle.log_engine.specs.Call.{IsOneMoment};
 ghost use Rattle.log_engine.specs.Left.{commit_calls};
-ghost use Rattle.journal_steps.specs.Journal.{Agrees, CheckTurnDid, CheckTurnRefused, Does, HasCopyKept, HasRoomFor, IsDuringCheckTurn, IsDuringTurn, IsSeen, LeavesFewerRounds, OpensNow, ReadRefused, SealIsDue, TurnDid, TurnRefused, need_of};
+ghost use Rattle.journal_steps.specs.Journal.{Agrees, CheckTurnDid, CheckTurnRefused, Does, FitsQuarter, HasRoomFor, IsDuringCheckTurn, IsDuringTurn, LeavesFewerRounds, NoCopy, NotesRead, OpensNow, ReadRefused, SealIsDue, TurnDid, TurnRefused, need_of};
 ghost use Rattle.journal_steps.specs.Direct.{DirectSyncRefused, DirectWriteRefused, IsDuringDirectSync, IsDuringDirectWrite, MayWriteDirectly};
-ghost use Rattle.journal_front.specs.Front.{MayTouch};
+ghost use Rattle.journal_front.specs.Front.{MayStep};
 ghost use Rattle.journal_steps.specs.Values.{together};
 
 use crate::turn::{CheckTurn, Turn};
 use block_device::Device;
-use journal_front::{Front, Record};
-use journal_model::{BlockNo, Entry, JournalError};
+use journal_front::{Front, Handle, Record};
+use journal_model::{Block, BlockNo, Entry, JournalError};
 use log_engine::{Engine, Progress};
 
-/// Reads a block of the home area into a buffer of one block: the running transaction's copy, else that of the one that is
-/// being committed, else what the engine reads.
+/// The copy of a block that the front keeps: that of the last entry in the transactions that are not finished, if there is one.
 ///
 /// # Errors
 ///
-/// `Aborted` after a device failure; `BadBlock` where home has no such block, or its number is not below 2^32; `Revoked` where
-/// its last entry in the transactions that are not committed is a revoke: nothing changes. `Device` where the device failed: the
-/// journal is aborted, and the buffer's bytes are unspecified.
+/// `Revoked` where that entry is a revoke; else `Memory`.
+fn held_copy<R: Record>(front: &Front<R>, block: BlockNo) -> Result<Option<Block>, JournalError>
+    ensures ok { IfOk result (λ copy. last_effect block (unfinished front.now) ≡ option_map Copy copy) }
+    ensures err { IfErr result (NoCopy front.now block) }
+{
+    match front.newest(block) {
+        Some(Entry::Copy(copy)) => Ok(Some(copy.try_clone()?)),
+        Some(Entry::Revoke) => Err(JournalError::Revoked),
+        None => Ok(None),
+    }
+}
+
+/// Notes what a read saw as a step of its handle, and hands it out.
+///
+/// # Errors
+///
+/// `Memory`: nothing changes.
+fn note<R: Record>(
+    front: &mut Front<R>,
+    handle: &Handle,
+    block: BlockNo,
+    seen: Block,
+    into: &mut [u8],
+) -> Result<(), JournalError>
+    requires may { MayStep front.old handle.now block }
+    requires length { length into.old ≡ length seen }
+    ensures ok { OnOk result ((front.new ≡ reading_block front.old handle.now.number block seen) × (into.new ≡ seen)) }
+    ensures open { OnOk result (IsOpen front.old handle.now.number) }
+    ensures err { IfErr result (λ e. (e ≡ Memory) × (front.new ≡ front.old) × (into.new ≡ into.old)) }
+    ensures length { length into.new ≡ length into.old }
+{
+    front.note_read(handle, block, seen.try_clone()?)?;
+    into.copy_from_slice(seen.bytes());
+    Ok(())
+}
+
+/// Reads a block of the home area into a buffer of one block, by an open handle: the running transaction's copy, else that of
+/// the one that is being committed, else what the engine reads. What it sees is a step of the handle, and takes no credit.
+///
+/// # Errors
+///
+/// The first that applies; the buffer stays as it is. `Aborted` after a device failure; `BadBlock` where home has no such block,
+/// or its number is not below 2^32; `NoCredit` where the handle is none of this journal's open ones; `Revoked` where the block's
+/// last entry in the transactions that are not committed is a revoke: nothing changes. `Memory` where it ran out for the step:
+/// the journal stays as it is. `Device` where the device failed: the journal is aborted.
 pub fn read<D: Device, R: Record>(
     front: &mut Front<R>,
     engine: &mut Engine<D>,
+    handle: &Handle,
     block: BlockNo,
     into: &mut [u8],
 ) -> Result<(), JournalError>
     requires length { length into.old ≡ (D.state engine.old.device).shape.block_size }
     requires agrees { Agrees (together front.old engine.old).journal }
     ensures agrees { Agrees (together front.new engine.new).journal }
-    ensures may { OnOk result ((engine.old.engine.aborted ≡ false) × MayTouch front.old block) }
-    ensures seen { OnOk result (D.honest engine.new.device → IsSeen (together front.old engine.old).journal (D.state engine.old.device).disk block into.new) }
-    ensures same { OnOk result ((together front.new engine.new).journal ≡ (together front.old engine.old).journal) }
-    ensures kept { OnOk result (HasCopyKept (together front.old engine.old).journal block → together front.new engine.new ≡ together front.old engine.old) }
-    ensures err { IfErr result (λ e. ReadRefused D.state (together front.old engine.old) block (together front.new engine.new) e) }
-    ensures untouched { IfErr result (λ e. e ≢ DeviceFailed → into.new ≡ into.old) }
+    ensures ok { OnOk result (D.honest engine.new.device → Does D.state (together front.old engine.old) (ReadBlock handle.now.number block into.new) (together front.new engine.new)) }
+    ensures noted { OnOk result (NotesRead D.state (together front.old engine.old) handle.now block into.new (together front.new engine.new)) }
+    ensures err { IfErr result (ReadRefused D.state (together front.old engine.old) handle.now block (together front.new engine.new)) }
+    ensures untouched { IfErr result (λ e. into.new ≡ into.old) }
     ensures stays { Stays (D.state engine.old.device) (D.state engine.new.device) }
     ensures opens { D.honest engine.old.device → OpensNow (together front.new engine.new).journal (D.state engine.new.device).disk }
     ensures calls { MakesAtMostOneCall (D.state engine.old.device) (D.state engine.new.device) }
@@ -50,27 +93,16 @@ pub fn read<D: Device, R: Record>(
     ensures length { length into.new ≡ length into.old }
 {
     engine.recall_invariant();
-    if engine.is_aborted() {
-        return Err(JournalError::Aborted);
+    front.admit(handle, block)?;
+    if let Some(copy) = held_copy(front, block)? {
+        return note(front, handle, block, copy, into);
     }
-    if !front.may_touch(block) {
-        return Err(JournalError::BadBlock);
+    let mut bytes = front.room_for_read()?;
+    if let Err(e) = engine.read(block, &mut bytes) {
+        front.abort();
+        return Err(e);
     }
-    match front.newest(block) {
-        Some(Entry::Copy(copy)) => {
-            into.copy_from_slice(copy.bytes());
-            return Ok(());
-        }
-        Some(Entry::Revoke) => return Err(JournalError::Revoked),
-        None => {}
-    }
-    match engine.read(block, into) {
-        Ok(()) => Ok(()),
-        Err(e) => {
-            front.abort();
-            Err(e)
-        }
-    }
+    note(front, handle, block, Block::new(bytes)?, into)
 }
 
 /// Takes the next step of committing: one device call of a commit, or the seal of a transaction that takes no further handles
@@ -184,6 +216,16 @@ pub fn seal<D: Device, R: Record>(
     }
     front.seal();
     Ok(Turn::Sealed(tid))
+}
+
+/// States for the proofs of callers that the running transaction needs at most a quarter of the ring: no more credits are held than
+/// fit that, and one for each entry. It does nothing.
+pub fn recall_quarter<D: Device, R: Record>(front: &Front<R>, engine: &Engine<D>)
+    requires agrees { Agrees (together front.now engine.now).journal }
+    ensures { FitsQuarter (together front.now engine.now).journal }
+{
+    engine.recall_invariant();
+    let _front = front;
 }
 
 /// How many log blocks the running transaction needs, where the ring has as many free ones.

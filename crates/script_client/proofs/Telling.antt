@@ -27,7 +27,7 @@ use Rattle.group_commit.specs.Extension.{Extends, RestartRefused, Restarts, Star
 use Rattle.journal_front.specs.Front.{IsOpenHandle}
 use Rattle.journal_steps.specs.Journal.{CheckTurnDid, CheckTurnRefused, Does, FailsAndTells, ReadRefused, Requests, TurnDid, TurnRefused}
 use Rattle.journal_steps.specs.Journal.CheckTurnRefused.{CheckAborted, CheckFailed}
-use Rattle.journal_steps.specs.Journal.ReadRefused.{ReadAborted, ReadFailed, ReadOutside, ReadRevoked}
+use Rattle.journal_steps.specs.Journal.ReadRefused.{ReadFailed, ReadKeptOut, ReadRevoked, ReadUnnoted}
 use Rattle.journal_steps.specs.Journal.TurnRefused.{DeviceFailed, MemoryIsShort, RingIsShort, WasAborted}
 use Rattle.journal_front.specs.Values.{HandleValue}
 use Rattle.journal_steps.specs.Values.{JournalValue}
@@ -196,20 +196,22 @@ pub checkpoint_turn-comes : (Fact : Shape → Disk → Type 0) (operations : Lis
 checkpoint_turn-comes Fact operations state old new shown (Ok turn) did refused shape led = check-comes Fact operations state old new shown turn did shape led
 checkpoint_turn-comes Fact operations state old new shown (Err e) did refused shape led = check_refused-comes Fact operations state old new shown e refused shape led
 
--- a read changes nothing, or fails
-read_refused-comes : (Fact : Shape → Disk → Type 0) (operations : List Operation) {D : Type 0} (state : D → DeviceState) (old new : JournalValue D) (shown : Option ℕ) (b : ℕ) (e : JournalError)
-    → ReadRefused state old b new e → Stays (state old.device) (state new.device) → HasComeTo Fact operations state old shown → HasComeTo Fact operations state new shown
-read_refused-comes Fact operations state old new shown b e (ReadAborted aborted is) device led = same Fact operations state old new shown is led
-read_refused-comes Fact operations state old new shown b e (ReadOutside running outside is) device led = same Fact operations state old new shown is led
-read_refused-comes Fact operations state old new shown b e (ReadRevoked running may revoked is) device led = same Fact operations state old new shown is led
-read_refused-comes Fact operations state old new shown b e (ReadFailed may untouched none is fault) device led = does Fact operations state old new shown ReadFault (λ directs written. written) is device.shape led
-
-pub read-comes : (Fact : Shape → Disk → Type 0) (operations : List Operation) {D T : Type 0} (state : D → DeviceState) (old new : JournalValue D) (shown : Option ℕ) (b : ℕ) (result : Result T JournalError)
-    → OnOk result (new.journal ≡ old.journal) → IfErr result (λ e. ReadRefused state old b new e) → Stays (state old.device) (state new.device)
-    → HasComeTo Fact operations state old shown → HasComeTo Fact operations state new shown
-read-comes Fact operations state old new shown b (Ok x) is refused device led =
+-- a read is one step, or changes nothing, or fails
+read_refused-comes : (Fact : Shape → Disk → Type 0) (operations : List Operation) {D : Type 0} (state : D → DeviceState) (old new : JournalValue D) (shown : Option ℕ) (h : HandleValue) (b : ℕ)
+    (e : JournalError) → ReadRefused state old h b new e → Stays (state old.device) (state new.device) → HasComeTo Fact operations state old shown → HasComeTo Fact operations state new shown
+read_refused-comes Fact operations state old new shown h b e (ReadKeptOut why is) device led = same Fact operations state old new shown is led
+read_refused-comes Fact operations state old new shown h b e (ReadRevoked may revoked is refused) device led = same Fact operations state old new shown is led
+read_refused-comes Fact operations state old new shown h b e (ReadUnnoted may last is counted refused) device led =
     stays Fact operations old.journal new.journal (state old.device) (state new.device) shown led is device.shape device.disk
-read-comes Fact operations state old new shown b (Err e) is refused device led = read_refused-comes Fact operations state old new shown b e refused device led
+read_refused-comes Fact operations state old new shown h b e (ReadFailed may untouched none is fault refused) device led =
+    does Fact operations state old new shown ReadFault (λ directs written. written) is device.shape led
+
+pub read-comes : (Fact : Shape → Disk → Type 0) (operations : List Operation) {D T : Type 0} (state : D → DeviceState) (old new : JournalValue D) (shown : Option ℕ) (honest : Type 0) (h : HandleValue) (b : ℕ)
+    (v : List ℕ) (result : Result T JournalError) → honest → OnOk result (honest → Does state old (ReadBlock h.number b v) new) → IfErr result (ReadRefused state old h b new)
+    → Stays (state old.device) (state new.device) → HasComeTo Fact operations state old shown → HasComeTo Fact operations state new shown
+read-comes Fact operations state old new shown honest h b v (Ok x) is reads refused device led =
+    does Fact operations state old new shown (ReadBlock h.number b v) (λ directs written. written) (reads is) device.shape led
+read-comes Fact operations state old new shown honest h b v (Err e) is reads refused device led = read_refused-comes Fact operations state old new shown h b e refused device led
 
 -- a call that makes one step of the front, or changes nothing
 pub front-comes : (Fact : Shape → Disk → Type 0) (operations : List Operation) {D T E : Type 0} (state : D → DeviceState) (old new : JournalValue D) (shown : Option ℕ) (event : FrontEvent) (result : Result T E)

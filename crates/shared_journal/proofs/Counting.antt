@@ -1,8 +1,10 @@
 -- What is true whenever the lock is free stays true of each step that is made under it.
-use Rattle.std.proofs.Common.{◌≡◌, ◌+◌, ◌-◌, ◌≤◌, ◌<◌, ℕ, Result, Ok, Err, IfErr, IfOk, OnOk, refl, subst, sym, ◌∙◌, ap, arith, List}
+use Rattle.std.proofs.Common.{◌≡◌, ℕ, Result, Ok, Err, IfErr, IfOk, OnOk, refl, sym, ◌∙◌, ap, arith, List, [], ◌∷◌, ◌++◌, length}
 use Rattle.block_device.specs.State.{DeviceState}
+use Rattle.journal_model.proofs.Effects.{entries-push_read}
 use Rattle.journal_model.specs.declared.refusal.JournalError.{JournalError}
-use Rattle.journal_world.specs.Front.{Front, FrontHappens, aborting, held}
+use Rattle.journal_model.specs.Transaction.{entries}
+use Rattle.journal_world.specs.Front.{Front, FrontHappens, aborting, held, read_step, reading_block}
 use Rattle.journal_world.specs.Front.FrontEvent.{RevokeBlock, WriteBlock}
 use Rattle.journal_world.specs.Journal.Event.{DirectSync, DirectWrite, FrontStep}
 use Rattle.journal_world.proofs.Credits.{event-held}
@@ -11,10 +13,11 @@ use Rattle.journal_steps.specs.declared.turn.CheckTurn.TheVariants.{Idle as Idle
 use Rattle.journal_steps.specs.Direct.{DirectSyncRefused, DirectWriteRefused}
 use Rattle.journal_steps.specs.Direct.DirectSyncRefused.{SyncAborted, SyncFailed}
 use Rattle.journal_steps.specs.Direct.DirectWriteRefused.{WriteAborted, WriteFailed, WriteNotDirect, WriteOutside}
-use Rattle.journal_steps.specs.Journal.{CheckTurnDid, CheckTurnRefused, Does, ReadRefused, TurnRefused}
+use Rattle.journal_steps.specs.Journal.{CheckTurnDid, CheckTurnRefused, Does, NotesRead, ReadRefused, TurnRefused}
 use Rattle.journal_steps.specs.Journal.CheckTurnRefused.{CheckAborted, CheckFailed}
-use Rattle.journal_steps.specs.Journal.ReadRefused.{ReadAborted, ReadFailed, ReadOutside, ReadRevoked}
+use Rattle.journal_steps.specs.Journal.ReadRefused.{ReadFailed, ReadKeptOut, ReadRevoked, ReadUnnoted}
 use Rattle.journal_steps.specs.Journal.TurnRefused.{DeviceFailed, MemoryIsShort, RingIsShort, WasAborted}
+use Rattle.journal_front.specs.Values.{HandleValue}
 use Rattle.journal_steps.specs.Values.{JournalValue}
 use Rattle.shared_journal.specs.Locked.{IsHeld}
 
@@ -81,16 +84,24 @@ module _ {D : Type 0} (state : D → DeviceState) (most size count raised : ℕ)
   check-turn (Ok turn) ok err = checked turn ok
   check-turn (Err e) ok err = check-refused e err
 
-  read-refused : (e : JournalError) (b : ℕ) → ReadRefused state old b new e → IsHeld state most size count raised new
-  read-refused _ b (ReadAborted was same) = all-same same
-  read-refused _ b (ReadOutside running outside same) = all-same same
-  read-refused _ b (ReadRevoked running may last same) = all-same same
-  read-refused _ b (ReadFailed may last none did faults) = front-aborted did.front
+  read-refused : (e : JournalError) (h : HandleValue) (b : ℕ) → ReadRefused state old h b new e → IsHeld state most size count raised new
+  read-refused e h b (ReadKeptOut why same) = all-same same
+  read-refused e h b (ReadRevoked may last same refused) = all-same same
+  read-refused e h b (ReadUnnoted may last same faults refused) = front-same (ap (λ j. j.front) same)
+  read-refused e h b (ReadFailed may last none did faults refused) = front-aborted did.front
 
-  pub read : {A : Type 0} (r : Result A JournalError) (b : ℕ) → OnOk r (new.journal ≡ old.journal) → IfErr r (λ e. ReadRefused state old b new e)
+  -- a read takes no credit
+  noted : (h b : ℕ) (v : List ℕ) → new.journal.front ≡ reading_block old.journal.front h b v → IsHeld state most size count raised new
+  noted h b v same =
+      let ss = old.journal.front.running.steps in
+      let entries_are : length (entries (ss ++ read_step h b v ∷ [])) ≡ length (entries ss) = ap (λ es. length es) (entries-push_read ss (read_step h b v) refl) in
+      let after : held new.journal.front ≡ held (reading_block old.journal.front h b v) = ap (λ (f : Front). held f) same in
+      keeps (omega arith) (ap (λ (f : Front). f.reserved) same) (ap (λ (f : Front). f.mark) same) (ap (λ (f : Front). f.capacity) same)
+
+  pub read : {A : Type 0} (r : Result A JournalError) (h : HandleValue) (b : ℕ) (v : List ℕ) → OnOk r (NotesRead state old h b v new) → IfErr r (ReadRefused state old h b new)
       → IsHeld state most size count raised new
-  read (Ok a) b ok err = front-same (ap (λ j. j.front) ok)
-  read (Err e) b ok err = read-refused e b err
+  read (Ok a) h b v ok err = noted h.number b v ok.front
+  read (Err e) h b v ok err = read-refused e h b err
 
   direct-refused : (e : JournalError) (b : ℕ) (v : List ℕ) → DirectWriteRefused state old b v new e → IsHeld state most size count raised new
   direct-refused _ b v (WriteAborted was same) = all-same same

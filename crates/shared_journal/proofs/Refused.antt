@@ -1,8 +1,7 @@
 -- Each refusal of a step under the lock is one of those that its call may answer.
-use Rattle.std.proofs.Common.{◌≡◌, ◌+◌, ◌≤◌, ◌<◌, ℕ, refl, subst, sym, arith}
+use Rattle.std.proofs.Common.{ℕ, subst, sym, arith}
 use Rattle.journal_model.specs.declared.refusal.JournalError.{JournalError}
-use Rattle.journal_model.specs.declared.refusal.JournalError.TheVariants.{Aborted, BadBlock, Memory, NoCredit, NotRunning, SequenceEnd}
-use Rattle.journal_world.specs.Front.{Front, IsFirstTouch, reserving}
+use Rattle.journal_world.specs.Front.{Front, reserving}
 use Rattle.journal_front.specs.Front.{ExtendRefused, IsKeptOut, JoinRefused, TouchRefused}
 use Rattle.journal_front.specs.Front.ExtendRefused.{ExtendAborted as WasAborted, ExtendLocked as WasLocked, ExtendUngranted, ExtendUnopened as WasUnopened}
 use Rattle.journal_front.specs.Front.IsKeptOut.{NotOpen, OutOfHome, WhileAborted}

@@ -1,5 +1,5 @@
 -- A journal that has no name yet.
-use Rattle.std.specs.Prelude.{◌≡◌, ℕ}
+use Rattle.std.specs.Prelude.{ℕ}
 use Rattle.atomic_table.specs.Seated.{TableId}
 use Rattle.block_device.specs.State.{DeviceState}
 use Rattle.handle.specs.Values.{Laid}

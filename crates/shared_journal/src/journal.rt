@@ -1,19 +1,19 @@
 //! The journal that threads share: its calls take `&self`, and those that are steps take the lock.
-ghost use Rattle.std.specs.Prelude.{◌≡◌, ◌≢◌, ◌+◌, ◌<◌, ◌≤◌, true, length, IfErr, IfOk, MatchResult, OnOk};
-ghost use Rattle.journal_model.specs.declared.refusal.JournalError.TheVariants.{Aborted, Device as DeviceFailed};
+ghost use Rattle.std.specs.Prelude.{◌≡◌, ◌+◌, ◌<◌, ◌≤◌, true, length, IfErr, IfOk, MatchResult, OnOk};
+ghost use Rattle.journal_model.specs.declared.refusal.JournalError.TheVariants.{Aborted};
 ghost use Rattle.journal_model.specs.Transaction.{entries};
-ghost use Rattle.journal_world.specs.Front.FrontEvent.{RevokeBlock, StopHandle, WriteBlock};
-ghost use Rattle.journal_world.specs.Front.{next_handle, reserving};
-ghost use Rattle.journal_world.specs.Journal.Event.{DirectSync, DirectWrite, FrontStep};
+ghost use Rattle.journal_world.specs.Front.FrontEvent.{RevokeBlock, WriteBlock};
+ghost use Rattle.journal_world.specs.Front.{reserving};
+ghost use Rattle.journal_world.specs.Journal.Event.{DirectSync, DirectWrite, FrontStep, ReadBlock};
 ghost use Rattle.handle.specs.Values.{Grants, Looks, LooksAgain, ReserveRefused, StatusIs, fresh_ticket, loading_credits, loading_mark};
-ghost use Rattle.journal_front.specs.Front.{ExtendRefused, IsOpenHandle, JoinRefused, Spends, TouchRefused};
+ghost use Rattle.journal_front.specs.Front.{ExtendRefused, Spends, TouchRefused};
 ghost use Rattle.journal_steps.specs.Direct.{DirectSyncRefused, DirectWriteRefused, MayWriteDirectly};
-ghost use Rattle.journal_steps.specs.Journal.{CheckTurnDid, CheckTurnRefused, Does, IsSeen, ReadRefused, Requests, TurnDid, TurnRefused};
+ghost use Rattle.journal_steps.specs.Journal.{CheckTurnDid, CheckTurnRefused, Does, NotesRead, ReadRefused, Requests, TurnDid, TurnRefused};
 ghost use Rattle.journal_steps.specs.Values.{JournalValue};
-ghost use Rattle.group_commit.specs.Extension.{Extends, Starts};
+ghost use Rattle.group_commit.specs.Extension.{Extends};
 ghost use Rattle.shared_journal.specs.Ends.{AtTheEnd, IsClosedWell, IsNotClosed};
-ghost use Rattle.shared_journal.specs.Moments.{AtOneMoment};
-ghost use Rattle.shared_journal.specs.Refusals.{IsExtendRefusal, IsJoinRefusal, IsTouchRefusal, MayHavePaid, StartRefused};
+ghost use Rattle.shared_journal.specs.Moments.{AtOneMoment, JoinedThen, StoppedThen};
+ghost use Rattle.shared_journal.specs.Refusals.{CouldNotJoin, IsExtendRefusal, IsJoinRefusal, IsTouchRefusal, MayHavePaid, StartRefused};
 
 use crate::closing::close;
 use crate::locked::{Counters, Locked, Tally};
@@ -131,10 +131,9 @@ impl<J: JournalName, D: Device, R: Record> Journal<J, D, R> {
         credits: Credits<J>,
     ) -> Result<Handle<'_, J>, (Credits<J>, JournalError)>
         ensures ok { IfOk result (λ handle. handle.left ≡ credits) }
-        ensures joins { IfOk result (λ handle. AtOneMoment (λ (old new : JournalValue D). Starts D.state credits old new
-            × (handle ≡ record { number = next_handle old.journal.front; tid = old.journal.front.running.tid; left = credits }))) }
+        ensures joins { IfOk result (JoinedThen D.state credits) }
         ensures err { IfErr result (λ e. (e.0 ≡ credits) × IsJoinRefusal e.1) }
-        ensures why { IfErr result (λ e. AtOneMoment (λ (old new : JournalValue D). JoinRefused (reserving old.journal.front credits) credits e.1 × (new ≡ old))) }
+        ensures why { IfErr result (λ e. CouldNotJoin D credits e.1) }
     {
         self.locked.lock(rt).join(&self.counters, credits)
     }
@@ -205,13 +204,15 @@ impl<J: JournalName, D: Device, R: Record> Journal<J, D, R> {
     }
 
     /// Reads a block of the home area into a buffer of one block: the running transaction's copy, else that of the one that is
-    /// being committed, else the newest committed copy, else what home reads. Isolation between handles is left to the caller.
+    /// being committed, else the newest committed copy, else what home reads. What the handle sees is a step of its transaction,
+    /// and takes no credit. Isolation between handles is left to the caller.
     ///
     /// # Errors
     ///
-    /// `Aborted` after a device failure; `BadBlock` where home has no such block, or its number is not below 2^32; `Revoked`
-    /// where its last entry in the transactions that are not committed is a revoke. `Device` where the device failed: the journal
-    /// is aborted, and the buffer's bytes are unspecified.
+    /// The first that applies; the buffer stays as it is. `Aborted` after a device failure; `BadBlock` where home has no such
+    /// block, or its number is not below 2^32; `Revoked` where the block's last entry in the transactions that are not committed
+    /// is a revoke; `Memory`: nothing changes. `Device` where the device failed: the journal is aborted. (`NoCredit` where the
+    /// handle is not open can't come, and no contract says so yet.)
     /// Source: journalling.rst (handles see the running transaction).
     pub fn read<W: Wait>(
         &self,
@@ -221,10 +222,10 @@ impl<J: JournalName, D: Device, R: Record> Journal<J, D, R> {
         into: &mut [u8],
     ) -> Result<(), JournalError>
         requires { length into.old ≡ J.block_size }
-        ensures reads { OnOk result (AtOneMoment (λ (old new : JournalValue D). (D.honest new.device → IsSeen old.journal (D.state old.device).disk block into.new)
-            × (new.journal ≡ old.journal))) }
-        ensures why { IfErr result (λ e. AtOneMoment (λ (old new : JournalValue D). ReadRefused D.state old block new e)) }
-        ensures untouched { IfErr result (λ e. e ≢ DeviceFailed → into.new ≡ into.old) }
+        ensures reads { OnOk result (AtOneMoment (λ (old new : JournalValue D). NotesRead D.state old handle.old block into.new new
+            × (D.honest new.device → Does D.state old (ReadBlock handle.old.number block into.new) new))) }
+        ensures why { IfErr result (λ e. AtOneMoment (λ (old new : JournalValue D). ReadRefused D.state old handle.old block new e)) }
+        ensures untouched { IfErr result (λ e. into.new ≡ into.old) }
         ensures length { length into.new ≡ length into.old }
         ensures handle { handle.new ≡ handle.old }
     {
@@ -270,8 +271,7 @@ impl<J: JournalName, D: Device, R: Record> Journal<J, D, R> {
     /// Source: journalling.rst (`journal_stop`).
     pub fn stop<W: Wait>(&self, rt: &W, handle: Handle<'_, J>) -> Ticket<J>
         ensures ticket { result ≡ fresh_ticket handle.entry.number handle.entry.tid }
-        ensures stops { AtOneMoment (λ (old new : JournalValue D). (IsOpenHandle old.journal.front handle.entry → Does D.state old (FrontStep (StopHandle handle.entry.number)) new)
-            × ((IsOpenHandle old.journal.front handle.entry → ⊥) → new ≡ old)) }
+        ensures stops { StoppedThen D.state handle.entry }
     {
         self.locked.lock(rt).stop(&self.counters, handle)
     }
@@ -349,7 +349,8 @@ impl<J: JournalName, D: Device, R: Record> Journal<J, D, R> {
         n: u64,
     ) -> Result<Handle<'_, J>, JournalError>
         ensures ok { IfOk result (λ handle. (handle.left ≡ n) × Grants J.capacity n seat.old seat.new) }
-        ensures err { IfErr result (λ e. StartRefused J.capacity n seat.old seat.new e) }
+        ensures joins { IfOk result (JoinedThen D.state n) }
+        ensures err { IfErr result (StartRefused D J.capacity n seat.old seat.new) }
     {
         match self.reserve(seat, n) {
             Ok(credits) => match self.try_join(rt, credits) {
@@ -376,8 +377,10 @@ impl<J: JournalName, D: Device, R: Record> Journal<J, D, R> {
         seat: &mut Seat<J>,
         n: u64,
     ) -> Result<Handle<'_, J>, (Ticket<J>, JournalError)>
+        ensures stops { StoppedThen D.state handle.entry }
         ensures ok { IfOk result (λ other. (other.left ≡ n) × Grants J.capacity n seat.old seat.new) }
-        ensures err { IfErr result (λ e. (e.0 ≡ fresh_ticket handle.entry.number handle.entry.tid) × StartRefused J.capacity n seat.old seat.new e.1) }
+        ensures joins { IfOk result (JoinedThen D.state n) }
+        ensures err { IfErr result (λ e. (e.0 ≡ fresh_ticket handle.entry.number handle.entry.tid) × StartRefused D J.capacity n seat.old seat.new e.1) }
     {
         let ticket = self.stop(rt, handle);
         match self.try_start(rt, seat, n) {

@@ -1,17 +1,17 @@
 //! What lies under the lock, and the steps that are made there.
-ghost use Rattle.std.specs.Prelude.{◌≡◌, ◌≢◌, ◌+◌, ◌-◌, ◌≤◌, length, true, false, IfErr, IfOk, OnOk};
-ghost use Rattle.journal_model.specs.declared.refusal.JournalError.TheVariants.{Aborted, Device as DeviceFailed};
+ghost use Rattle.std.specs.Prelude.{◌≡◌, ◌+◌, ◌-◌, ◌≤◌, length, true, false, IfErr, IfOk, OnOk};
+ghost use Rattle.journal_model.specs.declared.refusal.JournalError.TheVariants.{Aborted};
 ghost use Rattle.journal_model.specs.Transaction.{entries};
 ghost use Rattle.block_device.specs.State.{EachMoment, MakesAtMostOneCall, Stays};
 ghost use Rattle.journal_world.specs.Front.{next_handle, reserving};
 ghost use Rattle.journal_world.specs.Front.FrontEvent.{RevokeBlock, StopHandle, WriteBlock};
-ghost use Rattle.journal_world.specs.Journal.Event.{DirectSync, DirectWrite, FrontStep};
+ghost use Rattle.journal_world.specs.Journal.Event.{DirectSync, DirectWrite, FrontStep, ReadBlock};
 ghost use Rattle.log_engine.specs.Call.{IsOneMoment};
 ghost use Rattle.handle.specs.Values.{fresh_ticket, loading_credits};
 ghost use Rattle.journal_steps.specs.Direct.{DirectSyncRefused, DirectWriteRefused, IsDuringDirectSync, IsDuringDirectWrite, MayWriteDirectly};
 ghost use Rattle.group_commit.specs.Extension.{Extends, Starts};
-ghost use Rattle.journal_front.specs.Front.{ExtendRefused, IsOpenHandle, JoinRefused, MayTouch, Spends, TouchRefused};
-ghost use Rattle.journal_steps.specs.Journal.{CheckTurnDid, CheckTurnRefused, Does, HasCopyKept, IsDuringCheckTurn, IsDuringTurn, IsSeen, OpensNow, ReadRefused, Requests, TurnDid, TurnRefused};
+ghost use Rattle.journal_front.specs.Front.{ExtendRefused, IsOpenHandle, JoinRefused, Spends, TouchRefused};
+ghost use Rattle.journal_steps.specs.Journal.{CheckTurnDid, CheckTurnRefused, Does, IsDuringCheckTurn, IsDuringTurn, NotesRead, OpensNow, ReadRefused, Requests, TurnDid, TurnRefused};
 
 use crate::open_handle::Handle;
 use block_device::Device;
@@ -86,6 +86,7 @@ impl<J: JournalName, D: Device, R: Record> Locked<J, D, R> {
             × (handle ≡ record { number = next_handle self.old.journal.front; tid = self.old.journal.front.running.tid; left = credits })) }
         ensures open { IfOk result (IsOpenHandle self.new.journal.front) }
         ensures err { IfErr result (λ e. (e.0 ≡ credits) × JoinRefused (reserving self.old.journal.front credits) credits e.1 × (self.new ≡ self.old)) }
+        ensures device { self.new.device ≡ self.old.device }
     {
         let n = credits.count();
         self.credits.join(&counters.pool, credits);
@@ -118,6 +119,7 @@ impl<J: JournalName, D: Device, R: Record> Locked<J, D, R> {
         ensures handle { OnOk result (handle.new ≡ record handle.old { left = handle.old.left + credits }) }
         ensures err { IfErr result (λ e. (e.0 ≡ credits) × ExtendRefused (reserving self.old.journal.front credits) handle.old credits e.1
             × (self.new ≡ self.old) × (handle.new ≡ handle.old)) }
+        ensures device { self.new.device ≡ self.old.device }
     {
         let n = credits.count();
         self.credits.join(&counters.pool, credits);
@@ -145,6 +147,7 @@ impl<J: JournalName, D: Device, R: Record> Locked<J, D, R> {
         ensures open { OnOk result (IsOpenHandle self.old.journal.front handle.old × IsOpenHandle self.new.journal.front handle.new) }
         ensures spends { OnOk result (Spends self.old.journal.front block handle.old handle.new) }
         ensures err { IfErr result (λ e. TouchRefused self.old.journal.front handle.old block e × (self.new ≡ self.old) × (handle.new ≡ handle.old)) }
+        ensures device { self.new.device ≡ self.old.device }
     {
         self.journal.write(&mut handle.inner, block, bytes)
     }
@@ -160,6 +163,7 @@ impl<J: JournalName, D: Device, R: Record> Locked<J, D, R> {
         ensures open { OnOk result (IsOpenHandle self.old.journal.front handle.old × IsOpenHandle self.new.journal.front handle.new) }
         ensures spends { OnOk result (Spends self.old.journal.front block handle.old handle.new) }
         ensures err { IfErr result (λ e. TouchRefused self.old.journal.front handle.old block e × (self.new ≡ self.old) × (handle.new ≡ handle.old)) }
+        ensures device { self.new.device ≡ self.old.device }
     {
         self.journal.revoke(&mut handle.inner, block)
     }
@@ -168,7 +172,7 @@ impl<J: JournalName, D: Device, R: Record> Locked<J, D, R> {
     ///
     /// # Errors
     ///
-    /// Those of `group_commit::Journal::read`.
+    /// Those of `group_commit::Journal::read`: the buffer stays as it is.
     /// Source: journalling.rst (handles see the running transaction).
     pub fn read(
         &mut self,
@@ -177,12 +181,10 @@ impl<J: JournalName, D: Device, R: Record> Locked<J, D, R> {
         into: &mut [u8],
     ) -> Result<(), JournalError>
         requires { length into.old ≡ J.block_size }
-        ensures may { OnOk result ((self.old.journal.engine.aborted ≡ false) × MayTouch self.old.journal.front block) }
-        ensures seen { OnOk result (D.honest self.new.device → IsSeen self.old.journal (D.state self.old.device).disk block into.new) }
-        ensures same { OnOk result (self.new.journal ≡ self.old.journal) }
-        ensures kept { OnOk result (HasCopyKept self.old.journal block → self.new ≡ self.old) }
-        ensures err { IfErr result (λ e. ReadRefused D.state self.old block self.new e) }
-        ensures untouched { IfErr result (λ e. e ≢ DeviceFailed → into.new ≡ into.old) }
+        ensures ok { OnOk result (D.honest self.new.device → Does D.state self.old (ReadBlock handle.old.number block into.new) self.new) }
+        ensures noted { OnOk result (NotesRead D.state self.old handle.old block into.new self.new) }
+        ensures err { IfErr result (ReadRefused D.state self.old handle.old block self.new) }
+        ensures untouched { IfErr result (λ e. into.new ≡ into.old) }
         ensures stays { Stays (D.state self.old.device) (D.state self.new.device) }
         ensures opens { D.honest self.old.device → OpensNow self.new.journal (D.state self.new.device).disk }
         ensures calls { MakesAtMostOneCall (D.state self.old.device) (D.state self.new.device) }
@@ -242,6 +244,7 @@ impl<J: JournalName, D: Device, R: Record> Locked<J, D, R> {
         ensures stops { IsOpenHandle self.old.journal.front handle.entry → Does D.state self.old (FrontStep (StopHandle handle.entry.number)) self.new }
         ensures other { (IsOpenHandle self.old.journal.front handle.entry → ⊥) → self.new ≡ self.old }
         ensures ticket { result ≡ fresh_ticket handle.entry.number handle.entry.tid }
+        ensures device { self.new.device ≡ self.old.device }
     {
         let Handle { place, inner } = handle;
         self.journal.stop(inner);
@@ -258,6 +261,7 @@ impl<J: JournalName, D: Device, R: Record> Locked<J, D, R> {
     pub fn request(&mut self, tid: Tid) -> Result<(), JournalError>
         ensures ok { OnOk result (Requests D.state tid self.old self.new) }
         ensures err { IfErr result (λ e. (e ≡ Aborted) × (self.old.journal.front.aborted ≡ true) × (self.new ≡ self.old)) }
+        ensures device { self.new.device ≡ self.old.device }
     {
         self.journal.request_commit(tid)
     }

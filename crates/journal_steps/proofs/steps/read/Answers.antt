@@ -1,120 +1,181 @@
-use Rattle.std.proofs.Common.{Some, refl, sym, ap, subst, ◌∙◌, length}
-use Rattle.std.proofs.lemmas.Bool.{true≢false}
+use Rattle.std.proofs.Common.{◌≡◌, ℕ, List, Some, ap, refl, sym, ◌∙◌, length}
+use Rattle.std.proofs.lemmas.List.{with_items_is}
+use Rattle.std.proofs.lemmas.Result.{err_from_is_err_and}
+use Rattle.journal_model.specs.declared.entry.Entry.TheVariants.{Copy, Revoke}
 use Rattle.journal_model.specs.Disk.{Shape}
-use Rattle.journal_world.specs.Engine.{Engine}
+use Rattle.journal_model.specs.Layout.{Layout}
+use Rattle.journal_world.specs.Front.{Front, aborting}
 use Rattle.journal_world.specs.Journal.{Journal}
 use Rattle.log_engine.specs.Engine.{EngineValue}
-use Rattle.journal_steps.specs.Journal.{Agrees, IsSeen, ReadRefused}
-use Rattle.journal_front.specs.Front.{MayTouch}
+use Rattle.journal_steps.specs.Journal.{ReadRefused}
+use Rattle.journal_steps.proofs.Noting.{noted-agrees, noted-does, noted-notes, noted-refused, noted-sealed, unheld}
 use Rattle.journal_steps.proofs.Reading.{kept-pending, kept-whole, seen-kept, seen-read}
 use Rattle.journal_steps.proofs.Rounding.{agrees-read_refused, opens-read, opens-unread, refused-read}
-use Rattle.journal_steps.proofs.Turning.{opens-now}
 use Rattle.journal_steps.proofs.Sealing.{allowed-here}
+use Rattle.journal_steps.proofs.Turning.{opens-now}
 use Rattle.journal_steps.proofs.steps.read.Goals as goal
 
--- an aborted journal refuses
-pub returns-then-is_aborted-clause-err : goal.returns-then-is_aborted-clause-err
-returns-then-is_aborted-clause-err g c =
-    (ReadRefused.ReadAborted (sym c.is_aborted.ensures ∙ c.if-is_aborted.true) refl)
+-- a copy is no revoke
+apart : (v : List ℕ) → Some (Copy v) ≡ Some Revoke → ⊥
+apart v is = cc
 
--- home has no such block
-pub returns-then-not-may_touch-clause-err : goal.returns-then-not-may_touch-clause-err
-returns-then-not-may_touch-clause-err g c =
-    let running = sym c.is_aborted.ensures ∙ c.if-is_aborted.false in
-    let no = λ (may : MayTouch c.args.front.now c.args.block). true≢false (sym (c.may_touch.ensures.1 may) ∙ c.if-not-may_touch.true) in
-    (ReadRefused.ReadOutside running no refl)
+-- the handle may not make a step on the block
+pub returns-in_err-admit-clause-err : goal.returns-in_err-admit-clause-err
+returns-in_err-admit-clause-err g c =
+    let p = err_from_is_err_and c.from_residual.result c.from_residual.ensures.1 in
+    rw (p.1, p.2) (ReadRefused.ReadKeptOut c.in_err-admit.ensures.err refl)
 
--- the journal runs, and the block may be touched
-pub returns-in-Some-Copy-clause-may : goal.returns-in-Some-Copy-clause-may
-returns-in-Some-Copy-clause-may g c =
-    let running = sym c.is_aborted.ensures ∙ c.if-is_aborted.false in
-    (running, c.may_touch.ensures.0 c.if-not-may_touch.false)
+-- the front has no copy to hand out
+pub returns-in_err-copy-clause-err : goal.returns-in_err-copy-clause-err
+returns-in_err-copy-clause-err g c =
+    let p = err_from_is_err_and c.from_residual-in_err-copy.result c.from_residual-in_err-copy.ensures.1 in
+    rw (p.1, p.2) (unheld g.D.Device.state _ c.args.handle.now c.args.block _ c.in_ok-admit.ensures.ok c.in_err-copy.ensures.err)
 
 -- the copy that is kept fills the buffer
-pub copy_from_slice-requires : goal.copy_from_slice-requires
-copy_from_slice-requires g c =
+pub note-requires-clause-length : goal.note-requires-clause-length
+note-requires-clause-length g c =
     let j : Journal = record { front = c.args.front.now; engine = c.args.engine.now.engine } in
-    let size = c.requires.length
-    ∙ ap (λ (s : Shape). s.block_size) (sym c.recall_invariant.ensures.shape) in
-    let last = sym c.in-Some-Copy.ensures ∙ ap Some c.in-Some-Copy.field-0-is in
-    size ∙ sym (kept-whole j c.args.block _ c.requires.agrees c.recall_invariant.ensures.plain last) ∙ ap length (sym (c.bytes.ensures ∙ c.in-Some-Copy.copy-is))
+    let last = rw c.in-Some.is at c.in_ok-copy.ensures.ok in
+    c.requires.length ∙ ap (λ (s : Shape). s.block_size) (sym c.recall_invariant.ensures.shape)
+    ∙ sym (kept-whole j c.args.block c.in-Some.copy c.requires.agrees c.recall_invariant.ensures.plain last)
 
--- it is what the read answers
-pub returns-in-Some-Copy-clause-seen : goal.returns-in-Some-Copy-clause-seen
-returns-in-Some-Copy-clause-seen g c =
+-- front and engine agree once it is noted
+pub returns-in-Some-clause-agrees : goal.returns-in-Some-clause-agrees
+returns-in-Some-clause-agrees g c =
     let j : Journal = record { front = c.args.front.now; engine = c.args.engine.now.engine } in
-    let disk = (g.D.Device.state c.args.engine.now.device).disk in
-    let last = sym c.in-Some-Copy.ensures ∙ ap Some c.in-Some-Copy.field-0-is in
-    (λ honest. subst (IsSeen j disk c.args.block) (sym (c.copy_from_slice.ensures.after ∙ c.bytes.ensures ∙ c.in-Some-Copy.copy-is))
-    (seen-kept j c.requires.agrees c.recall_invariant.ensures.plain disk c.args.block _ last))
+    let last = rw c.in-Some.is at c.in_ok-copy.ensures.ok in
+    noted-agrees g.D.Device.state g.D.Device.honest c.args.front.now c.note.new.front c.args.engine.now c.args.engine.now c.args.handle.now c.args.block c.in-Some.copy
+    c.note.new.into c.args.into.now c.note.result c.in_ok-admit.ensures.ok c.requires.agrees
+    (kept-whole j c.args.block c.in-Some.copy c.requires.agrees c.recall_invariant.ensures.plain last) refl c.note.ensures.ok c.note.ensures.err
 
--- the block's last entry is a revoke
-pub returns-in-Some-Revoke-clause-err : goal.returns-in-Some-Revoke-clause-err
-returns-in-Some-Revoke-clause-err g c =
-    let running = sym c.is_aborted.ensures ∙ c.if-is_aborted.false in
-    let last = sym c.in-Some-Revoke.ensures ∙ ap Some c.in-Some-Revoke.field-0-is in
-    (ReadRefused.ReadRevoked running (c.may_touch.ensures.0 c.if-not-may_touch.false) last refl)
+-- it is the machine's read
+pub returns-in-Some-clause-ok : goal.returns-in-Some-clause-ok
+returns-in-Some-clause-ok g c =
+    let j : Journal = record { front = c.args.front.now; engine = c.args.engine.now.engine } in
+    let plain = c.recall_invariant.ensures.plain in
+    let last = rw c.in-Some.is at c.in_ok-copy.ensures.ok in
+    noted-does g.D.Device.state g.D.Device.honest c.args.front.now c.note.new.front c.args.engine.now c.args.engine.now c.args.handle.now c.args.block c.in-Some.copy
+    c.note.new.into c.args.into.now c.note.result c.in_ok-admit.ensures.ok c.requires.agrees
+    (kept-whole j c.args.block c.in-Some.copy c.requires.agrees plain last) refl c.note.ensures.ok c.note.ensures.err c.note.ensures.open
+    (λ honest. seen-kept j c.requires.agrees plain (g.D.Device.state c.args.engine.now.device).disk c.args.block c.in-Some.copy last)
+    (record { shape = refl; disk = refl; past = refl })
 
--- front and engine agree after the engine's read
-pub returns-in-Ok-clause-agrees : goal.returns-in-Ok-clause-agrees
-returns-in-Ok-clause-agrees g c =
-    subst (λ (e : Engine). Agrees (record { front = c.args.front.now; engine = e })) (sym c.in-Ok.ensures.ok.1) c.requires.agrees
+-- of these bytes
+pub returns-in-Some-clause-noted : goal.returns-in-Some-clause-noted
+returns-in-Some-clause-noted g c =
+    let j : Journal = record { front = c.args.front.now; engine = c.args.engine.now.engine } in
+    let last = rw c.in-Some.is at c.in_ok-copy.ensures.ok in
+    noted-notes g.D.Device.state g.D.Device.honest c.args.front.now c.note.new.front c.args.engine.now c.args.engine.now c.args.handle.now c.args.block c.in-Some.copy
+    c.note.new.into c.args.into.now c.note.result c.in_ok-admit.ensures.ok c.requires.agrees
+    (kept-whole j c.args.block c.in-Some.copy c.requires.agrees c.recall_invariant.ensures.plain last) refl c.note.ensures.ok c.note.ensures.err (λ kept. refl)
 
--- and after one that failed, once the front is told
+-- or memory ran out for it
+pub returns-in-Some-clause-err : goal.returns-in-Some-clause-err
+returns-in-Some-clause-err g c =
+    let j : Journal = record { front = c.args.front.now; engine = c.args.engine.now.engine } in
+    let last = rw c.in-Some.is at c.in_ok-copy.ensures.ok in
+    noted-refused g.D.Device.state g.D.Device.honest c.args.front.now c.note.new.front c.args.engine.now c.args.engine.now c.args.handle.now c.args.block c.in-Some.copy
+    c.note.new.into c.args.into.now c.note.result c.in_ok-admit.ensures.ok c.requires.agrees
+    (kept-whole j c.args.block c.in-Some.copy c.requires.agrees c.recall_invariant.ensures.plain last) refl c.note.ensures.ok c.note.ensures.err
+    (λ revoked. apart c.in-Some.copy (sym last ∙ revoked)) refl
+
+-- where no call is made, what a stop leaves opens as before
+pub returns-in_err-copy-clause-opens : goal.returns-in_err-copy-clause-opens
+returns-in_err-copy-clause-opens g c = λ honest. opens-now _ _ c.requires.agrees (c.recall_invariant.ensures.opens honest)
+
+pub returns-in-Some-clause-opens : goal.returns-in-Some-clause-opens
+returns-in-Some-clause-opens g c =
+    let j : Journal = record { front = c.args.front.now; engine = c.args.engine.now.engine } in
+    let last = rw c.in-Some.is at c.in_ok-copy.ensures.ok in
+    let sealed = noted-sealed g.D.Device.state g.D.Device.honest c.args.front.now c.note.new.front c.args.engine.now c.args.engine.now c.args.handle.now c.args.block c.in-Some.copy
+    c.note.new.into c.args.into.now c.note.result c.in_ok-admit.ensures.ok c.requires.agrees
+    (kept-whole j c.args.block c.in-Some.copy c.requires.agrees c.recall_invariant.ensures.plain last) refl c.note.ensures.ok c.note.ensures.err in
+    λ honest. opens-read c.args.front.now c.note.new.front c.args.engine.now.engine c.args.engine.now.engine _ _ sealed refl refl (opens-now _ _ c.requires.agrees (c.recall_invariant.ensures.opens honest))
+
+-- after a read that failed front and engine agree, once the front is told
 pub returns-in-Err-clause-agrees : goal.returns-in-Err-clause-agrees
 returns-in-Err-clause-agrees g c =
-    let running = sym c.is_aborted.ensures ∙ c.if-is_aborted.false in
-    let may = allowed-here c.requires.agrees.layout c.requires.agrees.home_blocks (c.may_touch.ensures.0 c.if-not-may_touch.false) in
-    agrees-read_refused g.D.Device.state _ _ _ _ _ _ c.requires.agrees running may c.abort.ensures c.in-Err.ensures.err
-
--- the block may be touched where the engine reads too
-pub returns-in-Ok-clause-may : goal.returns-in-Ok-clause-may
-returns-in-Ok-clause-may g c =
-    let running = sym c.is_aborted.ensures ∙ c.if-is_aborted.false in
-    (running, c.may_touch.ensures.0 c.if-not-may_touch.false)
-
--- where the front keeps no copy, what the engine reads is what the read answers
-pub returns-in-Ok-clause-seen : goal.returns-in-Ok-clause-seen
-returns-in-Ok-clause-seen g c =
-    let j : Journal = record { front = c.args.front.now; engine = c.args.engine.now.engine } in
-    let disk = (g.D.Device.state c.args.engine.now.device).disk in
-    (λ honest. seen-read j c.requires.agrees c.recall_invariant.ensures.plain disk c.args.block _ (sym c.in-None.ensures) (c.in-Ok.ensures.ok.0 honest))
-
--- a pending copy is read without a device call
-pub returns-in-Ok-clause-kept : goal.returns-in-Ok-clause-kept
-returns-in-Ok-clause-kept g c =
-    let j : Journal = record { front = c.args.front.now; engine = c.args.engine.now.engine } in
-    (λ kept. kept-pending j c.args.block _ (sym c.in-None.ensures)
-    (λ i v is. ap (λ (x : EngineValue g.row.D.Denot). record { device = x.device; journal = record { front = c.args.front.now; engine = x.engine } }) (c.in-Ok.ensures.pending i v is).1)
-    kept)
+    let may = c.in_ok-admit.ensures.ok in
+    let running = sym c.requires.agrees.aborted ∙ may.running in
+    let allowed = allowed-here c.requires.agrees.layout c.requires.agrees.home_blocks may.allowed in
+    let told = c.abort.ensures ∙ ap (λ (f : Front). aborting f) c.room_for_read.ensures.same in
+    agrees-read_refused g.D.Device.state c.args.front.now _ c.args.engine.now c.read.new.self _ _ c.requires.agrees running allowed told c.in-Err.ensures.err
 
 -- the device failed
 pub returns-in-Err-clause-err : goal.returns-in-Err-clause-err
 returns-in-Err-clause-err g c =
-    let running = sym c.is_aborted.ensures ∙ c.if-is_aborted.false in
-    let may = c.may_touch.ensures.0 c.if-not-may_touch.false in
-    (refused-read g.D.Device.state _ _ _ _ _ _ c.requires.agrees running may (sym c.in-None.ensures) c.read.ensures.stays c.abort.ensures c.in-Err.ensures.err)
+    let told = c.abort.ensures ∙ ap (λ (f : Front). aborting f) c.room_for_read.ensures.same in
+    let none = rw c.in_default.is at c.in_ok-copy.ensures.ok in
+    refused-read g.D.Device.state c.args.front.now c.abort.new.self c.args.engine.now c.read.new.self c.args.handle.now c.args.block c.in-Err.e c.requires.agrees c.in_ok-admit.ensures.ok none
+    c.read.ensures.stays told c.in-Err.ensures.err
 
--- where no call is made, what a stop leaves opens as before
-pub returns-then-is_aborted-clause-opens : goal.returns-then-is_aborted-clause-opens
-returns-then-is_aborted-clause-opens g c = (λ honest. opens-now _ _ c.requires.agrees (c.recall_invariant.ensures.opens honest))
-
-pub returns-then-not-may_touch-clause-opens : goal.returns-then-not-may_touch-clause-opens
-returns-then-not-may_touch-clause-opens g c = (λ honest. opens-now _ _ c.requires.agrees (c.recall_invariant.ensures.opens honest))
-
-pub returns-in-Some-Copy-clause-opens : goal.returns-in-Some-Copy-clause-opens
-returns-in-Some-Copy-clause-opens g c = (λ honest. opens-now _ _ c.requires.agrees (c.recall_invariant.ensures.opens honest))
-
-pub returns-in-Some-Revoke-clause-opens : goal.returns-in-Some-Revoke-clause-opens
-returns-in-Some-Revoke-clause-opens g c = (λ honest. opens-now _ _ c.requires.agrees (c.recall_invariant.ensures.opens honest))
-
--- a read leaves the disk as it was
-pub returns-in-Ok-clause-opens : goal.returns-in-Ok-clause-opens
-returns-in-Ok-clause-opens g c =
-    (λ honest. opens-read c.args.front.now _ _ _ _ c.in-Ok.ensures.ok.1 c.read.ensures.stays.disk (opens-now _ _ c.requires.agrees (c.recall_invariant.ensures.opens honest)))
-
--- so does one that failed
+-- what a stop leaves opens as before
 pub returns-in-Err-clause-opens : goal.returns-in-Err-clause-opens
 returns-in-Err-clause-opens g c =
-    (λ honest. opens-unread g.D.Device.state c.args.front.now _ c.args.engine.now _ _ _ (opens-now _ _ c.requires.agrees (c.recall_invariant.ensures.opens honest)) c.abort.ensures c.read.ensures.stays
-    c.in-Err.ensures.err)
+    let told = c.abort.ensures ∙ ap (λ (f : Front). aborting f) c.room_for_read.ensures.same in
+    λ honest. opens-unread g.D.Device.state c.args.front.now c.abort.new.self c.args.engine.now c.read.new.self c.args.block c.in-Err.e
+    (opens-now _ _ c.requires.agrees (c.recall_invariant.ensures.opens honest)) told c.read.ensures.stays c.in-Err.ensures.err
+
+-- front and engine agree once what the engine read is noted
+pub returns-clause-agrees : goal.returns-clause-agrees
+returns-clause-agrees g c =
+    let j : Journal = record { front = c.args.front.now; engine = c.args.engine.now.engine } in
+    let plain = c.recall_invariant.ensures.plain in
+    let seen = c.read.new.into in
+    let bytes : c.in_ok-new.field-0 ≡ seen = c.in_ok-new.ensures ∙ with_items_is c.in_ok-bytes.bytes seen (c.read.ensures.length ∙ c.deref_mut.ensures.len) in
+    let size : length c.deref_mut.result.now ≡ j.front.layout.block_size = ap length c.deref_mut.ensures.value ∙ c.in_ok-bytes.ensures.length in
+    let whole = c.read.ensures.length ∙ size ∙ ap (λ (l : Layout). l.block_size) c.requires.agrees.layout ∙ plain.layout.1 in
+    let noted = rw (c.room_for_read.ensures.same, bytes) at c.note-2.ensures.ok in
+    let unnoted = rw c.room_for_read.ensures.same at c.note-2.ensures.err in
+    noted-agrees g.D.Device.state g.D.Device.honest c.args.front.now c.note-2.new.front c.args.engine.now c.read.new.self c.args.handle.now c.args.block seen
+    c.note-2.new.into c.args.into.now c.note-2.result c.in_ok-admit.ensures.ok c.requires.agrees whole c.in_default-read.ensures.ok.1 noted unnoted
+
+-- it is the machine's read
+pub returns-clause-ok : goal.returns-clause-ok
+returns-clause-ok g c =
+    let j : Journal = record { front = c.args.front.now; engine = c.args.engine.now.engine } in
+    let plain = c.recall_invariant.ensures.plain in
+    let seen = c.read.new.into in
+    let bytes : c.in_ok-new.field-0 ≡ seen = c.in_ok-new.ensures ∙ with_items_is c.in_ok-bytes.bytes seen (c.read.ensures.length ∙ c.deref_mut.ensures.len) in
+    let size : length c.deref_mut.result.now ≡ j.front.layout.block_size = ap length c.deref_mut.ensures.value ∙ c.in_ok-bytes.ensures.length in
+    let whole = c.read.ensures.length ∙ size ∙ ap (λ (l : Layout). l.block_size) c.requires.agrees.layout ∙ plain.layout.1 in
+    let noted = rw (c.room_for_read.ensures.same, bytes) at c.note-2.ensures.ok in
+    let unnoted = rw c.room_for_read.ensures.same at c.note-2.ensures.err in
+    let none = rw c.in_default.is at c.in_ok-copy.ensures.ok in
+    let is_open = rw c.room_for_read.ensures.same at c.note-2.ensures.open in
+    noted-does g.D.Device.state g.D.Device.honest c.args.front.now c.note-2.new.front c.args.engine.now c.read.new.self c.args.handle.now c.args.block seen
+    c.note-2.new.into c.args.into.now c.note-2.result c.in_ok-admit.ensures.ok c.requires.agrees whole c.in_default-read.ensures.ok.1 noted unnoted
+    is_open (λ honest. seen-read j c.requires.agrees plain (g.D.Device.state c.args.engine.now.device).disk c.args.block seen none (c.in_default-read.ensures.ok.0 honest))
+    c.read.ensures.stays
+
+-- of these bytes; a pending copy is read without a device call
+pub returns-clause-noted : goal.returns-clause-noted
+returns-clause-noted g c =
+    let j : Journal = record { front = c.args.front.now; engine = c.args.engine.now.engine } in
+    let plain = c.recall_invariant.ensures.plain in
+    let seen = c.read.new.into in
+    let bytes : c.in_ok-new.field-0 ≡ seen = c.in_ok-new.ensures ∙ with_items_is c.in_ok-bytes.bytes seen (c.read.ensures.length ∙ c.deref_mut.ensures.len) in
+    let size : length c.deref_mut.result.now ≡ j.front.layout.block_size = ap length c.deref_mut.ensures.value ∙ c.in_ok-bytes.ensures.length in
+    let whole = c.read.ensures.length ∙ size ∙ ap (λ (l : Layout). l.block_size) c.requires.agrees.layout ∙ plain.layout.1 in
+    let noted = rw (c.room_for_read.ensures.same, bytes) at c.note-2.ensures.ok in
+    let unnoted = rw c.room_for_read.ensures.same at c.note-2.ensures.err in
+    let none = rw c.in_default.is at c.in_ok-copy.ensures.ok in
+    noted-notes g.D.Device.state g.D.Device.honest c.args.front.now c.note-2.new.front c.args.engine.now c.read.new.self c.args.handle.now c.args.block seen
+    c.note-2.new.into c.args.into.now c.note-2.result c.in_ok-admit.ensures.ok c.requires.agrees whole c.in_default-read.ensures.ok.1 noted unnoted
+    (λ kept. kept-pending j c.args.block _ none (λ i v is. ap (λ (x : EngineValue g.row.D.Denot). x.device) (c.in_default-read.ensures.pending i v is).1) kept)
+
+-- what a stop leaves opens as before
+pub returns-clause-opens : goal.returns-clause-opens
+returns-clause-opens g c =
+    let j : Journal = record { front = c.args.front.now; engine = c.args.engine.now.engine } in
+    let plain = c.recall_invariant.ensures.plain in
+    let seen = c.read.new.into in
+    let bytes : c.in_ok-new.field-0 ≡ seen = c.in_ok-new.ensures ∙ with_items_is c.in_ok-bytes.bytes seen (c.read.ensures.length ∙ c.deref_mut.ensures.len) in
+    let size : length c.deref_mut.result.now ≡ j.front.layout.block_size = ap length c.deref_mut.ensures.value ∙ c.in_ok-bytes.ensures.length in
+    let whole = c.read.ensures.length ∙ size ∙ ap (λ (l : Layout). l.block_size) c.requires.agrees.layout ∙ plain.layout.1 in
+    let noted = rw (c.room_for_read.ensures.same, bytes) at c.note-2.ensures.ok in
+    let unnoted = rw c.room_for_read.ensures.same at c.note-2.ensures.err in
+    let sealed = noted-sealed g.D.Device.state g.D.Device.honest c.args.front.now c.note-2.new.front c.args.engine.now c.read.new.self c.args.handle.now c.args.block seen
+    c.note-2.new.into c.args.into.now c.note-2.result c.in_ok-admit.ensures.ok c.requires.agrees whole c.in_default-read.ensures.ok.1 noted unnoted in
+    λ honest. opens-read c.args.front.now c.note-2.new.front c.args.engine.now.engine c.read.new.self.engine _ _ sealed c.in_default-read.ensures.ok.1 c.read.ensures.stays.disk
+    (opens-now _ _ c.requires.agrees (c.recall_invariant.ensures.opens honest))

@@ -5,11 +5,11 @@ use Rattle.journal_model.specs.declared.entry.Batch.{Batch}
 use Rattle.journal_model.specs.Transaction.{copied, revoked}
 use Rattle.log_model.specs.Room.{need}
 use Rattle.journal_world.specs.Engine.{Accepts, HasRoom}
-use Rattle.journal_world.specs.Front.{Front}
+use Rattle.journal_world.specs.Front.{Front, MaySeal}
 use Rattle.log_ledger.specs.Steps.{MayHandOver}
 use Rattle.log_engine.specs.Engine.{EngineValue}
 use Rattle.journal_steps.specs.Journal.{Agrees, HasRoomFor, TurnRefused}
-use Rattle.journal_steps.proofs.Sealing.{agrees-sealed, may-hand_over, refused-seal, room-good}
+use Rattle.journal_steps.proofs.Sealing.{agrees-sealed, all-told, may-hand_over, quarter, refused-seal, room-good}
 use Rattle.journal_steps.proofs.steps.seal.Goals as goal
 
 -- an answer of some number says that there is one
@@ -61,6 +61,17 @@ returns-in-Err-clause-err g c =
     let refused = c.in-Err.ensures.err in
     let same = ap (λ (v : EngineValue g.row.D.Denot). record { device = v.device; journal = record { front = f; engine = v.engine } }) refused.2 in
     (refused-seal g.D.Device.state f c.args.engine.now.device e _ c.in-Err.refused.1 due room refused.1 same)
+
+-- the transaction is sealed, and fits a quarter of the ring
+pub returns-clause-ok : goal.returns-clause-ok
+returns-clause-ok g c =
+    let f = c.args.front.now in
+    let e = c.args.engine.now.engine in
+    let plain = c.recall_invariant.ensures.plain in
+    let due = c.requires.due in
+    let taken = subst (λ (b : Batch). Accepts e b c.accept.new.self.engine) c.in_ok-batch.ensures.ok c.in_default-accept.ensures.ok in
+    let may : MaySeal f = record { locked = due.locked; stopped = due.stopped; finished = all-told f e c.requires.agrees plain due.idle } in
+    (record { may = may; front = c.seal.ensures; engine = taken; disk_is = ap (λ d. (g.D.Device.state d).disk) c.accept.ensures.device }, c.tid-tid.ensures, quarter f e c.requires.agrees plain)
 
 -- front and engine agree
 pub returns-clause-agrees : goal.returns-clause-agrees

@@ -1,4 +1,4 @@
-use Rattle.std.proofs.Common.{arith, ap, subst, sym, ◌∙◌, ◌≡◌, ◌-◌, ◌≤◌, ℕ}
+use Rattle.std.proofs.Common.{arith, ap, subst, ◌∙◌, ◌≡◌, ◌-◌, ℕ}
 use Rattle.log_model.specs.Room.{IsCapacity}
 use Rattle.log_model.specs.Superblock.{Super, super_in}
 use Rattle.shared_journal.proofs.Capacities.{few-credits, some-blocks}

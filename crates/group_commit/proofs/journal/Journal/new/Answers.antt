@@ -19,7 +19,10 @@ invariant_of-result g c =
     let front =
     c.new-front.ensures ∙ ap₂ (λ (l : Layout) (blocks : ℕ). fresh_front l blocks capacity c.next-next.result) c.layout-layout.ensures.layout c.home_blocks.ensures
     ∙ ap (fresh_front c.in_ok-engine.engine.engine.layout c.in_ok-engine.engine.engine.shape.home_blocks capacity) c.next-next.ensures.next in
-    fresh-agrees _ _ _ _ _ engine front (subst (λ (n : ℕ). 0 < n) c.next-next.ensures.next c.next-next.ensures.some)
+    fresh-agrees _ _ _ _ _ engine front
+    (subst (λ (l : Layout). IsCapacity l c.in_ok-engine.engine.engine.ring.blocks c.capacity-credits.result) c.layout-layout.ensures.layout
+    (subst (λ (blocks : ℕ). IsCapacity c.layout-layout.result blocks c.capacity-credits.result) c.ring_blocks.ensures c.capacity-credits.ensures))
+    (subst (λ (n : ℕ). 0 < n) c.next-next.ensures.next c.next-next.ensures.some)
 
 -- the journal is fresh
 pub returns-clause-fresh : goal.returns-clause-fresh

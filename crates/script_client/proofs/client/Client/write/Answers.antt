@@ -1,7 +1,6 @@
 use Rattle.std.specs.Prelude.{◌≡◌}
 use Rattle.std.proofs.lemmas.Result.{IfErr-weaker}
 use Rattle.journal_world.specs.Front.FrontEvent.{WriteBlock}
-use Rattle.journal_world.specs.Journal.Event.{FrontStep}
 use Rattle.std.proofs.Common.{subst}
 use Rattle.script_client.proofs.Telling.{front-comes}
 use Rattle.script_client.proofs.client.Client.write.Goals as goal

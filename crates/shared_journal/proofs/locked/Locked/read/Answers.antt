@@ -5,8 +5,4 @@ use Rattle.shared_journal.proofs.locked.Locked.read.Goals as goal
 pub invariant_of-self : goal.invariant_of-self
 invariant_of-self g c = read g.D.Device.state g.J.JournalName.capacity g.J.JournalName.block_size c.self.inside.credits c.self.inside.raiser
     c.self.inside.journal c.read.new.self c.self.invariant c.read.ensures.stays.shape
-    c.read.result c.args.block c.read.ensures.same c.read.ensures.err
-
--- where a copy is kept nothing changes, as in the step
-pub returns-clause-kept : goal.returns-clause-kept
-returns-clause-kept g c = rw (← c.self.view_is) c.read.ensures.kept
+    c.read.result c.handle.inside.inner c.args.block c.read.new.into c.read.ensures.noted c.read.ensures.err
