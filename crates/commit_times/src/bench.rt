@@ -115,19 +115,43 @@ fn do_all<D: Device + Drop, C: Clock, H: Watch>(
     clock: &C,
     watch: &mut H,
 ) -> Result<(Done, D), Fault> {
-    let mut run = Run {
-        work,
-        tally: Tally::new(alloc),
-        begun: now(clock)?,
-        taken: Duration::ZERO,
-    };
+    let mut run = begin(alloc, work, clock)?;
+    do_transactions(&mut run, words, plan, clock, watch)?;
+    end(run)
+}
+
+/// The work that begins now.
+fn begin<D: Device + Drop, C: Clock>(
+    alloc: Global,
+    work: Work<D>,
+    clock: &C,
+) -> Result<Run<D>, Fault> {
+    match now(clock) {
+        Ok(begun) => Ok(Run {
+            work,
+            tally: Tally::new(alloc),
+            begun,
+            taken: Duration::ZERO,
+        }),
+        Err(e) => Err(e),
+    }
+}
+
+/// Does transactions until there are as many as the words tell, or the time is over.
+fn do_transactions<D: Device + Drop, C: Clock, H: Watch>(
+    run: &mut Run<D>,
+    words: &BenchWords<'_>,
+    plan: &mut Plan,
+    clock: &C,
+    watch: &mut H,
+) -> Result<(), Fault> {
     for _ in 0..words.most_transactions() {
         if is_over(run.taken, words.most_time()) {
             break;
         }
-        one_more(&mut run, plan, clock, watch)?;
+        one_more(run, plan, clock, watch)?;
     }
-    end(run)
+    Ok(())
 }
 
 /// Does one more transaction.

@@ -162,9 +162,16 @@ impl<D: Device + Drop> Work<D> {
         if journal.has_open_handles() {
             return Err(JournalError::NotRunning);
         }
-        match journal.close() {
-            Ok(Parts { device, .. }) => Ok(device),
-            Err((_, e)) => Err(e),
-        }
+        device_of(journal.close())
+    }
+}
+
+/// The device of a closed journal.
+fn device_of<D: Device + Drop>(
+    closed: Result<Parts<D>, (Parts<D>, JournalError)>,
+) -> Result<D, JournalError> {
+    match closed {
+        Ok(parts) => Ok(parts.device),
+        Err((_, e)) => Err(e),
     }
 }

@@ -1,2 +1,4 @@
 -- The lemmas of this crate: none above it cites them.
+mod Kept
 mod Right
+mod Sweeps

@@ -1,1 +1,4 @@
+pub mod Places
+pub mod Steps
+pub mod Sweeping
 pub mod Swept

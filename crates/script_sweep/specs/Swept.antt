@@ -1,5 +1,5 @@
 -- What is known within a sweep of a journal that keeps its contracts.
-use Rattle.std.specs.Prelude.{ℕ, ◌+◌, ◌-◌, ◌^◌, List, min}
+use Rattle.std.specs.Prelude.{ℕ, ◌+◌, ◌-◌, ◌^◌, List, Option, min}
 use Rattle.std.specs.BTreeSet.{keys}
 use Rattle.journal_model.specs.Disk.{reading}
 use Rattle.block_device.specs.Memory.{MemState, state_of}
@@ -10,15 +10,17 @@ use Rattle.journal_script.specs.declared.script.Operation.{Operation}
 use Rattle.journal_script.specs.Named.{HasDirects}
 use Rattle.script_client.specs.Told.{IsLedTo, IsZeroHome}
 use Rattle.script_run.specs.declared.running.Stopped.{Stopped}
+use Rattle.script_run.specs.Left.{IsStoppedBy}
 
--- a run of these operations was led to what it left
-abbrev pub HasRun : List Operation → Stopped → Type 0
-HasRun operations stopped = IsLedTo IsZeroHome operations (state_of stopped.device) stopped.recorded.sealed.items stopped.recorded.acknowledged
+-- a run of these operations was led to what it left, and stopped at this write, where one is named
+pub record HasRun (operations : List Operation) (stop : Option ℕ) (stopped : Stopped) : Type 0 where
+  pub led : IsLedTo IsZeroHome operations (state_of stopped.device) stopped.recorded.sealed.items stopped.recorded.acknowledged
+  pub stops : IsStoppedBy stop stopped
 
 -- so was one of operations of which these are the direct writes
 pub record HasRunNamed (stopped : Stopped) (named : NamedBlocks) : Type 0 where
   pub operations : List Operation
-  pub run : HasRun operations stopped
+  pub run : IsLedTo IsZeroHome operations (state_of stopped.device) stopped.recorded.sealed.items stopped.recorded.acknowledged
   pub directs : HasDirects operations (keys named.directs)
 
 -- this is what an opening finds in the image

@@ -1,10 +1,12 @@
 //! A sweep of failing calls, from call to call.
-ghost use Rattle.std.specs.Prelude.{◌≡◌, IfOk};
-ghost use Rattle.journal_script.specs.Named.{AreNamedBy};
-ghost use Rattle.script_sweep.specs.Swept.{HasRunNamed};
+ghost use Rattle.std.specs.Prelude.{◌≡◌, IfOk, OnOk};
+ghost use Rattle.block_device.specs.Memory.{writes_of};
+ghost use Rattle.script_sweep.specs.Steps.{Steps};
+ghost use Rattle.script_sweep.specs.Places.{choices_of};
+ghost use Rattle.script_sweep.specs.Sweeping.{FailsCall, FailsChoice, IsFailureSweep};
 
 use crate::counts::{FailureCounts, NotRight};
-use crate::judging::{Ran, crashed, kept, named_blocks};
+use crate::judging::{Ran, left_by, named_blocks};
 use crate::place::{Event, Place, choices};
 use crate::swept::Swept;
 use jbench_words::watch::{Step, Watch};
@@ -28,7 +30,8 @@ pub fn sweep_failures<J: Swept>(
     watch: &mut impl Watch,
     err: &mut impl Write,
 ) -> Result<FailureCounts, Fault>
-    ensures { IfOk result (λ counts. J.keeps → counts.not_right.wrong ≡ 0) }
+    ensures swept { IfOk result (IsFailureSweep J.keeps script.now) }
+    ensures right { IfOk result (λ counts. J.keeps → counts.not_right.wrong ≡ 0) }
 {
     let named = named_blocks(alloc, script)?;
     let mut counts = FailureCounts::of_calls(journal.calls(alloc, script)?);
@@ -48,20 +51,21 @@ fn fail_calls<J: Swept>(
     watch: &mut impl Watch,
     err: &mut impl Write,
 ) -> Result<(), Fault>
-    requires { AreNamedBy script.now named.now }
-    ensures { J.keeps → counts.new.not_right.wrong ≡ counts.old.not_right.wrong }
+    ensures swept { OnOk result (Steps (λ i. FailsCall J.keeps script.now named.now) counts.old.calls counts.old.not_right counts.new.not_right) }
+    ensures calls { counts.new.calls ≡ counts.old.calls }
 {
     let calls = counts.calls;
-    for k in 1..=calls {
-        watch.goes_on(Step::FailsAt { call: k, calls });
-        let stopped = journal.run(alloc, script, None, Some(k))?;
+    for before in 0..calls {
+        let call = before + 1;
+        watch.goes_on(Step::FailsAt { call, calls });
+        let stopped = journal.run(alloc, script, None, Some(call))?;
         let ran = Ran {
             alloc,
             journal,
             stopped: &stopped,
             named,
         };
-        ran.judge_failure(k, &mut counts.not_right, err)?;
+        ran.judge_failure(call, &mut counts.not_right, err)?;
     }
     Ok(())
 }
@@ -74,8 +78,7 @@ impl<J: Swept> Ran<'_, J> {
         not_right: &mut NotRight,
         err: &mut E,
     ) -> Result<(), Fault>
-        requires { J.keeps → HasRunNamed self.now.stopped.now self.now.named.now }
-        ensures { J.keeps → not_right.new.wrong ≡ not_right.old.wrong }
+        ensures { OnOk result (Steps (FailsChoice J.keeps self.now.stopped.now self.now.named.now) (choices_of (writes_of self.now.stopped.now.device.calls)) not_right.old not_right.new) }
     {
         for bits in 0..choices(self.stopped.device.writes()) {
             self.judge_choice(k, bits, not_right, err)?;
@@ -91,11 +94,10 @@ impl<J: Swept> Ran<'_, J> {
         not_right: &mut NotRight,
         err: &mut E,
     ) -> Result<(), Fault>
-        requires { J.keeps → HasRunNamed self.now.stopped.now self.now.named.now }
-        ensures { J.keeps → not_right.new.wrong ≡ not_right.old.wrong }
+        ensures { OnOk result (FailsChoice J.keeps self.now.stopped.now self.now.named.now bits not_right.old not_right.new) }
     {
-        let keep = kept(self.alloc, self.stopped.device.writes(), bits)?;
-        let image = crashed(&self.stopped.device, &keep)?;
+        let device = &self.stopped.device;
+        let (image, keep) = left_by(self.alloc, device, device.writes(), bits)?;
         let place = Place {
             event: Event::Failure(k),
             keep: &keep,

@@ -1,10 +1,10 @@
 //! What is left of a run, and the verdicts on openings of it.
-ghost use Rattle.std.specs.Prelude.{◌≡◌, IfOk, IfSome, false, true};
-ghost use Rattle.block_device.specs.Memory.{state_of};
+ghost use Rattle.std.specs.Prelude.{◌≡◌, IfOk, OnOk, false, true};
 ghost use Rattle.journal_script.specs.Named.{AreNamedBy};
 ghost use Rattle.script_run.specs.Left.{IsCrashOf};
-ghost use Rattle.script_run.specs.OpenedImages.{IsOpenedImage};
-ghost use Rattle.script_sweep.specs.Swept.{HasRunNamed, IsFirst, one_more};
+ghost use Rattle.script_sweep.specs.Places.{kept_of};
+ghost use Rattle.script_sweep.specs.Sweeping.{IsJudged, JudgesFirst, with_refusal};
+ghost use Rattle.script_sweep.specs.Swept.{one_more};
 
 use crate::counts::NotRight;
 use crate::place::{Place, choice};
@@ -53,39 +53,33 @@ impl<J: Swept> Ran<'_, J> {
         not_right: &mut NotRight,
         err: &mut E,
     ) -> Result<Option<Found>, Fault>
-        requires run { J.keeps → HasRunNamed self.now.stopped.now self.now.named.now }
-        requires crash { IsCrashOf self.now.stopped.now.device place.keep.now image.now }
-        ensures right { J.keeps → not_right.new.wrong ≡ not_right.old.wrong }
-        ensures found { IfOk result (λ found. IfSome found (λ first. J.keeps → IsFirst image.now first.report)) }
+        ensures { IfOk result (λ found. IsJudged J.keeps self.now.stopped.now self.now.named.now image.now not_right.old found not_right.new) }
     {
-        let opened = match self.journal.open(self.alloc, copy_of(image)?) {
-            Ok(opened) => opened,
+        match self.journal.open(self.alloc, copy_of(image)?) {
+            Ok(opened) => {
+                let found = Found {
+                    report: opened.report,
+                    writes: opened.device.writes(),
+                };
+                self.judge_first(place, opened, not_right, err)?;
+                Ok(Some(found))
+            }
             Err(e) => {
                 self.note_refusal(place, None, e, not_right, err)?;
-                return Ok(None);
+                Ok(None)
             }
-        };
-        let found = Found {
-            report: opened.report,
-            writes: opened.device.writes(),
-        };
-        self.judge_first(place, image, opened, not_right, err)?;
-        Ok(Some(found))
+        }
     }
 
     /// Judges an opening of what a stop left.
     fn judge_first<E: Write>(
         &self,
         place: Place<'_>,
-        image: &MemDevice,
         opened: OpenedImage,
         not_right: &mut NotRight,
         err: &mut E,
     ) -> Result<(), Fault>
-        requires run { J.keeps → HasRunNamed self.now.stopped.now self.now.named.now }
-        requires crash { IsCrashOf self.now.stopped.now.device place.keep.now image.now }
-        requires opened { J.keeps → IsOpenedImage image.now.shape (state_of image.now).disk opened }
-        ensures { J.keeps → not_right.new.wrong ≡ not_right.old.wrong }
+        ensures { OnOk result (JudgesFirst self.now.stopped.now self.now.named.now opened not_right.old not_right.new) }
     {
         let mut lines = Vec::new(self.alloc);
         let recorded = &self.stopped.recorded;
@@ -124,7 +118,7 @@ impl<J: Swept> Ran<'_, J> {
         not_right: &mut NotRight,
         err: &mut E,
     ) -> Result<(), Fault>
-        ensures { not_right.new.wrong ≡ not_right.old.wrong }
+        ensures { OnOk result (not_right.new ≡ with_refusal not_right.old) }
     {
         if matches!(e, JournalError::Memory | JournalError::Device) {
             return Err(Fault::Refused(e));
@@ -155,13 +149,6 @@ impl<J: Swept> Ran<'_, J> {
     }
 }
 
-/// What a crash of a copy of this device leaves that keeps these writes.
-pub(crate) fn crashed(device: &MemDevice, keep: &[u64]) -> Result<MemDevice, JournalError>
-    ensures { IfOk result (IsCrashOf device.now keep.now) }
-{
-    Ok(copy_of(device)?.crash(keep))
-}
-
 /// A copy of a device.
 pub(crate) fn copy_of(device: &MemDevice) -> Result<MemDevice, JournalError>
     ensures { IfOk result (λ copy. copy ≡ device.now) }
@@ -172,12 +159,25 @@ pub(crate) fn copy_of(device: &MemDevice) -> Result<MemDevice, JournalError>
     }
 }
 
-/// This choice of the last writes up to write `k`.
-pub(crate) fn kept(alloc: Global, k: u64, bits: u64) -> Result<Vec<u64>, JournalError> {
-    match choice(alloc, k, bits) {
-        Ok(kept) => Ok(kept),
-        Err(e) => Err(JournalError::from(e)),
-    }
+/// What a crash of a copy of this device leaves that keeps this choice of its last writes up to write `k`, and that choice.
+pub(crate) fn left_by(
+    alloc: Global,
+    device: &MemDevice,
+    k: u64,
+    bits: u64,
+) -> Result<(MemDevice, Vec<u64>), JournalError>
+    ensures { IfOk result (λ left. IsCrashOf device.now (kept_of k bits) left.0) }
+{
+    let keep = choice(alloc, k, bits)?;
+    let image = crashed(device, &keep)?;
+    Ok((image, keep))
+}
+
+/// What a crash of a copy of this device leaves that keeps these writes.
+fn crashed(device: &MemDevice, keep: &[u64]) -> Result<MemDevice, JournalError>
+    ensures { IfOk result (IsCrashOf device.now keep.now) }
+{
+    Ok(copy_of(device)?.crash(keep))
 }
 
 /// The blocks that a script names.

@@ -1,4 +1,7 @@
 //! What happened to a device, and what it kept.
+ghost use Rattle.std.specs.Prelude.{◌≡◌, ◌+◌, ◌≤◌, IfOk, max};
+ghost use Rattle.script_sweep.specs.Places.{choices_of, first_of, kept_of};
+
 use std::alloc::{AllocError, Global};
 use std::fmt;
 
@@ -53,22 +56,29 @@ impl fmt::Display for Place<'_> {
 }
 
 /// The first of the last writes up to write `k`.
-fn first_of_last(k: u64) -> u64 {
+fn first_of_last(k: u64) -> u64
+    ensures first { result ≡ first_of k }
+    ensures most { result + 3 ≤ max k 4 }
+{
     k.saturating_sub(LAST_WRITES - 1).max(1)
 }
 
 /// How many choices there are among the last writes up to write `k`, of which there are four, or as many as there were.
-pub fn choices(k: u64) -> u64 {
+pub fn choices(k: u64) -> u64
+    ensures { result ≡ choices_of k }
+{
     1 << k.min(LAST_WRITES)
 }
 
 /// The last writes up to write `k` whose bit is set, the first one's first.
-pub fn choice(alloc: Global, k: u64, bits: u64) -> Result<Vec<u64>, AllocError> {
+pub fn choice(alloc: Global, k: u64, bits: u64) -> Result<Vec<u64>, AllocError>
+    ensures { IfOk result (λ kept. kept.items ≡ kept_of k bits) }
+{
     let first = first_of_last(k);
     let mut kept = Vec::new(alloc);
     for bit in 0..LAST_WRITES {
-        if bits >> bit & 1 == 1 {
-            kept.push(first.saturating_add(bit))?;
+        if (bits >> bit) % 2 == 1 {
+            kept.push(first + bit)?;
         }
     }
     Ok(kept)

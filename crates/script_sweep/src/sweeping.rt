@@ -1,20 +1,18 @@
 //! A sweep of stops, from stop to stop.
-ghost use Rattle.std.specs.Prelude.{◌≡◌, IfOk};
-ghost use Rattle.block_device.specs.Memory.{state_of};
-ghost use Rattle.journal_script.specs.Named.{AreNamedBy};
-ghost use Rattle.script_run.specs.Left.{IsCrashOf};
-ghost use Rattle.script_run.specs.Reopening.{IsStoppedAt};
-ghost use Rattle.script_sweep.specs.Swept.{HasRunNamed, IsFirst};
+ghost use Rattle.std.specs.Prelude.{◌≡◌, ◌+◌, IfOk, OnOk, Some};
+ghost use Rattle.script_sweep.specs.Steps.{Steps};
+ghost use Rattle.script_sweep.specs.Places.{choices_of};
+ghost use Rattle.script_sweep.specs.Sweeping.{IsSweep, JudgesAgain, SweepsAgain, SweepsChoice, SweepsFound, SweepsImage, SweepsOpening, SweepsStop, capped, images_of};
 
-use crate::counts::Counts;
-use crate::judging::{Ran, copy_of, crashed, kept, named_blocks};
+use crate::counts::{Counts, NotRight};
+use crate::judging::{Found, Ran, copy_of, left_by, named_blocks};
 use crate::place::{Event, Place, choices};
 use crate::swept::Swept;
 use block_device::MemDevice;
 use jbench_words::watch::{Step, Watch};
 use journal_script::{NamedBlocks, Script};
 use recovery::Report;
-use script_run::{Attempt, Fault, judge_reopened};
+use script_run::{Attempt, Fault, OpenedImage, judge_reopened};
 use std::alloc::Global;
 use std::io::Write;
 
@@ -33,7 +31,9 @@ pub fn sweep<J: Swept>(
     watch: &mut impl Watch,
     err: &mut impl Write,
 ) -> Result<Counts, Fault>
-    ensures { IfOk result (λ counts. J.keeps → counts.not_right.wrong ≡ 0) }
+    ensures swept { IfOk result (IsSweep J.keeps script.now) }
+    ensures images { IfOk result (λ counts. counts.images ≡ capped (images_of counts.writes)) }
+    ensures right { IfOk result (λ counts. J.keeps → counts.not_right.wrong ≡ 0) }
 {
     let named = named_blocks(alloc, script)?;
     let whole = journal.run(alloc, script, None, None)?;
@@ -54,20 +54,20 @@ fn sweep_stops<J: Swept>(
     watch: &mut impl Watch,
     err: &mut impl Write,
 ) -> Result<(), Fault>
-    requires { AreNamedBy script.now named.now }
-    ensures { J.keeps → counts.new.not_right.wrong ≡ counts.old.not_right.wrong }
+    ensures { OnOk result (Steps (λ i. SweepsStop J.keeps script.now named.now (i + 1)) counts.old.writes counts.old counts.new) }
 {
     let writes = counts.writes;
-    for k in 1..=writes {
-        watch.goes_on(Step::StopsAt { write: k, writes });
-        let stopped = journal.run(alloc, script, Some(k), None)?;
+    for before in 0..writes {
+        let write = before + 1;
+        watch.goes_on(Step::StopsAt { write, writes });
+        let stopped = journal.run(alloc, script, Some(write), None)?;
         let ran = Ran {
             alloc,
             journal,
             stopped: &stopped,
             named,
         };
-        ran.sweep_stop(k, counts, err)?;
+        ran.sweep_stop(write, counts, err)?;
     }
     Ok(())
 }
@@ -82,8 +82,7 @@ struct First<'a> {
 impl<J: Swept> Ran<'_, J> {
     /// Sweeps all that a stop at write `k` may have left.
     fn sweep_stop<E: Write>(&self, k: u64, counts: &mut Counts, err: &mut E) -> Result<(), Fault>
-        requires { J.keeps → HasRunNamed self.now.stopped.now self.now.named.now }
-        ensures { J.keeps → counts.new.not_right.wrong ≡ counts.old.not_right.wrong }
+        ensures { OnOk result (Steps (SweepsChoice J.keeps self.now.stopped.now self.now.named.now k) (choices_of k) counts.old counts.new) }
     {
         for bits in 0..choices(k) {
             self.sweep_choice(k, bits, counts, err)?;
@@ -99,11 +98,9 @@ impl<J: Swept> Ran<'_, J> {
         counts: &mut Counts,
         err: &mut E,
     ) -> Result<(), Fault>
-        requires { J.keeps → HasRunNamed self.now.stopped.now self.now.named.now }
-        ensures { J.keeps → counts.new.not_right.wrong ≡ counts.old.not_right.wrong }
+        ensures { OnOk result (SweepsChoice J.keeps self.now.stopped.now self.now.named.now k bits counts.old counts.new) }
     {
-        let keep = kept(self.alloc, k, bits)?;
-        let image = crashed(&self.stopped.device, &keep)?;
+        let (image, keep) = left_by(self.alloc, &self.stopped.device, k, bits)?;
         counts.images = counts.images.saturating_add(1);
         let place = Place {
             event: Event::Stop(k),
@@ -120,19 +117,31 @@ impl<J: Swept> Ran<'_, J> {
         counts: &mut Counts,
         err: &mut E,
     ) -> Result<(), Fault>
-        requires run { J.keeps → HasRunNamed self.now.stopped.now self.now.named.now }
-        requires crash { IsCrashOf self.now.stopped.now.device place.keep.now image.now }
-        ensures { J.keeps → counts.new.not_right.wrong ≡ counts.old.not_right.wrong }
+        ensures { OnOk result (SweepsImage J.keeps self.now.stopped.now self.now.named.now image.now counts.old counts.new) }
     {
-        let Some(found) = self.judge_image(place, image, &mut counts.not_right, err)? else {
-            return Ok(());
-        };
+        match self.judge_image(place, image, &mut counts.not_right, err)? {
+            Some(found) => self.sweep_openings(place, image, found, counts, err),
+            None => Ok(()),
+        }
+    }
+
+    /// Sweeps the stops at each write of the opening of an image, which found this.
+    fn sweep_openings<E: Write>(
+        &self,
+        place: Place<'_>,
+        image: &MemDevice,
+        found: Found,
+        counts: &mut Counts,
+        err: &mut E,
+    ) -> Result<(), Fault>
+        ensures { OnOk result (SweepsFound J.keeps self.now.stopped.now self.now.named.now image.now (Some found) counts.old counts.new) }
+    {
         let first = First {
             place,
             report: found.report,
         };
-        for j in 1..=found.writes {
-            self.sweep_opening(first, image, j, counts, err)?;
+        for before in 0..found.writes {
+            self.sweep_opening(first, image, before + 1, counts, err)?;
         }
         Ok(())
     }
@@ -146,14 +155,11 @@ impl<J: Swept> Ran<'_, J> {
         counts: &mut Counts,
         err: &mut E,
     ) -> Result<(), Fault>
-        requires run { J.keeps → HasRunNamed self.now.stopped.now self.now.named.now }
-        requires crash { IsCrashOf self.now.stopped.now.device first.place.keep.now image.now }
-        requires first { J.keeps → IsFirst image.now first.report }
-        ensures { J.keeps → counts.new.not_right.wrong ≡ counts.old.not_right.wrong }
+        ensures { OnOk result (SweepsOpening J.keeps self.now.stopped.now self.now.named.now image.now first.entry.report j counts.old counts.new) }
     {
         match self.journal.open_to(self.alloc, copy_of(image)?, j) {
             Ok(Attempt::Stopped(device)) => {
-                self.sweep_stopped_opening(first, image, j, &device, counts, err)
+                self.sweep_stopped_opening(first, j, &device, counts, err)
             }
             // Not met: the opening of this image made that write.
             Ok(Attempt::Whole(_)) => Ok(()),
@@ -165,20 +171,15 @@ impl<J: Swept> Ran<'_, J> {
     fn sweep_stopped_opening<E: Write>(
         &self,
         first: First<'_>,
-        image: &MemDevice,
         j: u64,
         device: &MemDevice,
         counts: &mut Counts,
         err: &mut E,
     ) -> Result<(), Fault>
-        requires run { J.keeps → HasRunNamed self.now.stopped.now self.now.named.now }
-        requires crash { IsCrashOf self.now.stopped.now.device first.place.keep.now image.now }
-        requires first { J.keeps → IsFirst image.now first.report }
-        requires stopped { J.keeps → IsStoppedAt (state_of image.now) j device.now }
-        ensures { J.keeps → counts.new.not_right.wrong ≡ counts.old.not_right.wrong }
+        ensures { OnOk result (Steps (SweepsAgain J.keeps self.now.stopped.now self.now.named.now first.entry.report j device.now) (choices_of j) counts.old counts.new) }
     {
         for bits in 0..choices(j) {
-            self.sweep_again(first, image, j, bits, device, counts, err)?;
+            self.sweep_again(first, j, bits, device, counts, err)?;
         }
         Ok(())
     }
@@ -188,30 +189,37 @@ impl<J: Swept> Ran<'_, J> {
     fn sweep_again<E: Write>(
         &self,
         first: First<'_>,
-        image: &MemDevice,
         j: u64,
         bits: u64,
         device: &MemDevice,
         counts: &mut Counts,
         err: &mut E,
     ) -> Result<(), Fault>
-        requires run { J.keeps → HasRunNamed self.now.stopped.now self.now.named.now }
-        requires crash { IsCrashOf self.now.stopped.now.device first.place.keep.now image.now }
-        requires first { J.keeps → IsFirst image.now first.report }
-        requires stopped { J.keeps → IsStoppedAt (state_of image.now) j device.now }
-        ensures { J.keeps → counts.new.not_right.wrong ≡ counts.old.not_right.wrong }
+        ensures { OnOk result (SweepsAgain J.keeps self.now.stopped.now self.now.named.now first.entry.report j device.now bits counts.old counts.new) }
     {
-        let keep = kept(self.alloc, j, bits)?;
-        let left = crashed(device, &keep)?;
+        let (left, keep) = left_by(self.alloc, device, j, bits)?;
         counts.again = counts.again.saturating_add(1);
-        let again = Some(Place {
+        let again = Place {
             event: Event::StopOfOpening(j),
             keep: &keep,
-        });
-        let opened = match self.journal.open(self.alloc, left) {
-            Ok(opened) => opened,
-            Err(e) => return self.note_refusal(first.place, again, e, &mut counts.not_right, err),
         };
+        match self.journal.open(self.alloc, left) {
+            Ok(opened) => self.judge_again(first, again, opened, &mut counts.not_right, err),
+            Err(e) => self.note_refusal(first.place, Some(again), e, &mut counts.not_right, err),
+        }
+    }
+
+    /// Judges an opening of what a stop within the opening of an image left, by what was found in that image.
+    fn judge_again<E: Write>(
+        &self,
+        first: First<'_>,
+        again: Place<'_>,
+        opened: OpenedImage,
+        not_right: &mut NotRight,
+        err: &mut E,
+    ) -> Result<(), Fault>
+        ensures { OnOk result (JudgesAgain self.now.stopped.now self.now.named.now first.entry.report opened not_right.old not_right.new) }
+    {
         let mut lines = Vec::new(self.alloc);
         let recorded = &self.stopped.recorded;
         let right = judge_reopened(
@@ -222,13 +230,6 @@ impl<J: Swept> Ran<'_, J> {
             self.named,
             &mut lines,
         )?;
-        self.note_verdict(
-            first.place,
-            again,
-            right,
-            &lines,
-            &mut counts.not_right,
-            err,
-        )
+        self.note_verdict(first.place, Some(again), right, &lines, not_right, err)
     }
 }

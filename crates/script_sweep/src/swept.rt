@@ -31,7 +31,7 @@ pub trait Swept {
         stop: Option<u64>,
         failing_call: Option<u64>,
     ) -> Result<Stopped, Fault>
-        ensures { IfOk result (λ stopped. keeps → HasRun script.now.operations.items stopped) };
+        ensures { IfOk result (λ stopped. keeps → HasRun script.now.operations.items stop stopped) };
 
     /// How many device calls a run of a script makes behind the first opening, where none fails: its reads, writes and flushes.
     ///

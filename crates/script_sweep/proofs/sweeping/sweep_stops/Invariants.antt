@@ -1,6 +1,8 @@
-use Rattle.std.proofs.Common.{◌≡◌}
+use Rattle.std.proofs.Common.{◌+◌}
+use Rattle.script_sweep.specs.Steps.{Steps}
+use Rattle.script_sweep.specs.Sweeping.{SweepsStop}
 use Rattle.script_sweep.proofs.sweeping.sweep_stops.Given as goal
 
--- no verdict was false so far
-abbrev pub invariant-loop-k : goal.invariant-loop-k
-invariant-loop-k g l = g.J.Swept.keeps → l.counts.not_right.wrong ≡ l.fn.counts.not_right.wrong
+-- so many stops were swept
+abbrev pub invariant-loop-before : goal.invariant-loop-before
+invariant-loop-before g l = Steps (λ i. SweepsStop g.J.Swept.keeps l.script l.named (i + 1)) l.before l.fn.counts l.counts

@@ -1,13 +1,8 @@
-use Rattle.std.proofs.Common.{ap}
-use Rattle.script_sweep.specs.declared.counts.NotRight.{NotRight}
-use Rattle.script_sweep.proofs.Right.{first-right}
+use Rattle.script_sweep.proofs.Sweeps.{judges-first}
 use Rattle.script_sweep.proofs.judging.Ran.judge_first.Goals as goal
 
--- the verdict is right, so none is counted
+-- the verdict is counted
 pub returns : goal.returns
-returns g c = λ keeps.
-    let stopped = c.args.self.now.stopped.now in
-    ap (λ (counts : NotRight). counts.wrong)
-    (c.note_verdict.ensures.right
-    (first-right stopped c.args.place.keep.now c.args.image.now c.args.opened c.args.self.now.named.now c.in_ok-right.right (c.requires.run keeps) c.requires.crash
-    (c.requires.opened keeps) c.in_ok-right.ensures.0 c.in_ok-right.ensures.1))
+returns g c =
+    judges-first c.args.self.now.stopped.now c.args.self.now.named.now c.args.opened c.in_ok-right.right c.args.not_right.now c.note_verdict.new.not_right c.note_verdict.result
+    c.in_ok-right.ensures c.note_verdict.ensures.right c.note_verdict.ensures.wrong

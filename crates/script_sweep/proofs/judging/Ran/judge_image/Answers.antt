@@ -1,9 +1,21 @@
-use Rattle.std.proofs.Common.{subst}
+use Rattle.std.proofs.Common.{ℕ, subst, sym}
+use Rattle.std.specs.Prelude.{Some}
 use Rattle.block_device.specs.Memory.{MemState, state_of}
 use Rattle.script_run.specs.OpenedImages.{IsOpenedImage}
+use Rattle.script_sweep.specs.Sweeping.{IsJudged}
+use Rattle.script_sweep.specs.Sweeping.IsJudged.{IsOpened, IsRefused}
 use Rattle.script_sweep.proofs.judging.Ran.judge_image.Goals as goal
 
--- what was opened is a copy of the image
-pub judge_first-requires-clause-opened : goal.judge_first-requires-clause-opened
-judge_first-requires-clause-opened g c = λ keeps.
-    subst (λ (m : MemState). IsOpenedImage m.shape (state_of m).disk c.in-Ok.opened) c.in_ok-copy_of.ensures (c.in-Ok.ensures keeps)
+-- what was opened is a copy of the image, and the verdict on it is counted
+pub returns-in_ok-judge_first-in-Ok : goal.returns-in_ok-judge_first-in-Ok
+returns-in_ok-judge_first-in-Ok g c =
+    let new = c.judge_first.new.not_right in
+    let of : ℕ → _ = λ writes. record { report = c.in-Ok.opened.report; writes = writes } in
+    subst (λ (writes : ℕ). IsJudged g.J.Swept.keeps c.args.self.now.stopped.now c.args.self.now.named.now c.args.image.now c.args.not_right.now (Some (of writes)) new) (sym c.writes.ensures)
+    (IsOpened c.in-Ok.opened new
+    (λ keeps. subst (λ (m : MemState). IsOpenedImage m.shape (state_of m).disk c.in-Ok.opened) c.in_ok-copy_of.ensures (c.in-Ok.ensures keeps))
+    c.in_ok-judge_first-in-Ok.ensures)
+
+-- or it is refused, and that is counted
+pub returns-in_ok-note_refusal-in-Err : goal.returns-in_ok-note_refusal-in-Err
+returns-in_ok-note_refusal-in-Err g c = IsRefused c.in-Err.e c.note_refusal.new.not_right c.in_ok-note_refusal-in-Err.ensures

@@ -1,10 +1,30 @@
-use Rattle.std.proofs.Common.{subst}
-use Rattle.block_device.specs.Memory.{MemState, state_of}
-use Rattle.script_run.specs.Reopening.{IsStoppedAt}
+use Rattle.std.proofs.Common.{ap, refl}
+use Rattle.std.proofs.lemmas.Result.{on_ok_weaker}
+use Rattle.script_sweep.specs.declared.counts.Counts.{Counts}
+use Rattle.script_sweep.specs.declared.counts.NotRight.{NotRight}
+use Rattle.script_sweep.specs.Sweeping.SweepsOpening.{EndsBefore, RefusesBefore, StopsThere}
+use Rattle.script_sweep.proofs.Sweeps.{ends-before, stops-there}
 use Rattle.script_sweep.proofs.judging.Ran.sweep_opening.Goals as goal
 
--- what was opened is a copy of the image
-pub sweep_stopped_opening-requires-clause-stopped : goal.sweep_stopped_opening-requires-clause-stopped
-sweep_stopped_opening-requires-clause-stopped g c = λ keeps.
-    subst (λ (m : MemState). IsStoppedAt (state_of m) c.args.j c.in-Ok-Stopped.device) c.in_ok-copy_of.ensures
-    (rw c.in-Ok-Stopped.field-0-is at c.in-Ok-Stopped.ensures keeps)
+-- it stopped there
+pub returns-in-Ok-Stopped : goal.returns-in-Ok-Stopped
+returns-in-Ok-Stopped g c =
+    on_ok_weaker c.sweep_stopped_opening.result
+    (λ steps.
+    StopsThere c.in-Ok-Stopped.device
+    (stops-there g.J.Swept.keeps c.args.image.now c.in_ok-copy_of.field-0 c.args.j c.in-Ok-Stopped.field-0 c.in-Ok-Stopped.device c.in_ok-copy_of.ensures c.in-Ok-Stopped.field-0-is c.in-Ok-Stopped.ensures)
+    steps)
+    c.sweep_stopped_opening.ensures
+
+-- or it ended before
+pub returns-in-Ok-Whole : goal.returns-in-Ok-Whole
+returns-in-Ok-Whole g c =
+    EndsBefore c.in-Ok-Whole.field-0-0
+    (ends-before g.J.Swept.keeps c.args.image.now c.in_ok-copy_of.field-0 c.args.j c.in-Ok-Whole.field-0 c.in-Ok-Whole.field-0-0 c.in_ok-copy_of.ensures c.in-Ok-Whole.field-0-is c.in-Ok-Whole.ensures)
+    refl
+
+-- or it was refused
+pub returns : goal.returns
+returns g c =
+    on_ok_weaker c.note_refusal.result
+    (λ is. RefusesBefore c.in-Err.e (ap (λ (n : NotRight). let counts : Counts = record c.args.counts.now { not_right = n } in counts) is)) c.note_refusal.ensures

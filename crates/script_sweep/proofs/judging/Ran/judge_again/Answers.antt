@@ -1,0 +1,8 @@
+use Rattle.script_sweep.proofs.Sweeps.{judges-again}
+use Rattle.script_sweep.proofs.judging.Ran.judge_again.Goals as goal
+
+-- the verdict is counted
+pub returns : goal.returns
+returns g c =
+    judges-again c.args.self.now.stopped.now c.args.self.now.named.now c.args.first.report c.args.opened c.in_ok-right.right c.args.not_right.now c.note_verdict.new.not_right c.note_verdict.result
+    c.in_ok-right.ensures c.note_verdict.ensures.right c.note_verdict.ensures.wrong

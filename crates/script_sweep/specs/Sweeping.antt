@@ -1,0 +1,158 @@
+-- What a sweep opens and judges, image by image, and how it counts that.
+use Rattle.std.specs.Prelude.{◌≡◌, ◌↔◌, ℕ, ◌+◌, ◌-◌, ◌^◌, ◌<◌, zero, suc, min, Bool, true, false, IsTrue, Option, Some, None, All}
+use Rattle.std.specs.BTreeSet.{keys}
+use Rattle.journal_model.specs.declared.number.Area.TheVariants.{Home}
+use Rattle.journal_model.specs.declared.refusal.JournalError.{JournalError}
+use Rattle.journal_model.specs.Disk.{reading}
+use Rattle.log_model.specs.Opening.{numbered_below}
+use Rattle.block_device.specs.Memory.{MemState, state_of, writes_of}
+use Rattle.recovery.specs.declared.opening.Report.{Report}
+use Rattle.journal_script.specs.declared.script.NamedBlocks.{NamedBlocks}
+use Rattle.journal_script.specs.declared.script.Script.{Script}
+use Rattle.journal_script.specs.Named.{AreNamedBy}
+use Rattle.script_sweep.specs.Steps.{Steps}
+use Rattle.script_run.specs.declared.opening.OpenedImage.{OpenedImage}
+use Rattle.script_run.specs.declared.running.Stopped.{Stopped}
+use Rattle.script_run.specs.Left.{IsCrashOf}
+use Rattle.script_run.specs.OpenedImages.{IsOpenedImage}
+use Rattle.script_run.specs.Reopening.{FollowsOn, IsBefore, IsStoppedAt}
+use Rattle.script_run.specs.Verdict.{IsRight}
+use Rattle.script_sweep.specs.declared.counts.Counts.{Counts}
+use Rattle.script_sweep.specs.declared.counts.FailureCounts.{FailureCounts}
+use Rattle.script_sweep.specs.declared.counts.NotRight.{NotRight}
+use Rattle.script_sweep.specs.declared.judging.Found.{Found}
+use Rattle.script_sweep.specs.Places.{choices_of, kept_of}
+use Rattle.script_sweep.specs.Swept.{HasRun, one_more}
+
+-- a verdict that is false is counted
+abbrev pub counted : Bool → NotRight → NotRight
+counted true n = n
+counted false n = record n { wrong = one_more n.wrong }
+
+-- so is an image that is refused
+abbrev pub with_refusal : NotRight → NotRight
+with_refusal n = record n { refused = one_more n.refused }
+
+-- none so far
+abbrev pub none_wrong : NotRight
+none_wrong = record { wrong = 0; refused = 0 }
+
+-- the verdict on an opening of what a run left
+abbrev pub IsFirstVerdict : Stopped → NamedBlocks → OpenedImage → Bool → Type 0
+IsFirstVerdict stopped named opened right =
+    All (λ b. b < opened.device.shape.home_blocks) (keys named.blocks)
+    × (IsTrue right ↔ IsRight stopped.recorded.sealed.items stopped.recorded.acknowledged named (numbered_below opened.report.ends_at stopped.recorded.sealed.items)
+    opened.device.shape.block_size (reading (state_of opened.device).disk Home))
+
+-- the verdict on an opening of what a stop within the opening of an image left, in which that found this
+abbrev pub IsAgainVerdict : Stopped → NamedBlocks → Report → OpenedImage → Bool → Type 0
+IsAgainVerdict stopped named first opened right =
+    All (λ b. b < opened.device.shape.home_blocks) (keys named.blocks)
+    × (IsTrue right ↔ FollowsOn first.clean first.ends_at opened.report.clean opened.report.ends_at
+    × IsRight stopped.recorded.sealed.items stopped.recorded.acknowledged named (numbered_below first.ends_at stopped.recorded.sealed.items)
+    opened.device.shape.block_size (reading (state_of opened.device).disk Home))
+
+-- what an opening found, and how many writes it made
+abbrev pub found_by : OpenedImage → Found
+found_by opened = record { report = opened.report; writes = writes_of opened.device.calls }
+
+-- the verdict on what this opening gave is counted
+pub record JudgesFirst (stopped : Stopped) (named : NamedBlocks) (opened : OpenedImage) (old new : NotRight) : Type 0 where
+  pub right : Bool
+  pub verdict : IsFirstVerdict stopped named opened right
+  pub after : new ≡ counted right old
+
+-- an image of what a run left was opened and judged, or it was refused, and nothing was found: either is counted
+pub data IsJudged (keeps : Type 0) (stopped : Stopped) (named : NamedBlocks) (image : MemState) (old : NotRight) : Option Found → NotRight → Type 0 where
+  IsOpened : (opened : OpenedImage) (new : NotRight) → (keeps → IsOpenedImage image.shape (state_of image).disk opened) → JudgesFirst stopped named opened old new →
+      IsJudged keeps stopped named image old (Some (found_by opened)) new
+  IsRefused : (e : JournalError) (new : NotRight) → new ≡ with_refusal old → IsJudged keeps stopped named image old None new
+
+pub record JudgesAgain (stopped : Stopped) (named : NamedBlocks) (first : Report) (opened : OpenedImage) (old new : NotRight) : Type 0 where
+  pub right : Bool
+  pub verdict : IsAgainVerdict stopped named first opened right
+  pub after : new ≡ counted right old
+
+-- so was an image of what a stop within an opening left
+pub data IsJudgedAgain (keeps : Type 0) (stopped : Stopped) (named : NamedBlocks) (first : Report) (image : MemState) (old : NotRight) : NotRight → Type 0 where
+  IsOpenedAgain : (opened : OpenedImage) (new : NotRight) → (keeps → IsOpenedImage image.shape (state_of image).disk opened) → JudgesAgain stopped named first opened old new →
+      IsJudgedAgain keeps stopped named first image old new
+  IsRefusedAgain : (e : JournalError) (new : NotRight) → new ≡ with_refusal old → IsJudgedAgain keeps stopped named first image old new
+
+-- what a device kept by this choice of its last writes, which stopped at write j of an opening, was opened and judged
+pub record SweepsAgain (keeps : Type 0) (stopped : Stopped) (named : NamedBlocks) (first : Report) (j : ℕ) (device : MemState) (choice : ℕ) (old new : Counts) : Type 0 where
+  pub image : MemState
+  pub crash : IsCrashOf device (kept_of j choice) image
+  pub judged : NotRight
+  pub is_judged : IsJudgedAgain keeps stopped named first image old.not_right judged
+  pub after : new ≡ record old { again = one_more old.again; not_right = judged }
+
+-- an opening of an image was stopped at its write j, and so was each choice of what it left; or it was refused before that write. (It
+-- may end before that write only where another opening of the image made more.)
+pub data SweepsOpening (keeps : Type 0) (stopped : Stopped) (named : NamedBlocks) (image : MemState) (first : Report) (j : ℕ) (old new : Counts) : Type 0 where
+  StopsThere : (device : MemState) → (keeps → IsStoppedAt (state_of image) j device) → Steps (SweepsAgain keeps stopped named first j device) (choices_of j) old new →
+      SweepsOpening keeps stopped named image first j old new
+  EndsBefore : (opened : OpenedImage) → (keeps → IsBefore (state_of image) j opened.device) → new ≡ old → SweepsOpening keeps stopped named image first j old new
+  RefusesBefore : (e : JournalError) → new ≡ record old { not_right = with_refusal old.not_right } → SweepsOpening keeps stopped named image first j old new
+
+-- an opening of the image was stopped at each of the writes that it made
+abbrev pub SweepsFound : (keeps : Type 0) → Stopped → NamedBlocks → MemState → Option Found → Counts → Counts → Type 0
+SweepsFound keeps stopped named image None old new = new ≡ old
+SweepsFound keeps stopped named image (Some found) old new = Steps (λ i. SweepsOpening keeps stopped named image found.report (i + 1)) found.writes old new
+
+-- an image was opened and judged, and so was what stops of its opening left
+pub record SweepsImage (keeps : Type 0) (stopped : Stopped) (named : NamedBlocks) (image : MemState) (old new : Counts) : Type 0 where
+  pub found : Option Found
+  pub judged : NotRight
+  pub is_judged : IsJudged keeps stopped named image old.not_right found judged
+  pub openings : SweepsFound keeps stopped named image found (record old { not_right = judged }) new
+
+-- so was what a run left that stopped at write k, by this choice of its last writes
+pub record SweepsChoice (keeps : Type 0) (stopped : Stopped) (named : NamedBlocks) (k choice : ℕ) (old new : Counts) : Type 0 where
+  pub image : MemState
+  pub crash : IsCrashOf stopped.device (kept_of k choice) image
+  pub sweeps : SweepsImage keeps stopped named image (record old { images = one_more old.images }) new
+
+-- a script was run with a stop at write k, and each choice of what it left was swept
+pub record SweepsStop (keeps : Type 0) (script : Script) (named : NamedBlocks) (k : ℕ) (old new : Counts) : Type 0 where
+  pub stopped : Stopped
+  pub run : keeps → HasRun script.operations.items (Some k) stopped
+  pub choices : Steps (SweepsChoice keeps stopped named k) (choices_of k) old new
+
+-- A sweep of stops: a run of the script that did not stop made so many writes, and each of them was swept. All counts are sums over
+-- what was done.
+pub record IsSweep (keeps : Type 0) (script : Script) (counts : Counts) : Type 0 where
+  pub named : NamedBlocks
+  pub names : AreNamedBy script named
+  pub whole : Stopped
+  pub run : keeps → HasRun script.operations.items None whole
+  pub writes : counts.writes ≡ writes_of whole.device.calls
+  pub stops : Steps (λ i. SweepsStop keeps script named (i + 1)) counts.writes (record { writes = counts.writes; images = 0; again = 0; not_right = none_wrong }) counts
+
+-- how many images the stops at so many writes leave
+abbrev pub images_of : ℕ → ℕ
+images_of zero = 0
+images_of (suc n) = images_of n + choices_of (suc n)
+
+-- a count stays at 2^64 - 1
+abbrev pub capped : ℕ → ℕ
+capped n = min n (2 ^ 64 - 1)
+
+-- what a run left by this choice of its last writes was opened and judged
+pub record FailsChoice (keeps : Type 0) (stopped : Stopped) (named : NamedBlocks) (choice : ℕ) (old new : NotRight) : Type 0 where
+  pub image : MemState
+  pub crash : IsCrashOf stopped.device (kept_of (writes_of stopped.device.calls) choice) image
+  pub found : Option Found
+  pub is_judged : IsJudged keeps stopped named image old found new
+
+-- a script was run of which one call failed, and each choice of what it left was judged
+pub record FailsCall (keeps : Type 0) (script : Script) (named : NamedBlocks) (old new : NotRight) : Type 0 where
+  pub stopped : Stopped
+  pub run : keeps → HasRun script.operations.items None stopped
+  pub choices : Steps (FailsChoice keeps stopped named) (choices_of (writes_of stopped.device.calls)) old new
+
+-- a sweep of failing calls: each of so many calls was swept
+pub record IsFailureSweep (keeps : Type 0) (script : Script) (counts : FailureCounts) : Type 0 where
+  pub named : NamedBlocks
+  pub names : AreNamedBy script named
+  pub calls : Steps (λ i. FailsCall keeps script named) counts.calls none_wrong counts.not_right
