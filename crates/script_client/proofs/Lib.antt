@@ -2,3 +2,6 @@
 pub mod Telling
 -- The others.
 mod Closing
+mod InOrder
+mod TakenNames
+mod Turning

@@ -9,7 +9,7 @@ use Rattle.journal_model.specs.Disk.{Disk, IsOneOf, Shape}
 use Rattle.block_device.specs.State.{DeviceState, Stays}
 use Rattle.journal_world.specs.Engine.{Engine}
 use Rattle.journal_world.specs.Front.{Front, FrontEvent}
-use Rattle.journal_world.specs.Front.FrontEvent.{ExtendHandle, GiveBack, Join, Lock, Raise, Reserve, StopHandle}
+use Rattle.journal_world.specs.Front.FrontEvent.{ExtendHandle, Join, Lock, Raise, Reserve, StopHandle}
 use Rattle.journal_world.specs.Journal.{Event, Happens, Journal}
 use Rattle.journal_world.specs.Journal.Event.{AbortMark, CheckpointFault, CheckpointStep, CommitFault, CommitStep, DirectSync, DirectSyncFault, DirectWrite, DirectWriteFault, Finish, FrontStep, ReadBlock, ReadFault, Seal}
 use Rattle.journal_world.proofs.Onward.{fault-on, round-fault-on, round-on, step-on}
@@ -257,16 +257,6 @@ pub sync_direct-comes : (Fact : Shape → Disk → Type 0) (operations : List Op
 sync_direct-comes Fact operations state old new shown (Ok x) did refused shape led = does Fact operations state old new shown DirectSync (λ directs written. written) did shape led
 sync_direct-comes Fact operations state old new shown (Err e) did refused shape led = sync_refused-comes Fact operations state old new shown e refused shape led
 
--- credits come back, or they are not held
-pub give_back-comes : (Fact : Shape → Disk → Type 0) (operations : List Operation) {D : Type 0} (state : D → DeviceState) (old new : JournalValue D) (shown : Option ℕ) (n : ℕ)
-    → (n ≤ old.journal.front.reserved → Does state old (FrontStep (GiveBack n)) new) → (old.journal.front.reserved < n → new ≡ old) → new.device ≡ old.device
-    → HasComeTo Fact operations state old shown → HasComeTo Fact operations state new shown
-give_back-comes Fact operations state old new shown n gives other device led =
-    ⊎_elim
-    (λ (held : _ × (n ≤ old.journal.front.reserved)). does Fact operations state old new shown (FrontStep (GiveBack n)) (λ directs written. written) (gives held.1) (ap (λ (d : _). (state d).shape) device) led)
-    (λ (more : _ × (old.journal.front.reserved < n)). same Fact operations state old new shown (other more.1) led)
-    (leb_tells n old.journal.front.reserved)
-
 -- the handle has just these credits left, or it has not
 decide-left : (found : Option ℕ) (left : ℕ) → (found ≡ Some left) ⊎ (found ≡ Some left → ⊥)
 decide-left None left = inr (none-some left)
@@ -274,7 +264,7 @@ decide-left (Some n) left =
     ⊎_elim (λ (one : _ × (n ≡ left)). inl (ap Some one.1)) (λ (other : _ × (n ≢ left)). inr (λ is. other.1 (ap (λ (o : Option ℕ). unwrap_or o 0) is))) (eqb_tells n left)
 
 -- a handle is open, or it is not
-open-or_not : (f : Front) (h : HandleValue) → IsOpenHandle f h ⊎ (IsOpenHandle f h → ⊥)
+pub open-or_not : (f : Front) (h : HandleValue) → IsOpenHandle f h ⊎ (IsOpenHandle f h → ⊥)
 open-or_not f h =
     ⊎_elim
     (λ (left : lookup (nat_eq h.number) f.open_handles ≡ Some h.left).
@@ -310,6 +300,12 @@ starts-come : (Fact : Shape → Disk → Type 0) (operations : List Operation) {
 starts-come Fact operations state old new shown n did device led =
     does Fact operations state did.granted new shown (FrontStep (Join n)) (λ directs written. written) did.joins (ap (λ (d : _). (state d).shape) (device ∙ sym did.device))
     (does Fact operations state old did.granted shown (FrontStep (Reserve n)) (λ directs written. written) did.reserves (ap (λ (d : _). (state d).shape) did.device) led)
+
+pub start-comes : (Fact : Shape → Disk → Type 0) (operations : List Operation) {D T E : Type 0} (state : D → DeviceState) (old new : JournalValue D) (shown : Option ℕ) (n : ℕ) (result : Result T E)
+    → OnOk result (Starts state n old new) → IfErr result (λ e. new ≡ old) → new.device ≡ old.device
+    → HasComeTo Fact operations state old shown → HasComeTo Fact operations state new shown
+start-comes Fact operations state old new shown n (Ok x) did refused device led = starts-come Fact operations state old new shown n did device led
+start-comes Fact operations state old new shown n (Err e) did refused device led = same Fact operations state old new shown refused led
 
 -- a handle stops, and perhaps another joins
 pub restart-comes : (Fact : Shape → Disk → Type 0) (operations : List Operation) {D T : Type 0} (state : D → DeviceState) (old new : JournalValue D) (shown : Option ℕ) (h : HandleValue) (n : ℕ)

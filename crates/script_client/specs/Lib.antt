@@ -1,4 +1,7 @@
 pub mod Ended
+pub mod Names
+pub mod Outcomes
 pub mod Performed
 pub mod Shown
+pub mod Steps
 pub mod Told

@@ -1,72 +1,298 @@
--- What the operations of a script do to a journal.
-use Rattle.std.specs.Prelude.{◌≡◌, ⊤, ℕ, ◌-◌, ◌++◌, List, length, replicate, take}
+-- What each operation of a script does to a journal, and to what the script's names stand for.
+use Rattle.std.specs.Prelude.{◌≡◌, ◌⊎◌, ⊤, ℕ, ◌-◌, ◌<◌, ◌≤◌, ◌+◌, ◌++◌, true, List, length, replicate, set, take}
+use Rattle.journal_model.specs.declared.refusal.JournalError.{JournalError}
+use Rattle.journal_model.specs.declared.refusal.JournalError.TheVariants.{Aborted, Memory}
 use Rattle.block_device.specs.State.{DeviceState}
 use Rattle.journal_script.specs.declared.script.Operation.{Operation}
 use Rattle.journal_script.specs.declared.script.Operation.TheVariants.{Start, Write, Revoke, Read, Extend, Restart, Stop, Request, Turn, Commit, CheckpointTurn, Check, Status, Wait, WriteDirect, SyncDirect}
 use Rattle.journal_world.specs.Front.FrontEvent.{RevokeBlock, WriteBlock}
-use Rattle.journal_world.specs.Journal.Event.{DirectSync, DirectWrite, FrontStep}
-use Rattle.group_commit.specs.Extension.{Extends, Restarts}
-use Rattle.journal_steps.specs.Journal.{Does}
+use Rattle.journal_world.specs.Journal.{Journal}
+use Rattle.journal_world.specs.Journal.Event.{DirectSync, DirectWrite, FrontStep, ReadBlock}
+use Rattle.journal_front.specs.Front.{Spends, TouchRefused}
 use Rattle.journal_front.specs.Values.{HandleValue}
+use Rattle.journal_steps.specs.declared.turn.CheckTurn.{CheckTurn}
+use Rattle.journal_steps.specs.declared.turn.CheckTurn.TheVariants.{Idle as IdleCheck}
+use Rattle.journal_steps.specs.declared.turn.Turn.{Turn as CommitTurn}
+use Rattle.journal_steps.specs.declared.turn.Turn.TheVariants.{Idle as IdleTurn, Waiting as WaitingTurn}
+use Rattle.journal_steps.specs.Direct.{DirectSyncRefused, DirectWriteRefused}
+use Rattle.journal_steps.specs.Journal.{CheckTurnDid, CheckTurnRefused, Does, NotesRead, ReadRefused, Requests, TurnDid, TurnRefused}
 use Rattle.journal_steps.specs.Values.{JournalValue}
+use Rattle.group_commit.specs.Extension.{EndsHandle, Extends, ExtensionRefused, RestartRefused, Restarts, StartRefused, Starts}
+use Rattle.group_commit.specs.declared.ticket.Status.{Status as TicketStatus}
+use Rattle.group_commit.specs.declared.ticket.Status.TheVariants.{Committed as IsCommitted, Open as IsOpen}
+use Rattle.group_commit.specs.Values.{TicketValue}
 use Rattle.script_client.specs.declared.outcome.Outcome.{Outcome}
-use Rattle.script_client.specs.declared.outcome.Outcome.TheVariants.{Committed, Done, Transaction}
+use Rattle.script_client.specs.declared.outcome.Outcome.TheVariants.{Begins, CheckTurn as CameToCheckTurn, Committed, Done, Open as StillOpen, Refused, Skipped, Transaction, Turn as CameToTurn}
+use Rattle.script_client.specs.declared.slots.Slot.{Slot}
+use Rattle.script_client.specs.declared.slots.Slot.TheVariants.{Empty, Open, Stopped, Waited}
+use Rattle.script_client.specs.Names.{stands_for}
+use Rattle.recovery.specs.Values.{OpenedValue}
+use Rattle.script_client.specs.Shown.{IsNewClient, IsNextHandle, IsRefusedAborted, IsSameButJournal, ticket_of}
+use Rattle.script_client.specs.Steps.{Steps}
 use Rattle.script_client.specs.Told.{ClientValue, with_told}
+
+-- the client of a journal, and what the names of its script stand for
+pub record Table (D : Type 0) : Type 0 where
+  pub client : ClientValue D
+  pub names : List Slot
+
+-- a journal was just made on an opened log, its client is to perform these operations, and no name stands for anything
+pub record IsBegun {D : Type 0} (state : D → DeviceState) (opened : OpenedValue D) (operations : List Operation) (t : Table D) : Type 0 where
+  pub client : IsNewClient state opened operations t.client
+  pub names : t.names ≡ replicate 10000 Empty
 
 -- a block of so many bytes: these, at most one block of them, and zeros behind them
 abbrev pub block_from : ℕ → List ℕ → List ℕ
 block_from size bytes = take size bytes ++ replicate (size - length bytes) 0
 
--- a handle wrote the block, with these bytes and zeros behind them
-pub record WritesBlock {D : Type 0} (state : D → DeviceState) (block : ℕ) (bytes : List ℕ) (old new : JournalValue D) : Type 0 where
-  pub handle : ℕ
-  pub writes : Does state old (FrontStep (WriteBlock handle block (block_from (state old.device).shape.block_size bytes))) new
+-- the operation did this, or it was refused so
+abbrev pub OrRefused : Outcome → (Did : Type 0) → (Why : JournalError → Type 0) → Type 0
+OrRefused outcome Did Why = Did ⊎ ((e : JournalError) × (outcome ≡ Refused e) × Why e)
 
--- a handle revoked the block
-pub record RevokesBlock {D : Type 0} (state : D → DeviceState) (block : ℕ) (old new : JournalValue D) : Type 0 where
-  pub handle : ℕ
-  pub revokes : Does state old (FrontStep (RevokeBlock handle block)) new
+-- it did not run
+abbrev pub Skips : {D : Type 0} → Outcome → Table D → Table D → Type 0
+Skips outcome old new = (outcome ≡ Skipped) × (new.client ≡ old.client) × (new.names ≡ old.names)
 
--- a handle got further credits
-pub record ExtendsHandle {D : Type 0} (state : D → DeviceState) (credits : ℕ) (old new : JournalValue D) : Type 0 where
-  pub handle : ℕ
-  pub extends : Extends state handle credits old new
-
--- a handle stopped, and a further one with these credits joined the transaction that ran
-pub record RestartsHandle {D : Type 0} (state : D → DeviceState) (credits tid : ℕ) (old new : JournalValue D) : Type 0 where
+-- a handle started, for which the name stands from now on
+pub record StartsNamed {D : Type 0} (state : D → DeviceState) (name credits : ℕ) (outcome : Outcome) (old new : Table D) : Type 0 where
   pub handle : HandleValue
-  pub restarts : Restarts state handle credits old new
-  pub transaction : tid ≡ old.journal.front.running.tid
+  pub outcome_is : outcome ≡ Transaction handle.tid
+  pub starts : Starts state credits old.client.journal new.client.journal
+  pub next : IsNextHandle old.client.journal.journal.front credits handle
+  pub names : new.names ≡ set old.names name (Open handle)
 
--- the block was written directly, with these bytes and zeros behind them
-abbrev pub WritesDirectly : {D : Type 0} → (D → DeviceState) → ℕ → List ℕ → JournalValue D → JournalValue D → Type 0
-WritesDirectly state block bytes old new = Does state old (DirectWrite block (block_from (state old.device).shape.block_size bytes)) new
+-- or none did, and it stands for nothing
+pub record StartsNone {D : Type 0} (name credits : ℕ) (old new : Table D) (e : JournalError) : Type 0 where
+  pub why : StartRefused old.client.journal.journal.front credits e
+  pub same : new.client.journal ≡ old.client.journal
+  pub names : new.names ≡ set old.names name Empty
 
--- where the answer is that a transaction is committed, this holds of its number
-abbrev pub IfCommitted : Outcome → (ℕ → Type 0) → Type 0
-IfCommitted outcome P = (tid : ℕ) → outcome ≡ Committed tid → P tid
+-- a block is written through a handle, with these bytes and zeros behind them
+abbrev pub WritesBlock : {D : Type 0} → (D → DeviceState) → ℕ → List ℕ → Outcome → (h left : HandleValue) → (old new : JournalValue D) → Type 0
+WritesBlock state b bytes outcome h left old new = OrRefused outcome
+    ((outcome ≡ Done) × Does state old (FrontStep (WriteBlock h.number b (block_from (state old.device).shape.block_size bytes))) new × Spends old.journal.front b h left)
+    (λ e. (TouchRefused old.journal.front h b e ⊎ (e ≡ Memory)) × (new ≡ old) × (left ≡ h))
 
--- where the answer is the number of a transaction, this holds of it
-abbrev pub IfTransaction : Outcome → (ℕ → Type 0) → Type 0
-IfTransaction outcome P = (tid : ℕ) → outcome ≡ Transaction tid → P tid
+-- a block is read through a handle, what it sees is noted, and the answer tells how it begins
+abbrev pub ReadsBlock : {D : Type 0} → (D → DeviceState) → (honest : D → Type 0) → ℕ → Outcome → HandleValue → (old new : JournalValue D) → Type 0
+ReadsBlock state honest b outcome h old new = OrRefused outcome
+    ((v : List ℕ) × (outcome ≡ Begins (block_from 8 v)) × NotesRead state old h b v new × (honest new.device → Does state old (ReadBlock h.number b v) new))
+    (λ e. ReadRefused state old h b new e ⊎ ((e ≡ Memory) × (new ≡ old)))
 
--- A write of a script that came to 'ok' was one, and so was a revoke, an extension, a direct write and a sync of these. A restart
--- that answers a transaction stopped its handle, and a further one joined. A transaction that a status calls committed, or that a
--- wait answers, is noted.
-abbrev pub HasDone : {D : Type 0} → (D → DeviceState) → Operation → Outcome → ClientValue D → ClientValue D → Type 0
-HasDone state (Write name block bytes) outcome old new = outcome ≡ Done → WritesBlock state block bytes.items old.journal new.journal
-HasDone state (Revoke name block) outcome old new = outcome ≡ Done → RevokesBlock state block old.journal new.journal
-HasDone state (WriteDirect block bytes) outcome old new = outcome ≡ Done → WritesDirectly state block bytes.items old.journal new.journal
-HasDone state SyncDirect outcome old new = outcome ≡ Done → Does state old.journal DirectSync new.journal
-HasDone state (Status name) outcome old new = IfCommitted outcome (λ tid. new.shown ≡ with_told tid old.shown)
-HasDone state (Wait name) outcome old new = IfTransaction outcome (λ tid. new.shown ≡ with_told tid old.shown)
-HasDone state (Start name credits) outcome old new = ⊤
-HasDone state (Read name block) outcome old new = ⊤
-HasDone state (Extend name credits) outcome old new = outcome ≡ Done → ExtendsHandle state credits old.journal new.journal
-HasDone state (Restart name credits) outcome old new = IfTransaction outcome (λ tid. RestartsHandle state credits tid old.journal new.journal)
-HasDone state (Stop name) outcome old new = ⊤
-HasDone state (Request name) outcome old new = ⊤
-HasDone state Turn outcome old new = ⊤
-HasDone state Commit outcome old new = ⊤
-HasDone state CheckpointTurn outcome old new = ⊤
-HasDone state Check outcome old new = ⊤
+-- what is done through an open handle: a write, a revoke, further credits, or a read
+abbrev pub Touches : {D : Type 0} → (D → DeviceState) → (honest : D → Type 0) → Operation → Outcome → (h left : HandleValue) → (old new : JournalValue D) → Type 0
+Touches state honest (Write name b bytes) outcome h left old new = WritesBlock state b bytes.items outcome h left old new
+Touches state honest (Revoke name b) outcome h left old new = OrRefused outcome
+    ((outcome ≡ Done) × Does state old (FrontStep (RevokeBlock h.number b)) new × Spends old.journal.front b h left)
+    (λ e. TouchRefused old.journal.front h b e × (new ≡ old) × (left ≡ h))
+Touches state honest (Extend name credits) outcome h left old new = OrRefused outcome
+    ((outcome ≡ Done) × Extends state h.number credits old new × (left ≡ record h { left = h.left + credits }))
+    (λ e. ExtensionRefused old.journal.front h credits e × (new ≡ old) × (left ≡ h))
+Touches state honest (Read name b) outcome h left old new = ReadsBlock state honest b outcome h old new × (left ≡ h)
+Touches state honest (Start name credits) outcome h left old new = ⊥
+Touches state honest (Restart name credits) outcome h left old new = ⊥
+Touches state honest (Stop name) outcome h left old new = ⊥
+Touches state honest (Request name) outcome h left old new = ⊥
+Touches state honest Turn outcome h left old new = ⊥
+Touches state honest Commit outcome h left old new = ⊥
+Touches state honest CheckpointTurn outcome h left old new = ⊥
+Touches state honest Check outcome h left old new = ⊥
+Touches state honest (Status name) outcome h left old new = ⊥
+Touches state honest (Wait name) outcome h left old new = ⊥
+Touches state honest (WriteDirect b bytes) outcome h left old new = ⊥
+Touches state honest SyncDirect outcome h left old new = ⊥
+
+-- the operations that do so
+abbrev pub IsTouch : Operation → Type 0
+IsTouch (Write name b bytes) = ⊤
+IsTouch (Revoke name b) = ⊤
+IsTouch (Read name b) = ⊤
+IsTouch (Extend name credits) = ⊤
+IsTouch (Start name credits) = ⊥
+IsTouch (Restart name credits) = ⊥
+IsTouch (Stop name) = ⊥
+IsTouch (Request name) = ⊥
+IsTouch Turn = ⊥
+IsTouch Commit = ⊥
+IsTouch CheckpointTurn = ⊥
+IsTouch Check = ⊥
+IsTouch (Status name) = ⊥
+IsTouch (Wait name) = ⊥
+IsTouch (WriteDirect b bytes) = ⊥
+IsTouch SyncDirect = ⊥
+
+-- it is done through the handle that the name stands for
+pub record TouchesNamed {D : Type 0} (state : D → DeviceState) (honest : D → Type 0) (operation : Operation) (name : ℕ) (outcome : Outcome) (h : HandleValue) (old new : Table D) : Type 0 where
+  pub left : HandleValue
+  pub touches : Touches state honest operation outcome h left old.client.journal new.client.journal
+  pub names : new.names ≡ set old.names name (Open left)
+
+abbrev pub HasTouched : {D : Type 0} → (D → DeviceState) → (honest : D → Type 0) → Operation → (name : ℕ) → Slot → Outcome → Table D → Table D → Type 0
+HasTouched state honest operation name (Open h) outcome old new = TouchesNamed state honest operation name outcome h old new
+HasTouched state honest operation name Empty outcome old new = Skips outcome old new
+HasTouched state honest operation name (Stopped ticket) outcome old new = Skips outcome old new
+HasTouched state honest operation name (Waited receipt) outcome old new = Skips outcome old new
+
+-- the handle stopped, and another one stands in its place
+pub record RestartsNamed {D : Type 0} (state : D → DeviceState) (name credits : ℕ) (outcome : Outcome) (h : HandleValue) (old new : Table D) : Type 0 where
+  pub handle : HandleValue
+  pub outcome_is : outcome ≡ Transaction handle.tid
+  pub restarts : Restarts state h credits old.client.journal new.client.journal
+  pub next : IsNextHandle old.client.journal.journal.front credits handle
+  pub names : new.names ≡ set old.names name (Open handle)
+
+-- or it stopped, and its ticket does
+pub record RestartsNone {D : Type 0} (state : D → DeviceState) (name credits : ℕ) (h : HandleValue) (old new : Table D) (e : JournalError) : Type 0 where
+  pub why : RestartRefused state h credits old.client.journal new.client.journal e
+  pub names : new.names ≡ set old.names name (Stopped (ticket_of h))
+
+abbrev pub HasRestarted : {D : Type 0} → (D → DeviceState) → (name credits : ℕ) → Slot → Outcome → Table D → Table D → Type 0
+HasRestarted state name credits (Open h) outcome old new = OrRefused outcome (RestartsNamed state name credits outcome h old new) (RestartsNone state name credits h old new)
+HasRestarted state name credits Empty outcome old new = Skips outcome old new
+HasRestarted state name credits (Stopped ticket) outcome old new = Skips outcome old new
+HasRestarted state name credits (Waited receipt) outcome old new = Skips outcome old new
+
+-- the handle that the name stands for stopped
+abbrev pub HasStopped : {D : Type 0} → (D → DeviceState) → (name : ℕ) → Slot → Outcome → Table D → Table D → Type 0
+HasStopped state name (Open h) outcome old new =
+    (outcome ≡ Transaction h.tid) × EndsHandle state h old.client.journal new.client.journal × (new.names ≡ set old.names name (Stopped (ticket_of h)))
+HasStopped state name Empty outcome old new = Skips outcome old new
+HasStopped state name (Stopped ticket) outcome old new = Skips outcome old new
+HasStopped state name (Waited receipt) outcome old new = Skips outcome old new
+
+-- a failure of the device is known
+abbrev pub IsAborted : Journal → Type 0
+IsAborted j = (j.front.aborted ≡ true) ⊎ (j.engine.aborted ≡ true)
+
+-- the commit of the transaction is asked for; that of a receipt is committed already
+abbrev pub HasRequested : {D : Type 0} → (D → DeviceState) → Slot → Outcome → Table D → Table D → Type 0
+HasRequested state (Stopped ticket) outcome old new = (new.names ≡ old.names) × OrRefused outcome
+    ((outcome ≡ Done) × Requests state ticket.tid old.client.journal new.client.journal)
+    (λ e. IsRefusedAborted old.client e × (new.client.journal ≡ old.client.journal))
+HasRequested state (Waited receipt) outcome old new = (new.names ≡ old.names) × (new.client ≡ old.client) × OrRefused outcome
+    (outcome ≡ Done)
+    (λ e. (e ≡ Aborted) × IsAborted old.client.journal.journal)
+HasRequested state Empty outcome old new = Skips outcome old new
+HasRequested state (Open h) outcome old new = Skips outcome old new
+
+-- one turn of a journal
+abbrev pub TakesTurn : {D : Type 0} → (D → DeviceState) → JournalValue D → JournalValue D → Type 0
+TakesTurn state old new = (turn : CommitTurn) × TurnDid state turn old new
+
+abbrev pub TakesCheckTurn : {D : Type 0} → (D → DeviceState) → JournalValue D → JournalValue D → Type 0
+TakesCheckTurn state old new = (turn : CheckTurn) × CheckTurnDid state turn old new
+
+-- the most turns that are taken in a row
+abbrev pub most_turns : ℕ
+most_turns = 2000000
+
+-- a commit turn had nothing to do, or waits for a handle to stop
+abbrev pub IsIdle : CommitTurn → Type 0
+IsIdle turn = (turn ≡ IdleTurn) ⊎ (turn ≡ WaitingTurn)
+
+abbrev pub WasIdle : {D : Type 0} → (D → DeviceState) → JournalValue D → JournalValue D → Type 0
+WasIdle state old new = (turn : CommitTurn) × IsIdle turn × TurnDid state turn old new
+
+-- turns were taken up to one that had nothing to do, or was refused
+pub record TakesTurns {D : Type 0} (state : D → DeviceState) (outcome : Outcome) (old new : JournalValue D) : Type 0 where
+  pub count : ℕ
+  pub before : JournalValue D
+  pub turns : Steps (λ i. TakesTurn state) count old before
+  pub last : OrRefused outcome
+      ((outcome ≡ Transaction new.journal.front.mark) × (WasIdle state before new ⊎ ((count ≡ most_turns) × (new ≡ before))))
+      (TurnRefused state before new)
+
+pub record TakesCheckTurns {D : Type 0} (state : D → DeviceState) (outcome : Outcome) (old new : JournalValue D) : Type 0 where
+  pub count : ℕ
+  pub before : JournalValue D
+  pub turns : Steps (λ i. TakesCheckTurn state) count old before
+  pub last : OrRefused outcome
+      ((outcome ≡ CameToCheckTurn IdleCheck) × (CheckTurnDid state IdleCheck before new ⊎ ((count ≡ most_turns) × (new ≡ before))))
+      (CheckTurnRefused state before new)
+
+-- what a status of this transaction is, as an operation tells it
+abbrev pub told_of : ℕ → TicketStatus → Outcome
+told_of tid IsCommitted = Committed tid
+told_of tid IsOpen = StillOpen
+
+-- the transaction is shown committed, and that is noted; or it is not
+abbrev pub Tells : {D : Type 0} → (committed : Outcome) → (tid : ℕ) → Outcome → ClientValue D → ClientValue D → Type 0
+Tells committed tid outcome old new =
+    ((outcome ≡ committed) × (tid ≤ old.journal.journal.front.mark) × (new ≡ record old { shown = with_told tid old.shown }))
+    ⊎ ((outcome ≡ StillOpen) × (old.journal.journal.front.mark < tid) × (new ≡ old))
+
+-- the status of what the name stands for
+abbrev pub HasStatus : {D : Type 0} → Slot → Outcome → Table D → Table D → Type 0
+HasStatus (Stopped ticket) outcome old new = (new.names ≡ old.names) × Tells (Committed ticket.tid) ticket.tid outcome old.client new.client
+HasStatus (Waited receipt) outcome old new = (new.names ≡ old.names) × Tells (Committed receipt.tid) receipt.tid outcome old.client new.client
+HasStatus Empty outcome old new = Skips outcome old new
+HasStatus (Open h) outcome old new = Skips outcome old new
+
+-- a receipt is taken where the transaction is committed, and the name stands for it from now on; of any other nothing is awaited; and
+-- behind a failure of the device a wait is refused
+abbrev pub WaitsFor : {D : Type 0} → TicketValue → Outcome → Slot → ClientValue D → ClientValue D → Type 0
+WaitsFor ticket outcome behind old new =
+    ((outcome ≡ Transaction ticket.tid) × (ticket.tid ≤ old.journal.journal.front.mark) × (new ≡ record old { shown = with_told ticket.tid old.shown }) × (behind ≡ Waited ticket))
+    ⊎ (((outcome ≡ StillOpen) × (old.journal.journal.front.mark < ticket.tid) × (new ≡ old) × (behind ≡ Stopped ticket))
+    ⊎ ((outcome ≡ Refused Aborted) × IsAborted old.journal.journal × (new ≡ old) × (behind ≡ Stopped ticket)))
+
+-- a receipt that was taken before is told again
+abbrev pub TellsAgain : {D : Type 0} → ℕ → Outcome → ClientValue D → ClientValue D → Type 0
+TellsAgain tid outcome old new = Tells (Transaction tid) tid outcome old new ⊎ ((outcome ≡ Refused Aborted) × IsAborted old.journal.journal × (new ≡ old))
+
+-- a wait by what the name stands for, and what it stands for then
+abbrev pub HasWaited : {D : Type 0} → (name : ℕ) → Slot → Outcome → Table D → Table D → Type 0
+HasWaited name (Stopped ticket) outcome old new = (behind : Slot) × WaitsFor ticket outcome behind old.client new.client × (new.names ≡ set old.names name behind)
+HasWaited name (Waited receipt) outcome old new = TellsAgain receipt.tid outcome old.client new.client × (new.names ≡ set old.names name (Waited receipt))
+HasWaited name Empty outcome old new = Skips outcome old new
+HasWaited name (Open h) outcome old new = Skips outcome old new
+
+-- the block was written directly, with these bytes and zeros behind them, or that was refused
+abbrev pub WritesDirectly : {D : Type 0} → (D → DeviceState) → ℕ → List ℕ → Outcome → JournalValue D → JournalValue D → Type 0
+WritesDirectly state b bytes outcome old new =
+    let block = block_from (state old.device).shape.block_size bytes in
+    OrRefused outcome
+    ((outcome ≡ Done) × Does state old (DirectWrite b block) new)
+    (λ e. DirectWriteRefused state old b block new e ⊎ ((e ≡ Memory) × (new ≡ old)))
+
+-- direct writes were made durable, or that was refused
+abbrev pub SyncsDirectly : {D : Type 0} → (D → DeviceState) → Outcome → JournalValue D → JournalValue D → Type 0
+SyncsDirectly state outcome old new = OrRefused outcome ((outcome ≡ Done) × Does state old DirectSync new) (DirectSyncRefused state old new)
+
+-- one turn was taken, or it was refused
+abbrev pub TakesOneTurn : {D : Type 0} → (D → DeviceState) → Outcome → JournalValue D → JournalValue D → Type 0
+TakesOneTurn state outcome old new = OrRefused outcome ((turn : CommitTurn) × (outcome ≡ CameToTurn turn) × TurnDid state turn old new) (TurnRefused state old new)
+
+abbrev pub TakesOneCheckTurn : {D : Type 0} → (D → DeviceState) → Outcome → JournalValue D → JournalValue D → Type 0
+TakesOneCheckTurn state outcome old new = OrRefused outcome ((turn : CheckTurn) × (outcome ≡ CameToCheckTurn turn) × CheckTurnDid state turn old new) (CheckTurnRefused state old new)
+
+-- only the journal has changed, and so
+abbrev pub OnJournal : {D : Type 0} → (JournalValue D → JournalValue D → Type 0) → Table D → Table D → Type 0
+OnJournal Did old new = Did old.client.journal new.client.journal × (new.names ≡ old.names)
+
+-- what an operation came to, and what it did: to the journal, by the handle or the ticket that its name stands for, and to the names
+abbrev pub HasDone : {D : Type 0} → (D → DeviceState) → (honest : D → Type 0) → Operation → Outcome → Table D → Table D → Type 0
+HasDone state honest (Start name credits) outcome old new =
+    IsSameButJournal old.client new.client × OrRefused outcome (StartsNamed state name credits outcome old new) (StartsNone name credits old new)
+HasDone state honest (Write name b bytes) outcome old new =
+    IsSameButJournal old.client new.client × HasTouched state honest (Write name b bytes) name (stands_for old.names name) outcome old new
+HasDone state honest (Revoke name b) outcome old new =
+    IsSameButJournal old.client new.client × HasTouched state honest (Revoke name b) name (stands_for old.names name) outcome old new
+HasDone state honest (Read name b) outcome old new =
+    IsSameButJournal old.client new.client × HasTouched state honest (Read name b) name (stands_for old.names name) outcome old new
+HasDone state honest (Extend name credits) outcome old new =
+    IsSameButJournal old.client new.client × HasTouched state honest (Extend name credits) name (stands_for old.names name) outcome old new
+HasDone state honest (Restart name credits) outcome old new =
+    IsSameButJournal old.client new.client × HasRestarted state name credits (stands_for old.names name) outcome old new
+HasDone state honest (Stop name) outcome old new =
+    IsSameButJournal old.client new.client × HasStopped state name (stands_for old.names name) outcome old new
+HasDone state honest (Request name) outcome old new =
+    IsSameButJournal old.client new.client × HasRequested state (stands_for old.names name) outcome old new
+HasDone state honest Turn outcome old new = IsSameButJournal old.client new.client × OnJournal (TakesOneTurn state outcome) old new
+HasDone state honest Commit outcome old new = IsSameButJournal old.client new.client × OnJournal (TakesTurns state outcome) old new
+HasDone state honest CheckpointTurn outcome old new = IsSameButJournal old.client new.client × OnJournal (TakesOneCheckTurn state outcome) old new
+HasDone state honest Check outcome old new = IsSameButJournal old.client new.client × OnJournal (TakesCheckTurns state outcome) old new
+HasDone state honest (Status name) outcome old new = HasStatus (stands_for old.names name) outcome old new
+HasDone state honest (Wait name) outcome old new = HasWaited name (stands_for old.names name) outcome old new
+HasDone state honest (WriteDirect b bytes) outcome old new = IsSameButJournal old.client new.client × OnJournal (WritesDirectly state b bytes.items outcome) old new
+HasDone state honest SyncDirect outcome old new = IsSameButJournal old.client new.client × OnJournal (SyncsDirectly state outcome) old new

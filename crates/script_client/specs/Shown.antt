@@ -1,18 +1,59 @@
--- What a client notes of an answer.
-use Rattle.std.specs.Prelude.{◌≡◌, ℕ, Option}
+-- What a client's calls leave of it, and what it notes of an answer.
+use Rattle.std.specs.Prelude.{◌≡◌, ◌<◌, ◌≤◌, ℕ, true, List, Option, None}
+use Rattle.journal_model.specs.declared.refusal.JournalError.{JournalError}
+use Rattle.journal_model.specs.declared.refusal.JournalError.TheVariants.{Aborted}
+use Rattle.journal_model.specs.Transaction.{History}
+use Rattle.block_device.specs.State.{DeviceState}
+use Rattle.journal_world.specs.Front.{Front, next_handle}
+use Rattle.journal_world.specs.Journal.{IsFresh}
+use Rattle.journal_front.specs.Values.{HandleValue}
+use Rattle.recovery.specs.Values.{OpenedValue}
 use Rattle.group_commit.specs.declared.ticket.Status.{Status}
 use Rattle.group_commit.specs.declared.ticket.Status.TheVariants.{Committed as IsCommitted, Open as IsOpen}
+use Rattle.group_commit.specs.Values.{TicketValue}
+use Rattle.journal_script.specs.declared.script.Operation.{Operation}
 use Rattle.script_client.specs.declared.client.Waited.{Waited}
 use Rattle.script_client.specs.declared.client.Waited.TheVariants.{Committed, Open, Refused}
-use Rattle.script_client.specs.Told.{with_told}
+use Rattle.script_client.specs.Told.{ClientValue, with_told}
+
+-- a client of a journal that was just made on an opened log, who is to perform these operations, and was shown nothing
+pub record IsNewClient {D : Type 0} (state : D → DeviceState) (opened : OpenedValue D) (operations : List Operation) (client : ClientValue D) : Type 0 where
+  pub fresh : IsFresh (state opened.device).shape opened.superblock opened.next client.journal.journal
+  pub device : client.journal.device ≡ opened.device
+  pub operations_are : client.operations ≡ operations
+  pub shown : client.shown ≡ None
+
+-- nothing but the journal has changed
+abbrev pub IsSameButJournal : {D : Type 0} → ClientValue D → ClientValue D → Type 0
+IsSameButJournal old new = new ≡ record old { journal = new.journal }
+
+-- the device of the client's journal, the transactions that it has sealed, and the greatest that was shown committed
+pub record IsLeftOf {D : Type 0} (client : ClientValue D) (device : D) (sealed : History) (shown : Option ℕ) : Type 0 where
+  pub device_is : device ≡ client.journal.device
+  pub sealed_is : sealed ≡ client.journal.journal.front.sealed
+  pub shown_is : shown ≡ client.shown
+
+-- the handle that joins next, with these credits
+abbrev pub IsNextHandle : Front → ℕ → HandleValue → Type 0
+IsNextHandle f credits handle = handle ≡ record { number = next_handle f; tid = f.running.tid; left = credits }
+
+-- the ticket that is left of a handle
+abbrev pub ticket_of : HandleValue → TicketValue
+ticket_of handle = record { handle = handle.number; tid = handle.tid }
+
+-- the device has failed before
+abbrev pub IsRefusedAborted : {D : Type 0} → ClientValue D → JournalError → Type 0
+IsRefusedAborted client e = (e ≡ Aborted) × (client.journal.journal.front.aborted ≡ true)
 
 -- a transaction that a status shows committed is noted
-abbrev pub IsShown : Status → (tid : ℕ) → (old new : Option ℕ) → Type 0
-IsShown IsCommitted tid old new = new ≡ with_told tid old
+abbrev pub IsShown : {D : Type 0} → Status → (tid : ℕ) → ClientValue D → ClientValue D → Type 0
+IsShown IsCommitted tid old new = new ≡ record old { shown = with_told tid old.shown }
 IsShown IsOpen tid old new = new ≡ old
 
--- so is one whose receipt is taken
-abbrev pub IsNoted : Waited → (old new : Option ℕ) → Type 0
-IsNoted (Committed receipt) old new = new ≡ with_told receipt.tid old
-IsNoted (Open ticket) old new = new ≡ old
-IsNoted (Refused ticket e) old new = new ≡ old
+-- so is one whose receipt is taken; where it is not committed, or the device has failed before, the ticket comes back
+abbrev pub IsWaited : {D : Type 0} → Waited → TicketValue → ClientValue D → ClientValue D → Type 0
+IsWaited (Committed receipt) ticket old new =
+    (receipt ≡ ticket) × (ticket.tid ≤ old.journal.journal.front.mark) × (new ≡ record old { shown = with_told ticket.tid old.shown })
+IsWaited (Open same) ticket old new = (same ≡ ticket) × (old.journal.journal.front.mark < ticket.tid) × (new ≡ old)
+IsWaited (Refused same e) ticket old new =
+    (same ≡ ticket) × (ticket.tid ≤ old.journal.journal.front.mark) × IsRefusedAborted old e × (new ≡ old)

@@ -1,16 +1,18 @@
 //! The client of a journal: it calls it, and records what it is shown.
-ghost use Rattle.std.specs.Prelude.{◌≡◌, ◌≤◌, length, IfOk, OnOk};
+ghost use Rattle.std.specs.Prelude.{◌≡◌, ◌+◌, ◌≤◌, length, IfErr, IfOk, OnOk};
+ghost use Rattle.journal_model.specs.declared.refusal.JournalError.TheVariants.{Memory};
 ghost use Rattle.journal_model.specs.Disk.{Disk, Shape};
 ghost use Rattle.journal_world.specs.Front.FrontEvent.{RevokeBlock, WriteBlock};
-ghost use Rattle.journal_world.specs.Journal.Event.{DirectSync, DirectWrite, FrontStep};
+ghost use Rattle.journal_world.specs.Journal.Event.{DirectSync, DirectWrite, FrontStep, ReadBlock};
+ghost use Rattle.journal_front.specs.Front.{Spends, TouchRefused};
 ghost use Rattle.journal_script.specs.Named.{IsDirectOf};
-ghost use Rattle.group_commit.specs.Extension.{Extends, Restarts};
-ghost use Rattle.journal_steps.specs.Journal.{Does};
+ghost use Rattle.group_commit.specs.Extension.{EndsHandle, Extends, ExtensionRefused, RestartRefused, Restarts, StartRefused, Starts};
+ghost use Rattle.group_commit.specs.Values.{StatusIs};
+ghost use Rattle.journal_steps.specs.Direct.{DirectSyncRefused, DirectWriteRefused};
+ghost use Rattle.journal_steps.specs.Journal.{CheckTurnDid, CheckTurnRefused, Does, NotesRead, ReadRefused, Requests, TurnDid, TurnRefused};
 
 use block_device::Device;
-use group_commit::{
-    CheckTurn, Credits, Handle, Journal, Parts, Receipt, Seat, Status, Ticket, Turn,
-};
+use group_commit::{CheckTurn, Handle, Journal, Parts, Receipt, Seat, Status, Ticket, Turn};
 use journal_model::{BlockNo, JournalError, Sealed, Tid};
 use journal_script::Operation;
 use recovery::Opened;
@@ -85,7 +87,7 @@ pub enum Waited {
 
 impl<'a, D: Device + Drop, H: HomeFact> Client<'a, D, H> {
     ghost use Rattle.script_client.specs.Ended.{IsEnded, IsLeftClosed};
-    ghost use Rattle.script_client.specs.Shown.{IsNoted, IsShown};
+    ghost use Rattle.script_client.specs.Shown.{IsWaited, IsNewClient, IsNextHandle, IsLeftOf, IsRefusedAborted, IsSameButJournal, IsShown, ticket_of};
     ghost use Rattle.script_client.specs.Told.{IsLedTo, with_told};
 
     /// A client of a new journal on an opened log, who is to perform these operations, and was shown nothing.
@@ -99,7 +101,8 @@ impl<'a, D: Device + Drop, H: HomeFact> Client<'a, D, H> {
         operations: &'a [Operation],
     ) -> Result<Self, JournalError>
         requires { D.honest opened.device → H.holds (D.state opened.device).shape (D.state opened.device).disk }
-        ensures { IfOk result (λ client. client.operations ≡ operations.now) }
+        ensures fresh { IfOk result (λ client. IsNewClient D.state opened operations.now client) }
+        ensures err { IfErr result (λ e. e ≡ Memory) }
     {
         match Journal::new(alloc, opened) {
             Ok((journal, seat)) => Ok(Client {
@@ -120,33 +123,24 @@ impl<'a, D: Device + Drop, H: HomeFact> Client<'a, D, H> {
         self.journal.block_size()
     }
 
-    /// Grants credits.
+    /// Whether the device has failed.
+    pub fn is_aborted(&self) -> bool
+        ensures { result ≡ self.now.journal.journal.engine.aborted }
+    {
+        self.journal.is_aborted()
+    }
+
+    /// Grants credits, and makes a handle of them.
     ///
     /// # Errors
     ///
-    /// `TooMany` and `Full`.
-    pub fn reserve(&mut self, credits: u64) -> Result<Credits, JournalError>
-        ensures operations { self.new.operations ≡ self.old.operations }
+    /// Those of a start: nothing changes.
+    pub fn start(&mut self, credits: u64) -> Result<Handle, JournalError>
+        ensures ok { IfOk result (λ handle. Starts D.state credits self.old.journal self.new.journal × IsNextHandle self.old.journal.journal.front credits handle) }
+        ensures err { IfErr result (λ e. StartRefused self.old.journal.journal.front credits e × (self.new.journal ≡ self.old.journal)) }
+        ensures rest { IsSameButJournal self.old self.new }
     {
-        self.journal.reserve(&mut self.seat, credits)
-    }
-
-    /// Takes back credits that no handle was made of.
-    pub fn give_back(&mut self, credits: Credits)
-        ensures operations { self.new.operations ≡ self.old.operations }
-    {
-        self.journal.give_back(credits);
-    }
-
-    /// Makes a handle of these credits.
-    ///
-    /// # Errors
-    ///
-    /// Those of a join: the credits come back.
-    pub fn try_join(&mut self, credits: Credits) -> Result<Handle, (Credits, JournalError)>
-        ensures operations { self.new.operations ≡ self.old.operations }
-    {
-        self.journal.try_join(credits)
+        self.journal.try_start(&mut self.seat, credits)
     }
 
     /// Writes a block through a handle.
@@ -161,8 +155,10 @@ impl<'a, D: Device + Drop, H: HomeFact> Client<'a, D, H> {
         bytes: &[u8],
     ) -> Result<(), JournalError>
         requires { length bytes.now ≡ (D.state self.old.journal.device).shape.block_size }
-        ensures does { OnOk result (Does D.state self.old.journal (FrontStep (WriteBlock handle.old.number block bytes.now)) self.new.journal) }
-        ensures operations { self.new.operations ≡ self.old.operations }
+        ensures ok { OnOk result (Does D.state self.old.journal (FrontStep (WriteBlock handle.old.number block bytes.now)) self.new.journal) }
+        ensures spends { OnOk result (Spends self.old.journal.journal.front block handle.old handle.new) }
+        ensures err { IfErr result (λ e. TouchRefused self.old.journal.journal.front handle.old block e × (self.new.journal ≡ self.old.journal) × (handle.new ≡ handle.old)) }
+        ensures rest { IsSameButJournal self.old self.new }
     {
         self.journal.write(handle, block, bytes)
     }
@@ -173,8 +169,10 @@ impl<'a, D: Device + Drop, H: HomeFact> Client<'a, D, H> {
     ///
     /// Those of a revoke: nothing changes.
     pub fn revoke(&mut self, handle: &mut Handle, block: BlockNo) -> Result<(), JournalError>
-        ensures does { OnOk result (Does D.state self.old.journal (FrontStep (RevokeBlock handle.old.number block)) self.new.journal) }
-        ensures operations { self.new.operations ≡ self.old.operations }
+        ensures ok { OnOk result (Does D.state self.old.journal (FrontStep (RevokeBlock handle.old.number block)) self.new.journal) }
+        ensures spends { OnOk result (Spends self.old.journal.journal.front block handle.old handle.new) }
+        ensures err { IfErr result (λ e. TouchRefused self.old.journal.journal.front handle.old block e × (self.new.journal ≡ self.old.journal) × (handle.new ≡ handle.old)) }
+        ensures rest { IsSameButJournal self.old self.new }
     {
         self.journal.revoke(handle, block)
     }
@@ -187,8 +185,9 @@ impl<'a, D: Device + Drop, H: HomeFact> Client<'a, D, H> {
     pub fn write_direct(&mut self, block: BlockNo, bytes: &[u8]) -> Result<(), JournalError>
         requires named { IsDirectOf self.old.operations block }
         requires length { length bytes.now ≡ (D.state self.old.journal.device).shape.block_size }
-        ensures does { OnOk result (Does D.state self.old.journal (DirectWrite block bytes.now) self.new.journal) }
-        ensures operations { self.new.operations ≡ self.old.operations }
+        ensures ok { OnOk result (Does D.state self.old.journal (DirectWrite block bytes.now) self.new.journal) }
+        ensures err { IfErr result (λ e. DirectWriteRefused D.state self.old.journal block bytes.now self.new.journal e) }
+        ensures rest { IsSameButJournal self.old self.new }
     {
         self.journal.write_direct(block, bytes)
     }
@@ -199,8 +198,9 @@ impl<'a, D: Device + Drop, H: HomeFact> Client<'a, D, H> {
     ///
     /// Those of a direct sync.
     pub fn sync_direct(&mut self) -> Result<(), JournalError>
-        ensures does { OnOk result (Does D.state self.old.journal DirectSync self.new.journal) }
-        ensures operations { self.new.operations ≡ self.old.operations }
+        ensures ok { OnOk result (Does D.state self.old.journal DirectSync self.new.journal) }
+        ensures err { IfErr result (λ e. DirectSyncRefused D.state self.old.journal self.new.journal e) }
+        ensures rest { IsSameButJournal self.old self.new }
     {
         self.journal.sync_direct()
     }
@@ -217,8 +217,11 @@ impl<'a, D: Device + Drop, H: HomeFact> Client<'a, D, H> {
         into: &mut [u8],
     ) -> Result<(), JournalError>
         requires { length into.old ≡ (D.state self.old.journal.device).shape.block_size }
-        ensures length { length into.new ≡ length into.old }
-        ensures operations { self.new.operations ≡ self.old.operations }
+        ensures ok { OnOk result (D.honest self.new.journal.device → Does D.state self.old.journal (ReadBlock handle.old.number block into.new) self.new.journal) }
+        ensures noted { OnOk result (NotesRead D.state self.old.journal handle.old block into.new self.new.journal) }
+        ensures err { IfErr result (ReadRefused D.state self.old.journal handle.old block self.new.journal) }
+        ensures handle { handle.new ≡ handle.old }
+        ensures rest { IsSameButJournal self.old self.new }
     {
         self.journal.read(handle, block, into)
     }
@@ -229,8 +232,10 @@ impl<'a, D: Device + Drop, H: HomeFact> Client<'a, D, H> {
     ///
     /// Those of an extension: nothing changes.
     pub fn extend(&mut self, handle: &mut Handle, credits: u64) -> Result<(), JournalError>
-        ensures does { OnOk result (Extends D.state handle.old.number credits self.old.journal self.new.journal) }
-        ensures operations { self.new.operations ≡ self.old.operations }
+        ensures ok { OnOk result (Extends D.state handle.old.number credits self.old.journal self.new.journal) }
+        ensures handle { OnOk result (handle.new ≡ record handle.old { left = handle.old.left + credits }) }
+        ensures err { IfErr result (λ e. ExtensionRefused self.old.journal.journal.front handle.old credits e × (self.new.journal ≡ self.old.journal) × (handle.new ≡ handle.old)) }
+        ensures rest { IsSameButJournal self.old self.new }
     {
         self.journal.extend(handle, &mut self.seat, credits)
     }
@@ -245,15 +250,18 @@ impl<'a, D: Device + Drop, H: HomeFact> Client<'a, D, H> {
         handle: Handle,
         credits: u64,
     ) -> Result<Handle, (Ticket, JournalError)>
-        ensures does { IfOk result (λ other. Restarts D.state handle credits self.old.journal self.new.journal × (other.tid ≡ self.old.journal.journal.front.running.tid)) }
-        ensures operations { self.new.operations ≡ self.old.operations }
+        ensures ok { IfOk result (λ other. Restarts D.state handle credits self.old.journal self.new.journal × IsNextHandle self.old.journal.journal.front credits other) }
+        ensures err { IfErr result (λ e. (e.0 ≡ ticket_of handle) × RestartRefused D.state handle credits self.old.journal self.new.journal e.1) }
+        ensures rest { IsSameButJournal self.old self.new }
     {
         self.journal.restart(handle, &mut self.seat, credits)
     }
 
     /// Ends a handle.
     pub fn stop(&mut self, handle: Handle) -> Ticket
-        ensures operations { self.new.operations ≡ self.old.operations }
+        ensures ticket { result ≡ ticket_of handle }
+        ensures ends { EndsHandle D.state handle self.old.journal self.new.journal }
+        ensures rest { IsSameButJournal self.old self.new }
     {
         self.journal.stop(handle)
     }
@@ -264,7 +272,9 @@ impl<'a, D: Device + Drop, H: HomeFact> Client<'a, D, H> {
     ///
     /// `Aborted`.
     pub fn request(&mut self, ticket: &Ticket) -> Result<(), JournalError>
-        ensures operations { self.new.operations ≡ self.old.operations }
+        ensures ok { OnOk result (Requests D.state ticket.now.tid self.old.journal self.new.journal) }
+        ensures err { IfErr result (λ e. IsRefusedAborted self.old e × (self.new.journal ≡ self.old.journal)) }
+        ensures rest { IsSameButJournal self.old self.new }
     {
         self.journal.request(ticket)
     }
@@ -275,7 +285,9 @@ impl<'a, D: Device + Drop, H: HomeFact> Client<'a, D, H> {
     ///
     /// Those of a commit turn.
     pub fn commit_turn(&mut self) -> Result<Turn, JournalError>
-        ensures operations { self.new.operations ≡ self.old.operations }
+        ensures ok { IfOk result (λ turn. TurnDid D.state turn self.old.journal self.new.journal) }
+        ensures err { IfErr result (λ e. TurnRefused D.state self.old.journal self.new.journal e) }
+        ensures rest { IsSameButJournal self.old self.new }
     {
         self.journal.commit_turn()
     }
@@ -286,20 +298,24 @@ impl<'a, D: Device + Drop, H: HomeFact> Client<'a, D, H> {
     ///
     /// Those of a checkpoint turn.
     pub fn checkpoint_turn(&mut self) -> Result<CheckTurn, JournalError>
-        ensures operations { self.new.operations ≡ self.old.operations }
+        ensures ok { IfOk result (λ turn. CheckTurnDid D.state turn self.old.journal self.new.journal) }
+        ensures err { IfErr result (λ e. CheckTurnRefused D.state self.old.journal self.new.journal e) }
+        ensures rest { IsSameButJournal self.old self.new }
     {
         self.journal.checkpoint_turn()
     }
 
     /// The last transaction that is told to be committed.
-    pub fn mark(&self) -> Tid {
+    pub fn mark(&self) -> Tid
+        ensures { result ≡ self.now.journal.journal.front.mark }
+    {
         self.journal.mark()
     }
 
     /// Whether a ticket's transaction is committed. Where it is, that is noted.
     pub fn status(&mut self, ticket: &Ticket) -> Status
-        ensures shown { IsShown result ticket.now.tid self.old.shown self.new.shown }
-        ensures operations { self.new.operations ≡ self.old.operations }
+        ensures status { StatusIs result ticket.now.tid self.old.journal.journal.front }
+        ensures shown { IsShown result ticket.now.tid self.old self.new }
     {
         let status = self.journal.status(ticket, &mut self.seat);
         if matches!(status, Status::Committed) {
@@ -310,8 +326,8 @@ impl<'a, D: Device + Drop, H: HomeFact> Client<'a, D, H> {
 
     /// Whether a receipt's transaction is committed, as it is where this journal gave it. Where it is, that is noted again.
     pub fn confirm(&mut self, receipt: &Receipt) -> Status
-        ensures shown { IsShown result receipt.now.tid self.old.shown self.new.shown }
-        ensures operations { self.new.operations ≡ self.old.operations }
+        ensures status { StatusIs result receipt.now.tid self.old.journal.journal.front }
+        ensures shown { IsShown result receipt.now.tid self.old self.new }
     {
         if receipt.tid() > self.journal.mark() {
             return Status::Open;
@@ -322,8 +338,7 @@ impl<'a, D: Device + Drop, H: HomeFact> Client<'a, D, H> {
 
     /// Takes the receipt of a committed transaction, which is noted. Of any other nothing is awaited.
     pub fn wait(&mut self, ticket: Ticket) -> Waited
-        ensures noted { IsNoted result self.old.shown self.new.shown }
-        ensures operations { self.new.operations ≡ self.old.operations }
+        ensures { IsWaited result ticket self.old self.new }
     {
         match self.journal.status(&ticket, &mut self.seat) {
             Status::Committed => self.wait_for(ticket),
@@ -334,8 +349,7 @@ impl<'a, D: Device + Drop, H: HomeFact> Client<'a, D, H> {
     /// Takes the receipt for the ticket of a committed transaction.
     fn wait_for(&mut self, ticket: Ticket) -> Waited
         requires { ticket.tid ≤ self.old.journal.journal.front.mark }
-        ensures noted { IsNoted result self.old.shown self.new.shown }
-        ensures operations { self.new.operations ≡ self.old.operations }
+        ensures { IsWaited result ticket self.old self.new }
     {
         match self.journal.wait(ticket, &mut self.seat) {
             Ok(receipt) => {
@@ -349,9 +363,7 @@ impl<'a, D: Device + Drop, H: HomeFact> Client<'a, D, H> {
     /// Notes that a transaction was shown committed.
     fn acknowledge(&mut self, tid: Tid)
         requires { tid ≤ self.old.journal.journal.front.mark }
-        ensures journal { self.new.journal ≡ self.old.journal }
-        ensures shown { self.new.shown ≡ with_told tid self.old.shown }
-        ensures operations { self.new.operations ≡ self.old.operations }
+        ensures { self.new ≡ record self.old { shown = with_told tid self.old.shown } }
     {
         self.acknowledged = match self.acknowledged {
             Some(other) => Some(Tid(other.0.max(tid.0))),
@@ -361,7 +373,8 @@ impl<'a, D: Device + Drop, H: HomeFact> Client<'a, D, H> {
 
     /// Ends the journal: its device with what was sealed, and the greatest transaction that was shown committed.
     pub fn finish(self) -> (Parts<D, Vec<Sealed>>, Option<Tid>)
-        ensures { D.honest result.0.device → IsLedTo H.holds self.entry.operations (D.state result.0.device) result.0.sealed.items result.1 }
+        ensures led { D.honest result.0.device → IsLedTo H.holds self.entry.operations (D.state result.0.device) result.0.sealed.items result.1 }
+        ensures left { IsLeftOf self.entry result.0.device result.0.sealed.items result.1 }
     {
         let Client {
             journal,

@@ -1,12 +1,13 @@
 //! Runs the operations of a script on a journal.
-ghost use Rattle.std.specs.Prelude.{◌≡◌, ◌++◌, Contains, IfOk, OnOk, drop, length, min, take};
-ghost use Rattle.script_client.specs.Performed.{block_from};
+ghost use Rattle.std.specs.Prelude.{◌≡◌, ◌++◌, Contains, IfOk, IsTrue, MatchResult, drop, length, min, replicate, take};
+ghost use Rattle.script_client.specs.declared.outcome.Outcome.TheVariants.{Done, Refused};
+ghost use Rattle.script_client.specs.Performed.{IsIdle, block_from, told_of};
 
 use crate::client::{Client, Ended, HomeFact, Waited};
 use crate::outcome::{Outcome, PRINTED_BYTES};
 use crate::slots::{Slot, Slots};
 use block_device::Device;
-use group_commit::{CheckTurn, Credits, Handle, Parts, Receipt, Status, Ticket, Turn};
+use group_commit::{CheckTurn, Handle, Parts, Receipt, Status, Ticket, Turn};
 use journal_model::{BlockNo, JournalError, Sealed, Tid};
 use journal_script::{HandleName, Operation};
 use recovery::Opened;
@@ -22,8 +23,6 @@ pub struct Interpreter<'a, D: Device, H: HomeFact> {
     alloc: Global,
     client: Client<'a, D, H>,
     slots: Slots,
-    /// Whether an operation was refused because the device failed, so that the journal is aborted.
-    aborted: bool,
 }
 
 /// Copies bytes to the front of others, as many as both have.
@@ -34,8 +33,10 @@ fn copy_front(to: &mut [u8], from: &[u8])
     to[..n].copy_from_slice(&from[..n]);
 }
 
-/// How these bytes begin.
-fn front_of(bytes: &[u8]) -> [u8; PRINTED_BYTES] {
+/// How these bytes begin, with zeros behind them where they are fewer.
+fn front_of(bytes: &[u8]) -> [u8; PRINTED_BYTES]
+    ensures { result ≡ block_from 8 bytes.now }
+{
     let mut begins = [0; PRINTED_BYTES];
     copy_front(&mut begins, bytes);
     begins
@@ -50,14 +51,41 @@ fn block_of(alloc: Global, size: usize, bytes: &[u8]) -> Result<Vec<u8>, AllocEr
     Ok(block)
 }
 
+/// What a call came to that answers nothing more.
+fn done_or_refused(answer: Result<(), JournalError>) -> Outcome
+    ensures { MatchResult answer (λ _. result ≡ Done) (λ e. result ≡ Refused e) }
+{
+    match answer {
+        Ok(()) => Outcome::Done,
+        Err(e) => Outcome::Refused(e),
+    }
+}
+
+/// Whether a commit turn had nothing to do, or waits for a handle to stop.
+fn is_idle(turn: Turn) -> bool
+    ensures { IsTrue result → IsIdle turn }
+{
+    matches!(turn, Turn::Idle | Turn::Waiting)
+}
+
+/// What a status of this transaction is, as an operation tells it.
+fn told(tid: Tid, status: Status) -> Outcome
+    ensures { result ≡ told_of tid status }
+{
+    match status {
+        Status::Committed => Outcome::Committed(tid),
+        Status::Open => Outcome::Open,
+    }
+}
+
 impl<'a, D: Device + Drop, H: HomeFact> Interpreter<'a, D, H> {
-    ghost use Rattle.journal_world.specs.Journal.Event.{DirectSync};
+    ghost use Rattle.std.specs.Prelude.{OnOk};
     ghost use Rattle.journal_script.specs.Named.{IsDirectOf};
-    ghost use Rattle.journal_steps.specs.Journal.{Does};
     ghost use Rattle.script_client.specs.Ended.{IsEnded, IsLeftClosed};
-    ghost use Rattle.script_client.specs.Performed.{ExtendsHandle, HasDone, IfCommitted, IfTransaction, RestartsHandle, RevokesBlock, WritesBlock, WritesDirectly};
-    ghost use Rattle.script_client.specs.Told.{IsLedTo, with_told};
-    ghost use Rattle.script_client.specs.declared.outcome.Outcome.TheVariants.{Done};
+    ghost use Rattle.script_client.specs.Names.{stands_for};
+    ghost use Rattle.script_client.specs.Performed.{HasDone, HasRequested, HasRestarted, HasStatus, HasStopped, HasTouched, HasWaited, IsBegun, IsTouch, OrRefused, ReadsBlock, StartsNamed, StartsNone, SyncsDirectly, TakesCheckTurns, TakesOneCheckTurn, TakesOneTurn, TakesTurns, TellsAgain, Touches, WaitsFor, WritesBlock, WritesDirectly};
+    ghost use Rattle.script_client.specs.Shown.{IsLeftOf, IsSameButJournal};
+    ghost use Rattle.script_client.specs.Told.{IsLedTo};
 
     /// An interpreter on an opened log, which is to run these operations.
     ///
@@ -70,7 +98,7 @@ impl<'a, D: Device + Drop, H: HomeFact> Interpreter<'a, D, H> {
         operations: &'a [Operation],
     ) -> Result<Self, JournalError>
         requires { D.honest opened.device → H.holds (D.state opened.device).shape (D.state opened.device).disk }
-        ensures { IfOk result (λ interpreter. interpreter.client.operations ≡ operations.now) }
+        ensures { IfOk result (λ interpreter. IsBegun D.state opened operations.now (record { client = interpreter.client; names = interpreter.slots })) }
     {
         let slots = Slots::new(alloc)?;
         match Client::new(alloc, opened, operations) {
@@ -78,37 +106,23 @@ impl<'a, D: Device + Drop, H: HomeFact> Interpreter<'a, D, H> {
                 alloc,
                 client,
                 slots,
-                aborted: false,
             }),
             Err(e) => Err(e),
         }
     }
 
-    /// Runs one of its operations.
+    /// Runs one of its operations, and tells what it came to.
     pub fn perform(&mut self, operation: &Operation) -> Outcome
         requires { Contains self.old.client.operations operation.now }
-        ensures done { HasDone D.state operation.now result self.old.client self.new.client }
-        ensures operations { self.new.client.operations ≡ self.old.client.operations }
-    {
-        let outcome = self.outcome_of(operation);
-        if matches!(outcome, Outcome::Refused(JournalError::Device)) {
-            self.aborted = true;
-        }
-        outcome
-    }
-
-    /// Runs one operation, and tells what it came to.
-    fn outcome_of(&mut self, operation: &Operation) -> Outcome
-        requires { Contains self.old.client.operations operation.now }
-        ensures done { HasDone D.state operation.now result self.old.client self.new.client }
+        ensures done { HasDone D.state D.honest operation.now result (record { client = self.old.client; names = self.old.slots }) (record { client = self.new.client; names = self.new.slots }) }
         ensures operations { self.new.client.operations ≡ self.old.client.operations }
     {
         match operation {
             Operation::Start(name, credits) => self.start(*name, *credits),
-            Operation::Write(name, block, bytes) => self.write(*name, *block, bytes),
-            Operation::Revoke(name, block) => self.revoke(*name, *block),
-            Operation::Read(name, block) => self.read(*name, *block),
-            Operation::Extend(name, credits) => self.extend(*name, *credits),
+            Operation::Write(name, _, _) => self.touch(*name, operation),
+            Operation::Revoke(name, _) => self.touch(*name, operation),
+            Operation::Read(name, _) => self.touch(*name, operation),
+            Operation::Extend(name, _) => self.touch(*name, operation),
             Operation::Restart(name, credits) => self.restart(*name, *credits),
             Operation::Stop(name) => self.stop(*name),
             Operation::Request(name) => self.request(*name),
@@ -123,15 +137,16 @@ impl<'a, D: Device + Drop, H: HomeFact> Interpreter<'a, D, H> {
         }
     }
 
-    /// Whether an operation was refused because the device failed.
+    /// Whether the device has failed.
     pub fn is_aborted(&self) -> bool {
-        self.aborted
+        self.client.is_aborted()
     }
 
     /// Stops all open handles and ends the journal: its device with its record, and the greatest transaction that was shown
     /// committed.
     pub fn finish(self) -> (Parts<D, Vec<Sealed>>, Option<Tid>)
-        ensures { D.honest result.0.device → IsLedTo H.holds self.entry.client.operations (D.state result.0.device) result.0.sealed.items result.1 }
+        ensures led { D.honest result.0.device → IsLedTo H.holds self.entry.client.operations (D.state result.0.device) result.0.sealed.items result.1 }
+        ensures left { IsLeftOf self.entry.client result.0.device result.0.sealed.items result.1 }
     {
         self.into_stopped().finish()
     }
@@ -146,13 +161,13 @@ impl<'a, D: Device + Drop, H: HomeFact> Interpreter<'a, D, H> {
 
     /// The client, who has stopped all open handles.
     fn into_stopped(self) -> Client<'a, D, H>
-        ensures { result.operations ≡ self.entry.client.operations }
+        ensures operations { result.operations ≡ self.entry.client.operations }
+        ensures left { IsLeftOf self.entry.client result.journal.device result.journal.journal.front.sealed result.shown }
     {
         let Interpreter {
             alloc: _,
             mut client,
             slots,
-            aborted: _,
         } = self;
         for slot in slots.into_slots() {
             if let Slot::Open(handle) = slot {
@@ -164,9 +179,12 @@ impl<'a, D: Device + Drop, H: HomeFact> Interpreter<'a, D, H> {
 
     /// Starts a handle. Where it is refused the name stands for nothing.
     fn start(&mut self, name: HandleName, credits: u64) -> Outcome
-        ensures operations { self.new.client.operations ≡ self.old.client.operations }
+        ensures rest { IsSameButJournal self.old.client self.new.client }
+        ensures done { OrRefused result
+            (StartsNamed D.state name credits result (record { client = self.old.client; names = self.old.slots }) (record { client = self.new.client; names = self.new.slots }))
+            (StartsNone name credits (record { client = self.old.client; names = self.old.slots }) (record { client = self.new.client; names = self.new.slots })) }
     {
-        match self.join(credits) {
+        match self.client.start(credits) {
             Ok(handle) => {
                 let tid = handle.tid();
                 self.slots.put(name, Slot::Open(handle));
@@ -179,42 +197,17 @@ impl<'a, D: Device + Drop, H: HomeFact> Interpreter<'a, D, H> {
         }
     }
 
-    /// Reserves credits and makes a handle of them.
-    fn join(&mut self, credits: u64) -> Result<Handle, JournalError>
-        ensures operations { self.new.client.operations ≡ self.old.client.operations }
-    {
-        match self.client.reserve(credits) {
-            Ok(credits) => self.join_with(credits),
-            Err(e) => Err(e),
-        }
-    }
-
-    /// Makes a handle of these credits; where that is refused they are given back.
-    fn join_with(&mut self, credits: Credits) -> Result<Handle, JournalError>
-        ensures operations { self.new.client.operations ≡ self.old.client.operations }
-    {
-        match self.client.try_join(credits) {
-            Ok(handle) => Ok(handle),
-            Err((credits, e)) => {
-                self.client.give_back(credits);
-                Err(e)
-            }
-        }
-    }
-
-    /// Writes these bytes, with zeros behind them.
-    fn write(&mut self, name: HandleName, block: BlockNo, bytes: &[u8]) -> Outcome
-        ensures done { result ≡ Done → WritesBlock D.state block bytes.now self.old.client.journal self.new.client.journal }
-        ensures operations { self.new.client.operations ≡ self.old.client.operations }
+    /// Writes, revokes or reads a block through the open handle that a name stands for, or gives that handle further credits.
+    fn touch(&mut self, name: HandleName, operation: &Operation) -> Outcome
+        requires { IsTouch operation.now }
+        ensures rest { IsSameButJournal self.old.client self.new.client }
+        ensures done { HasTouched D.state D.honest operation.now name (stands_for self.old.slots name) result (record { client = self.old.client; names = self.old.slots }) (record { client = self.new.client; names = self.new.slots }) }
     {
         match self.slots.take(name) {
             Slot::Open(mut handle) => {
-                let answer = self.write_block(&mut handle, block, bytes);
+                let outcome = self.touch_by(&mut handle, operation);
                 self.slots.put(name, Slot::Open(handle));
-                match answer {
-                    Ok(()) => Outcome::Done,
-                    Err(e) => Outcome::Refused(e),
-                }
+                outcome
             }
             other => {
                 self.slots.put(name, other);
@@ -223,130 +216,78 @@ impl<'a, D: Device + Drop, H: HomeFact> Interpreter<'a, D, H> {
         }
     }
 
-    /// Writes a block of these bytes, with zeros behind them.
-    fn write_block(
-        &mut self,
-        handle: &mut Handle,
-        block: BlockNo,
-        bytes: &[u8],
-    ) -> Result<(), JournalError>
-        ensures done { OnOk result (WritesBlock D.state block bytes.now self.old.client.journal self.new.client.journal) }
-        ensures operations { self.new.client.operations ≡ self.old.client.operations }
+    /// Writes, revokes or reads a block through a handle, or gives it further credits.
+    fn touch_by(&mut self, handle: &mut Handle, operation: &Operation) -> Outcome
+        requires { IsTouch operation.now }
+        ensures rest { IsSameButJournal self.old.client self.new.client }
+        ensures done { Touches D.state D.honest operation.now result handle.old handle.new self.old.client.journal self.new.client.journal }
+        ensures slots { self.new.slots ≡ self.old.slots }
     {
-        let bytes = block_of(self.alloc, self.client.block_size(), bytes)?;
-        self.client.write(handle, block, &bytes)
+        match operation {
+            Operation::Write(_, block, bytes) => self.write(handle, *block, bytes),
+            Operation::Revoke(_, block) => done_or_refused(self.client.revoke(handle, *block)),
+            Operation::Extend(_, credits) => done_or_refused(self.client.extend(handle, *credits)),
+            Operation::Read(_, block) => self.read(handle, *block),
+            _ => unreachable!(),
+        }
     }
 
-    /// Revokes a block.
-    fn revoke(&mut self, name: HandleName, block: BlockNo) -> Outcome
-        ensures done { result ≡ Done → RevokesBlock D.state block self.old.client.journal self.new.client.journal }
-        ensures operations { self.new.client.operations ≡ self.old.client.operations }
+    /// Writes a block through a handle: these bytes, and zeros behind them.
+    fn write(&mut self, handle: &mut Handle, block: BlockNo, bytes: &[u8]) -> Outcome
+        ensures rest { IsSameButJournal self.old.client self.new.client }
+        ensures done { WritesBlock D.state block bytes.now result handle.old handle.new self.old.client.journal self.new.client.journal }
+        ensures slots { self.new.slots ≡ self.old.slots }
     {
-        match self.slots.take(name) {
-            Slot::Open(mut handle) => {
-                let answer = self.client.revoke(&mut handle, block);
-                self.slots.put(name, Slot::Open(handle));
-                match answer {
-                    Ok(()) => Outcome::Done,
-                    Err(e) => Outcome::Refused(e),
-                }
-            }
-            other => {
-                self.slots.put(name, other);
-                Outcome::Skipped
-            }
+        match block_of(self.alloc, self.client.block_size(), bytes) {
+            Ok(whole) => done_or_refused(self.client.write(handle, block, &whole)),
+            Err(_) => Outcome::Refused(JournalError::Memory),
         }
     }
 
     /// Reads a block through a handle.
-    fn read(&mut self, name: HandleName, block: BlockNo) -> Outcome
-        ensures operations { self.new.client.operations ≡ self.old.client.operations }
+    fn read(&mut self, handle: &mut Handle, block: BlockNo) -> Outcome
+        ensures rest { IsSameButJournal self.old.client self.new.client }
+        ensures done { ReadsBlock D.state D.honest block result handle.old self.old.client.journal self.new.client.journal }
+        ensures handle { handle.new ≡ handle.old }
+        ensures slots { self.new.slots ≡ self.old.slots }
     {
-        match self.slots.take(name) {
-            Slot::Open(mut handle) => {
-                let answer = self.read_block(&mut handle, block);
-                self.slots.put(name, Slot::Open(handle));
-                match answer {
-                    Ok(bytes) => Outcome::Begins(bytes),
-                    Err(e) => Outcome::Refused(e),
-                }
-            }
-            other => {
-                self.slots.put(name, other);
-                Outcome::Skipped
-            }
-        }
-    }
-
-    /// How a block begins that a handle reads.
-    fn read_block(
-        &mut self,
-        handle: &mut Handle,
-        block: BlockNo,
-    ) -> Result<[u8; PRINTED_BYTES], JournalError>
-        ensures operations { self.new.client.operations ≡ self.old.client.operations }
-    {
-        let mut bytes = vec![in self.alloc; 0; self.client.block_size()]?;
-        self.client.read(handle, block, &mut bytes)?;
-        Ok(front_of(&bytes))
-    }
-
-    /// Gives a handle further credits.
-    fn extend(&mut self, name: HandleName, credits: u64) -> Outcome
-        ensures done { result ≡ Done → ExtendsHandle D.state credits self.old.client.journal self.new.client.journal }
-        ensures operations { self.new.client.operations ≡ self.old.client.operations }
-    {
-        match self.slots.take(name) {
-            Slot::Open(mut handle) => {
-                let answer = self.client.extend(&mut handle, credits);
-                self.slots.put(name, Slot::Open(handle));
-                match answer {
-                    Ok(()) => Outcome::Done,
-                    Err(e) => Outcome::Refused(e),
-                }
-            }
-            other => {
-                self.slots.put(name, other);
-                Outcome::Skipped
-            }
+        match vec![in self.alloc; 0; self.client.block_size()] {
+            Ok(mut bytes) => match self.client.read(handle, block, &mut bytes) {
+                Ok(()) => Outcome::Begins(front_of(&bytes)),
+                Err(e) => Outcome::Refused(e),
+            },
+            Err(_) => Outcome::Refused(JournalError::Memory),
         }
     }
 
     /// Stops a handle and starts another one in its place. Where that is refused the name stands for the stopped one's ticket.
     fn restart(&mut self, name: HandleName, credits: u64) -> Outcome
-        ensures done { IfTransaction result (λ tid. RestartsHandle D.state credits tid self.old.client.journal self.new.client.journal) }
-        ensures operations { self.new.client.operations ≡ self.old.client.operations }
+        ensures rest { IsSameButJournal self.old.client self.new.client }
+        ensures done { HasRestarted D.state name credits (stands_for self.old.slots name) result (record { client = self.old.client; names = self.old.slots }) (record { client = self.new.client; names = self.new.slots }) }
     {
         match self.slots.take(name) {
-            Slot::Open(handle) => self.restart_as(name, handle, credits),
+            Slot::Open(handle) => match self.client.restart(handle, credits) {
+                Ok(handle) => {
+                    let tid = handle.tid();
+                    self.slots.put(name, Slot::Open(handle));
+                    Outcome::Transaction(tid)
+                }
+                Err((ticket, e)) => {
+                    self.slots.put(name, Slot::Stopped(ticket));
+                    Outcome::Refused(e)
+                }
+            },
             other => {
                 self.slots.put(name, other);
                 Outcome::Skipped
-            }
-        }
-    }
-
-    /// Lets another handle take the place of this one, for which the name stood.
-    fn restart_as(&mut self, name: HandleName, handle: Handle, credits: u64) -> Outcome
-        ensures done { IfTransaction result (λ tid. RestartsHandle D.state credits tid self.old.client.journal self.new.client.journal) }
-        ensures operations { self.new.client.operations ≡ self.old.client.operations }
-    {
-        match self.client.restart(handle, credits) {
-            Ok(handle) => {
-                let tid = handle.tid();
-                self.slots.put(name, Slot::Open(handle));
-                Outcome::Transaction(tid)
-            }
-            Err((ticket, e)) => {
-                self.slots.put(name, Slot::Stopped(ticket));
-                Outcome::Refused(e)
             }
         }
     }
 
     /// Stops a handle.
     fn stop(&mut self, name: HandleName) -> Outcome
-        ensures operations { self.new.client.operations ≡ self.old.client.operations }
+        ensures rest { IsSameButJournal self.old.client self.new.client }
+        ensures done { HasStopped D.state name (stands_for self.old.slots name) result (record { client = self.old.client; names = self.old.slots }) (record { client = self.new.client; names = self.new.slots }) }
     {
         match self.slots.take(name) {
             Slot::Open(handle) => {
@@ -364,14 +305,14 @@ impl<'a, D: Device + Drop, H: HomeFact> Interpreter<'a, D, H> {
 
     /// Asks for a commit. The transaction of a receipt is committed already, so nothing is left to ask the journal for.
     fn request(&mut self, name: HandleName) -> Outcome
-        ensures operations { self.new.client.operations ≡ self.old.client.operations }
+        ensures rest { IsSameButJournal self.old.client self.new.client }
+        ensures done { HasRequested D.state (stands_for self.old.slots name) result (record { client = self.old.client; names = self.old.slots }) (record { client = self.new.client; names = self.new.slots }) }
     {
         match self.slots.get(name) {
-            Some(Slot::Stopped(ticket)) => match self.client.request(ticket) {
-                Ok(()) => Outcome::Done,
-                Err(e) => Outcome::Refused(e),
-            },
-            Some(Slot::Waited(_)) if self.aborted => Outcome::Refused(JournalError::Aborted),
+            Some(Slot::Stopped(ticket)) => done_or_refused(self.client.request(ticket)),
+            Some(Slot::Waited(_)) if self.client.is_aborted() => Outcome::Refused(
+                JournalError::Aborted,
+            ),
             Some(Slot::Waited(_)) => Outcome::Done,
             _ => Outcome::Skipped,
         }
@@ -379,7 +320,9 @@ impl<'a, D: Device + Drop, H: HomeFact> Interpreter<'a, D, H> {
 
     /// Takes one commit turn.
     fn turn(&mut self) -> Outcome
-        ensures operations { self.new.client.operations ≡ self.old.client.operations }
+        ensures rest { IsSameButJournal self.old.client self.new.client }
+        ensures done { TakesOneTurn D.state result self.old.client.journal self.new.client.journal }
+        ensures slots { self.new.slots ≡ self.old.slots }
     {
         match self.client.commit_turn() {
             Ok(turn) => Outcome::Turn(turn),
@@ -389,7 +332,9 @@ impl<'a, D: Device + Drop, H: HomeFact> Interpreter<'a, D, H> {
 
     /// Takes one checkpoint turn.
     fn checkpoint_turn(&mut self) -> Outcome
-        ensures operations { self.new.client.operations ≡ self.old.client.operations }
+        ensures rest { IsSameButJournal self.old.client self.new.client }
+        ensures done { TakesOneCheckTurn D.state result self.old.client.journal self.new.client.journal }
+        ensures slots { self.new.slots ≡ self.old.slots }
     {
         match self.client.checkpoint_turn() {
             Ok(turn) => Outcome::CheckTurn(turn),
@@ -399,11 +344,13 @@ impl<'a, D: Device + Drop, H: HomeFact> Interpreter<'a, D, H> {
 
     /// Takes checkpoint turns until one has nothing to do.
     fn check(&mut self) -> Outcome
-        ensures operations { self.new.client.operations ≡ self.old.client.operations }
+        ensures rest { IsSameButJournal self.old.client self.new.client }
+        ensures done { TakesCheckTurns D.state result self.old.client.journal self.new.client.journal }
+        ensures slots { self.new.slots ≡ self.old.slots }
     {
         for _ in 0..MOST_TURNS {
             match self.client.checkpoint_turn() {
-                Ok(CheckTurn::Idle) => break,
+                Ok(CheckTurn::Idle) => return Outcome::CheckTurn(CheckTurn::Idle),
                 Ok(CheckTurn::Step | CheckTurn::Released(_)) => {}
                 Err(e) => return Outcome::Refused(e),
             }
@@ -413,12 +360,17 @@ impl<'a, D: Device + Drop, H: HomeFact> Interpreter<'a, D, H> {
 
     /// Takes commit turns until one has nothing to do.
     fn commit(&mut self) -> Outcome
-        ensures operations { self.new.client.operations ≡ self.old.client.operations }
+        ensures rest { IsSameButJournal self.old.client self.new.client }
+        ensures done { TakesTurns D.state result self.old.client.journal self.new.client.journal }
+        ensures slots { self.new.slots ≡ self.old.slots }
     {
         for _ in 0..MOST_TURNS {
             match self.client.commit_turn() {
-                Ok(Turn::Idle | Turn::Waiting) => break,
-                Ok(Turn::Step | Turn::Sealed(_) | Turn::Committed(_)) => {}
+                Ok(turn) => {
+                    if is_idle(turn) {
+                        return Outcome::Transaction(self.client.mark());
+                    }
+                }
                 Err(e) => return Outcome::Refused(e),
             }
         }
@@ -427,27 +379,27 @@ impl<'a, D: Device + Drop, H: HomeFact> Interpreter<'a, D, H> {
 
     /// Says whether a transaction is committed. Where it is, that is noted.
     fn status(&mut self, name: HandleName) -> Outcome
-        ensures shown { IfCommitted result (λ tid. self.new.client.shown ≡ with_told tid self.old.client.shown) }
+        ensures done { HasStatus (stands_for self.old.slots name) result (record { client = self.old.client; names = self.old.slots }) (record { client = self.new.client; names = self.new.slots }) }
         ensures operations { self.new.client.operations ≡ self.old.client.operations }
     {
-        let (tid, status) = match self.slots.get(name) {
-            Some(Slot::Stopped(ticket)) => (ticket.tid(), self.client.status(ticket)),
-            Some(Slot::Waited(receipt)) => (receipt.tid(), self.client.confirm(receipt)),
-            _ => return Outcome::Skipped,
-        };
-        match status {
-            Status::Committed => Outcome::Committed(tid),
-            Status::Open => Outcome::Open,
+        match self.slots.get(name) {
+            Some(Slot::Stopped(ticket)) => told(ticket.tid(), self.client.status(ticket)),
+            Some(Slot::Waited(receipt)) => told(receipt.tid(), self.client.confirm(receipt)),
+            _ => Outcome::Skipped,
         }
     }
 
     /// Takes the receipt of a committed transaction, which is noted. Of any other nothing is awaited.
     fn wait(&mut self, name: HandleName) -> Outcome
-        ensures shown { IfTransaction result (λ tid. self.new.client.shown ≡ with_told tid self.old.client.shown) }
+        ensures done { HasWaited name (stands_for self.old.slots name) result (record { client = self.old.client; names = self.old.slots }) (record { client = self.new.client; names = self.new.slots }) }
         ensures operations { self.new.client.operations ≡ self.old.client.operations }
     {
         match self.slots.take(name) {
-            Slot::Stopped(ticket) => self.wait_for(name, ticket),
+            Slot::Stopped(ticket) => {
+                let (outcome, slot) = self.wait_for(ticket);
+                self.slots.put(name, slot);
+                outcome
+            }
             Slot::Waited(receipt) => {
                 let outcome = self.wait_again(&receipt);
                 self.slots.put(name, Slot::Waited(receipt));
@@ -463,10 +415,10 @@ impl<'a, D: Device + Drop, H: HomeFact> Interpreter<'a, D, H> {
     /// What is told of a receipt that was taken before: its transaction, which is noted again, or what the journal answers of
     /// every ticket once it is aborted.
     fn wait_again(&mut self, receipt: &Receipt) -> Outcome
-        ensures shown { IfTransaction result (λ tid. self.new.client.shown ≡ with_told tid self.old.client.shown) }
-        ensures operations { self.new.client.operations ≡ self.old.client.operations }
+        ensures done { TellsAgain receipt.now.tid result self.old.client self.new.client }
+        ensures slots { self.new.slots ≡ self.old.slots }
     {
-        if self.aborted {
+        if self.client.is_aborted() {
             return Outcome::Refused(JournalError::Aborted);
         }
         match self.client.confirm(receipt) {
@@ -475,58 +427,39 @@ impl<'a, D: Device + Drop, H: HomeFact> Interpreter<'a, D, H> {
         }
     }
 
-    /// Takes the receipt for a ticket, where its transaction is committed.
-    fn wait_for(&mut self, name: HandleName, ticket: Ticket) -> Outcome
-        ensures shown { IfTransaction result (λ tid. self.new.client.shown ≡ with_told tid self.old.client.shown) }
-        ensures operations { self.new.client.operations ≡ self.old.client.operations }
+    /// Takes the receipt for a ticket, where its transaction is committed. What its name stands for then comes back too.
+    fn wait_for(&mut self, ticket: Ticket) -> (Outcome, Slot)
+        ensures done { WaitsFor ticket result.0 result.1 self.old.client self.new.client }
+        ensures slots { self.new.slots ≡ self.old.slots }
     {
         match self.client.wait(ticket) {
             Waited::Committed(receipt) => {
-                let tid = receipt.tid();
-                self.slots.put(name, Slot::Waited(receipt));
-                Outcome::Transaction(tid)
+                (Outcome::Transaction(receipt.tid()), Slot::Waited(receipt))
             }
-            Waited::Open(ticket) => {
-                self.slots.put(name, Slot::Stopped(ticket));
-                Outcome::Open
-            }
-            Waited::Refused(ticket, e) => {
-                self.slots.put(name, Slot::Stopped(ticket));
-                Outcome::Refused(e)
-            }
+            Waited::Open(ticket) => (Outcome::Open, Slot::Stopped(ticket)),
+            Waited::Refused(ticket, e) => (Outcome::Refused(e), Slot::Stopped(ticket)),
         }
     }
 
     /// Writes these bytes directly, with zeros behind them.
     fn write_direct(&mut self, block: BlockNo, bytes: &[u8]) -> Outcome
         requires { IsDirectOf self.old.client.operations block }
-        ensures done { result ≡ Done → WritesDirectly D.state block bytes.now self.old.client.journal self.new.client.journal }
-        ensures operations { self.new.client.operations ≡ self.old.client.operations }
+        ensures rest { IsSameButJournal self.old.client self.new.client }
+        ensures done { WritesDirectly D.state block bytes.now result self.old.client.journal self.new.client.journal }
+        ensures slots { self.new.slots ≡ self.old.slots }
     {
-        match self.write_block_directly(block, bytes) {
-            Ok(()) => Outcome::Done,
-            Err(e) => Outcome::Refused(e),
+        match block_of(self.alloc, self.client.block_size(), bytes) {
+            Ok(whole) => done_or_refused(self.client.write_direct(block, &whole)),
+            Err(_) => Outcome::Refused(JournalError::Memory),
         }
-    }
-
-    /// Writes a block of these bytes directly, with zeros behind them.
-    fn write_block_directly(&mut self, block: BlockNo, bytes: &[u8]) -> Result<(), JournalError>
-        requires { IsDirectOf self.old.client.operations block }
-        ensures done { OnOk result (WritesDirectly D.state block bytes.now self.old.client.journal self.new.client.journal) }
-        ensures operations { self.new.client.operations ≡ self.old.client.operations }
-    {
-        let whole = block_of(self.alloc, self.client.block_size(), bytes)?;
-        self.client.write_direct(block, &whole)
     }
 
     /// Makes direct writes durable.
     fn sync_direct(&mut self) -> Outcome
-        ensures done { result ≡ Done → Does D.state self.old.client.journal DirectSync self.new.client.journal }
-        ensures operations { self.new.client.operations ≡ self.old.client.operations }
+        ensures rest { IsSameButJournal self.old.client self.new.client }
+        ensures done { SyncsDirectly D.state result self.old.client.journal self.new.client.journal }
+        ensures slots { self.new.slots ≡ self.old.slots }
     {
-        match self.client.sync_direct() {
-            Ok(()) => Outcome::Done,
-            Err(e) => Outcome::Refused(e),
-        }
+        done_or_refused(self.client.sync_direct())
     }
 }

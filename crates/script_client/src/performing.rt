@@ -1,7 +1,9 @@
 //! The operations of a script, one after the other.
-ghost use Rattle.std.specs.Prelude.{◌≡◌, IfOk, OnOk};
+ghost use Rattle.std.specs.Prelude.{◌≡◌, ◌↔◌, IfOk, IsTrue, OnOk};
 ghost use Rattle.script_client.specs.declared.performing.Ending.TheVariants.{Close, Stay};
 ghost use Rattle.script_client.specs.Ended.{IsEnded, IsLeftClosed};
+ghost use Rattle.script_client.specs.Outcomes.{HasPerformed, IsLast, PerformsAll, PerformsTo};
+ghost use Rattle.script_client.specs.Shown.{IsLeftOf};
 ghost use Rattle.script_client.specs.Told.{IsLedTo};
 
 use crate::client::{Ended, HomeFact};
@@ -78,14 +80,33 @@ pub fn perform<D: Device + Drop, H: HomeFact>(
     out: &mut impl Write,
 ) -> Result<Performed<D>, Fault>
     requires { D.honest opened.device → H.holds (D.state opened.device).shape (D.state opened.device).disk }
-    ensures { IfOk result (λ performed. D.honest performed.device →
+    ensures led { IfOk result (λ performed. D.honest performed.device →
         IsLedTo H.holds operations.now (D.state performed.device) performed.sealed.items performed.acknowledged) }
+    ensures outcomes { IfOk result (λ performed.
+        HasPerformed D.state D.honest opened operations.now after performed.device performed.sealed.items performed.acknowledged) }
 {
-    let mut interpreter = Interpreter::<D, H>::new(alloc, opened, operations)?;
-    let performed = perform_all(&mut interpreter, operations, after, out);
-    let left = left_of(interpreter);
-    match performed {
-        Ok(()) => Ok(left),
+    match Interpreter::<D, H>::new(alloc, opened, operations) {
+        Ok(interpreter) => perform_by(interpreter, operations, after, out),
+        Err(e) => Err(Fault::Refused(e)),
+    }
+}
+
+/// Performs the operations of an interpreter, and ends the journal.
+fn perform_by<D: Device + Drop, H: HomeFact>(
+    interpreter: Interpreter<'_, D, H>,
+    operations: &[Operation],
+    after: AfterFailure,
+    out: &mut impl Write,
+) -> Result<Performed<D>, Fault>
+    requires { interpreter.client.operations ≡ operations.now }
+    ensures led { IfOk result (λ performed. D.honest performed.device →
+        IsLedTo H.holds operations.now (D.state performed.device) performed.sealed.items performed.acknowledged) }
+    ensures outcomes { IfOk result (λ performed.
+        PerformsTo D.state D.honest (record { client = interpreter.entry.client; names = interpreter.entry.slots }) operations.now after performed.device performed.sealed.items performed.acknowledged) }
+{
+    let mut interpreter = interpreter;
+    match perform_all(&mut interpreter, operations, after, out) {
+        Ok(()) => Ok(left_of(interpreter)),
         Err(e) => Err(Fault::Output(e)),
     }
 }
@@ -225,26 +246,31 @@ fn perform_all<D: Device + Drop, H: HomeFact>(
     out: &mut impl Write,
 ) -> io::Result<()>
     requires { interpreter.old.client.operations ≡ operations.now }
-    ensures { interpreter.new.client.operations ≡ interpreter.old.client.operations }
+    ensures operations { interpreter.new.client.operations ≡ interpreter.old.client.operations }
+    ensures all { OnOk result (PerformsAll D.state D.honest after operations.now
+        (record { client = interpreter.old.client; names = interpreter.old.slots }) (record { client = interpreter.new.client; names = interpreter.new.slots })) }
 {
     for operation in operations {
         let outcome = interpreter.perform(operation);
         writeln!(out, "{operation} = {outcome}")?;
         if is_last(outcome, after) {
-            break;
+            return Ok(());
         }
     }
     Ok(())
 }
 
 /// Whether no operation is performed behind one that came to this.
-fn is_last(outcome: Outcome, after: AfterFailure) -> bool {
+fn is_last(outcome: Outcome, after: AfterFailure) -> bool
+    ensures { IsTrue result ↔ IsLast after outcome }
+{
     after == AfterFailure::End && matches!(outcome, Outcome::Refused(JournalError::Device))
 }
 
 /// What the performed operations leave.
 fn left_of<D: Device + Drop, H: HomeFact>(interpreter: Interpreter<'_, D, H>) -> Performed<D>
-    ensures { D.honest result.device → IsLedTo H.holds interpreter.entry.client.operations (D.state result.device) result.sealed.items result.acknowledged }
+    ensures led { D.honest result.device → IsLedTo H.holds interpreter.entry.client.operations (D.state result.device) result.sealed.items result.acknowledged }
+    ensures left { IsLeftOf interpreter.entry.client result.device result.sealed.items result.acknowledged }
 {
     let (parts, acknowledged) = interpreter.finish();
     Performed {

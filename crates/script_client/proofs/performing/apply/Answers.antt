@@ -1,4 +1,4 @@
-use Rattle.std.proofs.Common.{subst, ◌∙◌, List}
+use Rattle.std.proofs.Common.{◌∙◌, List, subst}
 use Rattle.journal_script.specs.declared.script.Operation.{Operation}
 use Rattle.script_client.specs.Ended.{IsEnded}
 use Rattle.script_client.specs.Told.{IsLedTo}
@@ -9,10 +9,10 @@ pub returns-clause-ended : goal.returns-clause-ended
 returns-clause-ended g c = λ honest.
     let left = c.end_of.result.left in
     subst (λ (operations : List Operation). IsEnded g.H.HomeFact.holds operations (g.D.Device.state left.device) left.sealed.items left.acknowledged)
-    (c.apply_all-applied.ensures ∙ c.in_ok-interpreter.ensures) (c.end_of.ensures.ended honest)
+    (c.apply_all-applied.ensures ∙ c.in_ok-interpreter.ensures.client.operations_are) (c.end_of.ensures.ended honest)
 
 pub returns-clause-stays : goal.returns-clause-stays
-returns-clause-stays g c = λ stay. λ honest.
+returns-clause-stays g c = λ ending honest.
     let left = c.end_of.result.left in
     subst (λ (operations : List Operation). IsLedTo g.H.HomeFact.holds operations (g.D.Device.state left.device) left.sealed.items left.acknowledged)
-    (c.apply_all-applied.ensures ∙ c.in_ok-interpreter.ensures) (c.end_of.ensures.stays stay honest)
+    (c.apply_all-applied.ensures ∙ c.in_ok-interpreter.ensures.client.operations_are) (c.end_of.ensures.stays ending honest)

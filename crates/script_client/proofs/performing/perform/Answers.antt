@@ -1,11 +1,13 @@
-use Rattle.std.proofs.Common.{subst, ◌∙◌, List}
-use Rattle.journal_script.specs.declared.script.Operation.{Operation}
-use Rattle.script_client.specs.Told.{IsLedTo}
+use Rattle.std.proofs.lemmas.Result.{IfOk-weaker}
+use Rattle.script_client.specs.Outcomes.{HasPerformed, PerformsTo}
+use Rattle.script_client.specs.Performed.{Table}
 use Rattle.script_client.proofs.performing.perform.Goals as goal
 
--- of these operations
-pub returns-in-Ok : goal.returns-in-Ok
-returns-in-Ok g c = λ honest.
-    let left = c.left_of-left.result in
-    subst (λ (operations : List Operation). IsLedTo g.H.HomeFact.holds operations (g.D.Device.state left.device) left.sealed.items left.acknowledged)
-    (c.perform_all-performed.ensures ∙ c.in_ok-interpreter.ensures) (c.left_of-left.ensures honest)
+-- from the journal that was just made
+pub returns-in-Ok-clause-outcomes : goal.returns-in-Ok-clause-outcomes
+returns-in-Ok-clause-outcomes g c =
+    let start : Table _ = record { client = c.in-Ok.interpreter.client; names = c.in-Ok.interpreter.slots } in
+    IfOk-weaker c.perform_by.result
+    (λ performed. PerformsTo g.D.Device.state g.D.Device.honest start c.args.operations.now c.args.after performed.device performed.sealed.items performed.acknowledged)
+    (λ performed. HasPerformed g.D.Device.state g.D.Device.honest c.args.opened c.args.operations.now c.args.after performed.device performed.sealed.items performed.acknowledged)
+    (λ performed performs. record { start = start; begun = c.in-Ok.ensures; performs = performs }) c.perform_by.ensures.outcomes

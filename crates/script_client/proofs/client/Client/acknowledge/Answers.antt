@@ -1,5 +1,5 @@
 use Rattle.std.proofs.Common.{sym, subst, ap, ap₂, ◌∙◌}
-use Rattle.std.specs.Prelude.{◌≤◌, max, Some}
+use Rattle.std.specs.Prelude.{◌≤◌, ℕ, max, Option, Some}
 use Rattle.script_client.specs.Told.{ClientValue, with_told}
 use Rattle.script_client.proofs.Telling.{answers}
 use Rattle.script_client.proofs.client.Client.acknowledge.Goals as goal
@@ -16,11 +16,12 @@ invariant_of-self g c = λ honest.
       | in-None w ↦ on (w.self-is ∙ sym (ap (with_told c.args.tid) w.in-None.is))
     ]
 
--- and noted
-pub returns-clause-shown : goal.returns-clause-shown
-returns-clause-shown g c =
+-- and noted, and nothing else has changed
+pub returns : goal.returns
+returns g c =
     rw (← c.self.view_is)
+    (ap (λ (s : Option ℕ). let v : ClientValue _ = record { journal = c.self.inside.journal; operations = c.self.inside.operations.now; shown = s } in v)
     (elim c.match-self.branch [
       | in-Some w ↦ w.self-is ∙ ap Some (w.max.ensures ∙ ap₂ max w.other.view_is w.tid.view_is) ∙ sym (ap (with_told c.args.tid) w.in-Some.is)
       | in-None w ↦ w.self-is ∙ sym (ap (with_told c.args.tid) w.in-None.is)
-    ])
+    ]))

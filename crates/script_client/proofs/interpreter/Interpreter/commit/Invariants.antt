@@ -1,6 +1,13 @@
 use Rattle.std.proofs.Common.{◌≡◌}
+use Rattle.script_client.specs.Performed.{TakesTurn}
+use Rattle.script_client.specs.Shown.{IsSameButJournal}
+use Rattle.script_client.specs.Steps.{Steps}
 use Rattle.script_client.proofs.interpreter.Interpreter.commit.Given as goal
 
--- the operations are the same
+-- turns were taken, and nothing but the journal has changed
 abbrev pub invariant-loop : goal.invariant-loop
-invariant-loop g l = l.self.client.operations ≡ l.fn.self.client.operations
+invariant-loop g l = record {
+  turns : Steps (λ i. TakesTurn g.D.Device.state) l.counter l.fn.self.client.journal l.self.client.journal;
+  rest : IsSameButJournal l.fn.self.client l.self.client;
+  slots : l.self.slots ≡ l.fn.self.slots;
+}

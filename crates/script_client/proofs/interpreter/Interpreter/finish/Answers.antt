@@ -1,11 +1,10 @@
-use Rattle.std.proofs.Common.{subst, List}
+use Rattle.std.proofs.Common.{List, subst}
 use Rattle.journal_script.specs.declared.script.Operation.{Operation}
 use Rattle.script_client.specs.Told.{IsLedTo}
 use Rattle.script_client.proofs.interpreter.Interpreter.finish.Goals as goal
 
--- the operations are the same
-pub returns : goal.returns
-returns g c = λ honest.
+-- of the same operations
+pub returns-clause-led : goal.returns-clause-led
+returns-clause-led g c = λ honest.
     let left = c.finish.result in
-    subst (λ (operations : List Operation). IsLedTo g.H.HomeFact.holds operations (g.D.Device.state left.0.device) left.0.sealed.items left.1) c.into_stopped.ensures
-    (c.finish.ensures honest)
+    subst (λ (operations : List Operation). IsLedTo g.H.HomeFact.holds operations (g.D.Device.state left.0.device) left.0.sealed.items left.1) c.into_stopped.ensures.operations (c.finish.ensures.led honest)

@@ -1,6 +1,10 @@
 use Rattle.std.proofs.Common.{◌≡◌}
+use Rattle.script_client.specs.Shown.{IsLeftOf}
 use Rattle.script_client.proofs.interpreter.Interpreter.into_stopped.Given as goal
 
--- the operations are the same
+-- the operations are the same, and so are the device, what is sealed, and what was shown
 abbrev pub invariant-loop-slot : goal.invariant-loop-slot
-invariant-loop-slot g l = l.client.operations ≡ l.fn.self.client.operations
+invariant-loop-slot g l = record {
+  operations : l.client.operations ≡ l.fn.self.client.operations;
+  left : IsLeftOf l.fn.self.client l.client.journal.device l.client.journal.journal.front.sealed l.client.shown;
+}

@@ -1,0 +1,49 @@
+-- What names stand for behind an operation that takes what one stands for and puts something in its place.
+use Rattle.std.proofs.Common.{◌∙◌, ap, refl}
+use Rattle.std.specs.Prelude.{◌≡◌, ℕ, List, set}
+use Rattle.std.proofs.lemmas.List.{set-get_or, set-set}
+use Rattle.block_device.specs.State.{DeviceState}
+use Rattle.journal_front.specs.Values.{HandleValue}
+use Rattle.group_commit.specs.Values.{TicketValue}
+use Rattle.journal_script.specs.declared.script.Operation.{Operation}
+use Rattle.script_client.specs.declared.outcome.Outcome.{Outcome}
+use Rattle.script_client.specs.declared.slots.Slot.{Slot}
+use Rattle.script_client.specs.declared.slots.Slot.TheVariants.{Empty, Open, Stopped, Waited}
+use Rattle.script_client.specs.Names.{stands_for}
+use Rattle.script_client.specs.Performed.{HasRestarted, HasStopped, HasTouched, HasWaited, Skips, Table}
+
+-- it was taken, and this was put there
+pub put-there : (old taken new : List Slot) (name : ℕ) (slot : Slot) → taken ≡ set old name Empty → new ≡ set taken name slot → new ≡ set old name slot
+put-there old taken new name slot takes puts = puts ∙ ap (λ (names : List Slot). set names name slot) takes ∙ set-set old name Empty slot
+
+-- it was taken, and put back
+pub put-back : (old taken new : List Slot) (name : ℕ) (slot : Slot) → slot ≡ stands_for old name → taken ≡ set old name Empty → new ≡ set taken name slot → new ≡ old
+put-back old taken new name slot is takes puts =
+    put-there old taken new name slot takes puts ∙ ap (λ (s : Slot). set old name s) is ∙ set-get_or old name Empty
+
+module _ {D : Type 0} (state : D → DeviceState) (honest : D → Type 0) (outcome : Outcome) (old new : Table D) (skips : Skips outcome old new) where
+  -- no handle is open there
+  pub else-touched : (operation : Operation) (name : ℕ) (slot : Slot) → ((h : HandleValue) → slot ≡ Open h → ⊥) → HasTouched state honest operation name slot outcome old new
+  else-touched operation name Empty not = skips
+  else-touched operation name (Open h) not = absurd (not h refl)
+  else-touched operation name (Stopped t) not = skips
+  else-touched operation name (Waited t) not = skips
+
+  pub else-restarted : (name credits : ℕ) (slot : Slot) → ((h : HandleValue) → slot ≡ Open h → ⊥) → HasRestarted state name credits slot outcome old new
+  else-restarted name credits Empty not = skips
+  else-restarted name credits (Open h) not = absurd (not h refl)
+  else-restarted name credits (Stopped t) not = skips
+  else-restarted name credits (Waited t) not = skips
+
+  pub else-stopped : (name : ℕ) (slot : Slot) → ((h : HandleValue) → slot ≡ Open h → ⊥) → HasStopped state name slot outcome old new
+  else-stopped name Empty not = skips
+  else-stopped name (Open h) not = absurd (not h refl)
+  else-stopped name (Stopped t) not = skips
+  else-stopped name (Waited t) not = skips
+
+  -- nor does a ticket or a receipt stand there
+  pub else-waited : (name : ℕ) (slot : Slot) → ((t : TicketValue) → slot ≡ Stopped t → ⊥) → ((t : TicketValue) → slot ≡ Waited t → ⊥) → HasWaited name slot outcome old new
+  else-waited name Empty not nor = skips
+  else-waited name (Open h) not nor = skips
+  else-waited name (Stopped t) not nor = absurd (not t refl)
+  else-waited name (Waited t) not nor = absurd (nor t refl)

@@ -1,0 +1,19 @@
+use Rattle.std.proofs.Common.{◌∙◌, ap}
+use Rattle.script_client.specs.Told.{ClientValue}
+use Rattle.script_client.proofs.InOrder.{ends-sealed}
+use Rattle.script_client.proofs.interpreter.Interpreter.into_stopped.Goals as goal
+
+-- the end of a handle changes neither
+pub loop-slot-preserved-in-Open : goal.loop-slot-preserved-in-Open
+loop-slot-preserved-in-Open g c =
+    let left = c.loop-slot.invariant.left in
+    let ends = c.stop.ensures.ends in
+    let rest = c.stop.ensures.rest in
+    record {
+      operations = ap (λ (v : ClientValue _). v.operations) rest ∙ c.loop-slot.invariant.operations;
+      left = record {
+        device_is = ends.device ∙ left.device_is;
+        sealed_is = ends-sealed g.D.Device.state c.in-Open.handle c.loop-slot.client.journal c.stop.new.self.journal ends ∙ left.sealed_is;
+        shown_is = ap (λ (v : ClientValue _). v.shown) rest ∙ left.shown_is;
+      };
+    }

@@ -1,0 +1,29 @@
+use Rattle.std.proofs.Common.{◌∙◌, refl}
+use Rattle.script_client.specs.declared.outcome.Outcome.TheVariants.{Skipped}
+use Rattle.script_client.specs.declared.slots.Slot.TheVariants.{Open}
+use Rattle.script_client.specs.Names.{stands_for}
+use Rattle.script_client.proofs.TakenNames.{else-touched, put-back, put-there}
+use Rattle.script_client.proofs.interpreter.Interpreter.touch.Goals as goal
+
+-- the handle stands there again
+pub returns-in-Open-clause-done : goal.returns-in-Open-clause-done
+returns-in-Open-clause-done g c =
+    rw (← c.in-Open.ensures.slot)
+    (record {
+      left = c.touch_by-outcome.new.handle;
+      touches = c.touch_by-outcome.ensures.done;
+      names =
+          put-there c.args.self.now.slots c.touch_by-outcome.new.self.slots c.put.new.self c.args.name (Open c.touch_by-outcome.new.handle)
+          (c.touch_by-outcome.ensures.slots ∙ c.take.ensures.others) c.put.ensures;
+    })
+
+-- no handle is open there
+pub returns-in_default : goal.returns-in_default
+returns-in_default g c = record {
+  rest = refl;
+  done =
+      else-touched g.D.Device.state g.D.Device.honest Skipped (record { client = c.args.self.now.client; names = c.args.self.now.slots })
+      (record { client = c.args.self.now.client; names = c.put-in_default.new.self })
+      (refl, refl, put-back c.args.self.now.slots c.take.new.self c.put-in_default.new.self c.args.name c.take.result c.take.ensures.slot c.take.ensures.others c.put-in_default.ensures)
+      c.args.operation.now c.args.name (stands_for c.args.self.now.slots c.args.name) (λ h is. c.in_default.not-Open h (c.take.ensures.slot ∙ is));
+}
