@@ -85,7 +85,7 @@ pub fn device_of<C: Contents>(
     files: LogPair,
 ) -> io::Result<FileDevice<C>> {
     let (log, home) = files.into_files();
-    settle(alloc, &log, relied_on(&log)?)?;
+    settle(&log, relied_on(&log)?)?;
     device_over(alloc, contents, log, home)
 }
 
