@@ -1,15 +1,21 @@
 //! The command `apply`, over devices: does the operations of a script over a log in files.
 ghost use Rattle.std.specs.Prelude.{◌≡◌, false, IfOk, IfSome, IsNone, OnOk};
+ghost use Rattle.std.specs.Io.KnownBytes.{Appends};
+ghost use Rattle.journal_model.specs.Disk.{reading};
+ghost use Rattle.log_model.specs.Opening.{super_of};
+ghost use Rattle.block_device.specs.State.{Stays};
 ghost use Rattle.script_client.specs.declared.performing.Ending.TheVariants.{Close, Stay};
 ghost use Rattle.script_client.specs.Ended.{IsEnded, IsLeftClosed};
 ghost use Rattle.script_client.specs.Told.{IsLedTo};
+ghost use Rattle.jbench_commands.specs.Applying.{AreOf, EndsWithNext, SaysNext, closed_line};
 
 use crate::faults::of_run;
 use block_device::{Device, read_block};
 use jbench_logs::logs::{refuse, say_opened};
 use jbench_words::fault::{self, Fault};
 use jbench_words::words::ApplyWords;
-use journal_model::{Area, JournalError, Tid};
+use journal_model::layout::GREATEST_NUMBER;
+use journal_model::{Area, JournalError};
 use journal_script::{Measures, Operation};
 use log_format::Super;
 use recovery::Opened;
@@ -117,7 +123,7 @@ fn apply_script<D: Device + Drop, W: Write + Drop>(
     } else {
         AfterRefusal::End
     };
-    let Applied { left, end } = apply_operations::<D, AnyHome>(
+    let Applied { left, end } = apply_operations::<D, AnyHome, _>(
         alloc,
         opened,
         &operations,
@@ -152,13 +158,11 @@ fn read_operations<D: Device, R: Read + Drop>(
 /// # Errors
 ///
 /// `Device`, `Memory`, and those of its superblock.
-fn measures_of<D: Device>(alloc: Global, device: &mut D) -> Result<Measures, JournalError> {
-    let log_blocks = device.blocks(Area::Log);
-    if log_blocks == 0 {
-        return Err(JournalError::BadLength);
-    }
-    let block = read_block(alloc, device, Area::Log, 0)?;
-    let superblock = Super::read(block.bytes(), log_blocks)?;
+fn measures_of<D: Device>(alloc: Global, device: &mut D) -> Result<Measures, JournalError>
+    ensures measures { IfOk result (λ measures. D.honest device.new → AreOf (D.state device.old) measures) }
+    ensures stays { Stays (D.state device.old) (D.state device.new) }
+{
+    let superblock = read_super(alloc, device)?;
     let uuid = superblock.s_uuid;
     Ok(Measures {
         block_size: device.block_size(),
@@ -166,6 +170,20 @@ fn measures_of<D: Device>(alloc: Global, device: &mut D) -> Result<Measures, Jou
         home_blocks: device.blocks(Area::Home),
         uuid,
     })
+}
+
+/// Reads and tests the superblock.
+fn read_super<D: Device>(alloc: Global, device: &mut D) -> Result<Super, JournalError>
+    ensures fields { IfOk result (λ superblock. D.honest device.new → superblock ≡ super_of (reading (D.state device.old).disk)) }
+    ensures stays { Stays (D.state device.old) (D.state device.new) }
+    ensures honest { D.honest device.new → D.honest device.old }
+{
+    let log_blocks = device.blocks(Area::Log);
+    if log_blocks == 0 {
+        return Err(JournalError::BadLength);
+    }
+    let block = read_block(alloc, device, Area::Log, 0)?;
+    Super::read(block.bytes(), log_blocks)
 }
 
 /// Does operations on a new journal on an opened log, of whose disk `H` is known, and prints a line for each. `after` tells which refused
@@ -177,50 +195,72 @@ fn measures_of<D: Device>(alloc: Global, device: &mut D) -> Result<Measures, Jou
 /// # Errors
 ///
 /// `Memory` where there is none for the journal: nothing was done.
-pub fn apply_operations<D: Device + Drop, H: HomeFact>(
+pub fn apply_operations<D: Device + Drop, H: HomeFact, W: Write>(
     alloc: Global,
     opened: Opened<D>,
     operations: &[Operation],
     after: AfterRefusal,
     ending: Ending,
-    out: &mut impl Write,
+    out: &mut W,
 ) -> Result<Applied<D>, JournalError>
     requires { D.honest opened.device → H.holds (D.state opened.device).shape (D.state opened.device).disk }
     ensures ended { IfOk result (λ applied. D.honest applied.left.device →
         IsEnded H.holds operations.now (D.state applied.left.device) applied.left.sealed.items applied.left.acknowledged) }
     ensures closed { ending ≡ Close → IfOk result (λ applied. OnOk applied.end (D.honest applied.left.device →
         IsLeftClosed (D.state applied.left.device) applied.left.sealed.items)) }
+    ensures says { ending ≡ Close → IfOk result (λ applied. OnOk applied.end (D.honest applied.left.device →
+        EndsWithNext (D.state applied.left.device) (W.contents out.new))) }
     ensures stays { ending ≡ Stay → IfOk result (λ applied. D.honest applied.left.device →
         IsLedTo H.holds operations.now (D.state applied.left.device) applied.left.sealed.items applied.left.acknowledged) }
 {
-    let (first, clean) = (opened.next(), opened.report().clean);
-    let Applied { left, end } = script_client::apply::<D, H>(
-        alloc, opened, operations, after, ending, out,
-    )?;
-    if end.is_err() || ending == Ending::Stay {
-        return Ok(Applied { left, end });
+    let applied = script_client::apply::<D, H>(alloc, opened, operations, after, ending, out)?;
+    if ending == Ending::Stay || applied.end.is_err() {
+        return Ok(applied);
     }
-    match say_closed(next_behind(first, clean, left.sealed.len()), out) {
-        Ok(()) => Ok(Applied { left, end }),
-        Err(e) => Ok(Applied {
-            left,
-            end: Err(script_client::Fault::Output(e)),
-        }),
-    }
+    Ok(say_closed(alloc, applied, out))
 }
 
-/// Says that the journal was closed, and which number the next transaction gets.
-fn say_closed(next: u64, out: &mut impl Write) -> io::Result<()> {
-    writeln!(out, "closed next={next}")
+/// Says which number the next opening of a log that was closed gives the next transaction.
+fn say_closed<D: Device + Drop, W: Write>(
+    alloc: Global,
+    applied: Applied<D>,
+    out: &mut W,
+) -> Applied<D>
+    ensures said { OnOk result.end (D.honest result.left.device → SaysNext (D.state applied.left.device) (W.contents out.old) (W.contents out.new)) }
+    ensures sealed { result.left.sealed ≡ applied.left.sealed }
+    ensures acknowledged { result.left.acknowledged ≡ applied.left.acknowledged }
+    ensures stays { Stays (D.state applied.left.device) (D.state result.left.device) }
+    ensures honest { D.honest result.left.device → D.honest applied.left.device }
+{
+    let Applied { left, end: _ } = applied;
+    let mut left = left;
+    let end = write_closed(alloc, &mut left.device, out);
+    Applied { left, end }
 }
 
-/// The number that the next opening gives the next transaction, once the log was closed with so many transactions, the first of which
-/// had this number: an opening passes over one number. Where there was none the log is as its opening left it: one that was clean gives
-/// the same number again, and one that was recovered says that number itself in its superblock, so the next opening gives the one
-/// behind it.
-fn next_behind(first: Tid, clean: bool, transactions: usize) -> u64 {
-    match (transactions as u64, clean) {
-        (0, true) => u64::from(first.0),
-        (more, _) => u64::from(first.0).saturating_add(more).saturating_add(1),
+/// Reads the superblock of a log that was closed, and writes the line of that.
+fn write_closed<D: Device, W: Write>(
+    alloc: Global,
+    device: &mut D,
+    out: &mut W,
+) -> Result<(), script_client::Fault>
+    ensures said { OnOk result (D.honest device.new → SaysNext (D.state device.old) (W.contents out.old) (W.contents out.new)) }
+    ensures stays { Stays (D.state device.old) (D.state device.new) }
+    ensures honest { D.honest device.new → D.honest device.old }
+{
+    let superblock = read_super(alloc, device)?;
+    write_next(superblock.s_sequence, out)?;
+    Ok(())
+}
+
+/// Writes the line of a close, behind which this number is the greatest of a clean log: the next transaction has the one behind it, where
+/// one is left.
+fn write_next<W: Write>(limit: u32, out: &mut W) -> io::Result<()>
+    ensures { OnOk result (Appends (W.contents out.old) (W.contents out.new) (closed_line limit)) }
+{
+    if limit < GREATEST_NUMBER {
+        writeln!(out, "closed next={}", limit + 1)
+    } else {
+        writeln!(out, "closed next=none")
     }
 }

@@ -1,8 +1,10 @@
 //! The commands `format`, `dump` and `recover`, over devices.
 ghost use Rattle.std.specs.Prelude.{◌≡◌, IfOk, IsOk, OnOk};
+ghost use Rattle.std.specs.Io.KnownBytes.{Appends};
 ghost use Rattle.block_device.specs.State.{Stays};
 ghost use Rattle.jbench_words.specs.declared.fault.Status.TheVariants.{Fine, Refused};
 ghost use Rattle.jbench_logs.specs.Done.{IsMade, IsRecovered};
+ghost use Rattle.jbench_logs.specs.Said.{opened_line};
 
 use crate::reasons::say_why;
 use crate::watched::Watched;
@@ -165,16 +167,25 @@ pub fn refuse<D: Device>(
 }
 
 /// Says what an opening found.
-pub fn say_opened<W: Write>(report: Report, next: Tid, out: &mut W) -> Result<(), Fault> {
+pub fn say_opened<W: Write>(report: Report, next: Tid, out: &mut W) -> Result<(), Fault>
+    ensures { OnOk result (Appends (W.contents out.old) (W.contents out.new) (opened_line report.clean report.ends_at report.transactions next)) }
+{
+    write_opened(report, next, out)?;
+    Ok(())
+}
+
+/// Writes the line of an opening.
+fn write_opened<W: Write>(report: Report, next: Tid, out: &mut W) -> io::Result<()>
+    ensures { OnOk result (Appends (W.contents out.old) (W.contents out.new) (opened_line report.clean report.ends_at report.transactions next)) }
+{
     if report.clean {
-        writeln!(out, "clean next={}", next.0).map_err(Fault::from)
+        writeln!(out, "clean next={}", next.0)
     } else {
         writeln!(
             out,
             "recovered end={} next={} transactions={}",
             report.ends_at, next.0, report.transactions
         )
-        .map_err(Fault::from)
     }
 }
 

@@ -255,7 +255,7 @@ fn logs_that_are_refused_for_good(rt: HostRuntime) -> Result<(), Fail> {
         assert_eq!(rt; other.as_ref().map(String::as_str), None);
     }
     assert!(rt;
-        fs::read(&rt, "damage/home")?.as_slice() == home,
+        fs::read(&rt, "damage/home")?.as_slice() == home.as_slice(),
         "a home area that stays"
     );
     assert!(rt; !fs::exists(&rt, "damage/new")?, "a log beside no home");
