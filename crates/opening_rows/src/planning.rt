@@ -2,6 +2,7 @@
 use crate::told::report_text;
 use format_rows::RowError;
 use format_rows::telling::refusal_text;
+use journal_model::JournalError;
 use log_rows::logs::{device_of, log_of};
 use recovery::{Plan, plan_before_damage, plan_opening};
 use std::alloc::Global;
@@ -10,6 +11,22 @@ use std::alloc::Global;
 fn plan_text(alloc: Global, plan: Plan) -> Result<String, RowError> {
     let told = report_text(alloc, plan.report, u64::from(plan.next.0))?;
     Ok(format!(in alloc; "{told} blocks={}", plan.blocks)?)
+}
+
+/// The line of a plan, and what it would pass over.
+fn plan_in_spite_of(
+    alloc: Global,
+    plan: Plan,
+    stopped_by: Option<JournalError>,
+) -> Result<String, RowError> {
+    let told = plan_text(alloc, plan)?;
+    match stopped_by {
+        Some(e) => {
+            let passed_over = refusal_text(alloc, e)?;
+            Ok(format!(in alloc; "{told}, in spite of {passed_over}")?)
+        }
+        None => Ok(told),
+    }
 }
 
 /// What openings would do. Given: as for `openings`. Found: a line with what `plan_opening` answers, a line with what
@@ -21,12 +38,7 @@ pub fn plans(alloc: Global, given: &str) -> Result<String, RowError> {
         Err(e) => refusal_text(alloc, e)?,
     };
     let before = match plan_before_damage(alloc, &mut device) {
-        Ok((plan, None)) => plan_text(alloc, plan)?,
-        Ok((plan, Some(e))) => {
-            let told = plan_text(alloc, plan)?;
-            let passed_over = refusal_text(alloc, e)?;
-            format!(in alloc; "{told}, in spite of {passed_over}")?
-        }
+        Ok((plan, stopped_by)) => plan_in_spite_of(alloc, plan, stopped_by)?,
         Err(e) => refusal_text(alloc, e)?,
     };
     Ok(format!(in alloc; "{opening}\n{before}\nwrites {}", device.writes())?)
