@@ -22,6 +22,7 @@ COMMANDS = {  # the words of each, and which of them are files
     "sweep": ["SCRIPT"],
     "check": ["SCRIPT"],
     "dump": ["LOG"],
+    "upgrade": ["LOG"],
     "format": ["LOG", "HOME"],
     "recover": ["LOG", "HOME"],
     "apply": ["LOG", "HOME", "SCRIPT"],

@@ -2,12 +2,12 @@
 """Says what openings of logs answer, by the rules of the format alone: a model that shares nothing with the journal.
 
 usage: openings.py FILE.rows ..
-       openings.py --rows KIND SEED COUNT     a file of rows of this kind, one for each of so many random logs
+       openings.py --rows KIND SEED COUNT [wide]     a file of rows of this kind, one for each of so many random logs
 
-Each file has rows of the kind openings, second_openings, opening_calls, recover, changed_bytes or random_logs (folder data of
-the crate journal_rows). For each file a line tells how many of its rows want what the model says, and each other row is printed
+Each file has rows of the kind openings, second_openings, opening_calls, recover, upgrade, upgrades, changed_bytes or random_logs
+(folder data of the crate journal_rows). For each file a line tells how many of its rows want what the model says, and each other row is printed
 with both texts. The last row of a file is wrong on purpose, so it has to be among those that are printed. Wanted texts of rows
-with many images come from here. With --rows, KIND is openings, second_openings or opening_calls; all rows of such a file are to
+with many images come from here. With --rows, KIND is openings, second_openings, opening_calls or upgrades; all rows of such a file are to
 hold.
 
 The rules are those of docs/FORMATS.md: bytes, the tests of an opening and their order, reading a log, replay, and device calls.
@@ -18,6 +18,7 @@ import sys
 MAGIC = 0xC03B3998
 DESCRIPTOR, COMMIT, SUPERBLOCK, REVOKE = 1, 2, 4, 5
 GREATEST = 0xFFFFFFF0
+NARROW, WIDE = 1, 3  # s_feature_incompat of a log whose block numbers have 32 bits, and of one where they have 64
 UUID = b"\xaa" * 16
 
 
@@ -30,6 +31,10 @@ def word(block, at):
 
 def has_magic(block):
     return word(block, 0) == MAGIC
+
+
+def is_wide(superblock):
+    return word(superblock, 0x28) == WIDE
 
 
 def refused_superblock(block, area):
@@ -45,7 +50,7 @@ def refused_superblock(block, area):
         return "16 BadLength"
     if first == 0 or maxlen - first < 16:
         return "17 BadFirst"
-    if word(block, 0x24) != 0 or word(block, 0x2C) != 0 or word(block, 0x28) != 1 or word(block, 0x40) != 1:
+    if word(block, 0x24) != 0 or word(block, 0x2C) != 0 or word(block, 0x28) not in (NARROW, WIDE) or word(block, 0x40) != 1:
         return "18 BadFeature"
     if start != 0 and not first <= start < maxlen:
         return "19 BadStart"
@@ -54,28 +59,30 @@ def refused_superblock(block, area):
     return None
 
 
-def tags_of(block, home_blocks):
+def tags_of(block, home_blocks, wide):
     """The tags of a descriptor as pairs of a home block and whether its copy is escaped, or None where it is malformed."""
-    tags, at = [], 12
-    while at + 8 <= len(block):
+    tags, at, size = [], 12, 12 if wide else 8
+    while at + size <= len(block):
         number, flags = word(block, at), word(block, at + 4) & 0xFFFF
+        if wide:
+            number += word(block, at + 8) << 32
         if flags & ~(1 | 2 | 8) or number >= home_blocks:
             return None
         tags.append((number, bool(flags & 1)))
         if flags & 8:
             return tags
-        at += 8 if flags & 2 else 24
+        at += size if flags & 2 else size + 16
         if at > len(block):
             return None
     return None
 
 
-def numbers_of(block, home_blocks):
+def numbers_of(block, home_blocks, wide):
     """The numbers of a revoke block, or None where it is malformed."""
-    used = word(block, 12)
-    if used < 16 or used > len(block) or (used - 16) % 4:
+    used, size = word(block, 12), 8 if wide else 4
+    if used < 16 or used > len(block) or (used - 16) % size:
         return None
-    numbers = [word(block, at) for at in range(16, used, 4)]
+    numbers = [int.from_bytes(block[at : at + size], "big") for at in range(16, used, size)]
     return numbers if all(number < home_blocks for number in numbers) else None
 
 
@@ -88,7 +95,7 @@ def scan(log, home_blocks):
     maxlen, first, start = (word(log[0], at) for at in (0x10, 0x14, 0x1C))
     ring = maxlen - first
     place = lambda taken: first + (start - first + taken) % ring
-    due, taken = word(log[0], 0x18), 0
+    due, taken, wide = word(log[0], 0x18), 0, is_wide(log[0])
     copies, revokes, of_due = [], [], ([], [])
     while taken < ring:
         block = log[place(taken)]
@@ -99,13 +106,13 @@ def scan(log, home_blocks):
             copies, revokes = copies + of_due[0], revokes + of_due[1]
             due, taken, of_due = due + 1, taken + 1, ([], [])
         elif kind == REVOKE:
-            numbers = numbers_of(block, home_blocks)
+            numbers = numbers_of(block, home_blocks, wide)
             if numbers is None:
                 raise Refused(f"22 Damage {place(taken)}")
             of_due[1].extend((due, number) for number in numbers)
             taken += 1
         elif kind == DESCRIPTOR:
-            tags = tags_of(block, home_blocks)
+            tags = tags_of(block, home_blocks, wide)
             if tags is None:
                 raise Refused(f"22 Damage {place(taken)}")
             if taken + 1 + len(tags) > ring:
@@ -150,6 +157,23 @@ def opening(log, home_blocks):
     return line, home, len(home) + 1, left
 
 
+# ---- an upgrade
+
+
+def upgrade(log):
+    """What an upgrade of these blocks answers, and block 0 behind it, where it is written."""
+    if not log:
+        return "refusal 16 BadLength", None
+    refusal = refused_superblock(log[0], len(log))
+    if refusal is None and is_wide(log[0]):
+        refusal = "23 AlreadyWide"
+    if refusal is None and word(log[0], 0x1C) != 0:
+        refusal = "24 NotEmpty"
+    if refusal:
+        return f"refusal {refusal}", None
+    return f"upgraded sequence={word(log[0], 0x18)}", log[0][:0x28] + WIDE.to_bytes(4, "big") + log[0][0x2C:]
+
+
 # ---- what rows tell of it
 
 
@@ -185,6 +209,21 @@ def tell_recover(log, home_blocks):
     if line.startswith("refusal"):
         return f"stderr: jbench: {line}\nexit 1"
     return f"{line}\nexit 0"
+
+
+def tell_upgrade(log, _):
+    line = upgrade(log)[0]
+    return f"stderr: jbench: {line}\nexit 1" if line.startswith("refusal") else f"{line}\nexit 0"
+
+
+def tell_upgrades(log, home_blocks):
+    line, written = upgrade(log)
+    told = [line]
+    if written:
+        told += ["flush log", "write log 0", "flush log"]
+        told += [f"block 0 byte {at}: {old:02x} to {new:02x}" for at, (old, new) in enumerate(zip(log[0], written)) if old != new]
+        log = [written] + log[1:]
+    return "\n".join(told + [opening(log, home_blocks)[0]])
 
 
 def name_of(line):
@@ -245,12 +284,12 @@ def words_of(numbers):
     return b"".join(n.to_bytes(4, "big") for n in numbers)
 
 
-def spelled_word(block, text, size, area):
+def spelled_word(block, text, size, area, wide):
     """The bytes of a block with one more word."""
     times, star, behind = text.partition("*")
     if star:
         for _ in range(int(times)):
-            block = spelled_word(block, behind, size, area)
+            block = spelled_word(block, behind, size, area, wide)
         return block
     name, equals, value = text.partition("=")
     if equals and name in HEADERS:
@@ -265,14 +304,20 @@ def spelled_word(block, text, size, area):
         return put(block, FIELDS[name], words_of([number(value)]))
     blocks, slash, flags = text.partition("/")
     if slash:
-        return block + b"".join(words_of([n, int(flags, 16)]) for n in numbers_in(blocks))
+        return block + b"".join(tag_of(n, int(flags, 16), wide) for n in numbers_in(blocks))
     if text == "magic":
         return block + words_of([MAGIC])
     if text == "uuid":
         return block + UUID
     if text == "super":
-        return block + words_of([MAGIC, 4, 0, size, area, 1, 1, 0, 0, 0, 1, 0]) + UUID + words_of([1])
-    return block + words_of(numbers_in(text))
+        features = WIDE if wide else NARROW
+        return block + words_of([MAGIC, 4, 0, size, area, 1, 1, 0, 0, 0, features, 0]) + UUID + words_of([1])
+    return block + b"".join(n.to_bytes(8 if wide else 4, "big") for n in numbers_in(text))
+
+
+def tag_of(number, flags, wide):
+    """A tag without the UUID behind it. In a wide log the higher half of the number stands behind the flags."""
+    return words_of([number % 2**32, flags, number >> 32]) if wide else words_of([number, flags])
 
 
 def numbers_in(text):
@@ -285,29 +330,31 @@ def put(block, at, more):
     return block[:at] + more + block[at + len(more) :]
 
 
-def block_of(text, size, area):
+def block_of(text, size, area, wide):
     words, rest = text.split(), 0
     if words and words[-1].startswith(".."):
         rest = int(words.pop()[2:], 16)
     block = b""
     for each in words:
-        block = spelled_word(block, each, size, area)
+        block = spelled_word(block, each, size, area, wide)
     assert len(block) <= size, text
     return block.ljust(size, bytes([rest]))
 
 
 def log_of(text):
     """The blocks of the log's area that a text spells, and how many blocks home has."""
-    area, home_blocks, size, lines = 33, 64, 1024, text.splitlines()
+    area, home_blocks, size, wide, lines = 33, 64, 1024, False, text.splitlines()
     if lines and lines[0].startswith("device "):
-        shape = dict(pair.split("=") for pair in lines.pop(0).split()[1:])
+        words = lines.pop(0).split()[1:]
+        wide = "wide" in words
+        shape = dict(pair.split("=") for pair in words if pair != "wide")
         area, home_blocks, size = (int(shape.get(name, usual)) for name, usual in
                                    (("log", area), ("home", home_blocks), ("block", size)))
     log = [bytes(size)] * area
     for line in lines:
         first, _, spelled = line.partition(":")
         for i, words in enumerate(spelled.split("|")):
-            log[number(first) + i] = block_of(words, size, area)
+            log[number(first) + i] = block_of(words, size, area, wide)
     return log, home_blocks
 
 
@@ -329,8 +376,8 @@ class Draws:
 
 
 class RandomLog:
-    def __init__(self, draws):
-        self.draws = draws
+    def __init__(self, draws, wide=False):
+        self.draws, self.wide = draws, wide
         self.maxlen = 17 + draws.below(17)
         self.first = 1 + draws.below(self.maxlen - 16)
         self.area = self.maxlen + draws.below(2)
@@ -375,7 +422,7 @@ class RandomLog:
     def draw_copy(self):
         case = self.draws.below(40)
         if case == 0:
-            return f"magic 2 {self.number(self.draws.below(3))}"
+            return f"commit={self.number(self.draws.below(3))}"
         if case < 4:
             return ""
         if case < 8:
@@ -405,7 +452,7 @@ class RandomLog:
 
     def draw_revokes(self, tid):
         count = self.draws.below(4)
-        words = f"revoke={tid} used={16 + 4 * count}"
+        words = f"revoke={tid} used={16 + (8 if self.wide else 4) * count}"
         for _ in range(count):
             words += f" {self.draw_home_block()}"
         self.add(words)
@@ -449,20 +496,21 @@ class RandomLog:
         self.blocks[0] = words
 
     def draw_wrong_field(self):
-        return ["@0=00", "@4=00000003", "s_blocksize=2048", f"s_maxlen={self.area + 1}", "s_first=0", "s_feature_incompat=3",
+        return ["@0=00", "@4=00000003", "s_blocksize=2048", f"s_maxlen={self.area + 1}", "s_first=0", "s_feature_incompat=2",
                 "s_nr_users=2", f"s_start={self.maxlen}", "s_errno=5"][self.draws.below(9)]
 
     def text(self):
-        lines = [f"device log={self.area} home={self.home}"]
+        lines = [f"device log={self.area} home={self.home}" + " wide" * self.wide]
         return "\n".join(lines + [f"{place}: {words}" for place, words in enumerate(self.blocks) if words])
 
 
 def tell_random_logs(given):
-    """Given: `seed=N images=N`."""
-    values = dict(pair.split("=") for pair in given.split())
+    """Given: `seed=N images=N`, and behind it `wide` for logs whose block numbers have 64 bits."""
+    words = given.split()
+    values = dict(pair.split("=") for pair in words if pair != "wide")
     draws, tally = Draws(number(values["seed"])), Tally()
     for _ in range(int(values["images"])):
-        line, _, writes, _ = opening(*log_of(RandomLog(draws).text()))
+        line, _, writes, _ = opening(*log_of(RandomLog(draws, "wide" in words).text()))
         tally.add(name_of(line), writes)
     return tally.text()
 
@@ -499,25 +547,27 @@ TELL = {
     "second_openings": lambda given: tell_second_opening(*log_of(given)),
     "opening_calls": lambda given: tell_opening_calls(*log_of(given)),
     "recover": lambda given: tell_recover(*log_of(given.partition("\n")[2])),
+    "upgrade": lambda given: tell_upgrade(*log_of(given.partition("\n")[2])),
+    "upgrades": lambda given: tell_upgrades(*log_of(given)),
     "changed_bytes": tell_changed_bytes,
     "random_logs": tell_random_logs,
 }
 
 
-def drawn_rows(kind, seed, count):
+def drawn_rows(kind, seed, count, wide):
     """A file with a row for each of so many random logs, as the program that reads rows takes it."""
     draws = Draws(seed)
     lines = [f"# Random logs of seed {seed}, and what the model says of them.", f"rows {kind}"]
     for i in range(count):
-        given = RandomLog(draws).text()
+        given = RandomLog(draws, wide).text()
         lines += ["", f"== log {i}", given, "-->", TELL[kind](given)]
     return "\n".join(lines)
 
 
 def main():
     if sys.argv[1:2] == ["--rows"]:
-        kind, seed, count = sys.argv[2:]
-        print(drawn_rows(kind, int(seed), int(count)))
+        kind, seed, count, *width = sys.argv[2:]
+        print(drawn_rows(kind, int(seed), int(count), width == ["wide"]))
         return
     tell_rows(sys.argv[1:], TELL)
 

@@ -11,11 +11,13 @@ import json
 import sys
 from pathlib import Path
 
-from openings import COMMIT, DESCRIPTOR, MAGIC, REVOKE, SUPERBLOCK, has_magic, numbers_of, opening, tags_of, word, words_of
+from openings import (COMMIT, DESCRIPTOR, MAGIC, NARROW, REVOKE, SUPERBLOCK, WIDE, has_magic, is_wide, numbers_of, opening, tag_of,
+                      tags_of, word, words_of)
 
-DEFAULTS = {"block": 1024, "length": 33, "home": 64, "uuid": "aa" * 16}
-TAGS = {1024: 122, 2048: 250, 4096: 506}
-NUMBERS = {1024: 252, 2048: 508, 4096: 1020}
+DEFAULTS = {"block": 1024, "length": 33, "home": 64, "uuid": "aa" * 16, "wide": False}
+# by whether block numbers have 64 bits, and by the bytes of a block
+TAGS = {False: {1024: 122, 2048: 250, 4096: 506}, True: {1024: 81, 2048: 167, 4096: 337}}
+NUMBERS = {False: {1024: 252, 2048: 508, 4096: 1020}, True: {1024: 126, 2048: 254, 4096: 510}}
 ESCAPED, SAME_UUID, LAST_TAG = 1, 2, 8
 
 
@@ -95,7 +97,8 @@ class Device:
 def formatted(script):
     """The superblock of an empty log."""
     size, length = script["block"], script["length"]
-    fields = words_of([MAGIC, SUPERBLOCK, 0, size, length, 1, 1, 0, 0, 0, 1, 0])
+    features = WIDE if script["wide"] else NARROW
+    fields = words_of([MAGIC, SUPERBLOCK, 0, size, length, 1, 1, 0, 0, 0, features, 0])
     return (fields + bytes.fromhex(script["uuid"]) + words_of([1])).ljust(size, b"\0")
 
 
@@ -103,38 +106,40 @@ def with_start(superblock, sequence, start):
     return superblock[:0x18] + words_of([sequence, start]) + superblock[0x20:]
 
 
-def text_of(tid, entries, size, uuid):
+def text_of(tid, entries, size, uuid, wide):
     """The log blocks of a transaction: revoke blocks, then descriptors, each before its copies, and a commit block."""
-    revoked = [number for number, copy in entries.items() if copy is None]
-    blocks = [revoke_block(tid, revoked[i : i + NUMBERS[size]], size) for i in range(0, len(revoked), NUMBERS[size])]
+    revoked, most = [number for number, copy in entries.items() if copy is None], NUMBERS[wide][size]
+    blocks = [revoke_block(tid, revoked[i : i + most], size, wide) for i in range(0, len(revoked), most)]
     left = [(number, copy) for number, copy in entries.items() if copy is not None]
     while left:
         descriptor, stored, is_last = words_of([MAGIC, DESCRIPTOR, tid]), [], False
         while not is_last:
             number, copy = left.pop(0)
             more = b"" if stored else uuid
-            is_last = not left or size - len(descriptor) - 8 - len(more) < 24
+            tag_bytes = 12 if wide else 8
+            is_last = not left or size - len(descriptor) - tag_bytes - len(more) < tag_bytes + 16
             flags = (SAME_UUID if stored else 0) + (LAST_TAG if is_last else 0) + (ESCAPED if has_magic(copy) else 0)
-            descriptor += words_of([number, flags]) + more
+            descriptor += tag_of(number, flags, wide) + more
             stored.append(bytes(4) + copy[4:] if has_magic(copy) else copy)
         blocks += [descriptor.ljust(size, b"\0")] + stored
     return blocks + [words_of([MAGIC, COMMIT, tid]).ljust(size, b"\0")]
 
 
-def revoke_block(tid, numbers, size):
-    return words_of([MAGIC, REVOKE, tid, 16 + 4 * len(numbers), *numbers]).ljust(size, b"\0")
+def revoke_block(tid, numbers, size, wide):
+    spelled = b"".join(number.to_bytes(8 if wide else 4, "big") for number in numbers)
+    return (words_of([MAGIC, REVOKE, tid, 16 + len(spelled)]) + spelled).ljust(size, b"\0")
 
 
-def need(entries, size):
+def need(entries, size, wide):
     revokes = sum(copy is None for copy in entries.values())
     copies = len(entries) - revokes
-    return copies + -(-copies // TAGS[size]) + -(-revokes // NUMBERS[size]) + 1
+    return copies + -(-copies // TAGS[wide][size]) + -(-revokes // NUMBERS[wide][size]) + 1
 
 
-def capacity(size, ring):
+def capacity(size, ring, wide):
     """The most credits that are held at any time."""
     greatest = 0
-    while greatest + 1 + -(-(greatest + 1) // TAGS[size]) + 1 <= ring // 4:
+    while greatest + 1 + -(-(greatest + 1) // TAGS[wide][size]) + 1 <= ring // 4:
         greatest += 1
     return greatest
 
@@ -160,7 +165,8 @@ class Journal:
         self.device = device
         self.superblock = device.read("log", 0)
         self.ring = device.counts["log"] - 1
-        self.capacity = capacity(device.size, self.ring)
+        self.wide = is_wide(self.superblock)
+        self.capacity = capacity(device.size, self.ring, self.wide)
         self.sealed = []  # number and entries of each
         self.number, self.entries, self.handles, self.is_locked = 2, {}, [], False  # of the running transaction
         self.is_aborted = False  # whether the device has failed
@@ -200,7 +206,7 @@ class Journal:
         handle.left += credits
 
     def test_block(self, number):
-        if number >= self.device.counts["home"] or number >= 2**32:
+        if number >= self.device.counts["home"] or number >= (2**48 if self.wide else 2**32):
             raise Refused("8 BadBlock")
 
     def touch(self, handle, number, copy):
@@ -250,9 +256,9 @@ class Journal:
     def seal(self):
         """Seals the running transaction, and lists the device calls of its commit."""
         device, tid, position = self.device, self.number, self.ends[self.number - 1]
-        if need(self.entries, device.size) > self.ring - (position - self.ends[self.released]):
+        if need(self.entries, device.size, self.wide) > self.ring - (position - self.ends[self.released]):
             raise Refused("11 NeedSpace")
-        *blocks, commit_block = text_of(tid, self.entries, device.size, self.superblock[0x30:0x40])
+        *blocks, commit_block = text_of(tid, self.entries, device.size, self.superblock[0x30:0x40], self.wide)
         if word(self.superblock, 0x1C) == 0:
             self.calls = [(self.write_superblock, tid, self.place(position)), (device.flush, "log")]
         for i, block in enumerate(blocks):
@@ -534,7 +540,8 @@ def open_device(device):
 
 def dump_lines(log):
     size, length, first, due, start = (word(log[0], at) for at in (0x0C, 0x10, 0x14, 0x18, 0x1C))
-    lines = [f"super blocksize={size} maxlen={length} first={first} sequence={due} start={start}"]
+    wide = is_wide(log[0])
+    lines = [f"super blocksize={size} maxlen={length} first={first} sequence={due} start={start}" + " wide" * wide]
     if start == 0:
         return lines + [f"empty sequence={due}"]
     ring, taken, begin, of_due = length - first, 0, due, []
@@ -548,10 +555,10 @@ def dump_lines(log):
             taken, of_due, due = taken + 1, [], due + 1
             continue
         if word(block, 4) == REVOKE:
-            of_due.append(f"{place(taken)} revoke {due} blocks=" + ",".join(map(str, numbers_of(block, 2**32))))
+            of_due.append(f"{place(taken)} revoke {due} blocks=" + ",".join(map(str, numbers_of(block, 2**64, wide))))
             taken += 1
             continue
-        tags = tags_of(block, 2**32)
+        tags = tags_of(block, 2**64, wide)
         if taken + 1 + len(tags) > ring:
             break
         of_due.append(f"{place(taken)} descriptor {due} tags={len(tags)}")

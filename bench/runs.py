@@ -1,11 +1,11 @@
 #!/usr/bin/env -S python3 -B
 """Random scripts for `jbench run`: what it prints has to be, line by line, what a separate model says.
 
-usage: runs.py [--program PATH] [COUNT] [SEED]             runs of so many random scripts (default: 200 from seed 1)
-       runs.py [--program PATH] --sweeps [COUNT] [SEED]    sweeps of such scripts, cut short (default: 40 from seed 1)
+usage: runs.py [--program PATH] [--wide] [COUNT] [SEED]             runs of so many random scripts (default: 200 from seed 1)
+       runs.py [--program PATH] [--wide] --sweeps [COUNT] [SEED]    sweeps of such scripts, cut short (default: 40 from seed 1)
        runs.py [--program PATH] --e2fsck [COUNT] [SEED]    images of such runs, recovered by e2fsck (default: 40 from seed 1)
        runs.py [--program PATH] --kernel [COUNT] [SEED]    the same by the running kernel
-       runs.py --alone [--e2fsck] [COUNT] [SEED]           the model alone, or beside e2fsck, without a program
+       runs.py --alone [--wide | --e2fsck] [COUNT] [SEED]  the model alone, or beside e2fsck, without a program
 
 The model is run_model.py, which shares nothing with the journal. Each script is run to its end, with stops at random writes, and
 one in six with a stop at each write; the writes that an image keeps are drawn too. Of one image in three the opening is stopped as
@@ -15,6 +15,9 @@ leave the model's bytes. One script in twenty is made a bad one, which has to be
 
 The model itself has to keep what is promised of home beyond the verdict: a block that is not its last copy is as home of the image
 had it, and a direct write that was synced stays, until a transaction with an entry of its block is sealed.
+
+With --wide the logs of all scripts have block numbers of 64 bits, and of one in four the home area is so large that it has blocks whose
+numbers need more than 32; such a run has no image in files.
 
 With --sweeps the first operations of each script, which make few enough writes for that, are swept, with their failing calls: what
 `jbench sweep` counts has to be what the model counts.
@@ -42,6 +45,7 @@ from run_model import DEFAULTS, NUMBERS, TAGS, Run, capacity, dump_lines, outcom
 from run_rows import tell_failure_sweep, tell_sweep
 
 TOP = Path(__file__).resolve().parent.parent
+MOST_IMAGE_BLOCKS = 1048576  # of the home area of an image in files
 
 
 # ---- random scripts
@@ -54,25 +58,26 @@ class RandomScript:
              "check": 1, "status": 2, "wait": 2, "direct": 4, "sync": 2, "transaction": 6, "reuse": 1, "extend": 4, "restart": 3}
     STEADY = {"transaction": 20, "read": 2, "commit": 2, "ckturn": 1, "status": 1, "wait": 1, "direct": 4, "sync": 2, "reuse": 3}
 
-    def __init__(self, draw, blocks=None, length=None):
-        self.draw, self.ops = draw, []
+    def __init__(self, draw, blocks=None, length=None, wide=False):
+        self.draw, self.ops, self.wide = draw, [], wide
         self.size = draw.choice((1024,) * 8 + (2048, 4096))
         # how many entries the first transactions have, where they are to fill more than a descriptor or a revoke block
-        wide = self.draw_wide_count() if not length and draw.random() < (0.1 if blocks else 0.03) else 0
-        self.length = length or self.draw_length(wide)
-        self.home = FileSystems.BLOCKS if blocks else 2 * wide if wide else draw.choice((64, 64, 64, 1, 5, 1000))
+        many = self.draw_large_count() if not length and draw.random() < (0.1 if blocks else 0.03) else 0
+        self.length = length or self.draw_length(many)
+        homes = (64, 64, 64, 1, 5, 1000) + (2**32 + 6, 2**40) * wide
+        self.home = FileSystems.BLOCKS if blocks else 2 * many if many else draw.choice(homes)
         self.uuid = draw.choice(("aa" * 16, draw.randbytes(16).hex(), "C03B3998" * 4))
         self.blocks = blocks or self.draw_blocks()
-        self.capacity = capacity(self.size, self.length - 1)
+        self.capacity = capacity(self.size, self.length - 1, wide)
         names = draw.sample(range(10000), draw.choice((1, 2, 3, 5)))
         self.names = dict.fromkeys(names, "new")  # then "open" or "stopped", as if each start were accepted
         self.checks = draw.choice((0, 0.1, 0.1, 0.3))  # how often a round follows a transaction
         self.revokes = draw.choice((0, 0.1, 0.3, 0.5, 0.9, 1))  # how often a transaction revokes a block and does not write it
         self.directs = draw.choice((0, 0, 0.2, 0.5))  # how often a block is written directly between turns
         self.more = draw.choice((0, 0, 0.1, 0.3))  # how often a handle gets further credits or is restarted before an entry
-        for _ in range(draw.choice((1, 2, 5)) if wide else 0):
+        for _ in range(draw.choice((1, 2, 5)) if many else 0):
             revokes = 1 if blocks else draw.choice((0, 0.5, 1))  # other blocks than these may be revoked, and not written
-            self.draw_transaction(self.capacity, draw.sample(range(self.home), wide), revokes)
+            self.draw_transaction(self.capacity, draw.sample(range(self.home), many), revokes)
         self.draw_phrases(self.STEADY if blocks else draw.choice((self.MIXED, self.STEADY)))
 
     def draw_phrases(self, phrases):
@@ -80,15 +85,17 @@ class RandomScript:
         for _ in range(self.draw.choice((3, 10, 30, 60) if self.length < 1000 else (30, 600))):
             getattr(self, "draw_" + self.draw.choices(list(phrases), weights)[0])()
 
-    def draw_length(self, wide):
+    def draw_length(self, many):
         """Blocks of the log: enough of them for transactions of so many entries."""
-        if wide:
-            return 4 * (wide + -(-wide // TAGS[self.size]) + 1) + 1 + self.draw.choice((0, 20, wide))
+        if many:
+            return 4 * (many + -(-many // TAGS[self.wide][self.size]) + 1) + 1 + self.draw.choice((0, 20, many))
         return self.draw.choice((17, 17, 18, 20, 24, 33, 33, 33, 40, 64, 100, self.draw.randrange(17, 300)))
 
     def draw_blocks(self):
         """The home blocks that operations name, few enough that they name the same ones often."""
         blocks = [self.draw.randrange(self.home) for _ in range(self.draw.choice((1, 3, 6, 12)))]
+        if self.home > 2**32:  # blocks at the edge of 32 bits, some of which have the same lower 32 as others
+            blocks += [self.draw.choice((0, 2**32)) + self.draw.randrange(6) for _ in range(6)] + [2**32 - 1, self.home - 1]
         return blocks + [number for number in (self.home, 2**32, 2**64 - 1) if self.draw.random() < 0.1]
 
     def draw_data(self):
@@ -223,14 +230,16 @@ class RandomScript:
             if self.draw.random() < self.directs / 4:
                 self.draw.choice((self.draw_direct, self.draw_sync))()
 
-    def draw_wide_count(self):
+    def draw_large_count(self):
         """About as many entries as a descriptor has tags, or a revoke block numbers."""
-        return self.draw.choice((TAGS, NUMBERS))[self.size] + self.draw.choice((-1, 0, 0, 1, 2))
+        return self.draw.choice((TAGS, NUMBERS))[self.wide][self.size] + self.draw.choice((-1, 0, 0, 1, 2))
 
     def text(self):
         """The script, in which a key that has its default may be missing, and a key may stand twice, of which the last counts."""
         usual = {**DEFAULTS, "ops": [["turn"]]}
         given = {"block": self.size, "length": self.length, "home": self.home, "uuid": self.uuid, "ops": self.ops}
+        if self.wide:
+            given["wide"] = True
         keys = [key for key, value in given.items() if key == "ops" or value != usual[key] or self.draw.random() < 0.3]
         self.draw.shuffle(keys)
         pairs = [(key, given[key]) for key in keys]
@@ -262,8 +271,9 @@ def spoiled(draw, text):
 BAD_VALUES = {
     "block": (0, 512, 1000, 8192, "1024", 1024.0, True, None),
     "length": (0, 16, 1048577, 2**64, -33, 33.0, "33", [33]),
-    "home": (0, 1048577, 64.5, "64", None),
+    "home": (0, 2**40 + 1, 64.5, "64", None),
     "uuid": ("", "aa" * 15, "aa" * 17, "ag" * 16, 7, None),
+    "wide": (0, 1, "true", None, [True]),
     "ops": ({}, "", None, 1, [[]], [["turn"], "turn"], ["turn"], [["turn"]] * 100001),
     "size": (1024,),
     "Block": (1024,),
@@ -366,8 +376,8 @@ def first_difference(expected, found):
 class Comparison:
     """The program, and how often it did what the model says."""
 
-    def __init__(self, program, folder):
-        self.program, self.folder = program, folder
+    def __init__(self, program, folder, wide):
+        self.program, self.folder, self.wide = program, folder, wide
         self.cases, self.answers = Counter(), Counter()
 
     def path(self, name, text=None):
@@ -424,15 +434,18 @@ class Comparison:
 
     def count(self, outcome):
         run, size = outcome.run, outcome.image.size
+        tags, numbers = TAGS[run.journal.wide][size], NUMBERS[run.journal.wide][size]
         sealed = [list(entries.values()) for _, entries in run.journal.sealed]
         self.cases["runs"] += 1
         self.cases["stopped at a write"] += run.device.is_stopped
         self.cases["with a failed call"] += run.journal.is_aborted
         self.cases["opened twice"] += any(line.startswith("reopen") for line in outcome.lines)
         self.cases["over several laps"] += max(run.journal.ends.values()) > run.journal.ring
-        self.cases["with several descriptors"] += any(len(copies) - copies.count(None) > TAGS[size] for copies in sealed)
+        self.cases["with several descriptors"] += any(len(copies) - copies.count(None) > tags for copies in sealed)
         self.cases["with revokes"] += any(None in copies for copies in sealed)
-        self.cases["with several revoke blocks"] += any(copies.count(None) > NUMBERS[size] for copies in sealed)
+        self.cases["with several revoke blocks"] += any(copies.count(None) > numbers for copies in sealed)
+        self.cases["of wide logs"] += run.journal.wide
+        self.cases["with numbers above 32 bits"] += any(number >= 2**32 for _, entries in run.journal.sealed for number in entries)
         self.cases["with direct writes"] += bool(run.journal.direct)
         self.answers["lines"] += len(outcome.lines)
         for line in outcome.lines:
@@ -451,18 +464,20 @@ class Comparison:
 def compare_scripts(comparison, count, seed):
     for each in range(seed, seed + count):
         draw = random.Random(each)
-        text = RandomScript(draw).text()
+        script = RandomScript(draw, wide=comparison.wide)
+        text = script.text()
         if draw.random() < 1 / 20:
             comparison.compare_bad(spoiled(draw, text))
             continue
         comparison.cases["scripts"] += 1
         for options in cases_of(draw, text):
-            comparison.compare(text, options, draw.random() < 1 / 10)
+            comparison.compare(text, options, draw.random() < 1 / 10 and script.home <= MOST_IMAGE_BLOCKS)
 
 
 def compare_sweeps(comparison, count, seed):
     for each in range(seed, seed + count):
-        text = cut_script(RandomScript(random.Random(each), length=random.Random(each).choice((17, 18, 25, 33))).text())
+        length = random.Random(each).choice((17, 18, 25, 33))
+        text = cut_script(RandomScript(random.Random(each), length=length, wide=comparison.wide).text())
         lines = f"sweep {tell_sweep(text)}\nfail {tell_failure_sweep(text)}\n"
         comparison.expect(0, lines, "", ["sweep", comparison.path("script", text), "--fail"], text)
         comparison.cases["sweeps"] += 1
@@ -600,6 +615,8 @@ def main():
         kind, words = Alone, words[1:]
     else:
         subprocess.run([program, "--help"], capture_output=True)
+    wide = words[:1] == ["--wide"]
+    words = words[wide:]
     comparing, usual = compare_scripts, 200
     if words[:1] == ["--sweeps"]:
         comparing, usual, words = compare_sweeps, 40, words[1:]
@@ -609,7 +626,7 @@ def main():
         comparing, usual, words = compare_by(recover_by_kernel, min(FileSystems.JOURNALS)), 40, words[1:]
     count, seed = [int(text) for text in words] + [usual, 1][len(words) :]
     with tempfile.TemporaryDirectory() as folder:
-        comparison = kind(program, Path(folder))
+        comparison = kind(program, Path(folder), wide)
         try:
             comparing(comparison, count, seed)
         except Difference as difference:

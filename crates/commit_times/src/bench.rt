@@ -1,9 +1,13 @@
 //! The command `bench`, over devices.
+ghost use Rattle.std.specs.Prelude.{◌≡◌, ◌≤◌, IfOk, IfSome};
+ghost use Rattle.commit_times.specs.Closed.{IsLeftClosed};
+
 use crate::counted::{Calls, Counted};
 use crate::tally::{Ranked, Tally};
 use crate::work::{Plan, Work};
 use block_device::Device;
-use jbench_words::fault::{self, Fault, Status};
+use group_commit::Ticket;
+use jbench_words::fault::{self, Fault};
 use jbench_words::watch::{Step, Watch};
 use jbench_words::words::BenchWords;
 use journal_model::{Area, JournalError};
@@ -22,8 +26,8 @@ struct Done {
 }
 
 /// Opens the log of a device, commits transactions one by one as the words tell, each with the given number of copies, and closes the journal; then
-/// prints how many there were and how many a second, how long their commits took, and which calls the device got. `path` names the
-/// log's file. `watch` is told of each second. Where the work can't go on one line on `err` says why.
+/// prints how many there were and how many a second, how long their commits took, and which calls the device got. `watch` is told of each
+/// second. The device comes back where all was done, and its journal is closed. Else one line on `err` says why it was not.
 ///
 /// # Errors
 ///
@@ -36,12 +40,17 @@ pub fn bench<D: Device + Drop, C: Clock, H: Watch + Drop, W: Write + Drop, E: Wr
     watch: H,
     out: W,
     err: E,
-) -> io::Result<Status> {
+) -> io::Result<Option<D>>
+    ensures { IfOk result (λ done. IfSome done (λ device. D.honest device → IsLeftClosed (D.state device))) }
+{
     let (mut watch, mut out, mut err) = (watch, out, err);
     match do_and_say(alloc, words, device, clock, &mut watch, &mut out) {
-        Ok(()) => Ok(Status::Fine),
+        Ok(device) => Ok(Some(device)),
         Err(Fault::Output(e)) => Err(e),
-        Err(fault) => fault::refuse(&mut err, words.paths.log, &fault),
+        Err(fault) => {
+            fault::refuse(&mut err, words.paths.log, &fault)?;
+            Ok(None)
+        }
     }
 }
 
@@ -53,11 +62,14 @@ fn do_and_say<D: Device + Drop, C: Clock, H: Watch, W: Write>(
     clock: &C,
     watch: &mut H,
     out: &mut W,
-) -> Result<(), Fault> {
+) -> Result<D, Fault>
+    ensures { IfOk result (λ device. D.honest device → IsLeftClosed (D.state device)) }
+{
     let mut plan = Plan::new(words.copies, device.blocks(Area::Home))?;
     let work = open(alloc, Counted::new(device))?;
     let (done, device) = do_all(alloc, words, work, &mut plan, clock, watch)?;
-    say(words, done, &device, out)
+    say(words, done, &device, out)?;
+    Ok(device.into_device())
 }
 
 /// A journal on the log of a device.
@@ -90,16 +102,21 @@ struct Run<D: Device> {
 }
 
 impl<D: Device + Drop> Run<D> {
-    /// Commits the next transaction.
-    fn commit<C: Clock>(&mut self, plan: &mut Plan, clock: &C) -> Result<(), Fault> {
+    /// Commits the next transaction. The ticket of its handle comes back: it is durable.
+    fn commit<C: Clock>(&mut self, plan: &mut Plan, clock: &C) -> Result<Ticket, Fault>
+        ensures { IfOk result (λ ticket. ticket.tid ≤ self.new.work.journal.journal.front.mark) }
+    {
         let ticket = self.work.change(plan)?;
         let asked = now(clock)?;
         self.work.commit(&ticket)?;
-        self.note(asked, now(clock)?)
+        self.note(asked, now(clock)?)?;
+        Ok(ticket)
     }
 
     /// Notes a commit that was asked for and came at these times.
-    fn note(&mut self, asked: Instant, committed: Instant) -> Result<(), Fault> {
+    fn note(&mut self, asked: Instant, committed: Instant) -> Result<(), Fault>
+        ensures { self.new.work ≡ self.old.work }
+    {
         self.tally.add(committed.duration_since(asked))?;
         self.taken = committed.duration_since(self.begun);
         Ok(())
@@ -114,7 +131,9 @@ fn do_all<D: Device + Drop, C: Clock, H: Watch>(
     plan: &mut Plan,
     clock: &C,
     watch: &mut H,
-) -> Result<(Done, D), Fault> {
+) -> Result<(Done, D), Fault>
+    ensures { IfOk result (λ ended. D.honest ended.1 → IsLeftClosed (D.state ended.1)) }
+{
     let mut run = begin(alloc, work, clock)?;
     do_transactions(&mut run, words, plan, clock, watch)?;
     end(run)
@@ -174,7 +193,9 @@ fn one_more<D: Device + Drop, C: Clock, H: Watch>(
 }
 
 /// Closes the journal.
-fn end<D: Device + Drop>(run: Run<D>) -> Result<(Done, D), Fault> {
+fn end<D: Device + Drop>(run: Run<D>) -> Result<(Done, D), Fault>
+    ensures { IfOk result (λ ended. D.honest ended.1 → IsLeftClosed (D.state ended.1)) }
+{
     let Run {
         work,
         tally,

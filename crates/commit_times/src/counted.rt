@@ -1,5 +1,6 @@
 //! A device that counts its calls by kind.
 ghost use Rattle.std.specs.Prelude.{◌≡◌};
+ghost use Rattle.commit_times.specs.Counting.{calls_on, sum_of, with_call};
 
 use block_device::{Device, DeviceFault};
 use journal_model::Area;
@@ -33,7 +34,9 @@ const FLUSH: Calls = Calls { flushes: 1, ..NONE };
 
 impl Calls {
     /// These and others.
-    fn plus(self, others: Calls) -> Calls {
+    fn plus(self, others: Calls) -> Calls
+        ensures { result ≡ sum_of self others }
+    {
         Calls {
             reads: self.reads.saturating_add(others.reads),
             writes: self.writes.saturating_add(others.writes),
@@ -62,8 +65,22 @@ impl<D> Counted<D> {
         }
     }
 
+    /// The device behind it.
+    pub(crate) fn into_device(self) -> D
+        ensures { result ≡ self.device }
+    {
+        let Counted {
+            device,
+            log: _,
+            home: _,
+        } = self;
+        device
+    }
+
     /// The calls on an area.
-    pub(crate) fn calls(&self, area: Area) -> Calls {
+    pub(crate) fn calls(&self, area: Area) -> Calls
+        ensures { result ≡ calls_on area self.now }
+    {
         match area {
             Area::Log => self.log,
             Area::Home => self.home,
@@ -72,7 +89,8 @@ impl<D> Counted<D> {
 
     /// Counts a call on an area.
     fn count(&mut self, area: Area, call: Calls)
-        ensures { self.new.device ≡ self.old.device }
+        ensures counts { self.new ≡ with_call area call self.old }
+        ensures device { self.new.device ≡ self.old.device }
     {
         match area {
             Area::Log => self.log = self.log.plus(call),

@@ -1,8 +1,9 @@
 //! Durable transactions of one handle each.
-ghost use Rattle.std.specs.Prelude.{◌≤◌, OnOk};
+ghost use Rattle.std.specs.Prelude.{◌≡◌, ◌≤◌, IfOk, OnOk, []};
+ghost use Rattle.commit_times.specs.Closed.{IsLeftClosed};
 
 use block_device::Device;
-use group_commit::{CheckTurn, Handle, Journal, Parts, Seat, Status, Ticket, Turn};
+use group_commit::{CheckTurn, Handle, Journal, Seat, Status, Ticket, Turn};
 use journal_model::{BlockNo, JournalError};
 use rand_core::{Rng, SeedableRng};
 use rand_xoshiro::Xoshiro256PlusPlus;
@@ -148,12 +149,15 @@ impl<D: Device + Drop> Work<D> {
         Err(JournalError::NeedSpace)
     }
 
-    /// Closes the journal. The device comes back.
+    /// Closes the journal: all that was sealed, and the running transaction where a handle has joined it, is home, and the log is clean. The
+    /// device comes back.
     ///
     /// # Errors
     ///
     /// Those of a close.
-    pub(crate) fn close(self) -> Result<D, JournalError> {
+    pub(crate) fn close(self) -> Result<D, JournalError>
+        ensures { IfOk result (λ device. D.honest device → IsLeftClosed (D.state device)) }
+    {
         let Work {
             journal,
             seat: _,
@@ -162,15 +166,17 @@ impl<D: Device + Drop> Work<D> {
         if journal.has_open_handles() {
             return Err(JournalError::NotRunning);
         }
-        device_of(journal.close())
+        closed(journal)
     }
 }
 
-/// The device of a closed journal.
-fn device_of<D: Device + Drop>(
-    closed: Result<Parts<D>, (Parts<D>, JournalError)>,
-) -> Result<D, JournalError> {
-    match closed {
+/// Closes a journal that has no open handle. The device comes back.
+fn closed<D: Device + Drop>(journal: Journal<D>) -> Result<D, JournalError>
+    requires { journal.journal.front.open_handles ≡ [] }
+    ensures { IfOk result (λ device. D.honest device → IsLeftClosed (D.state device)) }
+{
+    journal.recall_invariant();
+    match journal.close() {
         Ok(parts) => Ok(parts.device),
         Err((_, e)) => Err(e),
     }

@@ -70,6 +70,8 @@ impl Contents for UnknownContents {
 /// After a write or a flush that failed each further write and flush answers a fault and makes no call, since the
 /// system may have dropped what it was handed: open the files again to see what is there. A read that fails changes
 /// nothing, and the device goes on.
+///
+/// It may go to another thread, so threads can share a journal over files.
 pub struct FileDevice<C: Contents> {
     contents: PhantomData<C>,
     files: NotedFiles,

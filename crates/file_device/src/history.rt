@@ -17,6 +17,9 @@ impl Model for History {
     ghost also_owns = { λ _. ftrue };
 }
 
+// It owns nothing, so it may go to another thread.
+unsafe impl Send for History {}
+
 /// A call on the file of an area, with its answer. Lengths and places are counted in bytes, places from the beginning of
 /// the file.
 #[derive(Clone, Copy, Drop)]

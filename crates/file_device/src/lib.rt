@@ -17,6 +17,6 @@ mod unmeasured;
 
 pub use device::{Contents, FileDevice, UnknownContents};
 pub use laws::{answers_that_agree_keep_the_premise, what_is_gathered_may_be_lost};
-pub use locks::{Unlocked, lock, lock_shared};
+pub use locks::{ReadLock, Unlocked, WriteLock, lock, lock_shared};
 pub use settling::settle;
 pub use unmeasured::Unmeasured;

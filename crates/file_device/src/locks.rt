@@ -19,6 +19,15 @@ pub enum Unlocked {
     Failed(io::Error),
 }
 
+/// That the lock of a file that is to be written was taken, which `lock` alone says. The lock is the file's opening's: it lasts as long as
+/// that, whatever becomes of this.
+#[derive(Debug, Drop)]
+pub struct WriteLock(());
+
+/// That the lock of a file that is only read was taken, which `lock_shared` alone says. It lasts as the other one does.
+#[derive(Debug, Drop)]
+pub struct ReadLock(());
+
 /// Takes the lock of a file that is to be written: from then on no other opening of the file gets either lock. It does not wait. `Ok`:
 /// the file's opening has the lock, and no other one has any.
 ///
@@ -26,8 +35,9 @@ pub enum Unlocked {
 ///
 /// `Held` where another opening has one of the two locks, `Failed` where the system answers anything else. Nothing is read or
 /// written, and no other opening has lost its lock.
-pub fn lock(file: &File) -> Result<(), Unlocked> {
-    Ok(file.try_lock()?)
+pub fn lock(file: &File) -> Result<WriteLock, Unlocked> {
+    file.try_lock()?;
+    Ok(WriteLock(()))
 }
 
 /// Takes the lock of a file that is only read: from then on no other opening of the file gets the lock of one that is to be written.
@@ -38,8 +48,9 @@ pub fn lock(file: &File) -> Result<(), Unlocked> {
 ///
 /// `Held` where another opening has the lock to write, `Failed` where the system answers anything else. Nothing is read or written,
 /// and no other opening has lost its lock.
-pub fn lock_shared(file: &File) -> Result<(), Unlocked> {
-    Ok(file.try_lock_shared()?)
+pub fn lock_shared(file: &File) -> Result<ReadLock, Unlocked> {
+    file.try_lock_shared()?;
+    Ok(ReadLock(()))
 }
 
 impl fmt::Display for Unlocked {

@@ -1,14 +1,14 @@
 //! Rows of descriptors, revoke blocks and commit blocks, byte for byte.
-ghost use Rattle.std.specs.Prelude.{◌≤◌, length};
-ghost use Rattle.journal_model.specs.Layout.{narrow, numbers_of};
-ghost use Rattle.log_format.specs.Size.{IsBlockSize, most_tags};
+ghost use Rattle.std.specs.Prelude.{◌≡◌, ◌≤◌, length};
+ghost use Rattle.journal_model.specs.Layout.{IsLayout, numbers_of};
+ghost use Rattle.log_format.specs.Size.{most_tags};
 
 use crate::RowError;
-use crate::spelling::{Measures, UUID, block_of};
+use crate::spelling::{Measures, UUID, block_of, layout_in};
 use crate::telling::{
     block_text, bytes_before_zeros, malformed_text, numbers_text, tags_text, text,
 };
-use crate::words::{cut, hex32, number32, series, values};
+use crate::words::{cut, hex32, number32, series, split_width, values};
 use journal_model::{BlockNo, Items, LogLayout};
 use log_format::{CommitBlock, Descriptor, Header, Malformed, RevokeBlock};
 use log_model::Tag;
@@ -18,6 +18,7 @@ use std::alloc::Global;
 pub(crate) const USUAL: Measures = Measures {
     block_size: 1024,
     log_blocks: 33,
+    wide: false,
 };
 
 /// What is told of tags and numbers that no one block has room for.
@@ -89,28 +90,32 @@ fn numbers_of(alloc: Global, words: &str) -> Result<Items<BlockNo>, RowError> {
 }
 
 /// Writes a descriptor, where the tags fit one.
-fn write_tags(block: &mut [u8], sequence: u32, tags: &[Tag]) -> bool
-    requires { IsBlockSize (length block.old) }
+fn write_tags(layout: LogLayout, block: &mut [u8], sequence: u32, tags: &[Tag]) -> bool
+    requires taken { IsLayout layout }
+    requires size { length block.old ≡ layout.block_size }
 {
-    if tags.is_empty() || tags.len() > (block.len() - 44) / 8 {
+    if tags.is_empty() || tags.len() > (block.len() - 44) / layout.tag_bytes() {
         return false;
     }
     let (_, later) = tags.split_at(1);
-    if later.iter().all(|t| t.same_uuid) && tags.iter().all(|t| t.block.0 < 0x1_0000_0000) {
-        Descriptor::write(LogLayout::narrow(block.len()), block, &UUID, sequence, tags);
+    let limit = layout.block_limit();
+    if later.iter().all(|t| t.same_uuid) && tags.iter().all(|t| t.block.0 < limit) {
+        Descriptor::write(layout, block, &UUID, sequence, tags);
         return true;
     }
     false
 }
 
 /// Writes a revoke block, where the numbers fit one.
-fn write_numbers(block: &mut [u8], sequence: u32, numbers: &[BlockNo]) -> bool
-    requires { IsBlockSize (length block.old) }
+fn write_numbers(layout: LogLayout, block: &mut [u8], sequence: u32, numbers: &[BlockNo]) -> bool
+    requires taken { IsLayout layout }
+    requires size { length block.old ≡ layout.block_size }
 {
-    let few = numbers.len() <= (block.len() - 16) / 4;
-    let spelled = numbers.iter().all(|b| b.0 < 0x1_0000_0000);
+    let few = numbers.len() <= (block.len() - 16) / layout.number_bytes;
+    let limit = layout.block_limit();
+    let spelled = numbers.iter().all(|b| b.0 < limit);
     if few && spelled {
-        RevokeBlock::write(LogLayout::narrow(block.len()), block, sequence, numbers);
+        RevokeBlock::write(layout, block, sequence, numbers);
         return true;
     }
     false
@@ -118,8 +123,14 @@ fn write_numbers(block: &mut [u8], sequence: u32, numbers: &[BlockNo]) -> bool
 
 /// Writes the block that some words say: `descriptor=2 9/0008` is a descriptor of sequence 2 with a tag, `revoke=3 7 9` a revoke
 /// block of two home blocks, and `commit=3` a commit block. False where it has no room for the tags or numbers.
-fn write_words(alloc: Global, block: &mut [u8], words: &str) -> Result<bool, RowError>
-    requires { IsBlockSize (length block.old) }
+fn write_words(
+    alloc: Global,
+    layout: LogLayout,
+    block: &mut [u8],
+    words: &str,
+) -> Result<bool, RowError>
+    requires taken { IsLayout layout }
+    requires size { length block.old ≡ layout.block_size }
 {
     let (head, behind) = words.split_once(' ').unwrap_or((words, ""));
     let (name, sequence) = cut(head, "=")?;
@@ -127,11 +138,11 @@ fn write_words(alloc: Global, block: &mut [u8], words: &str) -> Result<bool, Row
     match name {
         "descriptor" => {
             let tags = tags_of(alloc, behind)?;
-            Ok(write_tags(block, sequence, tags.as_slice()))
+            Ok(write_tags(layout, block, sequence, tags.as_slice()))
         }
         "revoke" => {
             let numbers = numbers_of(alloc, behind)?;
-            Ok(write_numbers(block, sequence, numbers.as_slice()))
+            Ok(write_numbers(layout, block, sequence, numbers.as_slice()))
         }
         "commit" => {
             CommitBlock::write(block, sequence);
@@ -141,11 +152,12 @@ fn write_words(alloc: Global, block: &mut [u8], words: &str) -> Result<bool, Row
     }
 }
 
-/// Blocks as they are written. Given: `descriptor=T` and tags, `revoke=T` and numbers, or `commit=T`. Found: the bytes of the
-/// block of 1024 bytes that is written so over bytes ff.
+/// Blocks as they are written. Given: `descriptor=T` and tags, `revoke=T` and numbers, or `commit=T`; behind that `wide` where block
+/// numbers have 64 bits. Found: the bytes of the block of 1024 bytes that is written so over bytes ff.
 pub fn written_blocks(alloc: Global, given: &str) -> Result<String, RowError> {
+    let (words, wide) = split_width(given);
     let mut block = [0xff; 1024];
-    if write_words(alloc, &mut block, given)? {
+    if write_words(alloc, layout_in(1024, wide), &mut block, words)? {
         block_text(alloc, &block)
     } else {
         text(alloc, NO_ROOM)
@@ -153,41 +165,53 @@ pub fn written_blocks(alloc: Global, given: &str) -> Result<String, RowError> {
 }
 
 /// Reads a descriptor, where the block has the header of one.
-fn read_tags(block: &[u8], home_blocks: u64, tags: &mut [Tag]) -> Option<Result<usize, Malformed>>
-    requires size { IsBlockSize (length block.now) }
-    requires room { most_tags (narrow (length block.now)) ≤ length tags.old }
+fn read_tags(
+    layout: LogLayout,
+    block: &[u8],
+    home_blocks: u64,
+    tags: &mut [Tag],
+) -> Option<Result<usize, Malformed>>
+    requires taken { IsLayout layout }
+    requires size { length block.now ≡ layout.block_size }
+    requires room { most_tags layout ≤ length tags.old }
 {
     let header = Header::read(block)?;
     if header.block_type != 1 {
         return None;
     }
-    let layout = LogLayout::narrow(block.len());
-    Some(Descriptor::read(layout, block, home_blocks, tags))
+    Some(Descriptor::read(layout, block, Some(home_blocks), tags))
 }
 
 /// Reads a revoke block, where the block has the header of one.
 fn read_numbers(
+    layout: LogLayout,
     block: &[u8],
     home_blocks: u64,
     numbers: &mut [BlockNo],
 ) -> Option<Result<usize, Malformed>>
-    requires size { IsBlockSize (length block.now) }
-    requires room { numbers_of (narrow (length block.now)) ≤ length numbers.old }
+    requires taken { IsLayout layout }
+    requires size { length block.now ≡ layout.block_size }
+    requires room { numbers_of layout ≤ length numbers.old }
 {
     let header = Header::read(block)?;
     if header.block_type != 5 {
         return None;
     }
-    let layout = LogLayout::narrow(block.len());
-    Some(RevokeBlock::read(layout, block, home_blocks, numbers))
+    Some(RevokeBlock::read(layout, block, Some(home_blocks), numbers))
 }
 
 /// The tags that are read from a block, where it has the header of a descriptor.
-fn told_tags(alloc: Global, block: &[u8], home_blocks: u64) -> Result<Option<String>, RowError>
-    requires { IsBlockSize (length block.now) }
+fn told_tags(
+    alloc: Global,
+    layout: LogLayout,
+    block: &[u8],
+    home_blocks: u64,
+) -> Result<Option<String>, RowError>
+    requires taken { IsLayout layout }
+    requires size { length block.now ≡ layout.block_size }
 {
     let mut tags = [tag(0, 0); 510];
-    match read_tags(block, home_blocks, &mut tags) {
+    match read_tags(layout, block, home_blocks, &mut tags) {
         Some(Ok(count)) => Ok(Some(tags_text(alloc, &tags[..count.min(510)])?)),
         Some(Err(e)) => Ok(Some(malformed_text(alloc, e)?)),
         None => Ok(None),
@@ -195,11 +219,17 @@ fn told_tags(alloc: Global, block: &[u8], home_blocks: u64) -> Result<Option<Str
 }
 
 /// The numbers that are read from a block, where it has the header of a revoke block.
-fn told_numbers(alloc: Global, block: &[u8], home_blocks: u64) -> Result<Option<String>, RowError>
-    requires { IsBlockSize (length block.now) }
+fn told_numbers(
+    alloc: Global,
+    layout: LogLayout,
+    block: &[u8],
+    home_blocks: u64,
+) -> Result<Option<String>, RowError>
+    requires taken { IsLayout layout }
+    requires size { length block.now ≡ layout.block_size }
 {
     let mut numbers = [BlockNo(0); 1020];
-    match read_numbers(block, home_blocks, &mut numbers) {
+    match read_numbers(layout, block, home_blocks, &mut numbers) {
         Some(Ok(count)) => Ok(Some(numbers_text(alloc, &numbers[..count.min(1020)])?)),
         Some(Err(e)) => Ok(Some(malformed_text(alloc, e)?)),
         None => Ok(None),
@@ -207,28 +237,37 @@ fn told_numbers(alloc: Global, block: &[u8], home_blocks: u64) -> Result<Option<
 }
 
 /// What is read from a block, where home has so many blocks.
-fn told(alloc: Global, block: &[u8], home_blocks: u64) -> Result<String, RowError>
-    requires { IsBlockSize (length block.now) }
+fn told(
+    alloc: Global,
+    layout: LogLayout,
+    block: &[u8],
+    home_blocks: u64,
+) -> Result<String, RowError>
+    requires taken { IsLayout layout }
+    requires size { length block.now ≡ layout.block_size }
 {
-    if let Some(tags) = told_tags(alloc, block, home_blocks)? {
+    if let Some(tags) = told_tags(alloc, layout, block, home_blocks)? {
         return Ok(tags);
     }
-    match told_numbers(alloc, block, home_blocks)? {
+    match told_numbers(alloc, layout, block, home_blocks)? {
         Some(numbers) => Ok(numbers),
         None => text(alloc, "neither"),
     }
 }
 
-/// Blocks as they are read. Given: `home=N`, `|`, and a block of 1024 bytes. Found: the tags of a descriptor or the numbers of a
-/// revoke block where home has N blocks, `malformed block`, or `neither` where it is neither of them.
+/// Blocks as they are read. Given: `home=N`, or `home=N wide` where block numbers have 64 bits, `|`, and a block of 1024 bytes. Found:
+/// the tags of a descriptor or the numbers of a revoke block where home has N blocks, `malformed block`, or `neither` where it is
+/// neither of them.
 pub fn read_blocks(alloc: Global, given: &str) -> Result<String, RowError> {
     let (home, words) = cut(given, " | ")?;
+    let (home, wide) = split_width(home);
     let [home_blocks] = values::<1>(home, "home")?;
-    let block = block_of(alloc, &USUAL, words)?;
+    let measures = Measures { wide, ..USUAL };
+    let block = block_of(alloc, &measures, words)?;
     if block.len() != 1024 {
         return Err(RowError::Unread);
     }
-    told(alloc, &block, home_blocks)
+    told(alloc, layout_in(1024, wide), &block, home_blocks)
 }
 
 /// What is read from the block that some words say, as it is told.
@@ -242,33 +281,55 @@ fn words_text(alloc: Global, words: &str) -> Result<String, RowError> {
 }
 
 /// What a full block tells: how many bytes it has before the zeros at its end, and what is read from it.
-fn told_full(alloc: Global, block: &[u8], home_blocks: u64, words: &str) -> Result<String, RowError>
-    requires { IsBlockSize (length block.now) }
+fn told_full(
+    alloc: Global,
+    layout: LogLayout,
+    block: &[u8],
+    home_blocks: u64,
+    words: &str,
+) -> Result<String, RowError>
+    requires taken { IsLayout layout }
+    requires size { length block.now ≡ layout.block_size }
 {
     let bytes = bytes_before_zeros(block);
-    let same = told(alloc, block, home_blocks)? == words_text(alloc, words)?;
+    let same = told(alloc, layout, block, home_blocks)? == words_text(alloc, words)?;
     let read = if same {
         "read as written"
     } else {
         "read otherwise"
     };
-    let below = told(alloc, block, home_blocks.saturating_sub(1))?;
+    let below = told(alloc, layout, block, home_blocks.saturating_sub(1))?;
     Ok(format!(in alloc; "{bytes} bytes, {read}, {below}")?)
 }
 
-/// Full blocks. Given: `block=N home=N`, `|`, and what is written into a block of that many bytes, as `written_blocks` takes it.
+/// Full blocks. Given: `block=N home=N`, or `block=N home=N wide` where block numbers have 64 bits, `|`, and what is written into a
+/// block of that many bytes, as `written_blocks` takes it.
 /// Found: how many bytes it has before the zeros at its end, whether the same is read from it where home has so many blocks,
 /// and what is read where home has one less.
 pub fn full_blocks(alloc: Global, given: &str) -> Result<String, RowError> {
     let (measures, words) = cut(given, " | ")?;
+    let (measures, wide) = split_width(measures);
     let [block_size, home_blocks] = values::<2>(measures, "block home")?;
     if block_size != 1024 && block_size != 2048 && block_size != 4096 {
         return Err(RowError::Unread);
     }
+    let layout = layout_in(block_size as usize, wide);
     let mut block = vec![in alloc; 0xff; block_size as usize]?;
-    if write_words(alloc, &mut block, words)? {
-        told_full(alloc, &block, home_blocks, words)
+    if write_words(alloc, layout, &mut block, words)? {
+        told_full(alloc, layout, &block, home_blocks, words)
     } else {
         text(alloc, NO_ROOM)
+    }
+}
+
+/// Home blocks that a transaction may touch. Given: `home=N block=N`, and `wide` where block numbers have 64 bits. Found: `allowed`
+/// where it may touch this block of a home area of so many, or `refused`.
+pub fn allowed_blocks(alloc: Global, given: &str) -> Result<String, RowError> {
+    let (given, wide) = split_width(given);
+    let [home_blocks, block] = values::<2>(given, "home block")?;
+    if BlockNo(block).is_allowed(layout_in(1024, wide), home_blocks) {
+        text(alloc, "allowed")
+    } else {
+        text(alloc, "refused")
     }
 }

@@ -14,7 +14,7 @@ mod superblocks;
 pub mod telling;
 pub mod words;
 
-pub use blocks::{full_blocks, headers, read_blocks, written_blocks};
+pub use blocks::{allowed_blocks, full_blocks, headers, read_blocks, written_blocks};
 pub use copies::escapes;
 pub use error::RowError;
 pub use rings::{capacities, needs, parts, places, ring_calls};

@@ -1,8 +1,9 @@
 //! Rows of places in the ring, room, and layouts of transactions.
 use crate::RowError;
+use crate::spelling::layout_in;
 use crate::telling::{refusal_text, text};
-use crate::words::{cut, number, values};
-use journal_model::{JournalError, LogLayout};
+use crate::words::{cut, number, split_width, values};
+use journal_model::JournalError;
 use journal_plain::room;
 use log_ring::{Layout, Part, Ring};
 use std::alloc::Global;
@@ -100,50 +101,57 @@ pub fn ring_calls(alloc: Global, given: &str) -> Result<String, RowError> {
     text(alloc, told.as_str().trim_end())
 }
 
-/// The layout of a transaction in blocks of this size.
-fn layout_of(size: u64, copies: u64, revokes: u64) -> Result<Layout, RowError> {
+/// The layout of a transaction in blocks of this size, whose block numbers have 64 bits or 32.
+fn layout_of(size: u64, wide: bool, copies: u64, revokes: u64) -> Result<Layout, RowError> {
     let known = size == 1024 || size == 2048 || size == 4096;
     if !known || copies > 2000 || revokes > 2000 {
         return Err(RowError::Unread);
     }
-    Ok(Layout::new(LogLayout::narrow(size as usize), copies, revokes))
+    Ok(Layout::new(layout_in(size as usize, wide), copies, revokes))
 }
 
 /// How many blocks the ring and the plain program need.
-fn need(size: u64, copies: u64, revokes: u64) -> Result<(u64, usize), RowError> {
+fn need(size: u64, wide: bool, copies: u64, revokes: u64) -> Result<(u64, usize), RowError> {
     let known = size == 1024 || size == 2048 || size == 4096;
     if !known || copies > 2000 || revokes > 2000 {
         return Err(RowError::Unread);
     }
-    let plain = room::need(size as usize, 4, copies as usize, revokes as usize);
-    let layout = LogLayout::narrow(size as usize);
+    let layout = layout_in(size as usize, wide);
+    let plain = room::need(
+        layout.block_size,
+        layout.number_bytes,
+        copies as usize,
+        revokes as usize,
+    );
     Ok((Ring::need(layout, copies, revokes), plain))
 }
 
 /// The most copies, by the layout and by the plain program.
-fn capacity(size: u64, ring: u64) -> Result<(u64, usize), RowError> {
+fn capacity(size: u64, wide: bool, ring: u64) -> Result<(u64, usize), RowError> {
     let known = size == 1024 || size == 2048 || size == 4096;
     if !known || ring < 16 || ring > 1_048_576 {
         return Err(RowError::Unread);
     }
-    let plain = room::capacity(size as usize, 4, ring as usize);
-    let layout = LogLayout::narrow(size as usize);
+    let layout = layout_in(size as usize, wide);
+    let plain = room::capacity(layout.block_size, layout.number_bytes, ring as usize);
     Ok((Layout::capacity(layout, ring), plain))
 }
 
-/// Room of transactions. Given: `block=N copies=N revokes=N`. Found: how many log blocks a transaction with these needs, by the
+/// Room of transactions. Given: `block=N copies=N revokes=N`, and `wide` where block numbers have 64 bits. Found: how many log blocks a transaction with these needs, by the
 /// ring and by the plain program.
 pub fn needs(alloc: Global, given: &str) -> Result<String, RowError> {
+    let (given, wide) = split_width(given);
     let [block_size, copies, revokes] = values::<3>(given, "block copies revokes")?;
-    let (need, plain) = need(block_size, copies, revokes)?;
+    let (need, plain) = need(block_size, wide, copies, revokes)?;
     Ok(format!(in alloc; "{need}, plain {plain}")?)
 }
 
-/// The most copies of a transaction. Given: `block=N ring=N`, the bytes of a block and the blocks of the ring. Found: the most
-/// copies, by the layout and by the plain program.
+/// The most copies of a transaction. Given: `block=N ring=N`, the bytes of a block and the blocks of the ring, and `wide` where block
+/// numbers have 64 bits. Found: the most copies, by the layout and by the plain program.
 pub fn capacities(alloc: Global, given: &str) -> Result<String, RowError> {
+    let (given, wide) = split_width(given);
     let [block_size, ring] = values::<2>(given, "block ring")?;
-    let (capacity, plain) = capacity(block_size, ring)?;
+    let (capacity, plain) = capacity(block_size, wide, ring)?;
     Ok(format!(in alloc; "{capacity}, plain {plain}")?)
 }
 
@@ -162,14 +170,15 @@ fn add_part(told: &mut String, place: u64, part: Part) -> Result<(), RowError> {
     Ok(())
 }
 
-/// Parts of transactions. Given: `block=N copies=N revokes=N from=N to=N`. Found: what each block of such a transaction is, from
-/// the one place, counted from 0, up to the other, as far as it has any, or `none`.
+/// Parts of transactions. Given: `block=N copies=N revokes=N from=N to=N`, and `wide` where block numbers have 64 bits. Found: what
+/// each block of such a transaction is, from the one place, counted from 0, up to the other, as far as it has any, or `none`.
 pub fn parts(alloc: Global, given: &str) -> Result<String, RowError> {
+    let (given, wide) = split_width(given);
     let [block_size, copies, revokes, from, to] = values::<5>(
         given,
         "block copies revokes from to",
     )?;
-    let layout = layout_of(block_size, copies, revokes)?;
+    let layout = layout_of(block_size, wide, copies, revokes)?;
     let mut told = String::new(alloc);
     for place in from..=to.min(layout.blocks() - 1) {
         add_part(&mut told, place, layout.part(place))?;
@@ -189,7 +198,7 @@ pub fn places(alloc: Global, given: &str) -> Result<String, RowError> {
         "first maxlen block copies revokes start at",
     )?;
     let ring = ring_of(first, maxlen)?;
-    let layout = layout_of(block_size, copies, revokes)?;
+    let layout = layout_of(block_size, false, copies, revokes)?;
     if at >= layout.blocks() || start > MOST_POSITION {
         return Err(RowError::Unread);
     }

@@ -10,20 +10,24 @@
 //!       | A ".." B "/" HHHH    such tags of the home blocks A to B
 //!       | B "/" HHHHHHHH       a tag whose checksum field is not zero: it comes first
 //!       | "used=" N            a number of four bytes, as the count in a revoke block
-//!       | N                    a number of four bytes, as a home block's in a revoke block
+//!       | N                    the number of a home block, as in a revoke block: four bytes, in a wide log eight
 //!       | A ".." B             the numbers A to B
 //!       | "magic"              the first four bytes of a log block
 //!       | "uuid"               the journal's UUID: 16 bytes aa
 //!       | "bytes=" HH..        these bytes, as the first ones of a copy
-//!       | "super"              a superblock as it is formatted, with the block size and the length of the log's area
+//!       | "super"              a superblock as it is formatted, with the block size, the length of the log's area and its width
 //!       | FIELD "=" N          this number in a field of the superblock: "s_maxlen=17"
 //!       | "@" P "=" HH..       these bytes from byte P of the block on
 //! ```
 //!
-//! H is a hex digit. A number is spelled in decimal digits, or in hex digits behind `0x`. Every number of more than one byte
+//! A wide log has block numbers of 64 bits: a tag has the higher four bytes of one behind its flags. H is a hex digit. A number is
+//! spelled in decimal digits, or in hex digits behind `0x`. Every number of more than one byte
 //! has its highest byte first. The module `logs` of the crate `log_rows` has the spelling of a log.
+ghost use Rattle.std.specs.Prelude.{◌≡◌, ◌⊎◌};
+
 use crate::RowError;
 use crate::words::{count, hex_byte, hex_bytes, hex32, number32, series};
+use journal_model::LogLayout;
 use std::alloc::Global;
 
 /// The magic.
@@ -42,6 +46,20 @@ pub struct Measures {
     pub block_size: usize,
     /// Blocks of the log's area.
     pub log_blocks: u64,
+    /// Whether block numbers have 64 bits.
+    pub wide: bool,
+}
+
+/// The layout of a log in blocks of this size, whose block numbers have 64 bits or 32.
+pub fn layout_in(block_size: usize, wide: bool) -> LogLayout
+    ensures size { result.block_size ≡ block_size }
+    ensures width { (result.number_bytes ≡ 4) ⊎ (result.number_bytes ≡ 8) }
+{
+    if wide {
+        LogLayout::wide(block_size)
+    } else {
+        LogLayout::narrow(block_size)
+    }
 }
 
 /// The block of the measures that these words spell.
@@ -82,13 +100,13 @@ fn push_one(bytes: &mut Vec<u8>, measures: &Measures, word: &str) -> Result<(), 
         return push_named(bytes, name, value);
     }
     if let Some((blocks, flags)) = word.split_once('/') {
-        return push_tags(bytes, blocks, flags);
+        return push_tags(bytes, measures, blocks, flags);
     }
     match word {
         "magic" => push_number(bytes, MAGIC),
         "uuid" => push_bytes(bytes, &UUID),
         "super" => push_super(bytes, measures),
-        _ => push_numbers(bytes, word),
+        _ => push_numbers(bytes, measures, word),
     }
 }
 
@@ -111,12 +129,12 @@ fn push_header(bytes: &mut Vec<u8>, block_type: u32, sequence: &str) -> Result<(
 }
 
 /// The first and the last number of a series that a block has room for.
-fn short_series(word: &str) -> Result<(u32, u32), RowError> {
+fn short_series(word: &str) -> Result<(u64, u64), RowError> {
     let (first, last) = series(word)?;
     if last.saturating_sub(first) > MOST_BYTES as u64 {
         return Err(RowError::Unread);
     }
-    Ok((narrow(first)?, narrow(last)?))
+    Ok((first, last))
 }
 
 /// A number of four bytes.
@@ -124,31 +142,51 @@ fn narrow(number: u64) -> Result<u32, RowError> {
     u32::try_from(number).ok().ok_or(RowError::Unread)
 }
 
-/// Adds the numbers of a series.
-fn push_numbers(bytes: &mut Vec<u8>, word: &str) -> Result<(), RowError> {
+/// Adds the numbers of a series of home blocks.
+fn push_numbers(bytes: &mut Vec<u8>, measures: &Measures, word: &str) -> Result<(), RowError> {
     let (first, last) = short_series(word)?;
     for number in first..=last {
-        push_number(bytes, number)?;
+        if measures.wide {
+            push_bytes(bytes, &number.to_be_bytes())?;
+        } else {
+            push_number(bytes, narrow(number)?)?;
+        }
     }
     Ok(())
 }
 
-/// Adds tags of a series of home blocks. Their second half is what behind the slash stands.
-fn push_tags(bytes: &mut Vec<u8>, blocks: &str, flags: &str) -> Result<(), RowError> {
+/// Adds tags of a series of home blocks. Behind the lower half of its number each has what stands behind the slash.
+fn push_tags(
+    bytes: &mut Vec<u8>,
+    measures: &Measures,
+    blocks: &str,
+    flags: &str,
+) -> Result<(), RowError> {
     let (first, last) = short_series(blocks)?;
     let flags = hex32(flags)?;
     for block in first..=last {
-        push_number(bytes, block)?;
-        push_number(bytes, flags)?;
+        push_tag(bytes, measures.wide, block, flags)?;
     }
     Ok(())
+}
+
+/// Adds a tag of a home block.
+fn push_tag(bytes: &mut Vec<u8>, wide: bool, block: u64, flags: u32) -> Result<(), RowError> {
+    if wide {
+        push_number(bytes, (block % (1 << 32)) as u32)?;
+        push_number(bytes, flags)?;
+        return push_number(bytes, (block >> 32) as u32);
+    }
+    push_number(bytes, narrow(block)?)?;
+    push_number(bytes, flags)
 }
 
 /// Adds a superblock as it is formatted.
 fn push_super(bytes: &mut Vec<u8>, measures: &Measures) -> Result<(), RowError> {
     let length = narrow(measures.log_blocks)?;
     let block_size = narrow(measures.block_size as u64)?;
-    for number in [MAGIC, 4, 0, block_size, length, 1, 1, 0, 0, 0, 1, 0] {
+    let features = if measures.wide { 3 } else { 1 };
+    for number in [MAGIC, 4, 0, block_size, length, 1, 1, 0, 0, 0, features, 0] {
         push_number(bytes, number)?;
     }
     push_bytes(bytes, &UUID)?;

@@ -3,7 +3,7 @@ use crate::RowError;
 use crate::blocks::USUAL;
 use crate::spelling::{UUID, block_of};
 use crate::telling::{block_text, refusal_text};
-use crate::words::{cut, values};
+use crate::words::{cut, split_width, values};
 use log_format::Super;
 use std::alloc::Global;
 use std::fmt::Write;
@@ -33,9 +33,10 @@ fn fields_text(alloc: Global, fields: &Super) -> Result<String, RowError> {
     Ok(told)
 }
 
-/// Superblocks as they are formatted. Given: `block=N length=N`. Found: the bytes of a block of that size, formatted over bytes
-/// ff for a log of that many blocks.
+/// Superblocks as they are formatted. Given: `block=N length=N`, and `wide` where block numbers have 64 bits. Found: the bytes of a
+/// block of that size, formatted over bytes ff for a log of that many blocks.
 pub fn formatted_superblocks(alloc: Global, given: &str) -> Result<String, RowError> {
+    let (given, wide) = split_width(given);
     let [block_size, length] = values::<2>(given, "block length")?;
     let Ok(length) = u32::try_from(length) else {
         return Err(RowError::Unread);
@@ -44,7 +45,7 @@ pub fn formatted_superblocks(alloc: Global, given: &str) -> Result<String, RowEr
         return Err(RowError::Unread);
     }
     let mut block = vec![in alloc; 0xff; block_size as usize]?;
-    Super::format(&mut block, length, &UUID);
+    Super::format(&mut block, length, &UUID, wide);
     block_text(alloc, &block)
 }
 

@@ -53,6 +53,14 @@ pub fn series(word: &str) -> Result<(u64, u64), RowError> {
     Ok((number(first)?, number(last)?))
 }
 
+/// What stands before a last word `wide`, and whether there is one.
+pub fn split_width(words: &str) -> (&str, bool) {
+    match words.strip_suffix(" wide") {
+        Some(others) => (others, true),
+        None => (words, false),
+    }
+}
+
 /// The next word.
 pub fn next_word<'a>(words: &mut SplitWhitespace<'a>) -> Result<&'a str, RowError> {
     words.next().ok_or(RowError::Unread)

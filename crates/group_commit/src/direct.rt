@@ -23,8 +23,9 @@ impl<D: Device, R: Record> Journal<D, R> {
     ///
     /// # Errors
     ///
-    /// `Aborted` after a device failure; `BadBlock` where home has no such block, or its number is not below 2^32; `NotDirect`
-    /// where the transactions have a copy of the block, or one that is not committed has an entry of it: nothing changes.
+    /// `Aborted` after a device failure; `BadBlock` where home has no such block, or its number is not below 2^32 (in a log with
+    /// numbers of 64 bits 2^48); `NotDirect` where the transactions have a copy of the block, or one that is not committed has
+    /// an entry of it: nothing changes.
     /// `Device` where the device failed: the journal is aborted, and home reads the block as before or as these bytes, and a
     /// stop may leave either.
     /// Source: this project's own, by what journal.rst says of revokes.

@@ -182,8 +182,8 @@ impl<D: Device, R: Record> Journal<D, R> {
     /// # Errors
     ///
     /// Nothing changes. The first that applies of `Aborted` after a device failure, `BadBlock` where home has no such block,
-    /// or its number is not below 2^32, `NoCredit` where the handle is none of this journal's open ones, or at a first touch
-    /// without a credit left, and `Memory`.
+    /// or its number is not below 2^32 (in a log with numbers of 64 bits 2^48), `NoCredit` where the handle is none of this
+    /// journal's open ones, or at a first touch without a credit left, and `Memory`.
     /// Source: journalling.rst (`journal_get_write_access`, `journal_dirty_metadata`).
     pub fn write(
         &mut self,
@@ -228,9 +228,10 @@ impl<D: Device, R: Record> Journal<D, R> {
     /// # Errors
     ///
     /// The first that applies; the buffer stays as it is. `Aborted` after a device failure; `BadBlock` where home has no such
-    /// block, or its number is not below 2^32; `NoCredit` where the handle is none of this journal's open ones; `Revoked` where
-    /// the block's last entry in the transactions that are not committed is a revoke: nothing changes. `Memory` where it ran out
-    /// for the step: the journal stays as it is. `Device` where the device failed: the journal is aborted.
+    /// block, or its number is not below 2^32 (in a log with numbers of 64 bits 2^48); `NoCredit` where the handle is none of
+    /// this journal's open ones; `Revoked` where the block's last entry in the transactions that are not committed is a revoke:
+    /// nothing changes. `Memory` where it ran out for the step: the journal stays as it is. `Device` where the device failed:
+    /// the journal is aborted.
     /// Source: journalling.rst (handles see the running transaction).
     pub fn read(
         &mut self,

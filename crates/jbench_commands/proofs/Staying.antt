@@ -1,15 +1,29 @@
 -- What is left of a journal is left of its device too where that has only been read since.
-use Rattle.std.proofs.Common.{◌≡◌, ℕ, List, Option, true, subst}
+use Rattle.std.proofs.Common.{◌≡◌, ◌∙◌, ◌⊎◌, inl, inr, ℕ, List, Option, true, subst, sym}
 use Rattle.std.proofs.lemmas.Bool.{false≢true}
-use Rattle.std.specs.Prelude.{OnOk, Result, Ok, Err, is_ok}
+use Rattle.std.proofs.lemmas.Result.{on_ok_weaker}
+use Rattle.std.specs.Prelude.{⊤, IsErr, OnOk, Result, Ok, Err, is_ok}
 use Rattle.journal_model.specs.Disk.{Disk, Leaves, Shape, reading}
 use Rattle.journal_model.specs.Transaction.{History}
 use Rattle.block_device.specs.State.{DeviceState, Stays}
 use Rattle.log_model.specs.Opening.{OfClean, super_of}
 use Rattle.journal_script.specs.declared.script.Operation.{Operation}
 use Rattle.log_epochs.proofs.Keeping.{reads-left}
+use Rattle.script_client.specs.declared.fault.Fault.{Fault}
+use Rattle.script_client.specs.declared.performing.Ending.{Ending}
+use Rattle.script_client.specs.declared.performing.Ending.TheVariants.{Close, Stay}
 use Rattle.script_client.specs.Ended.{IsEnded, IsLeftClosed}
-use Rattle.jbench_commands.specs.Applying.{EndsWithNext, SaysNext}
+use Rattle.script_client.specs.Told.{IsLedTo}
+use Rattle.jbench_commands.specs.Applying.{EndsWithNext, SaysBehind, SaysNext}
+use Rattle.jbench_commands.specs.Applying.SaysBehind.{SaysNothing, SaysNumber}
+
+-- a journal is closed or stays
+abbrev IsToClose : Ending → Type 0
+IsToClose Close = ⊤
+IsToClose Stay = ⊥
+
+close-stay : Close ≡ Stay → ⊥
+close-stay same = subst IsToClose same tt
 
 pub ended-stays : {F : Shape → Disk → Type 0} {operations : List Operation} {old new : DeviceState} {sealed : History} {shown : Option ℕ} →
     Stays old new → IsEnded F operations old sealed shown → IsEnded F operations new sealed shown
@@ -46,3 +60,36 @@ says-next {old} {new} {sealed} {before} {written} stays closed says = record {
   before = before;
   said = says.said;
 }
+
+-- what was closed is closed still behind what is said of it
+pub behind-closed : {D : Type 0} {state : D → DeviceState} {honest : D → Type 0} {ending : Ending} {device left : D} {applied end : Result (Unit {0}) Fault} {said written : Option (List ℕ)}
+    (sealed : History) → SaysBehind state honest ending device left applied end said written → ending ≡ Close → Stays (state device) (state left) → (honest left → honest device) →
+    OnOk applied (honest device → IsLeftClosed (state device) sealed) → OnOk end (honest left → IsLeftClosed (state left) sealed)
+behind-closed {D} {state} {honest} {ending} {device} {left} {applied} {end} {said} {written} sealed (SaysNothing why same is text) close stays before closed =
+    subst (λ (r : Result (Unit {0}) Fault). OnOk r (honest left → IsLeftClosed (state left) sealed)) (sym is)
+    (on_ok_weaker applied (λ (f : honest device → IsLeftClosed (state device) sealed). λ now. closed-stays stays (f (before now))) closed)
+behind-closed {D} {state} {honest} {ending} {device} {left} {applied} {end} {said} {written} sealed (SaysNumber is ok says) close stays before closed =
+    on_ok_weaker end (λ _. λ now. closed-stays stays (was-ok applied ok closed (before now))) says
+
+-- the number that is said is that of the next transaction
+pub behind-next : {D : Type 0} {state : D → DeviceState} {honest : D → Type 0} {ending : Ending} {device left : D} {applied end : Result (Unit {0}) Fault} {said written : Option (List ℕ)}
+    (sealed : History) → SaysBehind state honest ending device left applied end said written → ending ≡ Close → Stays (state device) (state left) → (honest left → honest device) →
+    OnOk applied (honest device → IsLeftClosed (state device) sealed) → OnOk end (honest left → EndsWithNext (state left) written)
+behind-next {D} {state} {honest} {ending} {device} {left} {applied} {end} {said} {written} sealed (SaysNothing why same is text) close stays before closed =
+    subst (λ (r : Result (Unit {0}) Fault). OnOk r (honest left → EndsWithNext (state left) written)) (sym is) (none-said applied why close)
+  where
+    none-said : (r : Result (Unit {0}) Fault) → (ending ≡ Stay) ⊎ IsErr r → ending ≡ Close → OnOk r (honest left → EndsWithNext (state left) written)
+    none-said (Err e) why close = tt
+    none-said (Ok v) (inl stay) close = absurd (close-stay (sym close ∙ stay))
+    none-said (Ok v) (inr err) close = absurd (false≢true err)
+behind-next {D} {state} {honest} {ending} {device} {left} {applied} {end} {said} {written} sealed (SaysNumber is ok says) close stays before closed =
+    on_ok_weaker end (λ said_now. λ now. says-next stays (was-ok applied ok closed (before now)) (said_now now)) says
+
+-- what stays is as it was left
+pub behind-stays : {D : Type 0} {state : D → DeviceState} {honest : D → Type 0} {ending : Ending} {device left : D} {applied end : Result (Unit {0}) Fault} {said written : Option (List ℕ)}
+    {F : Shape → Disk → Type 0} {operations : List Operation} {sealed : History} {shown : Option ℕ} →
+    SaysBehind state honest ending device left applied end said written → ending ≡ Stay → IsLedTo F operations (state device) sealed shown → IsLedTo F operations (state left) sealed shown
+behind-stays {D} {state} {honest} {ending} {device} {left} {applied} {end} {said} {written} {F} {operations} {sealed} {shown} (SaysNothing why same is text) stay to =
+    subst (λ (d : _). IsLedTo F operations (state d) sealed shown) (sym same) to
+behind-stays {D} {state} {honest} {ending} {device} {left} {applied} {end} {said} {written} {F} {operations} {sealed} {shown} (SaysNumber is ok says) stay to =
+    absurd (close-stay (sym is ∙ stay))

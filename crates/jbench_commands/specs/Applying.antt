@@ -1,12 +1,24 @@
 -- What an apply takes from its device, and what it says of the log that it closed.
-use Rattle.std.specs.Prelude.{◌≡◌, ℕ, ◌+◌, nat_lt, if◌then◌else◌, List, [], ◌∷◌, ◌++◌, Option, codes}
+use Rattle.std.specs.Prelude.{◌≡◌, ◌⊎◌, ℕ, ◌+◌, ◌==◌, nat_lt, if◌then◌else◌, Bool, true, false, List, [], ◌∷◌, ◌++◌, Option, Result, IsErr, IsOk, OnOk, codes}
 use Rattle.std.specs.Fmt.{decimal}
-use Rattle.std.specs.Io.KnownBytes.{Appends}
+use Rattle.std.specs.Io.KnownBytes.{Appends, Keeps}
 use Rattle.journal_model.specs.Disk.{reading}
+use Rattle.journal_model.specs.Transaction.{History}
 use Rattle.log_model.specs.Dump.{newline}
 use Rattle.log_model.specs.Opening.{HasLimit, greatest_number, super_of}
-use Rattle.block_device.specs.State.{DeviceState}
+use Rattle.log_model.specs.Superblock.{wide_features}
+use Rattle.block_device.specs.State.{DeviceState, Stays}
+use Rattle.journal_world.specs.Opening.{IsOpening}
+use Rattle.recovery.specs.Values.{OpenedValue}
 use Rattle.journal_script.specs.declared.measures.Measures.{Measures}
+use Rattle.journal_script.specs.declared.script.Operation.{Operation}
+use Rattle.jbench_logs.specs.Said.{opened_line}
+use Rattle.script_client.specs.declared.fault.Fault.{Fault}
+use Rattle.script_client.specs.declared.performing.AfterRefusal.{AfterRefusal}
+use Rattle.script_client.specs.declared.performing.AfterRefusal.TheVariants.{End, GoOn}
+use Rattle.script_client.specs.declared.performing.Ending.{Ending}
+use Rattle.script_client.specs.declared.performing.Ending.TheVariants.{Close, Stay}
+use Rattle.script_client.specs.Outcomes.{HasApplied}
 
 -- these are the measures of a device, and of the log that its superblock tells of
 pub record AreOf (state : DeviceState) (m : Measures) : Type 0 where
@@ -14,6 +26,7 @@ pub record AreOf (state : DeviceState) (m : Measures) : Type 0 where
   pub log_blocks : m.log_blocks ≡ (super_of (reading state.disk)).s_maxlen
   pub home_blocks : m.home_blocks ≡ state.shape.home_blocks
   pub uuid : m.uuid ≡ (super_of (reading state.disk)).s_uuid
+  pub wide : m.wide ≡ ((super_of (reading state.disk)).s_feature_incompat == wide_features)
 
 -- the line of a close: the number behind this limit, which the next transaction has, or that none is left
 abbrev pub closed_line : ℕ → List ℕ
@@ -30,3 +43,50 @@ pub record EndsWithNext (state : DeviceState) (written : Option (List ℕ)) : Ty
   pub has_limit : HasLimit state.shape (reading state.disk) limit
   pub before : Option (List ℕ)
   pub said : Appends before written (closed_line limit)
+
+-- how a journal is left, and what comes behind a refused operation, as the words tell
+abbrev pub ending_told : (stay : Bool) → Ending
+ending_told true = Stay
+ending_told false = Close
+
+abbrev pub after_told : (keep_going : Bool) → AfterRefusal
+after_told true = GoOn
+after_told false = End
+
+-- What is said behind the operations. Nothing, where the journal stays or they ended before the last one; else the number of the next
+-- transaction, of the device that the close left.
+pub data SaysBehind {D : Type 0} (state : D → DeviceState) (honest : D → Type 0) (ending : Ending) (device left : D) (applied end : Result (Unit {0}) Fault)
+    (said written : Option (List ℕ)) : Type 0 where
+  SaysNothing : (ending ≡ Stay) ⊎ IsErr applied → left ≡ device → end ≡ applied → written ≡ said → SaysBehind state honest ending device left applied end said written
+  SaysNumber : ending ≡ Close → IsOk applied → OnOk end (honest left → SaysNext (state device) said written) → SaysBehind state honest ending device left applied end said written
+
+-- operations were applied to a journal on an opened log, with their lines; the device has only been read since
+pub record IsOperated {D : Type 0} (state : D → DeviceState) (honest : D → Type 0) (opened : OpenedValue D) (operations : List Operation) (after : AfterRefusal) (ending : Ending)
+    (left : D) (sealed : History) (shown : Option ℕ) (end : Result (Unit {0}) Fault) (before written : Option (List ℕ)) : Type 0 where
+  pub device : D
+  pub applied : Result (Unit {0}) Fault
+  pub said : Option (List ℕ)
+  pub does : HasApplied state honest opened operations after ending device sealed shown applied before said
+  pub stays : Stays (state device) (state left)
+  pub behind : SaysBehind state honest ending device left applied end said written
+
+-- the line of an opening was written, all was done behind it, and reads were honest at the opening where they are now
+pub record IsDoneBehind {D : Type 0} (state : D → DeviceState) (honest : D → Type 0) (opened : OpenedValue D) (operations : List Operation) (after : AfterRefusal) (ending : Ending)
+    (left : D) (sealed : History) (shown : Option ℕ) (before : Option (List ℕ)) : Type 0 where
+  pub begun : Option (List ℕ)
+  pub opening : Appends before begun (opened_line opened.clean opened.ends_at opened.transactions opened.next)
+  pub end : Result (Unit {0}) Fault
+  pub all : IsOk end
+  pub written : Option (List ℕ)
+  pub operated : IsOperated state honest opened operations after ending left sealed shown end begun written
+  pub honest_before : honest left → honest opened.device
+
+-- so it was, of operations of a script, behind an opening of this device that was done; the lines went behind what this writer had
+pub record IsDoneTo {D : Type 0} (state : D → DeviceState) (honest : D → Type 0) (device : D) (after : AfterRefusal) (ending : Ending) (left : D) (sealed : History) (shown : Option ℕ)
+    (contents : Option (List ℕ)) : Type 0 where
+  pub opened : OpenedValue D
+  pub opens : honest opened.device → IsOpening (state device).shape (state device).disk (state opened.device).disk opened.superblock opened.next
+  pub operations : List Operation
+  pub before : Option (List ℕ)
+  pub kept : Keeps contents before
+  pub done : IsDoneBehind state honest opened operations after ending left sealed shown before

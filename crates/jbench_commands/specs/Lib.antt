@@ -1,1 +1,3 @@
 pub mod Applying
+pub mod Making
+pub mod Sweeps

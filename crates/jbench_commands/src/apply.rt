@@ -1,13 +1,14 @@
 //! The command `apply`, over devices: does the operations of a script over a log in files.
 ghost use Rattle.std.specs.Prelude.{◌≡◌, false, IfOk, IfSome, IsNone, OnOk};
-ghost use Rattle.std.specs.Io.KnownBytes.{Appends};
+ghost use Rattle.std.specs.Io.Buffered.{line_writer_contents};
+ghost use Rattle.std.specs.Io.KnownBytes.{Appends, Keeps};
 ghost use Rattle.journal_model.specs.Disk.{reading};
 ghost use Rattle.log_model.specs.Opening.{super_of};
 ghost use Rattle.block_device.specs.State.{Stays};
 ghost use Rattle.script_client.specs.declared.performing.Ending.TheVariants.{Close, Stay};
 ghost use Rattle.script_client.specs.Ended.{IsEnded, IsLeftClosed};
 ghost use Rattle.script_client.specs.Told.{IsLedTo};
-ghost use Rattle.jbench_commands.specs.Applying.{AreOf, EndsWithNext, SaysNext, closed_line};
+ghost use Rattle.jbench_commands.specs.Applying.{AreOf, EndsWithNext, IsDoneBehind, IsDoneTo, IsOperated, SaysBehind, SaysNext, after_told, closed_line, ending_told};
 
 use crate::faults::of_run;
 use block_device::{Device, read_block};
@@ -49,6 +50,8 @@ pub fn apply<D: Device + Drop, R: Read + Drop, W: Write + Drop, E: Write + Drop>
 ) -> io::Result<Option<Performed<D>>>
     ensures closed { words.now.stay ≡ false → IfOk result (λ done. IfSome done (λ left. D.honest left.device →
         IsLeftClosed (D.state left.device) left.sealed.items)) }
+    ensures done { IfOk result (λ done. IfSome done (λ left.
+        IsDoneTo D.state D.honest device (after_told words.now.keep_going) (ending_told words.now.stay) left.device left.sealed.items left.acknowledged (W.contents out))) }
 {
     let (mut device, mut err) = (device, err);
     let prepared = match prepare(alloc, &mut device, script, out) {
@@ -91,7 +94,10 @@ fn prepare<D: Device, R: Read + Drop, W: Write + Drop>(
     device: &mut D,
     script: R,
     out: W,
-) -> Result<Prepared<W>, Fault> {
+) -> Result<Prepared<W>, Fault>
+    ensures out { IfOk result (λ prepared. Keeps (W.contents out) (line_writer_contents W.contents prepared.out)) }
+    ensures stays { Stays (D.state device.old) (D.state device.new) }
+{
     Ok(Prepared {
         operations: read_operations(alloc, device, script)?,
         out: LineWriter::new(alloc, out)?,
@@ -107,28 +113,20 @@ fn apply_script<D: Device + Drop, W: Write + Drop>(
 ) -> Result<Performed<D>, Fault>
     ensures closed { words.now.stay ≡ false → IfOk result (λ left. D.honest left.device →
         IsLeftClosed (D.state left.device) left.sealed.items) }
+    ensures done { IfOk result (λ left. IsDoneBehind D.state D.honest opened prepared.operations.items (after_told words.now.keep_going) (ending_told words.now.stay)
+        left.device left.sealed.items left.acknowledged (line_writer_contents W.contents prepared.out)) }
 {
     let Prepared {
         operations,
         mut out,
     } = prepared;
     say_opened(opened.report(), opened.next(), &mut out)?;
-    let ending = if words.stay {
-        Ending::Stay
-    } else {
-        Ending::Close
-    };
-    let after = if words.keep_going {
-        AfterRefusal::GoOn
-    } else {
-        AfterRefusal::End
-    };
     let Applied { left, end } = apply_operations::<D, AnyHome, _>(
         alloc,
         opened,
         &operations,
-        after,
-        ending,
+        after_of(words.keep_going),
+        ending_of(words.stay),
         &mut out,
     )?;
     match end {
@@ -137,12 +135,32 @@ fn apply_script<D: Device + Drop, W: Write + Drop>(
     }
 }
 
+/// How the journal is left, as the words tell.
+fn ending_of(stay: bool) -> Ending
+    ensures { result ≡ ending_told stay }
+{
+    if stay { Ending::Stay } else { Ending::Close }
+}
+
+/// What comes behind a refused operation, as the words tell.
+fn after_of(keep_going: bool) -> AfterRefusal
+    ensures { result ≡ after_told keep_going }
+{
+    if keep_going {
+        AfterRefusal::GoOn
+    } else {
+        AfterRefusal::End
+    }
+}
+
 /// Reads the operations of a script that agrees with a device.
 fn read_operations<D: Device, R: Read + Drop>(
     alloc: Global,
     device: &mut D,
     script: R,
-) -> Result<Vec<Operation>, Fault> {
+) -> Result<Vec<Operation>, Fault>
+    ensures stays { Stays (D.state device.old) (D.state device.new) }
+{
     let mut text = Vec::new(alloc);
     let mut script = script;
     match script.read_to_end(&mut text) {
@@ -163,12 +181,13 @@ fn measures_of<D: Device>(alloc: Global, device: &mut D) -> Result<Measures, Jou
     ensures stays { Stays (D.state device.old) (D.state device.new) }
 {
     let superblock = read_super(alloc, device)?;
-    let uuid = superblock.s_uuid;
+    let (uuid, wide) = (superblock.s_uuid, superblock.has_wide_numbers());
     Ok(Measures {
         block_size: device.block_size(),
         log_blocks: superblock.s_maxlen,
         home_blocks: device.blocks(Area::Home),
         uuid,
+        wide,
     })
 }
 
@@ -212,12 +231,49 @@ pub fn apply_operations<D: Device + Drop, H: HomeFact, W: Write>(
         EndsWithNext (D.state applied.left.device) (W.contents out.new))) }
     ensures stays { ending ≡ Stay → IfOk result (λ applied. D.honest applied.left.device →
         IsLedTo H.holds operations.now (D.state applied.left.device) applied.left.sealed.items applied.left.acknowledged) }
+    ensures operated { IfOk result (λ applied. IsOperated D.state D.honest opened operations.now after ending applied.left.device applied.left.sealed.items applied.left.acknowledged applied.end
+        (W.contents out.old) (W.contents out.new)) }
+    ensures honest { IfOk result (λ applied. D.honest applied.left.device → D.honest opened.device) }
 {
-    let applied = script_client::apply::<D, H>(alloc, opened, operations, after, ending, out)?;
-    if ending == Ending::Stay || applied.end.is_err() {
-        return Ok(applied);
+    let applied = script_client::apply::<D, H, W>(alloc, opened, operations, after, ending, out)?;
+    Ok(say_end(alloc, ending, applied, out))
+}
+
+/// Says which number comes next, where a journal was closed behind all operations.
+fn say_end<D: Device + Drop, W: Write>(
+    alloc: Global,
+    ending: Ending,
+    applied: Applied<D>,
+    out: &mut W,
+) -> Applied<D>
+    ensures behind { SaysBehind D.state D.honest ending applied.left.device result.left.device applied.end result.end (W.contents out.old) (W.contents out.new) }
+    ensures sealed { result.left.sealed ≡ applied.left.sealed }
+    ensures acknowledged { result.left.acknowledged ≡ applied.left.acknowledged }
+    ensures stays { Stays (D.state applied.left.device) (D.state result.left.device) }
+    ensures honest { D.honest result.left.device → D.honest applied.left.device }
+{
+    match ending {
+        Ending::Stay => applied,
+        Ending::Close => say_close(alloc, applied, out),
     }
-    Ok(say_closed(alloc, applied, out))
+}
+
+/// Says which number comes next, where the close was done.
+fn say_close<D: Device + Drop, W: Write>(
+    alloc: Global,
+    applied: Applied<D>,
+    out: &mut W,
+) -> Applied<D>
+    ensures behind { SaysBehind D.state D.honest Close applied.left.device result.left.device applied.end result.end (W.contents out.old) (W.contents out.new) }
+    ensures sealed { result.left.sealed ≡ applied.left.sealed }
+    ensures acknowledged { result.left.acknowledged ≡ applied.left.acknowledged }
+    ensures stays { Stays (D.state applied.left.device) (D.state result.left.device) }
+    ensures honest { D.honest result.left.device → D.honest applied.left.device }
+{
+    if applied.end.is_err() {
+        return applied;
+    }
+    say_closed(alloc, applied, out)
 }
 
 /// Says which number the next opening of a log that was closed gives the next transaction.

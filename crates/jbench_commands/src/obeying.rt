@@ -1,13 +1,17 @@
 //! Opens the files that the words name, and does what the words tell.
+ghost use Rattle.std.specs.Prelude.{◌≡◌, ◌↔◌, IfOk, IsSome, true};
+ghost use Rattle.jbench_words.specs.declared.fault.Status.TheVariants.{Fine};
+ghost use Rattle.jbench_commands.specs.Making.{KeepsHome};
+
 use crate::image::ImageFiles;
 use crate::progress::Progress;
 use crate::{apply, check, run, sweep};
 use commit_times::bench;
 use file_device::UnknownContents;
 use jbench_logs::{
-    LogFiles, LogPair, RegularFile, Unmade, Unopened, damage, device_of, device_to_read,
-    home_bytes, logs, make_device, make_log_device, open_log, open_or_make_log, open_or_make_pair,
-    open_pair, open_pair_to_read, open_script, open_to_read, plans, show,
+    KeptPair, LogFiles, LogPair, RegularFile, Unmade, Unopened, device_of, device_to_read,
+    home_bytes, logs, make_device, make_log_device, open_log, open_log_to_write, open_or_make_log,
+    open_or_make_pair, open_pair, open_pair_to_read, open_script, open_to_read, recovering, show,
 };
 use jbench_words::fault::{Status, refuse_file};
 use jbench_words::words::{
@@ -31,6 +35,7 @@ pub fn obey<W: Write + Drop, E: Write + Drop>(
         Words::Dump(path) => dump_file(rt, path, out, err),
         Words::Show(path) => show_file(rt, path, out, err),
         Words::Recover(words) => recover_files(rt, words, out, err),
+        Words::Upgrade(path) => upgrade_file(rt, path, out, err),
         Words::Apply(words) => apply_files(rt, words, out, err),
         Words::Bench(words) => bench_files(rt, words, out, err),
     }
@@ -125,25 +130,35 @@ fn format_files<W: Write + Drop, E: Write + Drop>(
     }
 }
 
-/// Opens the files of a log that is to be made, or of one that is made beside a home area that is kept.
-fn open_to_format<'a>(rt: &HostRuntime, words: &FormatWords<'a>) -> Result<LogPair, Unopened<'a>> {
+/// The files of a log that is to be made.
+#[derive(Drop)]
+enum ToMake {
+    /// Both are made anew.
+    Both(LogPair),
+    /// The home area is kept.
+    LogAlone(KeptPair),
+}
+
+/// Opens the files of a log that is to be made, or of one that is made beside a home area that is kept, as the words tell.
+fn open_to_format<'a>(rt: &HostRuntime, words: &FormatWords<'a>) -> Result<ToMake, Unopened<'a>>
+    ensures { IfOk result (λ files. words.now.keep_home ≡ true → KeepsHome files) }
+{
     if words.keep_home {
-        open_or_make_log(rt, words.paths, home_bytes(&words.measures))
-    } else {
-        open_or_make_pair(rt, words.paths, None)
+        let files = open_or_make_log(rt, words.paths, home_bytes(&words.measures))?;
+        return Ok(ToMake::LogAlone(files));
     }
+    Ok(ToMake::Both(open_or_make_pair(rt, words.paths, None)?))
 }
 
 /// Gives these files the lengths of a log that is to be made. A home area that is kept stays as it is.
 fn make_formatted(
     rt: &HostRuntime,
     words: &FormatWords<'_>,
-    files: LogPair,
+    files: ToMake,
 ) -> Result<LogFiles, Unmade> {
-    if words.keep_home {
-        make_log_device(rt.alloc(), &words.measures, files)
-    } else {
-        make_device(rt.alloc(), &words.measures, files)
+    match files {
+        ToMake::Both(files) => make_device(rt.alloc(), &words.measures, files),
+        ToMake::LogAlone(files) => make_log_device(rt.alloc(), &words.measures, files),
     }
 }
 
@@ -179,7 +194,7 @@ fn recover_files<W: Write + Drop, E: Write + Drop>(
     }
 }
 
-/// Opens the log on this device.
+/// Opens the log on this device, or says what that would do.
 fn recover_device<W: Write + Drop, E: Write + Drop>(
     rt: &HostRuntime,
     words: &RecoverWords<'_>,
@@ -187,13 +202,8 @@ fn recover_device<W: Write + Drop, E: Write + Drop>(
     out: W,
     err: E,
 ) -> io::Result<Status> {
-    let (alloc, path) = (rt.alloc(), words.paths.log);
     let progress = Progress::new(rt);
-    let (status, _device) = if words.before_damage {
-        damage::recover_before_damage(alloc, path, device, progress, out, err)?
-    } else {
-        logs::recover(alloc, path, device, progress, out, err)?
-    };
+    let (status, _device) = recovering::recover(rt.alloc(), words, device, progress, out, err)?;
     Ok(status)
 }
 
@@ -210,11 +220,7 @@ fn plan_files<W: Write + Drop, E: Write + Drop>(
         Err(unopened) => return refuse_file(&mut err, unopened.path, unopened.error),
     };
     match device_to_read(rt.alloc(), UnknownContents, files) {
-        Ok(device) => {
-            let progress = Progress::new(rt);
-            let (status, _device) = plans::plan(rt.alloc(), words, device, progress, out, err)?;
-            Ok(status)
-        }
+        Ok(device) => recover_device(rt, words, device, out, err),
         Err(e) => refuse_file(&mut err, words.paths.log, e),
     }
 }
@@ -250,12 +256,19 @@ fn apply_opened<W: Write + Drop, E: Write + Drop>(
     match device_of(rt.alloc(), UnknownContents, files) {
         Ok(device) => {
             let done = apply::apply(rt.alloc(), words, device, script.into_file(), out, err)?;
-            Ok(match done {
-                Some(_) => Status::Fine,
-                None => Status::Refused,
-            })
+            Ok(status_of(&done))
         }
         Err(e) => refuse_file(&mut err, words.paths.log, e),
+    }
+}
+
+/// How a command ended that answers what is left where all was done.
+fn status_of<T>(done: &Option<T>) -> Status
+    ensures { result ≡ Fine ↔ IsSome done.now }
+{
+    match done {
+        Some(_) => Status::Fine,
+        None => Status::Refused,
     }
 }
 
@@ -272,7 +285,11 @@ fn bench_files<W: Write + Drop, E: Write + Drop>(
         Err(unopened) => return refuse_file(&mut err, unopened.path, unopened.error),
     };
     match device_of(rt.alloc(), UnknownContents, files) {
-        Ok(device) => bench::bench(rt.alloc(), words, device, rt, Progress::new(rt), out, err),
+        Ok(device) => {
+            let progress = Progress::new(rt);
+            let done = bench::bench(rt.alloc(), words, device, rt, progress, out, err)?;
+            Ok(status_of(&done))
+        }
         Err(e) => refuse_file(&mut err, words.paths.log, e),
     }
 }
@@ -287,6 +304,20 @@ fn dump_file<W: Write + Drop, E: Write + Drop>(
     let mut err = err;
     match open_log(rt.alloc(), rt, path) {
         Ok(mut device) => logs::dump(rt.alloc(), path, &mut device, out, err),
+        Err(e) => refuse_file(&mut err, path, e),
+    }
+}
+
+/// Gives the empty log in a file block numbers of 64 bits.
+fn upgrade_file<W: Write + Drop, E: Write + Drop>(
+    rt: &HostRuntime,
+    path: &str,
+    out: W,
+    err: E,
+) -> io::Result<Status> {
+    let mut err = err;
+    match open_log_to_write(rt.alloc(), rt, path) {
+        Ok(mut device) => logs::upgrade(rt.alloc(), path, &mut device, out, err),
         Err(e) => refuse_file(&mut err, path, e),
     }
 }

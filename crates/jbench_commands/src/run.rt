@@ -1,16 +1,16 @@
 //! The command `run`: reads a script, and runs it.
-ghost use Rattle.std.specs.Prelude.{◌≡◌, IfErr};
+ghost use Rattle.std.specs.Prelude.{◌≡◌, ◌≤◌, IfErr, IfOk};
 ghost use Rattle.jbench_words.specs.Images.{IsUnmade};
 
 use crate::faults::of_run;
 use block_device::Device;
 use jbench_words::fault::{self, Fault, Status};
 use jbench_words::words::{RunWords, StopWords};
-use journal_script::{Measures, Script};
+use journal_script::{HOMES, Measures, Script};
 use script_run::{Stop, Stops};
 use std::alloc::Global;
 use std::io;
-use std::io::{BufWriter, Read, Write};
+use std::io::{BufWriter, ErrorKind, Read, Write};
 
 /// Runs a script, and prints its lines, the dump of what the stop left, and the verdict on what openings of it give back.
 /// Where it can't go on, one line on `err` says why.
@@ -119,16 +119,21 @@ fn run_buffered<M: MakeImage + Drop, W: Write + Drop>(
 ///
 /// # Errors
 ///
-/// `Fault::ImageFile`: the device can't be made, and nothing was printed. Else those of a run, and of the copy of its image.
-pub fn run_on<M: MakeImage, W: Write>(
+/// `Fault::ImageFile`: the device can't be made, or the home area has more than 1,048,576 blocks, each of which would be copied; and
+/// nothing was printed. Else those of a run, and of the copy of its image.
+pub fn run_on<M: MakeImage + Drop, W: Write>(
     alloc: Global,
     script: &Script,
     stops: &Stops<'_>,
     image: M,
     out: &mut W,
 ) -> Result<bool, Fault>
-    ensures { IfErr result (λ fault. IsUnmade fault → out.new ≡ out.old) }
+    ensures unmade { IfErr result (λ fault. IsUnmade fault → out.new ≡ out.old) }
+    ensures small { IfOk result (λ _. script.now.measures.home_blocks ≤ 1048576) }
 {
+    if script.measures.home_blocks > HOMES.1 {
+        return Err(too_large());
+    }
     match image.make(&script.measures) {
         Ok(mut device) => match script_run::run_copied(alloc, script, stops, &mut device, out) {
             Ok(verdict) => Ok(verdict),
@@ -136,6 +141,16 @@ pub fn run_on<M: MakeImage, W: Write>(
         },
         Err(e) => Err(Fault::of_image(e)),
     }
+}
+
+/// The home area of a script is too large for an image.
+fn too_large() -> Fault
+    ensures { IsUnmade result }
+{
+    Fault::ImageFile(io::Error::new(
+        ErrorKind::InvalidInput,
+        "its home area would have more than 1048576 blocks",
+    ))
 }
 
 /// Reads a script, and runs it. The answer is the verdict.

@@ -1,17 +1,22 @@
 //! The command `sweep`: reads a script, and sweeps it.
+ghost use Rattle.std.specs.Prelude.{IfOk};
+ghost use Rattle.jbench_commands.specs.Sweeps.{HasSwept, HasSweptFailures, HasSweptStops, IsSweptTo};
+
 use crate::faults::of_run;
 use crate::run::read_script;
 use jbench_words::fault::{self, Fault, Status};
 use jbench_words::watch::Watch;
 use jbench_words::words::SweepWords;
+use journal_script::Script;
 use script_sweep::{Counts, FailureCounts, ThisJournal};
 use std::alloc::Global;
 use std::io;
 use std::io::{Read, Write};
 
-/// Runs a script with a stop at each of its writes, opens and judges all that each stop may have left, and prints what was counted.
-/// Where the words say so, each device call of the script then fails in turn: what that leaves is opened and judged too, and a second
-/// line says what was counted. What is false is named on `err`. Where it can't go on, one line on `err` says why.
+/// Runs a script with a stop at each of its writes, opens and judges what each stop may have left, by each choice among its last four
+/// writes, and prints what was counted. Where the words say so, each device call of the script then fails in turn: what that leaves is
+/// opened and judged too, and a second line says what was counted. What is false is named on `err`. Where it can't go on, one line on
+/// `err` says why.
 ///
 /// # Errors
 ///
@@ -23,7 +28,9 @@ pub fn sweep<R: Read + Drop, P: Watch + Drop, W: Write + Drop, E: Write + Drop>(
     watch: P,
     out: W,
     err: E,
-) -> io::Result<Status> {
+) -> io::Result<Status>
+    ensures { IfOk result (IsSweptTo words.now.fails) }
+{
     let (mut watch, mut out, mut err) = (watch, out, err);
     match sweep_script(alloc, words, script, &mut watch, &mut out, &mut err) {
         Ok(0) => Ok(Status::Fine),
@@ -41,19 +48,54 @@ fn sweep_script<R: Read + Drop, W: Write>(
     watch: &mut impl Watch,
     out: &mut W,
     err: &mut impl Write,
-) -> Result<u64, Fault> {
+) -> Result<u64, Fault>
+    ensures { IfOk result (HasSwept words.now.fails) }
+{
     let script = read_script(alloc, script)?;
-    let counts = script_sweep::sweep(alloc, &ThisJournal, &script, watch, err).map_err(of_run)?;
-    tell(counts, out)?;
-    let of_stops = counts.not_right.count();
+    let of_stops = sweep_stops(alloc, &script, watch, out, err)?;
     if !words.fails {
         return Ok(of_stops);
     }
-    let counts = script_sweep::sweep_failures(alloc, &ThisJournal, &script, watch, err).map_err(
-        of_run,
-    )?;
-    tell_failures(counts, out)?;
-    Ok(of_stops.saturating_add(counts.not_right.count()))
+    let of_failures = sweep_failures(alloc, &script, watch, out, err)?;
+    Ok(of_stops.saturating_add(of_failures))
+}
+
+/// Sweeps the stops of a script, and prints what was counted. The answer is how many openings were not right.
+fn sweep_stops<W: Write>(
+    alloc: Global,
+    script: &Script,
+    watch: &mut impl Watch,
+    out: &mut W,
+    err: &mut impl Write,
+) -> Result<u64, Fault>
+    ensures { IfOk result (HasSweptStops script.now) }
+{
+    match script_sweep::sweep(alloc, &ThisJournal, script, watch, err) {
+        Ok(counts) => {
+            tell(counts, out)?;
+            Ok(counts.not_right.count())
+        }
+        Err(fault) => Err(of_run(fault)),
+    }
+}
+
+/// Sweeps the failing calls of a script, and prints what was counted. The answer is how many openings were not right.
+fn sweep_failures<W: Write>(
+    alloc: Global,
+    script: &Script,
+    watch: &mut impl Watch,
+    out: &mut W,
+    err: &mut impl Write,
+) -> Result<u64, Fault>
+    ensures { IfOk result (HasSweptFailures script.now) }
+{
+    match script_sweep::sweep_failures(alloc, &ThisJournal, script, watch, err) {
+        Ok(counts) => {
+            tell_failures(counts, out)?;
+            Ok(counts.not_right.count())
+        }
+        Err(fault) => Err(of_run(fault)),
+    }
 }
 
 /// Prints what a sweep of stops counted.

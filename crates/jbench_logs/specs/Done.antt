@@ -1,20 +1,25 @@
 -- What a command over a log leaves of its device.
 use Rattle.std.specs.Prelude.{◌≡◌, ℕ, Bool, true, false, List, None}
 use Rattle.journal_model.specs.declared.number.Area.TheVariants.{Home}
-use Rattle.journal_model.specs.Disk.{Disk, flushed, reading}
+use Rattle.journal_model.specs.declared.refusal.JournalError.{JournalError}
+use Rattle.journal_model.specs.Disk.{Disk, Shape, flushed, reading}
 use Rattle.log_model.specs.declared.log.Text.{Text}
-use Rattle.block_device.specs.State.{DeviceState}
+use Rattle.block_device.specs.State.{DeviceState, Stays}
 use Rattle.journal_world.specs.Opening.{IsOpening}
-use Rattle.recovery.specs.Before.{IsOpeningBefore, TellsBefore}
-use Rattle.recovery.specs.Opening.{IsDone, IsFormatted}
+use Rattle.log_epochs.specs.OpeningRun.{IsMoment}
+use Rattle.recovery.specs.Before.{BeforeRefused, IsMomentBefore, IsOpeningBefore, TellsBefore}
+use Rattle.recovery.specs.BeforeSteps.{HasDoneBefore}
+use Rattle.recovery.specs.Opening.{IsDone, IsFormatted, OpeningRefused}
 use Rattle.recovery.specs.Planned.{IsPlanned, IsPlannedBefore}
+use Rattle.recovery.specs.Upgrade.{IsUpgraded}
 use Rattle.jbench_logs.specs.declared.damage.Taken.{Taken}
 use Rattle.jbench_logs.specs.declared.plans.Planned.{Planned}
 
--- a log of so many blocks, with this UUID, was made: all of its blocks are durable, and then home was made durable as it read
-pub record IsMade (maxlen : ℕ) (uuid : List ℕ) (old new : DeviceState) : Type 0 where
+-- a log of so many blocks, with this UUID and block numbers of 64 or of 32 bits, was made: all of its blocks are durable, and then
+-- home was made durable as it read
+pub record IsMade (maxlen : ℕ) (uuid : List ℕ) (wide : Bool) (old new : DeviceState) : Type 0 where
   pub formatted : Disk
-  pub of_log : IsFormatted old.shape maxlen uuid old.disk formatted
+  pub of_log : IsFormatted old.shape maxlen uuid wide old.disk formatted
   pub of_home : new.disk ≡ flushed formatted Home
 
 -- an opening was done: it made the calls that are due for what it read, and home is what the log's complete transactions leave
@@ -24,12 +29,18 @@ pub record IsRecovered (old new : DeviceState) : Type 0 where
   pub opening : IsOpening old.shape old.disk new.disk superblock next
   pub calls : IsDone old new
 
+-- an upgrade was done: the log was empty, and the calls that are due for its superblock were made
+pub record HasUpgraded (old new : DeviceState) : Type 0 where
+  pub sequence : ℕ
+  pub is : IsUpgraded old new sequence
+
 -- what can be taken of the log was taken, in spite of what stops an opening; and this is what is told of it
 pub record IsTakenBefore (old new : DeviceState) (taken : Taken) : Type 0 where
   pub texts : List Text
   pub greatest : ℕ
   pub superblock : List ℕ
   pub opening : IsOpeningBefore old.shape old.disk new.disk texts greatest taken.stopped_by superblock taken.next
+  pub calls : HasDoneBefore old new taken.stopped_by superblock taken.next
   pub tells : TellsBefore (reading old.disk) texts taken.report.clean taken.report.ends_at taken.report.transactions
 
 -- such an opening was done
@@ -48,3 +59,21 @@ pub record IsPlanOf (before_damage : Bool) (state : DeviceState) (p : Planned) :
 pub record IsFoundOut (before_damage : Bool) (state : DeviceState) : Type 0 where
   pub planned : Planned
   pub is : IsPlanOf before_damage state planned
+
+-- why an opening is refused: the one before damage, or the other
+abbrev pub IsRefusalOf : (before_damage : Bool) → (honest : Type 0) → DeviceState → DeviceState → JournalError → Type 0
+IsRefusalOf true honest old new e = BeforeRefused honest old new e
+IsRefusalOf false honest old new e = OpeningRefused honest old new e
+
+-- what holds at each moment of it
+abbrev pub IsMomentOf : (before_damage : Bool) → Shape → Disk → Disk → Type 0
+IsMomentOf true shape old disk = IsMomentBefore shape old disk
+IsMomentOf false shape old disk = IsMoment shape old disk
+
+-- an opening of a device in this state was refused, for such a cause, and the device was read at most behind it
+pub record IsRefusedBy {V : Type 0} (Refusal : (honest : Type 0) → DeviceState → DeviceState → JournalError → Type 0) (state : V → DeviceState) (honest : V → Type 0) (old : DeviceState) (new : V) : Type 0 where
+  pub left : V
+  pub e : JournalError
+  pub is : Refusal (honest left) old (state left) e
+  pub stays : Stays (state left) (state new)
+  pub trust : honest new → honest left

@@ -1,3 +1,4 @@
 pub mod Apart
 pub mod Done
+pub mod Over
 pub mod Said

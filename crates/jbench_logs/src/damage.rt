@@ -1,12 +1,14 @@
 //! The command `recover --before-damage`, over devices: opens a log in spite of a damaged block, or of one that is ahead.
-ghost use Rattle.std.specs.Prelude.{◌≡◌, IfOk};
-ghost use Rattle.jbench_words.specs.declared.fault.Status.TheVariants.{Fine};
-ghost use Rattle.jbench_logs.specs.Done.{IsRecoveredBefore, IsTakenBefore};
+ghost use Rattle.std.specs.Prelude.{◌≡◌, ◌≢◌, IfErr, IfOk, MatchResult};
+ghost use Rattle.block_device.specs.State.{EachMoment};
+ghost use Rattle.recovery.specs.Before.{BeforeRefused, IsMomentBefore};
+ghost use Rattle.jbench_words.specs.declared.fault.Status.TheVariants.{Fine, Refused};
+ghost use Rattle.jbench_logs.specs.Done.{IsRecoveredBefore, IsRefusedBy, IsTakenBefore};
 
-use crate::logs::{end, refuse, say_opened};
+use crate::logs::{refuse, write_opened};
 use crate::watched::Watched;
 use block_device::Device;
-use jbench_words::fault::{Fault, Status};
+use jbench_words::fault::Status;
 use jbench_words::watch::Watch;
 use journal_model::{JournalError, Tid};
 use recovery::Report;
@@ -42,13 +44,16 @@ pub fn recover_before_damage<D: Device + Drop, H: Watch + Drop, W: Write + Drop,
     out: W,
     err: E,
 ) -> io::Result<(Status, D)>
-    ensures { IfOk result (λ done. done.0 ≡ Fine → D.honest done.1 → IsRecoveredBefore (D.state device) (D.state done.1)) }
+    ensures recovered { IfOk result (λ done. done.0 ≡ Fine → D.honest done.1 → IsRecoveredBefore (D.state device) (D.state done.1)) }
+    ensures refused { IfOk result (λ done. done.0 ≢ Fine → (done.0 ≡ Refused) × IsRefusedBy BeforeRefused D.state D.honest (D.state device) done.1) }
+    // In each case, each moment is one of such an opening: nothing else was written.
+    ensures moments { IfOk result (λ done. D.honest done.1 → EachMoment (IsMomentBefore (D.state device).shape (D.state device).disk) (D.state device) (D.state done.1)) }
 {
     let (mut out, mut err) = (out, err);
     match open_watched(alloc, device, watch) {
         Ok((device, taken)) => {
-            let status = end(path, say_taken(&taken, &mut out), err)?;
-            Ok((status, device))
+            say_taken(&taken, &mut out)?;
+            Ok((Status::Fine, device))
         }
         Err((device, e)) => {
             let mut device = device;
@@ -65,7 +70,11 @@ fn open_watched<D: Device + Drop, H: Watch + Drop>(
     device: D,
     watch: H,
 ) -> Result<(D, Taken), (D, JournalError)>
-    ensures { IfOk result (λ opened. D.honest opened.0 → IsTakenBefore (D.state device) (D.state opened.0) opened.1) }
+    ensures opened { IfOk result (λ opened. D.honest opened.0 → IsTakenBefore (D.state device) (D.state opened.0) opened.1) }
+    ensures refused { IfErr result (λ e. BeforeRefused (D.honest e.0) (D.state device) (D.state e.0) e.1) }
+    ensures moments { MatchResult result
+        (λ opened. D.honest opened.0 → EachMoment (IsMomentBefore (D.state device).shape (D.state device).disk) (D.state device) (D.state opened.0))
+        (λ e. D.honest e.0 → EachMoment (IsMomentBefore (D.state device).shape (D.state device).disk) (D.state device) (D.state e.0)) }
 {
     match recovery::open_before_damage(alloc, Watched::new(device, watch)) {
         Ok((opened, stopped_by)) => {
@@ -87,8 +96,8 @@ fn open_watched<D: Device + Drop, H: Watch + Drop>(
 }
 
 /// Says what was taken of a log.
-fn say_taken<W: Write>(taken: &Taken, out: &mut W) -> Result<(), Fault> {
-    say_opened(taken.report, taken.next, out)?;
+fn say_taken<W: Write>(taken: &Taken, out: &mut W) -> io::Result<()> {
+    write_opened(taken.report, taken.next, out)?;
     say_stopped(taken.report, taken.stopped_by, out)
 }
 
@@ -97,7 +106,7 @@ pub(crate) fn say_stopped<W: Write>(
     report: Report,
     stopped_by: Option<JournalError>,
     out: &mut W,
-) -> Result<(), Fault> {
+) -> io::Result<()> {
     let Some(e) = stopped_by else {
         return Ok(());
     };
@@ -108,6 +117,5 @@ pub(crate) fn say_stopped<W: Write>(
         let last = report.ends_at.saturating_sub(1);
         write!(out, "  transactions {first} to {last}")?;
     }
-    writeln!(out, ", stopped by refusal {} {e}", e.number())?;
-    Ok(())
+    writeln!(out, ", stopped by refusal {} {e}", e.number())
 }

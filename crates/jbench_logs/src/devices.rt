@@ -1,13 +1,16 @@
 //! Devices over the files of a log.
-ghost use Rattle.std.specs.Prelude.{IfOk};
+ghost use Rattle.std.specs.Prelude.{◌≡◌, ◌*◌, ◌-◌, ◌^◌, min, IfOk, None};
+ghost use Rattle.journal_model.specs.declared.number.Area.TheVariants.{Home, Log};
 ghost use Rattle.log_format.specs.Size.{IsBlockSize};
+ghost use Rattle.jbench_logs.specs.Over.{IsOver};
 
-use crate::pairs::LogPair;
-use crate::regular::open_to_read;
-use file_device::{Contents, FileDevice, UnknownContents, lock_shared, settle};
+use crate::locked::{take, take_shared};
+use crate::pairs::{HomeFile, KeptPair, LogFile, LogPair, ReadPair};
+use crate::ready::{ReadyLog, number_at};
+use crate::regular::{open_there, open_to_read};
+use file_device::{Contents, FileDevice, UnknownContents, WriteLock};
 use jbench_words::words::LogPaths;
 use journal_model::Area;
-use journal_model::layout::MAGIC;
 use journal_script::{Measures, is_block_size};
 use std::alloc::Global;
 use std::fs::{File, Files};
@@ -20,12 +23,6 @@ pub type LogFiles = FileDevice<UnknownContents>;
 
 /// Where the superblock says how many bytes a block has.
 const BLOCK_SIZE_PLACE: u64 = 0x0c;
-
-/// Where the superblock says whether the log is clean.
-const START_PLACE: u64 = 0x1c;
-
-/// Bytes of the largest block.
-const MOST_BYTES: u64 = 4096;
 
 /// How many zero bytes are written at once.
 const STEP: usize = 65_536;
@@ -41,7 +38,10 @@ pub struct Unmade {
 
 impl Unmade {
     /// Its path.
-    pub fn path<'a>(&self, paths: LogPaths<'a>) -> &'a str {
+    pub fn path<'a>(&self, paths: LogPaths<'a>) -> &'a str
+        ensures log { self.now.area ≡ Log → result ≡ paths.entry.log }
+        ensures home { self.now.area ≡ Home → result ≡ paths.entry.home }
+    {
         match self.area {
             Area::Log => paths.log,
             Area::Home => paths.home,
@@ -61,13 +61,28 @@ impl Unmade {
 ///
 /// There is no regular file of this path, it can't be read, or another program writes it.
 pub fn open_log<R: Files<File = File>>(alloc: Global, rt: &R, path: &str) -> io::Result<LogFiles> {
-    let file = open_to_read(rt, path)?.into_file();
-    lock_shared(&file)?;
-    log_in(alloc, file)
+    log_in(alloc, take_shared(open_to_read(rt, path)?)?.into_file())
+}
+
+/// Opens a log to be read and written, and takes the lock of a writer. A block has as many bytes as for `open_log`. Its superblock is
+/// written once more first, just as it reads, and synced, as `device_of` does it with what an opening relies on.
+///
+/// # Errors
+///
+/// There is no regular file of this path, it can't be read, written or synced, or another program has it.
+pub fn open_log_to_write<R: Files<File = File>>(
+    alloc: Global,
+    rt: &R,
+    path: &str,
+) -> io::Result<LogFiles> {
+    let log = ReadyLog::with_superblock(take(rt, path, open_there(rt, path)?)?)?;
+    log_in(alloc, log.into_file())
 }
 
 /// The log that a file holds.
-fn log_in(alloc: Global, file: File) -> io::Result<LogFiles> {
+fn log_in(alloc: Global, file: File) -> io::Result<LogFiles>
+    ensures { IfOk result (λ device. (device.log_file ≡ file) × (device.home_file ≡ None)) }
+{
     let size = block_size_of(&file)?;
     Ok(FileDevice::new(alloc, UnknownContents, size, file, None)?)
 }
@@ -83,10 +98,11 @@ pub fn device_of<C: Contents>(
     alloc: Global,
     contents: C,
     files: LogPair,
-) -> io::Result<FileDevice<C>> {
+) -> io::Result<FileDevice<C>>
+    ensures { IfOk result (IsOver files.log.file.file files.home.file.file) }
+{
     let (log, home) = files.into_files();
-    settle(&log, relied_on(&log)?)?;
-    device_over(alloc, contents, log, home)
+    device_over(alloc, contents, ReadyLog::settled(log)?, home)
 }
 
 /// A device over the files of a log and of its home area that are to be read. Nothing is written.
@@ -97,33 +113,26 @@ pub fn device_of<C: Contents>(
 pub fn device_to_read<C: Contents>(
     alloc: Global,
     contents: C,
-    files: LogPair,
-) -> io::Result<FileDevice<C>> {
+    files: ReadPair,
+) -> io::Result<FileDevice<C>>
+    ensures { IfOk result (IsOver files.log.file.file files.home.file.file) }
+{
     let (log, home) = files.into_files();
-    device_over(alloc, contents, log, home)
+    device_over(alloc, contents, ReadyLog::to_read(log), home)
 }
 
 /// A device over the files of a log and of its home area, in blocks as the log's superblock tells.
 fn device_over<C: Contents>(
     alloc: Global,
     contents: C,
-    log: File,
-    home: File,
-) -> io::Result<FileDevice<C>> {
-    let size = block_size_of(&log)?;
+    log: ReadyLog,
+    home: HomeFile,
+) -> io::Result<FileDevice<C>>
+    ensures { IfOk result (IsOver log.file home.file) }
+{
+    let size = block_size_of(log.file())?;
+    let (log, home) = (log.into_file(), home.into_file());
     Ok(FileDevice::new(alloc, contents, size, log, Some(home))?)
-}
-
-/// How many bytes of a log an opening relies on: of one that is clean its superblock, else all; and nothing of what is no log. (What
-/// stands in the ring of a clean log is of transactions below the next number, and none of it is read for more than its header.)
-fn relied_on(log: &File) -> io::Result<u64> {
-    if number_at(log, 0)? != Some(u32::from_be_bytes(MAGIC)) {
-        return Ok(0);
-    }
-    match number_at(log, START_PLACE)? {
-        Some(0) => Ok(MOST_BYTES),
-        _ => Ok(u64::MAX),
-    }
 }
 
 /// Makes the files as long as these measures say, all zeros, durably, and a device of them. Each block of the home area is written, so
@@ -133,10 +142,12 @@ fn relied_on(log: &File) -> io::Result<u64> {
 ///
 /// A block can't have so many bytes, and both files are as they were; or a file can't be made so long, filled or synced, and what
 /// both held may be lost.
-pub fn make_device(alloc: Global, measures: &Measures, files: LogPair) -> Result<LogFiles, Unmade> {
+pub fn make_device(alloc: Global, measures: &Measures, files: LogPair) -> Result<LogFiles, Unmade>
+    ensures { IfOk result (IsOver files.log.file.file files.home.file.file) }
+{
     let (log, home) = files.into_files();
-    let size = clear_log(measures, &log)?;
-    if let Err(error) = clear_and_fill(alloc, &home, home_bytes(measures)) {
+    let (size, log) = clear_log(measures, log)?;
+    if let Err(error) = clear_and_fill(alloc, home.file(), home_bytes(measures)) {
         return Err(Unmade::of(Area::Home, error));
     }
     device_in(alloc, size, log, home)
@@ -151,53 +162,53 @@ pub fn make_device(alloc: Global, measures: &Measures, files: LogPair) -> Result
 pub fn make_log_device(
     alloc: Global,
     measures: &Measures,
-    files: LogPair,
-) -> Result<LogFiles, Unmade> {
-    let (log, home) = files.into_files();
-    let size = clear_log(measures, &log)?;
+    files: KeptPair,
+) -> Result<LogFiles, Unmade>
+    ensures { IfOk result (IsOver files.pair.log.file.file files.pair.home.file.file) }
+{
+    let (log, home) = files.into_pair().into_files();
+    let (size, log) = clear_log(measures, log)?;
     device_in(alloc, size, log, home)
 }
 
-/// How many bytes the home area of these measures has.
-pub fn home_bytes(measures: &Measures) -> u64 {
+/// How many bytes the home area of these measures has, or 2^64 - 1 where it has more.
+pub fn home_bytes(measures: &Measures) -> u64
+    ensures { result ≡ min (measures.now.home_blocks * measures.now.block_size) (2 ^ 64 - 1) }
+{
     measures
         .home_blocks
         .saturating_mul(measures.block_size as u64)
 }
 
-/// Makes the file of a log as long as these measures say, all zeros, durably. The answer is how many bytes a block has.
-fn clear_log(measures: &Measures, log: &File) -> Result<usize, Unmade>
-    ensures { IfOk result IsBlockSize }
+/// Makes the file of a log as long as these measures say, all zeros, durably. It comes back with how many bytes a block has.
+fn clear_log(measures: &Measures, log: LogFile<WriteLock>) -> Result<(usize, ReadyLog), Unmade>
+    ensures size { IfOk result (λ r. IsBlockSize r.0) }
+    ensures file { IfOk result (λ r. r.1.file ≡ log.file) }
 {
     let size = measures.block_size;
     if !is_block_size(size as u64) {
         return Err(Unmade::of(Area::Log, io::Error::from(ErrorKind::InvalidInput)));
     }
     let bytes = u64::from(measures.log_blocks).saturating_mul(size as u64);
-    match clear(log, bytes) {
-        Ok(()) => Ok(size),
+    match ReadyLog::cleared(log, bytes) {
+        Ok(log) => Ok((size, log)),
         Err(error) => Err(Unmade::of(Area::Log, error)),
     }
 }
 
 /// A device over these files, in blocks of so many bytes.
-fn device_in(alloc: Global, size: usize, log: File, home: File) -> Result<LogFiles, Unmade>
+fn device_in(alloc: Global, size: usize, log: ReadyLog, home: HomeFile) -> Result<LogFiles, Unmade>
     requires { IsBlockSize size }
+    ensures { IfOk result (IsOver log.file home.file) }
 {
+    let (log, home) = (log.into_file(), home.into_file());
     match FileDevice::new(alloc, UnknownContents, size, log, Some(home)) {
         Ok(device) => Ok(device),
         Err(e) => Err(Unmade::of(e.area, e.error)),
     }
 }
 
-/// Takes all that a file holds, gives it so many zero bytes, and makes that durable.
-fn clear(file: &File, bytes: u64) -> io::Result<()> {
-    file.set_len(0)?;
-    file.set_len(bytes)?;
-    file.sync_all()
-}
-
-/// Does the same, and writes these zeros, so that no disk that is full meanwhile lacks the room for one of them later.
+/// Takes all that a file holds, gives it so many zero bytes, writes them, and makes that durable, so that no disk that is full meanwhile lacks the room for one of them later.
 fn clear_and_fill(alloc: Global, file: &File, bytes: u64) -> io::Result<()> {
     file.set_len(0)?;
     file.set_len(bytes)?;
@@ -223,15 +234,5 @@ fn block_size_of(log: &File) -> io::Result<usize>
     match number_at(log, BLOCK_SIZE_PLACE)? {
         Some(bytes) => Ok(journal_script::block_size_of(bytes)),
         None => Ok(1024),
-    }
-}
-
-/// The number at a place of a file, where that is so long.
-fn number_at(file: &File, place: u64) -> io::Result<Option<u32>> {
-    let mut bytes = [0; 4];
-    match file.read_exact_at(&mut bytes, place) {
-        Ok(()) => Ok(Some(u32::from_be_bytes(bytes))),
-        Err(e) if e.kind() == ErrorKind::UnexpectedEof => Ok(None),
-        Err(e) => Err(e),
     }
 }

@@ -9,8 +9,11 @@ pub(crate) struct Feature {
     way_out: &'static str,
 }
 
-/// The one incompatible feature that is taken, and has to be there.
+/// The incompatible feature that has to be there.
 pub(crate) const REVOKE: u32 = 0x1;
+
+/// The other incompatible feature that is taken: block numbers of 64 bits.
+pub(crate) const WIDE_NUMBERS: u32 = 0x2;
 
 /// Compatible features.
 /// Source: journal.rst, "Super Block".
@@ -29,9 +32,9 @@ pub(crate) const INCOMPATIBLE: [Feature; 6] = [
         way_out: "",
     },
     Feature {
-        bit: 0x2,
+        bit: WIDE_NUMBERS,
         name: "64bit",
-        way_out: "block numbers of 64 bits are not taken",
+        way_out: "",
     },
     Feature {
         bit: 0x4,

@@ -1,9 +1,13 @@
-//! The commands `format`, `dump` and `recover`, over devices.
-ghost use Rattle.std.specs.Prelude.{◌≡◌, IfOk, IsOk, OnOk};
+//! The commands `format`, `dump`, `recover` and `upgrade`, over devices.
+ghost use Rattle.std.specs.Prelude.{◌≡◌, ◌≢◌, IfErr, IfOk, IsOk, MatchResult, OnOk};
 ghost use Rattle.std.specs.Io.KnownBytes.{Appends};
-ghost use Rattle.block_device.specs.State.{Stays};
+ghost use Rattle.journal_model.specs.Disk.{reading};
+ghost use Rattle.block_device.specs.State.{EachMoment, Stays};
+ghost use Rattle.log_dump.specs.Dumping.{HasDump, shape_of};
+ghost use Rattle.log_epochs.specs.OpeningRun.{IsMoment};
+ghost use Rattle.recovery.specs.Opening.{OpeningRefused};
 ghost use Rattle.jbench_words.specs.declared.fault.Status.TheVariants.{Fine, Refused};
-ghost use Rattle.jbench_logs.specs.Done.{IsMade, IsRecovered};
+ghost use Rattle.jbench_logs.specs.Done.{HasUpgraded, IsMade, IsRecovered, IsRefusedBy};
 ghost use Rattle.jbench_logs.specs.Said.{opened_line};
 
 use crate::reasons::say_why;
@@ -31,7 +35,7 @@ pub fn format<D: Device, W: Write + Drop, E: Write + Drop>(
     out: W,
     err: E,
 ) -> io::Result<Status>
-    ensures { IfOk result (λ status. status ≡ Fine → IsMade measures.now.log_blocks measures.now.uuid (D.state device.old) (D.state device.new)) }
+    ensures { IfOk result (λ status. status ≡ Fine → IsMade measures.now.log_blocks measures.now.uuid measures.now.wide (D.state device.old) (D.state device.new)) }
 {
     match make_log(measures, device) {
         Ok(()) => end(path, say_made(measures, out), err),
@@ -41,9 +45,9 @@ pub fn format<D: Device, W: Write + Drop, E: Write + Drop>(
 
 /// Makes an empty log, and makes home durable.
 fn make_log<D: Device>(measures: &Measures, device: &mut D) -> Result<(), Fault>
-    ensures { OnOk result (IsMade measures.now.log_blocks measures.now.uuid (D.state device.old) (D.state device.new)) }
+    ensures { OnOk result (IsMade measures.now.log_blocks measures.now.uuid measures.now.wide (D.state device.old) (D.state device.new)) }
 {
-    recovery::format(device, measures.log_blocks, &measures.uuid)?;
+    recovery::format(device, measures.log_blocks, &measures.uuid, measures.wide)?;
     match device.flush(Area::Home) {
         Ok(()) => Ok(()),
         Err(e) => Err(Fault::Refused(e.into())),
@@ -73,7 +77,8 @@ pub fn dump<D: Device, W: Write + Drop, E: Write + Drop>(
     out: W,
     err: E,
 ) -> io::Result<Status>
-    ensures { Stays (D.state device.old) (D.state device.new) }
+    ensures dumped { IfOk result (λ status. status ≡ Fine → D.honest device.new → HasDump (shape_of (D.state device.old)) (reading (D.state device.old).disk)) }
+    ensures stays { Stays (D.state device.old) (D.state device.new) }
 {
     end(path, dump_device(alloc, device, out), err)
 }
@@ -84,7 +89,8 @@ fn dump_device<D: Device, W: Write + Drop>(
     device: &mut D,
     out: W,
 ) -> Result<(), Fault>
-    ensures { Stays (D.state device.old) (D.state device.new) }
+    ensures dumped { OnOk result (D.honest device.new → HasDump (shape_of (D.state device.old)) (reading (D.state device.old).disk)) }
+    ensures stays { Stays (D.state device.old) (D.state device.new) }
 {
     let mut out = BufWriter::new(alloc, out)?;
     log_dump::dump(alloc, device, &mut out)?;
@@ -107,13 +113,16 @@ pub fn recover<D: Device + Drop, H: Watch + Drop, W: Write + Drop, E: Write + Dr
     out: W,
     err: E,
 ) -> io::Result<(Status, D)>
-    ensures { IfOk result (λ done. done.0 ≡ Fine → D.honest done.1 → IsRecovered (D.state device) (D.state done.1)) }
+    ensures recovered { IfOk result (λ done. done.0 ≡ Fine → D.honest done.1 → IsRecovered (D.state device) (D.state done.1)) }
+    ensures refused { IfOk result (λ done. done.0 ≢ Fine → (done.0 ≡ Refused) × IsRefusedBy OpeningRefused D.state D.honest (D.state device) done.1) }
+    // In each case, each moment is one of an opening: nothing else was written.
+    ensures moments { IfOk result (λ done. D.honest done.1 → EachMoment (IsMoment (D.state device).shape (D.state device).disk) (D.state device) (D.state done.1)) }
 {
     let (mut out, mut err) = (out, err);
     match open_watched(alloc, device, watch) {
         Ok((device, report, next)) => {
-            let status = end(path, say_opened(report, next, &mut out), err)?;
-            Ok((status, device))
+            write_opened(report, next, &mut out)?;
+            Ok((Status::Fine, device))
         }
         Err((device, e)) => {
             let mut device = device;
@@ -129,7 +138,11 @@ fn open_watched<D: Device + Drop, H: Watch + Drop>(
     device: D,
     watch: H,
 ) -> Result<(D, Report, Tid), (D, JournalError)>
-    ensures { IfOk result (λ opened. D.honest opened.0 → IsRecovered (D.state device) (D.state opened.0)) }
+    ensures opened { IfOk result (λ opened. D.honest opened.0 → IsRecovered (D.state device) (D.state opened.0)) }
+    ensures refused { IfErr result (λ e. OpeningRefused (D.honest e.0) (D.state device) (D.state e.0) e.1) }
+    ensures moments { MatchResult result
+        (λ opened. D.honest opened.0 → EachMoment (IsMoment (D.state device).shape (D.state device).disk) (D.state device) (D.state opened.0))
+        (λ e. D.honest e.0 → EachMoment (IsMoment (D.state device).shape (D.state device).disk) (D.state device) (D.state e.0)) }
 {
     match recovery::open(alloc, Watched::new(device, watch)) {
         Ok(opened) => {
@@ -146,6 +159,38 @@ fn open_watched<D: Device + Drop, H: Watch + Drop>(
     }
 }
 
+/// Gives the empty log of a device block numbers of 64 bits, and prints its sequence. `path` names the log's file. Where the log is
+/// refused one line on `err` says why.
+///
+/// # Errors
+///
+/// The output can't be written.
+pub fn upgrade<D: Device, W: Write + Drop, E: Write + Drop>(
+    alloc: Global,
+    path: &str,
+    device: &mut D,
+    out: W,
+    err: E,
+) -> io::Result<Status>
+    ensures { IfOk result (λ status. status ≡ Fine → D.honest device.new → HasUpgraded (D.state device.old) (D.state device.new)) }
+{
+    end(path, upgrade_device(alloc, device, out), err)
+}
+
+/// Gives the empty log of a device block numbers of 64 bits, and says so.
+fn upgrade_device<D: Device, W: Write + Drop>(
+    alloc: Global,
+    device: &mut D,
+    out: W,
+) -> Result<(), Fault>
+    ensures { OnOk result (D.honest device.new → HasUpgraded (D.state device.old) (D.state device.new)) }
+{
+    let mut out = out;
+    let sequence = recovery::upgrade(alloc, device)?;
+    writeln!(out, "upgraded sequence={sequence}")?;
+    Ok(())
+}
+
 /// Says why the log of a device is refused. `path` names its file. The command is then refused.
 ///
 /// # Errors
@@ -160,6 +205,7 @@ pub fn refuse<D: Device>(
 ) -> io::Result<Status>
     ensures refused { IfOk result (λ status. status ≡ Refused) }
     ensures stays { Stays (D.state device.old) (D.state device.new) }
+    ensures honest { D.honest device.new → D.honest device.old }
 {
     let status = fault::refuse(err, path, &Fault::Refused(e))?;
     say_why(alloc, device, e, err)?;
@@ -175,7 +221,7 @@ pub fn say_opened<W: Write>(report: Report, next: Tid, out: &mut W) -> Result<()
 }
 
 /// Writes the line of an opening.
-fn write_opened<W: Write>(report: Report, next: Tid, out: &mut W) -> io::Result<()>
+pub(crate) fn write_opened<W: Write>(report: Report, next: Tid, out: &mut W) -> io::Result<()>
     ensures { OnOk result (Appends (W.contents out.old) (W.contents out.new) (opened_line report.clean report.ends_at report.transactions next)) }
 {
     if report.clean {

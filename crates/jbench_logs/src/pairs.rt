@@ -2,34 +2,108 @@
 ghost use Rattle.std.specs.Prelude.{◌≡◌, IfOk, IfSome};
 ghost use Rattle.jbench_logs.specs.Apart.{AreApart};
 
-use crate::locked::LockedFile;
-use crate::regular::{RegularFile, given_twice, make, open_there, open_to_read};
+use crate::locked::{LockedFile, take, take_shared};
+use crate::regular::{Made, RegularFile, given_twice, make, open_there, open_to_read};
+use file_device::{ReadLock, WriteLock};
 use jbench_words::words::LogPaths;
 use std::fs::{File, Files};
 use std::io::ErrorKind;
+use std::marker::PhantomData;
 use std::path::Path;
 use std::{fs, io};
 
 /// The two files of a log, which are not one, each with its lock.
 #[derive(Drop)]
-pub struct LogPair {
-    log: LockedFile,
-    home: LockedFile,
+pub struct LockedPair<L> {
+    log: LockedFile<L>,
+    home: LockedFile<L>,
     pub ghost are_two: { AreApart log.file home.file },
 }
 
-impl LogPair {
-    /// The two files of a log.
-    fn new(log: LockedFile, home: LockedFile) -> LogPair
-        requires { AreApart log.file home.file }
+/// The two files of a log that is to be written.
+pub type LogPair = LockedPair<WriteLock>;
+
+/// The two files of a log that is to be read.
+pub type ReadPair = LockedPair<ReadLock>;
+
+/// The two files of a log that is to be made beside a home area that stays as it is. `open_or_make_log` alone makes one.
+#[derive(Drop)]
+pub struct KeptPair {
+    pair: LogPair,
+}
+
+impl KeptPair {
+    /// The two files.
+    pub(crate) fn into_pair(self) -> LogPair
+        ensures { result ≡ self.pair }
     {
-        LogPair { log, home }
+        self.pair
+    }
+}
+
+/// The file of a log, which a pair alone hands out. It has its lock until it is let go.
+#[derive(Drop)]
+pub struct LogFile<L> {
+    file: File,
+    lock: PhantomData<L>,
+}
+
+/// The file of a home area, which a pair alone hands out. It has its lock until it is let go.
+#[derive(Drop)]
+pub struct HomeFile {
+    file: File,
+}
+
+impl<L: Drop> LockedPair<L> {
+    /// The two files of a log.
+    fn new(log: LockedFile<L>, home: LockedFile<L>) -> LockedPair<L>
+        requires { AreApart log.file home.file }
+        ensures log { result.log ≡ log }
+        ensures home { result.home ≡ home }
+    {
+        LockedPair { log, home }
     }
 
     /// The file of the log and that of the home area, which have their locks until they are let go.
-    pub fn into_files(self) -> (File, File) {
-        let LogPair { log, home } = self;
-        (log.into_file(), home.into_file())
+    pub fn into_files(self) -> (LogFile<L>, HomeFile)
+        ensures log { result.0.file ≡ self.log.file.file }
+        ensures home { result.1.file ≡ self.home.file.file }
+    {
+        let LockedPair { log, home } = self;
+        let log = LogFile {
+            file: log.into_file(),
+            lock: PhantomData,
+        };
+        let home = HomeFile {
+            file: home.into_file(),
+        };
+        (log, home)
+    }
+}
+
+impl<L: Drop> LogFile<L> {
+    /// The file.
+    pub fn into_file(self) -> File
+        ensures { result ≡ self.file }
+    {
+        let LogFile { file, lock: _ } = self;
+        file
+    }
+}
+
+impl HomeFile {
+    /// The file.
+    pub fn file(&self) -> &File
+        ensures { result.now ≡ self.now.file }
+    {
+        &self.file
+    }
+
+    /// The file.
+    pub fn into_file(self) -> File
+        ensures { result ≡ self.file }
+    {
+        self.file
     }
 }
 
@@ -49,18 +123,18 @@ impl<'a> Unopened<'a> {
     }
 }
 
-/// A file that was opened, and its path where it was not there before.
+/// A file that was opened, and that it was made where it was not there before.
 #[derive(Drop)]
 struct Opened<'a, F> {
     file: F,
-    made: Option<&'a str>,
+    made: Option<Made<'a>>,
 }
 
 impl<F: Drop> Opened<'_, F> {
     /// Takes the file away again where it was made. Where that fails it stays, with no bytes.
     fn undo<R: Files<File = File>>(self, rt: &R) {
-        if let Some(path) = self.made {
-            let _gone = fs::remove_file(rt, path);
+        if let Some(made) = self.made {
+            made.undo(rt);
         }
     }
 }
@@ -74,7 +148,9 @@ pub fn open_script<R: Files<File = File>>(
     rt: &R,
     path: &str,
     files: &LogPair,
-) -> io::Result<RegularFile> {
+) -> io::Result<RegularFile>
+    ensures { IfOk result (λ script. AreApart files.now.log.file script × AreApart files.now.home.file script) }
+{
     let script = open_to_read(rt, path)?.other_than(files.log.file())?;
     script.other_than(files.home.file())
 }
@@ -93,14 +169,14 @@ pub fn open_pair<'a, R: Files<File = File>>(
         Err(error) => return Err(Unopened::new(paths.log, error)),
     };
     match open_home_of(rt, paths.home, log.file()) {
-        Ok(home) => Ok(LogPair::new(log, home)),
+        Ok(home) => Ok(LockedPair::new(log, home)),
         Err(error) => Err(Unopened::new(paths.home, error)),
     }
 }
 
 /// Opens a file that is there to be read and written, and takes its lock.
-fn open_locked<R: Files<File = File>>(rt: &R, path: &str) -> io::Result<LockedFile> {
-    LockedFile::take(rt, path, open_there(rt, path)?)
+fn open_locked<R: Files<File = File>>(rt: &R, path: &str) -> io::Result<LockedFile<WriteLock>> {
+    take(rt, path, open_there(rt, path)?)
 }
 
 /// Opens the file of a home area that is there, which is not this log's, and takes its lock.
@@ -108,11 +184,11 @@ fn open_home_of<R: Files<File = File>>(
     rt: &R,
     path: &str,
     log: &RegularFile,
-) -> io::Result<LockedFile>
+) -> io::Result<LockedFile<WriteLock>>
     ensures { IfOk result (λ home. AreApart log.now home.file) }
 {
     let home = open_there(rt, path)?.other_than(log)?;
-    LockedFile::take(rt, path, home)
+    take(rt, path, home)
 }
 
 /// Opens the two files of a log, which are two, to be read, and takes the lock of a reader of each at its opening.
@@ -123,20 +199,20 @@ fn open_home_of<R: Files<File = File>>(
 pub fn open_pair_to_read<'a, R: Files<File = File>>(
     rt: &R,
     paths: LogPaths<'a>,
-) -> Result<LogPair, Unopened<'a>> {
+) -> Result<ReadPair, Unopened<'a>> {
     let log = match open_shared(rt, paths.log) {
         Ok(log) => log,
         Err(error) => return Err(Unopened::new(paths.log, error)),
     };
     match open_shared_home(rt, paths.home, log.file()) {
-        Ok(home) => Ok(LogPair::new(log, home)),
+        Ok(home) => Ok(LockedPair::new(log, home)),
         Err(error) => Err(Unopened::new(paths.home, error)),
     }
 }
 
 /// Opens a file that is there to be read, and takes the lock of a reader.
-fn open_shared<R: Files<File = File>>(rt: &R, path: &str) -> io::Result<LockedFile> {
-    LockedFile::take_shared(open_to_read(rt, path)?)
+fn open_shared<R: Files<File = File>>(rt: &R, path: &str) -> io::Result<LockedFile<ReadLock>> {
+    take_shared(open_to_read(rt, path)?)
 }
 
 /// Opens the file of a home area that is there to be read, which is not this log's, and takes the lock of a reader.
@@ -144,10 +220,10 @@ fn open_shared_home<R: Files<File = File>>(
     rt: &R,
     path: &str,
     log: &RegularFile,
-) -> io::Result<LockedFile>
+) -> io::Result<LockedFile<ReadLock>>
     ensures { IfOk result (λ home. AreApart log.now home.file) }
 {
-    LockedFile::take_shared(open_to_read(rt, path)?.other_than(log)?)
+    take_shared(open_to_read(rt, path)?.other_than(log)?)
 }
 
 /// Opens the two files of a log to be read and written, makes each where there is none, and takes the lock of each. They are two files,
@@ -157,12 +233,14 @@ fn open_shared_home<R: Files<File = File>>(
 ///
 /// The first of the two that is no regular file, that can't be read and written or made, that is another one of the three, that
 /// another program has, or whose folder can't be synced. Then neither file is there that was not there before, but for one that another
-/// program has by now.
+/// program has by now, that the system can't lock, or of which it can tell nothing.
 pub fn open_or_make_pair<'a, R: Files<File = File>>(
     rt: &R,
     paths: LogPaths<'a>,
     script: Option<&RegularFile>,
-) -> Result<LogPair, Unopened<'a>> {
+) -> Result<LogPair, Unopened<'a>>
+    ensures { IfOk result (λ pair. IfSome script.entry (λ script. AreApart script.now pair.log.file × AreApart script.now pair.home.file)) }
+{
     match claim(rt, paths.log, script, None) {
         Ok(log) => claim_home(rt, paths, script, log),
         Err(error) => Err(Unopened::new(paths.log, error)),
@@ -174,8 +252,11 @@ fn claim_home<'a, R: Files<File = File>>(
     rt: &R,
     paths: LogPaths<'a>,
     script: Option<&RegularFile>,
-    log: Opened<'a, LockedFile>,
-) -> Result<LogPair, Unopened<'a>> {
+    log: Opened<'a, LockedFile<WriteLock>>,
+) -> Result<LogPair, Unopened<'a>>
+    ensures log { IfOk result (λ pair. pair.log ≡ log.entry.file) }
+    ensures script { IfOk result (λ pair. IfSome script.entry (λ script. AreApart script.now pair.home.file)) }
+{
     match claim(rt, paths.home, script, Some(log.file.file())) {
         Ok(home) => named(rt, paths, log, home),
         Err(error) => {
@@ -193,12 +274,12 @@ fn claim_home<'a, R: Files<File = File>>(
 ///
 /// The first of the two that is no regular file, that can't be read and written or made, that is the other, that another program has,
 /// that is not there or too short as a home area, or whose folder can't be synced. Then no log is there that was not there before, but
-/// for one that another program has by now.
+/// for one that another program has by now, that the system can't lock, or of which it can tell nothing.
 pub fn open_or_make_log<'a, R: Files<File = File>>(
     rt: &R,
     paths: LogPaths<'a>,
     home_bytes: u64,
-) -> Result<LogPair, Unopened<'a>> {
+) -> Result<KeptPair, Unopened<'a>> {
     match claim(rt, paths.log, None, None) {
         Ok(log) => keep_home(rt, paths, home_bytes, log),
         Err(error) => Err(Unopened::new(paths.log, error)),
@@ -210,10 +291,13 @@ fn keep_home<'a, R: Files<File = File>>(
     rt: &R,
     paths: LogPaths<'a>,
     bytes: u64,
-    log: Opened<'a, LockedFile>,
-) -> Result<LogPair, Unopened<'a>> {
+    log: Opened<'a, LockedFile<WriteLock>>,
+) -> Result<KeptPair, Unopened<'a>> {
     match open_kept_home(rt, paths.home, log.file.file(), bytes) {
-        Ok(file) => named(rt, paths, log, Opened { file, made: None }),
+        Ok(file) => {
+            let pair = named(rt, paths, log, Opened { file, made: None })?;
+            Ok(KeptPair { pair })
+        }
         Err(error) => {
             log.undo(rt);
             Err(Unopened::new(paths.home, error))
@@ -227,7 +311,7 @@ fn open_kept_home<R: Files<File = File>>(
     path: &str,
     log: &RegularFile,
     bytes: u64,
-) -> io::Result<LockedFile>
+) -> io::Result<LockedFile<WriteLock>>
     ensures { IfOk result (λ home. AreApart log.now home.file) }
 {
     let home = open_home_of(rt, path, log)?;
@@ -241,14 +325,15 @@ fn claim<'a, R: Files<File = File>>(
     path: &'a str,
     script: Option<&RegularFile>,
     log: Option<&RegularFile>,
-) -> io::Result<Opened<'a, LockedFile>>
-    ensures { IfOk result (λ claimed. IfSome log.entry (λ log. AreApart log.now claimed.file.file)) }
+) -> io::Result<Opened<'a, LockedFile<WriteLock>>>
+    ensures script { IfOk result (λ claimed. IfSome script.entry (λ script. AreApart script.now claimed.file.file)) }
+    ensures log { IfOk result (λ claimed. IfSome log.entry (λ log. AreApart log.now claimed.file.file)) }
 {
     let opened = open_or_make(rt, path)?;
     let opened = apart_from(rt, script, opened)?;
     let opened = apart_from(rt, log, opened)?;
     Ok(Opened {
-        file: LockedFile::take(rt, path, opened.file)?,
+        file: take(rt, path, opened.file)?,
         made: opened.made,
     })
 }
@@ -260,10 +345,13 @@ fn open_or_make<'a, R: Files<File = File>>(
 ) -> io::Result<Opened<'a, RegularFile>> {
     match open_there(rt, path) {
         Ok(file) => Ok(Opened { file, made: None }),
-        Err(e) if e.kind() == ErrorKind::NotFound => Ok(Opened {
-            file: make(rt, path)?,
-            made: Some(path),
-        }),
+        Err(e) if e.kind() == ErrorKind::NotFound => {
+            let (file, made) = make(rt, path)?;
+            Ok(Opened {
+                file,
+                made: Some(made),
+            })
+        }
         Err(e) => Err(e),
     }
 }
@@ -290,13 +378,14 @@ fn apart_from<'a, R: Files<File = File>>(
 fn named<'a, R: Files<File = File>>(
     rt: &R,
     paths: LogPaths<'a>,
-    log: Opened<'a, LockedFile>,
-    home: Opened<'a, LockedFile>,
+    log: Opened<'a, LockedFile<WriteLock>>,
+    home: Opened<'a, LockedFile<WriteLock>>,
 ) -> Result<LogPair, Unopened<'a>>
     requires { AreApart log.file.file home.file.file }
+    ensures { IfOk result (λ pair. (pair.log ≡ log.entry.file) × (pair.home ≡ home.entry.file)) }
 {
     match sync_folders(rt, paths) {
-        Ok(()) => Ok(LogPair::new(log.file, home.file)),
+        Ok(()) => Ok(LockedPair::new(log.file, home.file)),
         Err(unopened) => {
             log.undo(rt);
             home.undo(rt);

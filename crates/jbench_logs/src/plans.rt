@@ -1,15 +1,15 @@
 //! The command `recover --dry-run`, over devices: says what an opening would do, and writes nothing.
-ghost use Rattle.std.specs.Prelude.{◌≡◌, IfOk, true, false};
+ghost use Rattle.std.specs.Prelude.{◌≡◌, ◌≢◌, IfErr, IfOk, true, false};
 ghost use Rattle.block_device.specs.State.{Stays};
-ghost use Rattle.jbench_words.specs.declared.fault.Status.TheVariants.{Fine};
-ghost use Rattle.jbench_logs.specs.Done.{IsFoundOut, IsPlanOf};
+ghost use Rattle.jbench_words.specs.declared.fault.Status.TheVariants.{Fine, Refused};
+ghost use Rattle.jbench_logs.specs.Done.{IsFoundOut, IsPlanOf, IsRefusalOf, IsRefusedBy};
 
 use crate::damage::say_stopped;
-use crate::logs::{end, refuse};
+use crate::logs::refuse;
 use crate::reasons::say_why;
 use crate::watched::Watched;
 use block_device::Device;
-use jbench_words::fault::{Fault, Status};
+use jbench_words::fault::Status;
 use jbench_words::watch::Watch;
 use jbench_words::words::RecoverWords;
 use journal_model::JournalError;
@@ -44,6 +44,7 @@ pub fn plan<D: Device + Drop, H: Watch + Drop, W: Write + Drop, E: Write + Drop>
 ) -> io::Result<(Status, D)>
     ensures stays { IfOk result (λ done. Stays (D.state device) (D.state done.1)) }
     ensures planned { IfOk result (λ done. done.0 ≡ Fine → D.honest done.1 → IsFoundOut words.now.before_damage (D.state device)) }
+    ensures refused { IfOk result (λ done. done.0 ≢ Fine → (done.0 ≡ Refused) × IsRefusedBy (IsRefusalOf words.now.before_damage) D.state D.honest (D.state device) done.1) }
 {
     let (mut out, mut err) = (out, err);
     let path = words.paths.log;
@@ -51,8 +52,8 @@ pub fn plan<D: Device + Drop, H: Watch + Drop, W: Write + Drop, E: Write + Drop>
     let mut device = device;
     match planned {
         Ok(planned) => {
-            let status = end(path, say_plan(alloc, &mut device, &planned, &mut out), err)?;
-            Ok((status, device))
+            say_plan(alloc, &mut device, &planned, &mut out)?;
+            Ok((Status::Fine, device))
         }
         Err(e) => {
             let status = refuse(alloc, path, &mut device, e, &mut err)?;
@@ -70,6 +71,7 @@ fn plan_watched<D: Device + Drop, H: Watch + Drop>(
 ) -> (D, Result<Planned, JournalError>)
     ensures stays { Stays (D.state device) (D.state result.0) }
     ensures planned { IfOk result.1 (λ planned. D.honest result.0 → IsPlanOf before_damage (D.state device) planned) }
+    ensures refused { IfErr result.1 (IsRefusalOf before_damage (D.honest result.0) (D.state device) (D.state result.0)) }
 {
     let mut watched = Watched::new(device, watch);
     let planned = plan_of(alloc, before_damage, &mut watched);
@@ -86,6 +88,7 @@ fn plan_of<D: Device>(
 ) -> Result<Planned, JournalError>
     ensures stays { Stays (D.state device.old) (D.state device.new) }
     ensures planned { IfOk result (λ planned. D.honest device.new → IsPlanOf before_damage (D.state device.old) planned) }
+    ensures refused { IfErr result (IsRefusalOf before_damage (D.honest device.new) (D.state device.old) (D.state device.new)) }
 {
     if before_damage {
         let (plan, stopped_by) = plan_before_damage(alloc, device)?;
@@ -104,7 +107,7 @@ fn say_plan<D: Device, W: Write>(
     device: &mut D,
     planned: &Planned,
     out: &mut W,
-) -> Result<(), Fault>
+) -> io::Result<()>
     ensures stays { Stays (D.state device.old) (D.state device.new) }
     ensures honest { D.honest device.new → D.honest device.old }
 {
@@ -116,7 +119,7 @@ fn say_plan<D: Device, W: Write>(
 }
 
 /// Says what was planned.
-fn say_planned<W: Write>(planned: &Planned, out: &mut W) -> Result<(), Fault> {
+fn say_planned<W: Write>(planned: &Planned, out: &mut W) -> io::Result<()> {
     let Plan {
         report,
         blocks,

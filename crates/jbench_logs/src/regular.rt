@@ -1,6 +1,6 @@
 //! Regular files: how one is opened so that what it holds stays, and which one it is.
-ghost use Rattle.std.specs.Prelude.{◌≡◌, ◌↔◌, false, true, IfOk};
-ghost use Rattle.std.specs.Fs.{asks_truncate};
+ghost use Rattle.std.specs.Prelude.{◌≡◌, ◌≤◌, ◌↔◌, false, true, IfOk, IsOk};
+ghost use Rattle.std.specs.Fs.{asks_create_new, asks_truncate, metadata_len};
 ghost use Rattle.jbench_logs.specs.Apart.{AreApart};
 
 use std::fs::{File, Files, Metadata, OpenOptions};
@@ -78,14 +78,7 @@ impl RegularFile {
     ///
     /// `InvalidInput`: it has; else what the system answers.
     pub(crate) fn require_bytes(&self, bytes: u64) -> io::Result<()> {
-        if self.file.metadata()?.len() < bytes {
-            Err(io::Error::new(
-                ErrorKind::InvalidInput,
-                "it has fewer blocks than are wanted",
-            ))
-        } else {
-            Ok(())
-        }
+        require_length(&self.file.metadata()?, bytes)
     }
 
     /// The file.
@@ -93,6 +86,33 @@ impl RegularFile {
         ensures { result ≡ self.file }
     {
         self.file
+    }
+}
+
+/// Fails where a file of which this is told has fewer bytes than these.
+fn require_length(metadata: &Metadata, bytes: u64) -> io::Result<()>
+    ensures { IsOk result ↔ bytes ≤ metadata_len metadata.now }
+{
+    if metadata.len() < bytes {
+        Err(io::Error::new(
+            ErrorKind::InvalidInput,
+            "it has fewer blocks than are wanted",
+        ))
+    } else {
+        Ok(())
+    }
+}
+
+/// A file that was not there before this program made it, by its path. `make` alone makes one.
+#[derive(Drop)]
+pub(crate) struct Made<'a> {
+    path: &'a str,
+}
+
+impl Made<'_> {
+    /// Takes the file away again. Where that fails it stays, with no bytes.
+    pub(crate) fn undo<R: Files<File = File>>(self, rt: &R) {
+        let _gone = fs::remove_file(rt, self.path);
     }
 }
 
@@ -131,12 +151,28 @@ pub(crate) fn open_there<R: Files<File = File>>(rt: &R, path: &str) -> io::Resul
 /// # Errors
 ///
 /// There is a file of this path, or none can be made.
-pub(crate) fn make<R: Files<File = File>>(rt: &R, path: &str) -> io::Result<RegularFile> {
-    open_as(
+pub(crate) fn make<'a, R: Files<File = File>>(
+    rt: &R,
+    path: &'a str,
+) -> io::Result<(RegularFile, Made<'a>)> {
+    open_new(
         rt,
         OpenOptions::new().read(true).write(true).create_new(true),
         path,
     )
+}
+
+/// Opens a file in a way that fails where there is one.
+fn open_new<'a, R: Files<File = File>>(
+    rt: &R,
+    how: &OpenOptions,
+    path: &'a str,
+) -> io::Result<(RegularFile, Made<'a>)>
+    requires new { asks_create_new how.now ≡ true }
+    requires stays { asks_truncate how.now ≡ false }
+{
+    let file = open_as(rt, how, path)?;
+    Ok((file, Made { path }))
 }
 
 /// Opens a file in a way that leaves it what it holds.

@@ -4,7 +4,8 @@ ghost use Rattle.std.specs.Prelude.{◌+◌, ◌≤◌, length};
 ghost use Rattle.block_device.specs.State.{Stays};
 
 use crate::features::{
-    COMPATIBLE, INCOMPATIBLE, READ_ONLY_COMPATIBLE, REVOKE, write_features, write_ways_out,
+    COMPATIBLE, INCOMPATIBLE, READ_ONLY_COMPATIBLE, REVOKE, WIDE_NUMBERS, write_features,
+    write_ways_out,
 };
 use block_device::{Device, read_block};
 use byteorder::{BigEndian, ByteOrder};
@@ -201,9 +202,9 @@ fn show_features(fields: &Super, out: &mut impl Write) -> io::Result<()> {
     write_features(out, "s_feature_incompat", incompatible, &INCOMPATIBLE)?;
     say_test(
         out,
-        incompatible == REVOKE,
+        incompatible == REVOKE || incompatible == REVOKE | WIDE_NUMBERS,
         JournalError::BadFeature,
-        "0x1, revoke alone",
+        "0x1, revoke, or 0x3, with 64bit",
     )?;
     let read_only = fields.s_feature_ro_compat;
     write_features(out, "s_feature_ro_compat", read_only, &READ_ONLY_COMPATIBLE)?;
@@ -251,7 +252,8 @@ fn tell(bytes: &[u8], fields: &Super, blocks: u64, out: &mut impl Write) -> io::
 /// Says of each feature that keeps an opening from a log what its owner does about it.
 fn tell_ways_out(fields: &Super, out: &mut impl Write) -> io::Result<()> {
     write_ways_out(out, fields.s_feature_compat, 0, &COMPATIBLE)?;
-    write_ways_out(out, fields.s_feature_incompat, REVOKE, &INCOMPATIBLE)?;
+    let taken = REVOKE | WIDE_NUMBERS;
+    write_ways_out(out, fields.s_feature_incompat, taken, &INCOMPATIBLE)?;
     write_ways_out(out, fields.s_feature_ro_compat, 0, &READ_ONLY_COMPATIBLE)?;
     if fields.s_feature_incompat & REVOKE == 0 {
         writeln!(

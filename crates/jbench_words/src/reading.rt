@@ -105,13 +105,6 @@ fn run_words<'a>(alloc: Global, matches: &ArgMatches<'a>) -> Result<RunWords<'a>
     })
 }
 
-/// The limits of a number of blocks.
-fn wide(limits: (u32, u32)) -> (u64, u64)
-    ensures { result ≡ limits }
-{
-    (u64::from(limits.0), u64::from(limits.1))
-}
-
 /// The bytes of a block that `format` is told.
 fn block_size_told(matches: &ArgMatches<'_>) -> Result<usize, Wanted>
     ensures { IfOk result IsBlockSize }
@@ -138,7 +131,7 @@ fn home_blocks_told(matches: &ArgMatches<'_>, keep_home: bool) -> Result<u64, Wa
     ensures some { IfOk result (λ blocks. 1 ≤ blocks) }
     ensures most { IfOk result (λ blocks. blocks ≤ 1048576) }
 {
-    match number_of(matches, "home", wide(HOMES), Wanted::HomeBlocks)? {
+    match number_of(matches, "home", HOMES, Wanted::HomeBlocks)? {
         Some(blocks) => Ok(blocks),
         None if keep_home => Ok(1),
         None => Ok(DEFAULTS.home_blocks),
@@ -150,12 +143,14 @@ fn measures_of(alloc: Global, matches: &ArgMatches<'_>, keep_home: bool) -> Resu
     ensures { IfOk result AreLimited }
 {
     let block_size = block_size_told(matches)?;
-    let log_blocks = number_of(matches, "length", wide(LENGTHS), Wanted::LogBlocks)?;
+    let lengths = (u64::from(LENGTHS.0), u64::from(LENGTHS.1));
+    let log_blocks = number_of(matches, "length", lengths, Wanted::LogBlocks)?;
     Ok(Measures {
         block_size,
         log_blocks: log_blocks.unwrap_or(u64::from(DEFAULTS.log_blocks)) as u32,
         home_blocks: home_blocks_told(matches, keep_home)?,
         uuid: uuid_told(alloc, matches)?,
+        wide: matches.get_flag("wide"),
     })
 }
 
@@ -237,6 +232,9 @@ pub(crate) fn words_of<'a>(alloc: Global, matches: &ArgMatches<'a>) -> Result<Wo
     }
     if let Some(bench) = matches.subcommand_matches("bench") {
         return bench_words(bench).map(Words::Bench);
+    }
+    if let Some(upgrade) = matches.subcommand_matches("upgrade") {
+        return Ok(Words::Upgrade(upgrade.get_str("log").unwrap_or("")));
     }
     if let Some(show) = matches.subcommand_matches("show") {
         return Ok(Words::Show(show.get_str("log").unwrap_or("")));

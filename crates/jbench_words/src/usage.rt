@@ -32,12 +32,13 @@ script is.
 sweep SCRIPT [--fail]: runs a script with a stop at each of its writes and judges what each leaves; with --fail also once for each
 device call, which fails.
 check SCRIPT: says whether a script is good, and why it is not.
-format LOG HOME [--block B] [--length M] [--home N] [--uuid DIGITS] [--keep-home]: two files become an empty log of M blocks
-(default: 33) and a home area of N zero blocks (default: 64), of B bytes each (default: 1024), or only the first does.
+format LOG HOME [--block B] [--length M] [--home N] [--uuid DIGITS] [--wide] [--keep-home]: two files become an empty log of M
+blocks (default: 33) and a home area of N zero blocks (default: 64), of B bytes each (default: 1024), or only the first does.
 dump LOG: prints the log in a file.
 show LOG: prints each field of the superblock in a file, and why an opening would refuse it.
 recover LOG HOME [--before-damage] [--dry-run]: opens the log in a file, and brings home what its complete transactions copied,
 where that is told also those of a damaged log; or says what it would do.
+upgrade LOG: gives the empty log in a file block numbers of 64 bits.
 apply LOG HOME SCRIPT [--stay] [--keep-going]: opens the log in a file, and does the operations of a script over it and its home
 area.
 bench LOG HOME [--seconds N] [--transactions N] [--copies K]: opens the log in a file, and tells how long transactions take.
@@ -63,13 +64,15 @@ With --stop2 the opening of the image is stopped at its own write K, counted fro
 
 With --image-log and --image-home the image is also written to two files before it is opened, byte for byte, so that other
 programs can judge it: jbench recover of them ends as the run's line 'open' says. Both files are made where there are none, and
-lose what they held once the script is taken. They are made before the script runs.
+lose what they held once the script is taken. They are made before the script runs. A home area of more than 1048576 blocks has no
+image.
 
 A script is a JSON object with these keys, of which \"ops\" alone has to be there:
   \"block\"   bytes of a block: 1024, 2048 or 4096 [default: 1024]
   \"length\"  blocks of the log, 17 to 1048576 [default: 33]
-  \"home\"    blocks of the home area, 1 to 1048576 [default: 64]
+  \"home\"    blocks of the home area, 1 to 1048576, or with \"wide\": true to 1099511627776 [default: 64]
   \"uuid\"    the journal's UUID, 32 hex digits [default: aa 16 times]
+  \"wide\"    true where block numbers have 64 bits, or false [default: false]
   \"ops\"     a list of at most 100,000 operations, where H names a handle, 0 to 9999:
   [\"start\", H, n]       a handle with n credits
   [\"write\", H, b, hex]  home block b becomes these bytes, at most a block, and zeros behind them
@@ -146,7 +149,7 @@ Example: jbench run examples/one_write.json --stop 4 --keep 4",
 /// The command `sweep`.
 pub(crate) const SWEEP: Usage = Usage {
     name: "sweep",
-    about: "Runs a script with a stop at each of its writes, opens all that each stop may have left, and judges it",
+    about: "Runs a script with a stop at each of its writes, opens what each stop may have left, and judges it",
     after_help: "\
 The script is one of run: jbench run --help says what that is. It is stopped at each of its writes, and of each stop each choice
 of the last four writes up to it is kept: that makes an image, which is opened and judged. The opening of each image is stopped at
@@ -206,6 +209,8 @@ HOME gets N blocks of zeros, each of which is written: a disk that is full later
 could be opened and locked; one that was made is taken away again where the other can't be opened. Linux takes logs of 1024 blocks
 and more alone: give --length 1024 to a log that it is to read.
 
+With --wide the log's block numbers have 64 bits. What it then holds is read by this program alone: nothing is claimed of others.
+
 With --keep-home HOME stays as it is, byte for byte, and is synced. It has to be there, and not to be shorter than N blocks (default:
 1). What LOG held is lost all the same, also transactions that were not home yet: recover them first, or what can be had of them, by
 recover with --before-damage.
@@ -249,6 +254,12 @@ Example: jbench format log home --block 4096 --length 1024",
             value: "DIGITS",
             is_option: true,
             help: "The journal's UUID, 32 hex digits [default: aa 16 times]",
+        },
+        Word {
+            name: "wide",
+            value: "",
+            is_option: true,
+            help: "Give the log block numbers of 64 bits",
         },
         Word {
             name: "keep-home",
@@ -355,6 +366,30 @@ Examples:
             help: "Write nothing, and tell what would be done",
         },
     ],
+};
+
+/// The command `upgrade`.
+pub(crate) const UPGRADE: Usage = Usage {
+    name: "upgrade",
+    about: "Gives the empty log in a file block numbers of 64 bits: format --wide makes such a log from the start",
+    after_help: "\
+Of LOG four bytes of the superblock change, and nothing else; the home area is not needed. It prints 'upgraded sequence=S', the number
+of the log's superblock: the next transaction has the one behind it, as before. A log that is not empty is refused with 24 NotEmpty:
+recover it first. One that has such numbers is refused with 23 AlreadyWide. Where power goes away meanwhile, the log is as before or
+upgraded. What an upgraded log then holds is read by this program alone: nothing is claimed of others.
+
+Before it is read, the superblock is written once more just as it is, and synced. Where the log is refused nothing else is written. Behind
+'refusal 2 Device' see to the disk first, and then call it again.
+
+Exit status: 0 done; 1 refused: the words, the file, or the log.
+
+Example: jbench upgrade log",
+    words: &[Word {
+        name: "log",
+        value: "LOG",
+        is_option: false,
+        help: "The file of the log",
+    }],
 };
 
 /// The command `apply`.
@@ -465,8 +500,8 @@ Example: jbench bench log home --seconds 10 --copies 4",
 };
 
 /// The commands, as the help names them.
-pub(crate) const COMMANDS: [&Usage; 9] = [
-    &RUN, &SWEEP, &CHECK, &FORMAT, &DUMP, &SHOW, &RECOVER, &APPLY, &BENCH,
+pub(crate) const COMMANDS: [&Usage; 10] = [
+    &RUN, &SWEEP, &CHECK, &FORMAT, &DUMP, &SHOW, &RECOVER, &UPGRADE, &APPLY, &BENCH,
 ];
 
 /// What the command of this name is, if there is one.

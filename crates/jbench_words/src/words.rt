@@ -30,6 +30,8 @@ pub enum Words<'a> {
     Show(&'a str),
     /// To open the log in these files, or to say what that would do.
     Recover(RecoverWords<'a>),
+    /// To give the empty log in this file block numbers of 64 bits.
+    Upgrade(&'a str),
     /// To do the operations of a script over a log.
     Apply(ApplyWords<'a>),
     /// To tell how long transactions on a log take.

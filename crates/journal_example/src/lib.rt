@@ -83,7 +83,7 @@ fn device_over(alloc: Global, log: File, home: File) -> Result<FileDevice<Unknow
 /// home first. It writes nothing where the log is clean, or is refused for what stands in it.
 fn format_and_open<D: Device + Drop>(alloc: Global, device: D) -> Result<Opened<D>> {
     let mut device = device;
-    recovery::format(&mut device, LOG_BLOCKS, &[0xaa; 16])?;
+    recovery::format(&mut device, LOG_BLOCKS, &[0xaa; 16], false)?;
     match recovery::open(alloc, device) {
         Ok(opened) => Ok(opened),
         Err((_, e)) => bail!("{e}"),

@@ -6,7 +6,7 @@ use Rattle.std.proofs.lemmas.Option.{none-some, same_Some}
 use Rattle.std.specs.List.{AllByRecursion}
 use Rattle.std.specs.Map.{lookup, remove_entry}
 use Rattle.indexmap.specs.IndexMap.{insert_entry}
-use Rattle.journal_model.specs.Layout.{IsTaken}
+use Rattle.journal_model.specs.Layout.{IsLayout}
 use Rattle.log_model.specs.Opening.{greatest_number}
 use Rattle.journal_model.specs.declared.transaction.Op.{Op}
 use Rattle.journal_model.specs.declared.transaction.Op.TheVariants.{Write, Revoke}
@@ -97,7 +97,7 @@ inserted-last ((k, m) ∷ hs) given h n least above =
 like-front : (old new : Front) → IsFront old → new.layout ≡ old.layout → held new ≤ new.capacity → AllByRecursion (λ h. h.0 ≤ new.given) new.open_handles →
     new.given < 2 ^ 64 → (new.locked ≡ true → 0 < length new.running.handles) → new.running.tid ≡ old.running.tid → IsFront new
 like-front old new front layout credits numbers given joined tid = record {
-  layout = subst IsTaken (sym layout) front.layout;
+  layout = subst IsLayout (sym layout) front.layout;
   credits = credits;
   numbers = numbers;
   given = given;

@@ -5,7 +5,7 @@ use Rattle.std.specs.Map.{lookup}
 use Rattle.journal_model.specs.declared.refusal.JournalError.{JournalError}
 use Rattle.journal_model.specs.declared.refusal.JournalError.TheVariants.{Aborted, BadBlock, Full, Memory, NoCredit, NotRunning, SequenceEnd, TooMany}
 use Rattle.journal_model.specs.Block.{IsAllowedBlock}
-use Rattle.journal_model.specs.Layout.{IsTaken}
+use Rattle.journal_model.specs.Layout.{IsLayout}
 use Rattle.log_model.specs.Opening.{greatest_number}
 use Rattle.journal_world.specs.Front.{Front, IsFirstTouch, MayJoin, held, next_handle}
 use Rattle.journal_front.specs.Values.{HandleValue}
@@ -13,7 +13,7 @@ use Rattle.journal_front.specs.Values.{HandleValue}
 -- what a front keeps true: no more credits are held than a transaction may have, no open handle has a number that is still
 -- to be given, no more numbers are given out than there are, and a transaction that takes no further handles has one
 pub record IsFront (f : Front) : Type 0 where
-  pub layout : IsTaken f.layout
+  pub layout : IsLayout f.layout
   pub credits : held f ≤ f.capacity
   pub numbers : AllByRecursion (λ h. h.0 ≤ f.given) f.open_handles
   pub given : f.given < 2 ^ 64

@@ -4,7 +4,7 @@ ghost use Rattle.std.specs.Prelude.{◌≡◌, ◌+◌, ◌-◌, ◌<◌, ◌≤
 ghost use Rattle.std.specs.Map.{lookup};
 ghost use Rattle.std.specs.Option.{option_copied};
 ghost use Rattle.journal_model.specs.declared.refusal.JournalError.TheVariants.{Memory};
-ghost use Rattle.journal_model.specs.Layout.{IsTaken};
+ghost use Rattle.journal_model.specs.Layout.{IsLayout};
 ghost use Rattle.log_model.specs.Opening.{greatest_number};
 ghost use Rattle.journal_model.specs.Transaction.{copied, entries, last_effect, revoked};
 ghost use Rattle.journal_world.specs.Front.{FrontHappens, IsOpen, IsUntouched, aborting, finishing, fresh_front, held, next_handle, reading_block, sealing, unfinished};
@@ -79,7 +79,7 @@ impl<R: Record> Front<R> {
         capacity: u64,
         first: Tid,
     ) -> Self
-        requires layout { IsTaken layout }
+        requires layout { IsLayout layout }
         requires some { 0 < first }
         requires number { first ≤ greatest_number }
         ensures { result ≡ fresh_front layout home_blocks capacity first }

@@ -2,4 +2,3 @@
 pub mod Buffers
 pub mod Effects
 pub mod ListElements
-pub mod Taken

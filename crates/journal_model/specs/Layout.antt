@@ -22,6 +22,10 @@ Layout = LogLayout
 abbrev pub narrow : ℕ → Layout
 narrow size = record { block_size = size; number_bytes = 4 }
 
+-- that of a log whose block numbers have 64 bits
+abbrev pub wide : ℕ → Layout
+wide size = record { block_size = size; number_bytes = 8 }
+
 -- a count above each number that the layout can spell: with it, a test of numbers against a count refuses none
 abbrev pub every_number : Layout → ℕ
 every_number l = 2 ^ (8 * l.number_bytes)
@@ -90,14 +94,8 @@ header type sequence = magic_bytes ++ big_endian 4 type ++ big_endian 4 sequence
 unfoldable pub padded : ℕ → List ℕ → List ℕ
 padded size bytes = bytes ++ replicate (size - length bytes) 0
 
--- the layouts that the writer's text is made in: blocks of 1, 2 or 4 KiB, and block numbers of 4 or 8 bytes
+-- the layouts that logs may have: blocks of 1, 2 or 4 KiB, and block numbers of 4 or 8 bytes
 abbrev pub IsLayout : Layout → Type 0
 IsLayout l =
     ((l.block_size ≡ 1024) ⊎ ((l.block_size ≡ 2048) ⊎ (l.block_size ≡ 4096)))
     × ((l.number_bytes ≡ 4) ⊎ (l.number_bytes ≡ 8))
-
--- those that logs may have which are taken: block numbers of 4 bytes
-abbrev pub IsTaken : Layout → Type 0
-IsTaken l =
-    ((l.block_size ≡ 1024) ⊎ ((l.block_size ≡ 2048) ⊎ (l.block_size ≡ 4096)))
-    × (l.number_bytes ≡ 4)

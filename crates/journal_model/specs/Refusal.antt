@@ -1,8 +1,9 @@
 -- The refusals and their numbers. They are this project's own; those of an opening are, with the exceptions
 -- that docs/DECISIONS.md names, what fs/jbd2 tests when it loads a journal.
-use Rattle.std.specs.Prelude.{ℕ}
+use Rattle.std.specs.Prelude.{ℕ, ◌++◌, List, codes}
+use Rattle.std.specs.Fmt.{decimal}
 use Rattle.journal_model.specs.declared.refusal.JournalError.{JournalError}
-use Rattle.journal_model.specs.declared.refusal.JournalError.TheVariants.{Memory, Device, Aborted, NoCredit, Full, TooMany, NotRunning, BadBlock, NotDirect, SequenceEnd, NeedSpace, Revoked, BadMagic, BadType, BadBlockSize, BadLength, BadFirst, BadFeature, BadStart, ErrnoSet, Ahead, Damage}
+use Rattle.journal_model.specs.declared.refusal.JournalError.TheVariants.{Memory, Device, Aborted, NoCredit, Full, TooMany, NotRunning, BadBlock, NotDirect, SequenceEnd, NeedSpace, Revoked, BadMagic, BadType, BadBlockSize, BadLength, BadFirst, BadFeature, BadStart, ErrnoSet, Ahead, Damage, AlreadyWide, NotEmpty}
 
 -- the number by which a refusal is printed
 abbrev pub number_of : JournalError → ℕ
@@ -28,3 +29,32 @@ number_of BadStart = 19
 number_of ErrnoSet = 20
 number_of (Ahead place) = 21
 number_of (Damage place) = 22
+number_of AlreadyWide = 23
+number_of NotEmpty = 24
+
+-- the name by which it is printed, with the place of the block where it is about one
+abbrev pub refusal_text : JournalError → List ℕ
+refusal_text Memory = codes "Memory"
+refusal_text Device = codes "Device"
+refusal_text Aborted = codes "Aborted"
+refusal_text NoCredit = codes "NoCredit"
+refusal_text Full = codes "Full"
+refusal_text TooMany = codes "TooMany"
+refusal_text NotRunning = codes "NotRunning"
+refusal_text BadBlock = codes "BadBlock"
+refusal_text NotDirect = codes "NotDirect"
+refusal_text SequenceEnd = codes "SequenceEnd"
+refusal_text NeedSpace = codes "NeedSpace"
+refusal_text Revoked = codes "Revoked"
+refusal_text BadMagic = codes "BadMagic"
+refusal_text BadType = codes "BadType"
+refusal_text BadBlockSize = codes "BadBlockSize"
+refusal_text BadLength = codes "BadLength"
+refusal_text BadFirst = codes "BadFirst"
+refusal_text BadFeature = codes "BadFeature"
+refusal_text BadStart = codes "BadStart"
+refusal_text ErrnoSet = codes "ErrnoSet"
+refusal_text (Ahead place) = codes "Ahead " ++ decimal place
+refusal_text (Damage place) = codes "Damage " ++ decimal place
+refusal_text AlreadyWide = codes "AlreadyWide"
+refusal_text NotEmpty = codes "NotEmpty"

@@ -1,7 +1,7 @@
 //! The numbers of blocks, transactions and handles.
 ghost use Rattle.std.specs.Prelude.{◌↔◌, IsTrue};
 ghost use Rattle.journal_model.specs.Block.{IsAllowedBlock};
-ghost use Rattle.journal_model.specs.Layout.{IsTaken};
+ghost use Rattle.journal_model.specs.Layout.{IsLayout};
 
 use crate::log_layout::LogLayout;
 use std::marker::Model;
@@ -30,13 +30,14 @@ impl Model for BlockNo {
 }
 
 impl BlockNo {
-    /// Whether a transaction may touch the block: a home area of so many blocks has it, and a tag can spell it.
-    /// Source: journal.rst, "Descriptor Block" (the width of a block number).
+    /// Whether a transaction may touch the block: a home area of so many blocks has it, a tag of this layout can spell it, and its
+    /// number has at most 48 bits.
+    /// Source: journal.rst, "Descriptor Block" (the width of a block number); the 48 bits are this project's own.
     pub fn is_allowed(self, layout: LogLayout, home_blocks: u64) -> bool
-        requires { IsTaken layout }
+        requires { IsLayout layout }
         ensures { IsTrue result ↔ IsAllowedBlock layout home_blocks self }
     {
-        self.0 < home_blocks && self.0 < layout.every_number()
+        self.0 < home_blocks && self.0 < layout.block_limit()
     }
 }
 

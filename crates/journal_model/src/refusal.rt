@@ -1,78 +1,100 @@
 //! Why calls are refused, and the number of each refusal.
 use std::alloc::AllocError;
-use thiserror::Error;
+use std::error::Error;
+use std::fmt;
 
 /// Why a call was refused. Each refusal has a number, by which programs print it.
-#[derive(Clone, Copy, Debug, PartialEq, Eq, Error)]
+#[derive(Clone, Copy, Debug, PartialEq, Eq)]
 pub enum JournalError {
     /// 1: a growth was refused.
-    #[error("Memory")]
     Memory,
     /// 2: the device failed during this call.
-    #[error("Device")]
     Device,
     /// 3: a device fault was met earlier.
-    #[error("Aborted")]
     Aborted,
     /// 4: a first touch by a handle without a credit left.
-    #[error("NoCredit")]
     NoCredit,
     /// 5: the credits held, with those under a take-back, leave fewer than asked.
-    #[error("Full")]
     Full,
     /// 6: more credits asked than one transaction can have.
-    #[error("TooMany")]
     TooMany,
     /// 7: the current transaction is locked.
-    #[error("NotRunning")]
     NotRunning,
     /// 8: a block number that is not allowed.
-    #[error("BadBlock")]
     BadBlock,
     /// 9: a direct write to a block that isn't free for it.
-    #[error("NotDirect")]
     NotDirect,
     /// 10: no transaction number up to 0xfffffff0 is left, or no handle number below 2^64.
-    #[error("SequenceEnd")]
     SequenceEnd,
     /// 11: the ring has fewer free blocks than needed.
-    #[error("NeedSpace")]
     NeedSpace,
     /// 12: a read of a block that was last revoked, in a transaction that isn't finished yet.
-    #[error("Revoked")]
     Revoked,
     /// 13: a superblock without the magic.
-    #[error("BadMagic")]
     BadMagic,
     /// 14: the superblock's type isn't 4.
-    #[error("BadType")]
     BadType,
     /// 15: s_blocksize isn't 1024, 2048 or 4096, or isn't the device's.
-    #[error("BadBlockSize")]
     BadBlockSize,
     /// 16: s_maxlen is outside its limits or above the log area's blocks, or the log area has no block.
-    #[error("BadLength")]
     BadLength,
     /// 17: s_first is 0, or leaves a ring of fewer than 16 blocks.
-    #[error("BadFirst")]
     BadFirst,
     /// 18: a feature, or a count of users, that this journal does not take.
-    #[error("BadFeature")]
     BadFeature,
     /// 19: s_start is not 0 and lies outside the ring.
-    #[error("BadStart")]
     BadStart,
     /// 20: s_errno isn't 0.
-    #[error("ErrnoSet")]
     ErrnoSet,
     /// 21: the lowest ring block (its place in the log area) that begins with the magic and whose
     /// sequence is above what the log may hold.
-    #[error("Ahead {0}")]
     Ahead(u64),
     /// 22: the first malformed block behind the complete transactions of the log (its place in the log area).
-    #[error("Damage {0}")]
     Damage(u64),
+    /// 23: an upgrade of a log whose block numbers have 64 bits.
+    AlreadyWide,
+    /// 24: an upgrade of a log that is not clean.
+    NotEmpty,
 }
+
+/// Its name, and the place of the block where it is about one.
+impl fmt::Display for JournalError {
+    ghost use Rattle.std.specs.Prelude.{Some};
+    ghost use Rattle.journal_model.specs.Refusal.{refusal_text};
+
+    ghost output = { λ e. Some (refusal_text e) };
+
+    fn fmt<W: fmt::Write>(&self, f: &mut fmt::Formatter<W>) -> fmt::Result {
+        match self {
+            JournalError::Memory => f.write_str("Memory"),
+            JournalError::Device => f.write_str("Device"),
+            JournalError::Aborted => f.write_str("Aborted"),
+            JournalError::NoCredit => f.write_str("NoCredit"),
+            JournalError::Full => f.write_str("Full"),
+            JournalError::TooMany => f.write_str("TooMany"),
+            JournalError::NotRunning => f.write_str("NotRunning"),
+            JournalError::BadBlock => f.write_str("BadBlock"),
+            JournalError::NotDirect => f.write_str("NotDirect"),
+            JournalError::SequenceEnd => f.write_str("SequenceEnd"),
+            JournalError::NeedSpace => f.write_str("NeedSpace"),
+            JournalError::Revoked => f.write_str("Revoked"),
+            JournalError::BadMagic => f.write_str("BadMagic"),
+            JournalError::BadType => f.write_str("BadType"),
+            JournalError::BadBlockSize => f.write_str("BadBlockSize"),
+            JournalError::BadLength => f.write_str("BadLength"),
+            JournalError::BadFirst => f.write_str("BadFirst"),
+            JournalError::BadFeature => f.write_str("BadFeature"),
+            JournalError::BadStart => f.write_str("BadStart"),
+            JournalError::ErrnoSet => f.write_str("ErrnoSet"),
+            JournalError::Ahead(place) => write!(f, "Ahead {place}"),
+            JournalError::Damage(place) => write!(f, "Damage {place}"),
+            JournalError::AlreadyWide => f.write_str("AlreadyWide"),
+            JournalError::NotEmpty => f.write_str("NotEmpty"),
+        }
+    }
+}
+
+impl Error for JournalError {}
 
 impl From<AllocError> for JournalError {
     ghost use Rattle.std.specs.Prelude.{◌≡◌};
@@ -89,7 +111,7 @@ impl JournalError {
     ghost use Rattle.std.specs.Prelude.{◌≡◌};
     ghost use Rattle.journal_model.specs.Refusal.{number_of};
 
-    /// The refusal's number, 1 to 22.
+    /// The refusal's number, 1 to 24.
     pub fn number(&self) -> u8
         ensures { result ≡ number_of self.now }
     {
@@ -116,6 +138,8 @@ impl JournalError {
             JournalError::ErrnoSet => 20,
             JournalError::Ahead(_) => 21,
             JournalError::Damage(_) => 22,
+            JournalError::AlreadyWide => 23,
+            JournalError::NotEmpty => 24,
         }
     }
 }

@@ -4,6 +4,7 @@ use block_device::MemDevice;
 use commit_times::bench;
 use format_rows::RowError;
 use format_rows::words::cut;
+use jbench_words::fault::Status;
 use jbench_words::watch::{Step, Watch};
 use jbench_words::words::{BenchWords, Words, parse};
 use run_rows::texts::numbers_in;
@@ -75,7 +76,7 @@ pub fn bench(alloc: Global, given: &str) -> Result<String, RowError> {
 fn formatted(device: MemDevice, log_blocks: u64) -> Result<MemDevice, RowError> {
     let mut device = device;
     let log_blocks = u32::try_from(log_blocks).unwrap_or(0);
-    match recovery::format(&mut device, log_blocks, &[0xaa; 16]) {
+    match recovery::format(&mut device, log_blocks, &[0xaa; 16], false) {
         Ok(()) => Ok(device),
         Err(_) => Err(RowError::Unread),
     }
@@ -98,7 +99,11 @@ fn bench_device(
     let mut err = Vec::new(alloc);
     let seconds = Seconds { text: &mut text };
     match bench::bench(alloc, words, device, &clock, seconds, &mut out, &mut err) {
-        Ok(status) => {
+        Ok(done) => {
+            let status = match done {
+                Some(_) => Status::Fine,
+                None => Status::Refused,
+            };
             text.push_str(text_of(alloc, &out, &err, status)?.as_str())?;
             Ok(text)
         }

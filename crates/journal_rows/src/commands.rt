@@ -3,7 +3,7 @@ use block_device::MemDevice;
 use format_rows::RowError;
 use format_rows::words::cut;
 use jbench_commands::{check, run, sweep};
-use jbench_logs::{damage, logs, plans, show};
+use jbench_logs::{logs, recovering, show};
 use jbench_words::fault::Status;
 use jbench_words::watch::Unwatched;
 use jbench_words::words::{
@@ -138,16 +138,29 @@ fn recover_device(
 ) -> Result<String, RowError> {
     let mut out = Vec::new(alloc);
     let mut err = Vec::new(alloc);
-    let log = words.paths.log;
-    let said = if words.dry_run {
-        plans::plan(alloc, words, device, Unwatched, &mut out, &mut err)
-    } else if words.before_damage {
-        damage::recover_before_damage(alloc, log, device, Unwatched, &mut out, &mut err)
-    } else {
-        logs::recover(alloc, log, device, Unwatched, &mut out, &mut err)
-    };
-    match said {
+    match recovering::recover(alloc, words, device, Unwatched, &mut out, &mut err) {
         Ok((status, _)) => text_of(alloc, &out, &err, status),
+        Err(_) => Err(RowError::Memory),
+    }
+}
+
+/// A log that is upgraded. Given: the words of the program on a line, and a log as `log_rows` spells it, on a device in memory. Found:
+/// as of a run, and then the dump of the log, where the command did what was asked.
+pub fn upgrade(alloc: Global, given: &str) -> Result<String, RowError> {
+    let (line, log) = cut(given, "\n")?;
+    let words = words_in(alloc, line)?;
+    match parse(alloc, &words) {
+        Ok(Words::Upgrade(path)) => upgrade_device(alloc, path, log_on_device(alloc, log)?),
+        _ => Err(RowError::Unread),
+    }
+}
+
+/// What `upgrade` says of the log on this device.
+fn upgrade_device(alloc: Global, path: &str, mut device: MemDevice) -> Result<String, RowError> {
+    let mut out = Vec::new(alloc);
+    let mut err = Vec::new(alloc);
+    match logs::upgrade(alloc, path, &mut device, &mut out, &mut err) {
+        Ok(status) => text_of(alloc, &out, &err, status),
         Err(_) => Err(RowError::Memory),
     }
 }
@@ -193,6 +206,7 @@ fn told(alloc: Global, words: &Words<'_>) -> Result<String, RowError> {
         Words::Dump(log) => Ok(format!(in alloc; "dump {log}")?),
         Words::Show(log) => Ok(format!(in alloc; "show {log}")?),
         Words::Recover(words) => Ok(told_recover(alloc, words)?),
+        Words::Upgrade(log) => Ok(format!(in alloc; "upgrade {log}")?),
         Words::Apply(words) => Ok(told_apply(alloc, words)?),
         Words::Bench(words) => Ok(told_bench(alloc, words)?),
     }

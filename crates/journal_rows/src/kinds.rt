@@ -58,6 +58,7 @@ fn found_of_command(alloc: Global, kind: &str, given: &str) -> Option<Found> {
         "run" => Some(commands::run(alloc, given)),
         "show" => Some(commands::show(alloc, given)),
         "sweep" => Some(commands::sweep(alloc, given)),
+        "upgrade" => Some(commands::upgrade(alloc, given)),
         "usages" => Some(commands::usages(alloc, given)),
         "words" => Some(commands::words(alloc, given)),
         _ => None,
@@ -86,6 +87,7 @@ fn found_of_opening(alloc: Global, kind: &str, given: &str) -> Option<Found> {
     match kind {
         "changed_bytes" => Some(opening_rows::changed_bytes(alloc, given)),
         "failed_openings" => Some(opening_rows::failed_openings(alloc, given)),
+        "failed_upgrades" => Some(opening_rows::failed_upgrades(alloc, given)),
         "forgetful_openings" => Some(opening_rows::forgetful_openings(alloc, given)),
         "opening_calls" => Some(opening_rows::opening_calls(alloc, given)),
         "openings" => Some(opening_rows::openings(alloc, given)),
@@ -93,6 +95,8 @@ fn found_of_opening(alloc: Global, kind: &str, given: &str) -> Option<Found> {
         "plans" => Some(opening_rows::plans(alloc, given)),
         "random_logs" => Some(opening_rows::random_logs(alloc, given)),
         "second_openings" => Some(opening_rows::second_openings(alloc, given)),
+        "stopped_upgrades" => Some(opening_rows::stopped_upgrades(alloc, given)),
+        "upgrades" => Some(opening_rows::upgrades(alloc, given)),
         _ => None,
     }
 }
@@ -100,6 +104,7 @@ fn found_of_opening(alloc: Global, kind: &str, given: &str) -> Option<Found> {
 /// What is found of a row on blocks, the ring and layouts.
 fn found_of_format(alloc: Global, kind: &str, given: &str) -> Option<Found> {
     match kind {
+        "allowed_blocks" => Some(format_rows::allowed_blocks(alloc, given)),
         "capacities" => Some(format_rows::capacities(alloc, given)),
         "escapes" => Some(format_rows::escapes(alloc, given)),
         "formatted_superblocks" => Some(format_rows::formatted_superblocks(alloc, given)),

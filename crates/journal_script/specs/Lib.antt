@@ -1,2 +1,3 @@
 pub mod Measures
 pub mod Named
+pub mod Line

@@ -1,8 +1,12 @@
 -- The limits of a script's keys.
-use Rattle.std.specs.Prelude.{◌≤◌}
+use Rattle.std.specs.Prelude.{◌≤◌, ℕ, Bool, if◌then◌else◌}
 use Rattle.log_model.specs.Superblock.{greatest_length, least_length}
 use Rattle.log_format.specs.Size.{IsBlockSize}
 use Rattle.journal_script.specs.declared.measures.Measures.{Measures}
+
+-- the most blocks of a home area whose block numbers have 64 bits, or 32
+abbrev pub most_home_blocks : Bool → ℕ
+most_home_blocks wide = if wide then 1099511627776 else 1048576
 
 -- the measures are such as a log and a home area of a run may have
 pub record AreLimited (m : Measures) : Type 0 where
@@ -10,4 +14,4 @@ pub record AreLimited (m : Measures) : Type 0 where
   pub least : least_length ≤ m.log_blocks
   pub most : m.log_blocks ≤ greatest_length
   pub some_home : 1 ≤ m.home_blocks
-  pub most_home : m.home_blocks ≤ 1048576
+  pub most_home : m.home_blocks ≤ most_home_blocks m.wide

@@ -24,6 +24,8 @@ pub enum BadScript {
     UnknownKey(String),
     /// It lacks this key, or what the key has is none of its values.
     Key(Key),
+    /// What it has for the blocks of a home area whose block numbers have 64 bits is none of that.
+    WideHome,
     /// What this key has is not so on the device that is there.
     Disagrees(Key),
     /// It has this operation, which is none or can't stand there.
@@ -43,6 +45,8 @@ pub enum Key {
     Home,
     /// `uuid`, the journal's UUID.
     Uuid,
+    /// `wide`, whether block numbers have 64 bits.
+    Wide,
 }
 
 /// An operation that is none, or can't stand where it stands.
@@ -170,6 +174,7 @@ impl Key {
             "length" => Some(Key::Length),
             "home" => Some(Key::Home),
             "uuid" => Some(Key::Uuid),
+            "wide" => Some(Key::Wide),
             _ => None,
         }
     }
@@ -182,6 +187,7 @@ impl Key {
             Key::Length => "length",
             Key::Home => "home",
             Key::Uuid => "uuid",
+            Key::Wide => "wide",
         }
     }
 
@@ -193,6 +199,7 @@ impl Key {
             Key::Length => "a number from 17 to 1048576 is wanted",
             Key::Home => "a number from 1 to 1048576 is wanted",
             Key::Uuid => "32 hex digits are wanted",
+            Key::Wide => "true or false is wanted",
         }
     }
 }
@@ -235,6 +242,11 @@ impl fmt::Display for BadScript {
             BadScript::NoObject => f.write_str("it is no JSON object"),
             BadScript::UnknownKey(name) => write!(f, "key {name:?}: a script has no such key"),
             BadScript::Key(key) => write!(f, "key {:?}: {}", key.name(), key.wanted()),
+            BadScript::WideHome => write!(
+                f,
+                "key {:?}: a number from 1 to 1099511627776 is wanted",
+                Key::Home.name()
+            ),
             BadScript::Disagrees(key) => write!(f, "key {:?}: the device has another", key.name()),
             BadScript::Operation(bad) => bad.fmt(f),
         }

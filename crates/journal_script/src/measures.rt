@@ -1,29 +1,35 @@
 //! The measures of a device, as a script's keys or words give them, and their limits.
-ghost use Rattle.std.specs.Prelude.{◌↔◌, ◌≤◌, IfSome, IsTrue};
+ghost use Rattle.std.specs.Prelude.{◌≡◌, ◌↔◌, ◌≤◌, IfSome, IsTrue};
 ghost use Rattle.log_format.specs.Size.{IsBlockSize};
+ghost use Rattle.journal_script.specs.Measures.{most_home_blocks};
 
 use hex::FromHexError;
 use journal_model::layout::{GREATEST_LENGTH, LEAST_LENGTH};
 use std::alloc::{AllocError, Global};
 
-/// The measures of a device, and the UUID of its journal.
+/// The measures of a device, and the UUID and the width of its journal.
 #[derive(Clone, Copy)]
 pub struct Measures {
     /// Bytes of a block: 1024, 2048 or 4096.
     pub block_size: usize,
     /// Blocks of the log, 17 to 1,048,576.
     pub log_blocks: u32,
-    /// Blocks of the home area, 1 to 1,048,576.
+    /// Blocks of the home area, 1 to 1,048,576, or where block numbers have 64 bits to 1,099,511,627,776.
     pub home_blocks: u64,
     /// The journal's UUID.
     pub uuid: [u8; 16],
+    /// Whether the log's block numbers have 64 bits.
+    pub wide: bool,
 }
 
 /// The fewest and the most blocks of a log.
 pub const LENGTHS: (u32, u32) = (LEAST_LENGTH, GREATEST_LENGTH);
 
-/// The fewest and the most blocks of a home area.
-pub const HOMES: (u32, u32) = (1, 1_048_576);
+/// The fewest and the most blocks of a home area that is made, or copied, whole.
+pub const HOMES: (u64, u64) = (1, 1_048_576);
+
+/// The most blocks of a home area whose block numbers have 64 bits.
+const MOST_WIDE_HOME: u64 = 1_099_511_627_776;
 
 /// The measures of a script or of words that give none.
 pub const DEFAULTS: Measures = Measures {
@@ -31,7 +37,16 @@ pub const DEFAULTS: Measures = Measures {
     log_blocks: 33,
     home_blocks: 64,
     uuid: [0xaa; 16],
+    wide: false,
 };
+
+/// The fewest and the most blocks of a script's home area, whose block numbers have 64 bits or 32.
+pub(crate) fn homes(wide: bool) -> (u64, u64)
+    ensures { result ≡ (1, most_home_blocks wide) }
+{
+    let most = if wide { MOST_WIDE_HOME } else { HOMES.1 };
+    (HOMES.0, most)
+}
 
 /// Whether a block may have so many bytes.
 pub fn is_block_size(bytes: u64) -> bool

@@ -1,9 +1,9 @@
 //! Reads a script from the bytes of its file.
 ghost use Rattle.std.specs.Prelude.{◌≡◌, ◌≤◌, IfOk, length};
-ghost use Rattle.journal_script.specs.Measures.{AreLimited};
+ghost use Rattle.journal_script.specs.Measures.{AreLimited, most_home_blocks};
 
 use crate::error::{BadOperation, BadScript, Key, OperationFault, OperationName, ScriptError};
-use crate::measures::{DEFAULTS, HOMES, LENGTHS, Measures, is_block_size, uuid_of};
+use crate::measures::{DEFAULTS, LENGTHS, Measures, homes, is_block_size, uuid_of};
 use crate::order;
 use crate::script::{HandleName, MOST_OPERATIONS, Operation, Script};
 use hex::FromHexError;
@@ -28,7 +28,7 @@ enum Unread {
 /// # Errors
 ///
 /// `BadScript` where it is no JSON object with the key `ops`, a list of at most 100,000 operations, and at will `block`,
-/// `length`, `home` and `uuid`, within their limits, and with no other key; where an operation has another form, or names a
+/// `length`, `home`, `uuid` and `wide`, within their limits, and with no other key; where an operation has another form, or names a
 /// handle in the wrong state. `Memory`.
 pub fn read(alloc: Global, text: &[u8]) -> Result<Script, ScriptError>
     ensures operations { IfOk result (λ script. length script.operations.items ≤ 100_000) }
@@ -74,6 +74,7 @@ fn read_members_over(
     require_number(members, Key::Length, u64::from(device.log_blocks))?;
     require_number(members, Key::Home, device.home_blocks)?;
     require_uuid(alloc, members, &device.uuid)?;
+    require_width(members, device.wide)?;
     read_ordered(alloc, list_of(members)?, device.block_size)
 }
 
@@ -95,6 +96,14 @@ fn require_uuid(
 ) -> Result<(), ScriptError> {
     if members.get(Key::Uuid.name()).is_some() && read_uuid(alloc, members)? != *uuid {
         return Err(ScriptError::BadScript(BadScript::Disagrees(Key::Uuid)));
+    }
+    Ok(())
+}
+
+/// Fails where a width of block numbers stands in a script, and another than this.
+fn require_width(members: &Map<String, Value>, wide: bool) -> Result<(), ScriptError> {
+    if members.get(Key::Wide.name()).is_some() && read_width(members)? != wide {
+        return Err(ScriptError::BadScript(BadScript::Disagrees(Key::Wide)));
     }
     Ok(())
 }
@@ -200,16 +209,18 @@ fn read_measures(alloc: Global, members: &Map<String, Value>) -> Result<Measures
     if !is_block_size(block_size) {
         return Err(bad_key(Key::Block));
     }
+    let wide = read_width(members)?;
     Ok(Measures {
         block_size: block_size as usize,
         log_blocks: read_number(
             members,
             Key::Length,
             u64::from(DEFAULTS.log_blocks),
-            LENGTHS,
+            (u64::from(LENGTHS.0), u64::from(LENGTHS.1)),
         )? as u32,
-        home_blocks: read_number(members, Key::Home, DEFAULTS.home_blocks, HOMES)?,
+        home_blocks: read_home(members, wide)?,
         uuid: read_uuid(alloc, members)?,
+        wide,
     })
 }
 
@@ -218,7 +229,7 @@ fn read_number(
     members: &Map<String, Value>,
     key: Key,
     default: u64,
-    limits: (u32, u32),
+    limits: (u64, u64),
 ) -> Result<u64, ScriptError>
     requires least { limits.0 ≤ default }
     requires most { default ≤ limits.1 }
@@ -229,10 +240,20 @@ fn read_number(
         return Ok(default);
     };
     match value.as_u64() {
-        Some(number) if u64::from(limits.0) <= number && number <= u64::from(limits.1) => Ok(
-            number,
-        ),
+        Some(number) if limits.0 <= number && number <= limits.1 => Ok(number),
         _ => Err(bad_key(key)),
+    }
+}
+
+/// The blocks of a script's home area, whose block numbers have 64 bits or 32.
+fn read_home(members: &Map<String, Value>, wide: bool) -> Result<u64, ScriptError>
+    ensures least { IfOk result (λ blocks. 1 ≤ blocks) }
+    ensures most { IfOk result (λ blocks. blocks ≤ most_home_blocks wide) }
+{
+    match read_number(members, Key::Home, DEFAULTS.home_blocks, homes(wide)) {
+        Ok(blocks) => Ok(blocks),
+        Err(_) if wide => Err(ScriptError::BadScript(BadScript::WideHome)),
+        Err(e) => Err(e),
     }
 }
 
@@ -247,6 +268,14 @@ fn read_uuid(alloc: Global, members: &Map<String, Value>) -> Result<[u8; 16], Sc
     match uuid_of(alloc, digits)? {
         Some(uuid) => Ok(uuid),
         None => Err(bad_key(Key::Uuid)),
+    }
+}
+
+/// Whether the block numbers of a script's log have 64 bits.
+fn read_width(members: &Map<String, Value>) -> Result<bool, ScriptError> {
+    match members.get(Key::Wide.name()) {
+        Some(value) => value.as_bool().ok_or(bad_key(Key::Wide)),
+        None => Ok(DEFAULTS.wide),
     }
 }
 

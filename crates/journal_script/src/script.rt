@@ -1,5 +1,7 @@
 //! What a script is: its operations, and the line that each begins.
 ghost use Rattle.std.specs.Prelude.{ℕ, ◌≡◌, [], ◌⊎◌, ◌<◌, ◌↔◌, Contains, IfOk, IfSome, IsSome, IsTrue, OnOk, Some};
+ghost use Rattle.std.specs.Fmt.{WritesOnOk};
+ghost use Rattle.journal_script.specs.Line.{behind_blank};
 
 use crate::measures::Measures;
 use journal_model::BlockNo;
@@ -19,6 +21,8 @@ pub const HANDLE_NAMES: u16 = 10_000;
 pub struct HandleName(u16);
 
 impl Model for HandleName {
+    ghost use Rattle.std.specs.Prelude.{ℕ};
+
     ghost Value = { ℕ };
 
     ghost view = { λ h. h.0 };
@@ -104,9 +108,12 @@ impl HandleName {
 impl Operation {
     ghost use Rattle.std.specs.BTreeSet.{keys};
     ghost use Rattle.journal_script.specs.Named.{block_in, direct_in};
+    ghost use Rattle.journal_script.specs.Line.{handle_in, number_in, word_of};
 
     /// The handle that it names.
-    pub fn handle(&self) -> Option<HandleName> {
+    pub fn handle(&self) -> Option<HandleName>
+        ensures { result ≡ handle_in self.now }
+    {
         match self {
             Operation::Start(handle, _)
             | Operation::Write(handle, _, _)
@@ -180,7 +187,9 @@ impl Operation {
     }
 
     /// The word that its line begins with.
-    fn word(&self) -> &'static str {
+    fn word(&self) -> &'static str
+        ensures { result.now ≡ word_of self.now }
+    {
         match self {
             Operation::Start(..) => "start",
             Operation::Write(..) => "write",
@@ -202,15 +211,18 @@ impl Operation {
     }
 
     /// The number in its line, of credits or of a block.
-    fn number(&self) -> Option<u64> {
+    fn number(&self) -> Option<u64>
+        ensures { result ≡ number_in self.now }
+    {
         match self {
-            Operation::Start(_, credits)
-            | Operation::Extend(_, credits)
-            | Operation::Restart(_, credits) => Some(*credits),
-            _ => match self.block() {
-                Some(block) => Some(block.0),
-                None => None,
-            },
+            Operation::Start(_, number)
+            | Operation::Extend(_, number)
+            | Operation::Restart(_, number)
+            | Operation::Write(_, BlockNo(number), _)
+            | Operation::Revoke(_, BlockNo(number))
+            | Operation::Read(_, BlockNo(number))
+            | Operation::WriteDirect(BlockNo(number), _) => Some(*number),
+            _ => None,
         }
     }
 }
@@ -255,6 +267,10 @@ impl NamedBlocks {
 }
 
 impl fmt::Display for HandleName {
+    ghost use Rattle.std.specs.Fmt.{decimal};
+
+    ghost output = { λ name. Some (decimal name) };
+
     fn fmt<W: fmt::Write>(&self, f: &mut fmt::Formatter<W>) -> fmt::Result {
         write!(f, "{}", self.0)
     }
@@ -262,14 +278,33 @@ impl fmt::Display for HandleName {
 
 /// The left side of an operation's line.
 impl fmt::Display for Operation {
+    ghost use Rattle.journal_script.specs.Line.{operation_text};
+
+    ghost output = { λ operation. Some (operation_text operation) };
+
     fn fmt<W: fmt::Write>(&self, f: &mut fmt::Formatter<W>) -> fmt::Result {
         f.write_str(self.word())?;
-        if let Some(handle) = self.handle() {
-            write!(f, " {handle}")?;
-        }
-        if let Some(number) = self.number() {
-            write!(f, " {number}")?;
-        }
-        Ok(())
+        write_handle(f, self.handle())?;
+        write_number(f, self.number())
+    }
+}
+
+/// Writes the handle that an operation names, behind a blank.
+fn write_handle<W: fmt::Write>(f: &mut fmt::Formatter<W>, handle: Option<HandleName>) -> fmt::Result
+    ensures { WritesOnOk W.write_str_gives f.old result (behind_blank handle) f.new }
+{
+    match handle {
+        Some(handle) => write!(f, " {handle}"),
+        None => Ok(()),
+    }
+}
+
+/// Writes the number of an operation, behind a blank.
+fn write_number<W: fmt::Write>(f: &mut fmt::Formatter<W>, number: Option<u64>) -> fmt::Result
+    ensures { WritesOnOk W.write_str_gives f.old result (behind_blank number) f.new }
+{
+    match number {
+        Some(number) => write!(f, " {number}"),
+        None => Ok(()),
     }
 }

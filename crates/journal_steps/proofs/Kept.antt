@@ -1,16 +1,49 @@
--- A front and an engine that agree do so after a call that touches a block, whatever it answers.
-use Rattle.std.proofs.Common.{sym, subst}
-use Rattle.std.specs.Prelude.{◌≡◌, ℕ, Result, Ok, Err, IfErr, OnOk, List}
+-- A front and an engine that agree do so after each call of the front, whatever it answers.
+use Rattle.std.proofs.Common.{arith, sym, subst, ⊎_elim}
+use Rattle.std.specs.Prelude.{◌≡◌, ℕ, ◌<◌, ◌≤◌, Result, Ok, Err, IfErr, IfOk, OnOk, List, length}
+use Rattle.std.proofs.lemmas.Bool.Decides.{leb_tells}
 use Rattle.journal_world.specs.Engine.{Engine}
-use Rattle.journal_world.specs.Front.{Front, FrontHappens}
-use Rattle.journal_world.specs.Front.FrontEvent.{RevokeBlock, WriteBlock}
+use Rattle.journal_world.specs.Front.{Front, FrontEvent, FrontHappens}
+use Rattle.journal_world.specs.Front.FrontEvent.{GiveBack, Join, Lock, Reserve, RevokeBlock, WriteBlock}
 use Rattle.journal_steps.specs.Journal.{Agrees}
-use Rattle.journal_steps.proofs.Sealing.{agrees-revoked, agrees-written}
+use Rattle.journal_steps.proofs.Sealing.{IsTouch, agrees-revoked, agrees-untouched, agrees-written}
 
 module _ (f front : Front) (e : Engine) (agrees : Agrees (record { front = f; engine = e })) where
   -- where the front is as it was
-  kept-same : front ≡ f → Agrees (record { front = front; engine = e })
+  pub kept-same : front ≡ f → Agrees (record { front = front; engine = e })
   kept-same same = subst (λ (x : Front). Agrees (record { front = x; engine = e })) (sym same) agrees
+
+  -- after a step that touches no block
+  pub kept-step : (event : FrontEvent) → (IsTouch event → ⊥) → FrontHappens f event front → Agrees (record { front = front; engine = e })
+  kept-step event other step = agrees-untouched f front e event other step agrees
+
+  -- after credits that are granted, or not
+  pub kept-reserve : {A R : Type 0} (Says : A → Type 0) (Why : R → Type 0) (r : Result A R) (n : ℕ) → IfOk r (λ a. Says a × FrontHappens f (Reserve n) front) →
+      IfErr r (λ x. Why x × (front ≡ f)) → Agrees (record { front = front; engine = e })
+  kept-reserve Says Why (Ok a) n ok err = kept-step (Reserve n) (λ touch. touch) ok.1
+  kept-reserve Says Why (Err x) n ok err = kept-same err.1
+
+  -- after credits that come back, or are not held
+  pub kept-give_back : (n : ℕ) → (n ≤ f.reserved → FrontHappens f (GiveBack n) front) → (f.reserved < n → front ≡ f) → Agrees (record { front = front; engine = e })
+  kept-give_back n gives other =
+      ⊎_elim
+      (λ (held : _ × (n ≤ f.reserved)). kept-step (GiveBack n) (λ touch. touch) (gives held.1))
+      (λ (more : _ × (f.reserved < n)). kept-same (other more.1))
+      (leb_tells n f.reserved)
+
+  -- after a handle that joins, or does not
+  pub kept-join : {A R : Type 0} (Says : A → Type 0) (Why : R → Type 0) (r : Result A R) (n : ℕ) → IfOk r (λ a. FrontHappens f (Join n) front × Says a) →
+      IfErr r (λ x. Why x × (front ≡ f)) → Agrees (record { front = front; engine = e })
+  kept-join Says Why (Ok a) n ok err = kept-step (Join n) (λ touch. touch) ok.0
+  kept-join Says Why (Err x) n ok err = kept-same err.1
+
+  -- after a lock, which a transaction without handles does not take
+  pub kept-lock : (0 < length f.running.handles → FrontHappens f Lock front) → (length f.running.handles ≡ 0 → front ≡ f) → Agrees (record { front = front; engine = e })
+  kept-lock locks empty =
+      ⊎_elim
+      (λ (none : _ × (length f.running.handles ≤ 0)). kept-same (empty (omega (arith, none.1))))
+      (λ (some : _ × (0 < length f.running.handles)). kept-step Lock (λ touch. touch) (locks some.1))
+      (leb_tells (length f.running.handles) 0)
 
   -- after a write
   pub kept-write : {A R : Type 0} (Why Rest : R → Type 0) (r : Result A R) (h b : ℕ) (v : List ℕ) → e.layout.block_size ≡ e.shape.block_size →

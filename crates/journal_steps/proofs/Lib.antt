@@ -2,6 +2,7 @@
 pub mod Kept
 pub mod Turning
 -- The others.
+mod Audited
 mod Directs
 mod Noting
 mod Quarter

@@ -35,14 +35,14 @@ module _ {A D : Type 0} (state : D → DeviceState) (honest : D → Type 0) (f f
   here = subst (λ (e : Engine). Agrees (record { front = f; engine = e })) (sym same) agrees
 
   by-agrees : (r : Result A JournalError) → OnOk r ((front ≡ reading_block f h.number b v) × (into ≡ v)) → IfErr r (λ e. (e ≡ Memory) × (front ≡ f) × (into ≡ before)) →
-      Agrees (together front new).journal
-  by-agrees (Ok a) noted unnoted =
-      agrees-read f front new.engine h.number b v here (whole ∙ ap (λ (e : Engine). e.shape.block_size) (sym same)) may.allowed noted.0
-  by-agrees (Err e) noted unnoted = subst (λ (x : Front). Agrees (record { front = x; engine = new.engine })) (sym unnoted.1) here
+      OnOk r (IsOpen f h.number) → Agrees (together front new).journal
+  by-agrees (Ok a) noted unnoted is =
+      agrees-read f front new.engine h.number b v here (whole ∙ ap (λ (e : Engine). e.shape.block_size) (sym same)) may.allowed is noted.0
+  by-agrees (Err e) noted unnoted is = subst (λ (x : Front). Agrees (record { front = x; engine = new.engine })) (sym unnoted.1) here
 
   -- front and engine agree
-  pub noted-agrees : Agrees (together front new).journal
-  noted-agrees = by-agrees r noted unnoted
+  pub noted-agrees : OnOk r (IsOpen f h.number) → Agrees (together front new).journal
+  noted-agrees is = by-agrees r noted unnoted is
 
   by-sealed : (r : Result A JournalError) → OnOk r ((front ≡ reading_block f h.number b v) × (into ≡ v)) → IfErr r (λ e. (e ≡ Memory) × (front ≡ f) × (into ≡ before)) →
       front.sealed ≡ f.sealed

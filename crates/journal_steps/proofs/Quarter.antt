@@ -4,9 +4,8 @@ use Rattle.std.specs.Prelude.{◌≡◌, ℕ, ◌+◌, ◌-◌, ◌*◌, ◌/◌
 use Rattle.std.proofs.Math.Nat.{div-lt_iff_lt-mul}
 use Rattle.journal_model.specs.declared.entry.Entry.{Entry}
 use Rattle.journal_model.specs.declared.entry.Entry.TheVariants.{Copy, Revoke}
-use Rattle.journal_model.specs.Layout.{IsTaken, Layout, numbers_of, tags_of}
+use Rattle.journal_model.specs.Layout.{IsLayout, Layout, numbers_of, tags_of}
 use Rattle.journal_model.specs.Transaction.{copied, entries, revoked}
-use Rattle.journal_model.proofs.Taken.{taken-layout}
 use Rattle.log_model.specs.OwnText.{ceil_div}
 use Rattle.log_model.specs.Room.{IsCapacity, need}
 use Rattle.log_model.proofs.OwnTextHeader.{measures, numbers_of-positive, tags_of-positive}
@@ -28,9 +27,9 @@ no-more c d n positive low =
     omega arith
 
 -- copies and revokes that are no more than the capacity
-pub fits-quarter : (l : Layout) (ring k c r : ℕ) → IsTaken l → IsCapacity l ring k → c + r ≤ k → need l c r ≤ ring / 4
+pub fits-quarter : (l : Layout) (ring k c r : ℕ) → IsLayout l → IsCapacity l ring k → c + r ≤ k → need l c r ≤ ring / 4
 fits-quarter l ring k c r taken capacity within =
-    let all = measures l (taken-layout taken) in
+    let all = measures l taken in
     let copies = no-more c k (tags_of l) (tags_of-positive l all) (omega arith) in
     let revokes = few r (numbers_of l) (numbers_of-positive l all) in
     let fits : k + ceil_div k (tags_of l) + 1 ≤ ring / 4 = capacity.fits in
@@ -43,7 +42,7 @@ counted ((b, Copy v) ∷ es) = omega (arith, counted es)
 counted ((b, Revoke) ∷ es) = omega (arith, counted es)
 
 -- so the running transaction takes no more, since a credit is held for each of its entries
-pub needs-quarter : (f : Front) (ring : ℕ) → IsTaken f.layout → IsCapacity f.layout ring f.capacity → held f ≤ f.capacity →
+pub needs-quarter : (f : Front) (ring : ℕ) → IsLayout f.layout → IsCapacity f.layout ring f.capacity → held f ≤ f.capacity →
     need f.layout (length (copied (entries f.running.steps))) (length (revoked (entries f.running.steps))) ≤ ring / 4
 needs-quarter f ring taken capacity within =
     let all = counted (entries f.running.steps) in

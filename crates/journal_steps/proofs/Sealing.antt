@@ -16,7 +16,7 @@ use Rattle.journal_model.specs.declared.transaction.Op.{Op}
 use Rattle.journal_model.specs.declared.transaction.Op.TheVariants.{Write, Revoke as RevokeOp, Read}
 use Rattle.journal_model.specs.declared.transaction.Step.{Step}
 use Rattle.journal_model.specs.Block.{IsAllowedBlock}
-use Rattle.journal_model.specs.Layout.{IsTaken, Layout}
+use Rattle.journal_model.specs.Layout.{IsLayout, Layout}
 use Rattle.log_model.specs.Text.{text_blocks}
 use Rattle.log_model.specs.Chain.{Ring}
 use Rattle.log_model.specs.Opening.{greatest_number}
@@ -30,21 +30,22 @@ use Rattle.journal_world.specs.declared.stage.Stage.TheVariants.{Idle, Superbloc
 use Rattle.block_device.specs.State.{DeviceState}
 use Rattle.journal_world.specs.Call.{Call}
 use Rattle.journal_world.specs.Engine.{AreBatchesOf, CommitSteps, Engine, HasRoom, IsBatch, accepting, call_due, call_in, stepped_from, text_of}
-use Rattle.journal_world.specs.Front.{Front, FrontEvent, FrontHappens, Raises, RevokesBlock, WritesBlock, aborting, finishing, held, next_handle, raising, read_step, reading_block, revoke_step, sealing, write_step}
+use Rattle.journal_world.specs.Front.{Front, FrontEvent, FrontHappens, IsOpen, Raises, RevokesBlock, WritesBlock, aborting, finishing, held, next_handle, raising, read_step, reading_block, revoke_step, sealing, write_step}
 use Rattle.journal_world.specs.Front.FrontEvent.{Reserve, RefuseReserve, TakeBack, GiveBack, LoadCredits, LoadMark, Join, ExtendHandle, WriteBlock, RevokeBlock, StopHandle, Lock, Raise}
 use Rattle.journal_world.specs.Journal.{batch_of}
 use Rattle.journal_world.proofs.Batches.{batches-last}
 use Rattle.journal_world.proofs.Credits.{held-within}
 use Rattle.journal_world.proofs.Onward.{step-unfailed}
 use Rattle.journal_world.specs.Sound.{IsPlain, StageAgrees}
-use Rattle.journal_model.proofs.Taken.{taken-layout}
 use Rattle.log_ledger.specs.Steps.{MayHandOver}
 use Rattle.log_engine.specs.Engine.{AcceptRefused, StepRefused}
 use Rattle.log_engine.specs.Engine.AcceptRefused.{AfterFailure, MemoryIsShort}
 use Rattle.log_engine.specs.Engine.StepRefused.{WasAborted, DeviceFailed}
 use Rattle.journal_steps.specs.Journal.TurnRefused.{DeviceFailed as FailedTurn, MemoryIsShort as NoMemory}
 use Rattle.journal_steps.specs.Journal.{Agrees, FinishesCommit, FitsQuarter, HasRoomFor, IsGoodStep, IsWhole, SealIsDue, TurnRefused, need_of}
+use Rattle.journal_steps.specs.Handles.{KeepsHandles}
 use Rattle.journal_steps.specs.Values.{JournalValue}
+use Rattle.journal_steps.proofs.Audited.{kept-beside, read-kept, seal-kept, step-kept}
 use Rattle.journal_steps.proofs.Quarter.{needs-quarter}
 use Rattle.journal_steps.proofs.Turning.{Keeps, fault-keeps, step-keeps}
 
@@ -147,7 +148,7 @@ copy-good l shape b ss v all leaves = (effect-good l shape b ss (Copy v) all lea
 pub room-good : (e : Engine) (t : Transaction) → IsPlain e → e.start + need_of e.layout t ≤ e.tail + e.ring.blocks → HasRoom e (batch_of t)
 room-good e t plain room =
     let blocks : length (text_blocks (text_of e (batch_of t))) ≡ need_of e.layout t =
-    length_own_text e.layout e.uuid t.tid (entries t.steps) (taken-layout plain.layout.0) in
+    length_own_text e.layout e.uuid t.tid (entries t.steps) plain.layout.0 in
     omega arith
 
 -- where a call is due, a transaction is being committed
@@ -219,6 +220,7 @@ module _ (f : Front) (old new : Engine) (agrees : Agrees (record { front = f; en
     locked = agrees.locked;
     capacity = capacity-kept;
     credits = agrees.credits;
+    handles = kept-beside f f.finished f.mark aborted agrees.handles;
   }
 
   -- so it is where the step succeeds
@@ -241,12 +243,13 @@ module _ (f : Front) (old new : Engine) (agrees : Agrees (record { front = f; en
     locked = agrees.locked;
     capacity = capacity-kept;
     credits = agrees.credits;
+    handles = kept-beside f (f.finished + 1) (max f.mark (f.finished + 1)) f.aborted agrees.handles;
   }
 
 -- and after the seal of a transaction whose entries the engine took
-pub agrees-sealed : (f : Front) (old new : Engine) → Agrees (record { front = f; engine = old }) → new ≡ accepting old (batch_of f.running) →
+pub agrees-sealed : (f : Front) (old new : Engine) → Agrees (record { front = f; engine = old }) → f.open_handles ≡ [] → new ≡ accepting old (batch_of f.running) →
     Agrees (record { front = sealing f; engine = new })
-agrees-sealed f old new agrees after =
+agrees-sealed f old new agrees none after =
     let accepted : new.accepted ≡ old.accepted ++ batch_of f.running ∷ [] = ap (λ (e : Engine). e.accepted) after in
     let first : new.first ≡ old.first = ap (λ (e : Engine). e.first) after in
     record {
@@ -265,12 +268,13 @@ agrees-sealed f old new agrees after =
       locked = λ is. absurd (true≢false (sym is));
       capacity = subst (λ (x : Ring). IsCapacity f.layout x.blocks f.capacity) (sym (ap (λ (e : Engine). e.ring) after)) agrees.capacity;
       credits = let within : held f ≤ f.capacity = agrees.credits in omega arith;
+      handles = seal-kept f none agrees.handles;
     }
 
 -- such a transaction takes at most a quarter of the ring
 pub quarter : (f : Front) (e : Engine) → Agrees (record { front = f; engine = e }) → IsPlain e → FitsQuarter (record { front = f; engine = e })
 quarter f e agrees plain =
-    let taken : IsTaken f.layout = subst IsTaken (sym agrees.layout) plain.layout.0 in
+    let taken : IsLayout f.layout = subst IsLayout (sym agrees.layout) plain.layout.0 in
     subst (λ (l : Layout). need_of l f.running ≤ e.ring.blocks / 4) agrees.layout (needs-quarter f e.ring.blocks taken agrees.capacity agrees.credits)
 
 -- the engine may be handed the batch of a transaction that is due to be sealed
@@ -413,8 +417,9 @@ IsTouch (Raise t) = ⊥
 agrees-like : (f made : Front) (e : Engine) → Agrees (record { front = f; engine = e }) → made.layout ≡ f.layout → made.home_blocks ≡ f.home_blocks →
     made.aborted ≡ f.aborted → made.sealed ≡ f.sealed → made.running.tid ≡ f.running.tid → made.finished ≡ f.finished → made.mark ≡ f.mark →
     AllByRecursion (IsGoodStep e.layout e.shape) made.running.steps → (0 < length made.running.handles → made.running.tid ≤ greatest_number) →
-    (made.locked ≡ true → 0 < length made.running.handles) → made.capacity ≡ f.capacity → held made ≤ made.capacity → Agrees (record { front = made; engine = e })
-agrees-like f made e agrees layout home_blocks aborted sealed tid finished mark steps joined locked capacity credits = record {
+    (made.locked ≡ true → 0 < length made.running.handles) → made.capacity ≡ f.capacity → held made ≤ made.capacity → KeepsHandles made →
+    Agrees (record { front = made; engine = e })
+agrees-like f made e agrees layout home_blocks aborted sealed tid finished mark steps joined locked capacity credits handles = record {
   layout = layout ∙ agrees.layout;
   home_blocks = home_blocks ∙ agrees.home_blocks;
   aborted = aborted ∙ agrees.aborted;
@@ -429,11 +434,16 @@ agrees-like f made e agrees layout home_blocks aborted sealed tid finished mark 
       subst (λ (l : Layout). IsCapacity l e.ring.blocks made.capacity) (sym layout)
       (subst (IsCapacity f.layout e.ring.blocks) (sym capacity) agrees.capacity);
   credits = credits;
+  handles = handles;
 }
 
 -- no more credits are held than may be, after a step of the front
 within : (f front made : Front) (event : FrontEvent) → FrontHappens f event front → front ≡ made → held f ≤ f.capacity → held made ≤ made.capacity
 within f front made event step is fits = subst (λ (x : Front). held x ≤ x.capacity) is (held-within f front event step fits)
+
+-- and its handles are kept
+stepped : (f front made : Front) (event : FrontEvent) → FrontHappens f event front → front ≡ made → KeepsHandles f → KeepsHandles made
+stepped f front made event step is kept = subst KeepsHandles is (step-kept f front event step kept)
 
 -- front and engine agree after a step of the front alone that touches no block
 pub agrees-untouched : (f front : Front) (e : Engine) (event : FrontEvent) → (IsTouch event → ⊥) → FrontHappens f event front →
@@ -441,44 +451,53 @@ pub agrees-untouched : (f front : Front) (e : Engine) (event : FrontEvent) → (
 agrees-untouched f front e (Reserve n) other step agrees =
     subst (λ (x : Front). Agrees (record { front = x; engine = e })) (sym step.after)
     (agrees-like f _ e agrees refl refl refl refl refl refl refl agrees.steps agrees.joined agrees.locked
-    refl (within f front _ (Reserve n) step step.after agrees.credits))
+    refl (within f front _ (Reserve n) step step.after agrees.credits)
+    (stepped f front _ (Reserve n) step step.after agrees.handles))
 agrees-untouched f front e (RefuseReserve n) other step agrees =
     subst (λ (x : Front). Agrees (record { front = x; engine = e })) (sym step.after)
     (agrees-like f _ e agrees refl refl refl refl refl refl refl agrees.steps agrees.joined agrees.locked
-    refl (within f front _ (RefuseReserve n) step step.after agrees.credits))
+    refl (within f front _ (RefuseReserve n) step step.after agrees.credits)
+    (stepped f front _ (RefuseReserve n) step step.after agrees.handles))
 agrees-untouched f front e (TakeBack n) other step agrees =
     subst (λ (x : Front). Agrees (record { front = x; engine = e })) (sym step.after)
     (agrees-like f _ e agrees refl refl refl refl refl refl refl agrees.steps agrees.joined agrees.locked
-    refl (within f front _ (TakeBack n) step step.after agrees.credits))
+    refl (within f front _ (TakeBack n) step step.after agrees.credits)
+    (stepped f front _ (TakeBack n) step step.after agrees.handles))
 agrees-untouched f front e (GiveBack n) other step agrees =
     subst (λ (x : Front). Agrees (record { front = x; engine = e })) (sym step.after)
     (agrees-like f _ e agrees refl refl refl refl refl refl refl agrees.steps agrees.joined agrees.locked
-    refl (within f front _ (GiveBack n) step step.after agrees.credits))
+    refl (within f front _ (GiveBack n) step step.after agrees.credits)
+    (stepped f front _ (GiveBack n) step step.after agrees.handles))
 agrees-untouched f front e (LoadCredits found) other step agrees = subst (λ (x : Front). Agrees (record { front = x; engine = e })) (sym step.after) agrees
 agrees-untouched f front e (LoadMark found) other step agrees = subst (λ (x : Front). Agrees (record { front = x; engine = e })) (sym step.after) agrees
 agrees-untouched f front e (ExtendHandle h n) other step agrees =
     subst (λ (x : Front). Agrees (record { front = x; engine = e })) (sym step.after)
     (agrees-like f _ e agrees refl refl refl refl refl refl refl agrees.steps agrees.joined agrees.locked
-    refl (within f front _ (ExtendHandle h n) step step.after agrees.credits))
+    refl (within f front _ (ExtendHandle h n) step step.after agrees.credits)
+    (stepped f front _ (ExtendHandle h n) step step.after agrees.handles))
 agrees-untouched f front e (Join n) other step agrees =
     let one = length-append f.running.handles (next_handle f ∷ []) in
     subst (λ (x : Front). Agrees (record { front = x; engine = e })) (sym step.after)
     (agrees-like f _ e agrees refl refl refl refl refl refl refl agrees.steps (λ some. step.may.number) (λ is. omega arith)
-    refl (within f front _ (Join n) step step.after agrees.credits))
+    refl (within f front _ (Join n) step step.after agrees.credits)
+    (stepped f front _ (Join n) step step.after agrees.handles))
 agrees-untouched f front e (WriteBlock h b v) other step agrees = absurd (other tt)
 agrees-untouched f front e (RevokeBlock h b) other step agrees = absurd (other tt)
 agrees-untouched f front e (StopHandle h) other step agrees =
     subst (λ (x : Front). Agrees (record { front = x; engine = e })) (sym step.after)
     (agrees-like f _ e agrees refl refl refl refl refl refl refl agrees.steps agrees.joined agrees.locked
-    refl (within f front _ (StopHandle h) step step.after agrees.credits))
+    refl (within f front _ (StopHandle h) step step.after agrees.credits)
+    (stepped f front _ (StopHandle h) step step.after agrees.handles))
 agrees-untouched f front e Lock other step agrees =
     subst (λ (x : Front). Agrees (record { front = x; engine = e })) (sym step.after)
     (agrees-like f _ e agrees refl refl refl refl refl refl refl agrees.steps agrees.joined (λ is. step.joined)
-    refl (within f front _ Lock step step.after agrees.credits))
+    refl (within f front _ Lock step step.after agrees.credits)
+    (stepped f front _ Lock step step.after agrees.handles))
 agrees-untouched f front e (Raise t) other step agrees =
     subst (λ (x : Front). Agrees (record { front = x; engine = e })) (sym step.after)
     (agrees-like f _ e agrees refl refl refl refl refl refl (max-eq_left (let mark = agrees.mark in let low = step.finished in omega arith)) agrees.steps agrees.joined agrees.locked
-    refl (within f front _ (Raise t) step step.after agrees.credits))
+    refl (within f front _ (Raise t) step step.after agrees.credits)
+    (stepped f front _ (Raise t) step step.after agrees.handles))
 
 -- and after a write
 pub agrees-written : (f front : Front) (e : Engine) (h b : ℕ) (v : List ℕ) → Agrees (record { front = f; engine = e }) →
@@ -491,7 +510,8 @@ agrees-written f front e h b v agrees size step =
     subst (λ (x : Front). Agrees (record { front = x; engine = e })) (sym step.after)
     (agrees-like f _ e agrees refl refl refl refl refl refl refl
     (each-append (IsGoodStep e.layout e.shape) f.running.steps (write_step h b v ∷ []) agrees.steps (good, tt)) agrees.joined agrees.locked
-    refl (within f front _ (WriteBlock h b v) step step.after agrees.credits))
+    refl (within f front _ (WriteBlock h b v) step step.after agrees.credits)
+    (stepped f front _ (WriteBlock h b v) step step.after agrees.handles))
 
 -- and after a revoke
 pub agrees-revoked : (f front : Front) (e : Engine) (h b : ℕ) → Agrees (record { front = f; engine = e }) → RevokesBlock f h b front →
@@ -501,12 +521,13 @@ agrees-revoked f front e h b agrees step =
     subst (λ (x : Front). Agrees (record { front = x; engine = e })) (sym step.after)
     (agrees-like f _ e agrees refl refl refl refl refl refl refl
     (each-append (IsGoodStep e.layout e.shape) f.running.steps (revoke_step h b ∷ []) agrees.steps (good, tt)) agrees.joined agrees.locked
-    refl (within f front _ (RevokeBlock h b) step step.after agrees.credits))
+    refl (within f front _ (RevokeBlock h b) step step.after agrees.credits)
+    (stepped f front _ (RevokeBlock h b) step step.after agrees.handles))
 
 -- and after a read
 pub agrees-read : (f front : Front) (e : Engine) (h b : ℕ) (v : List ℕ) → Agrees (record { front = f; engine = e }) → length v ≡ e.shape.block_size →
-    IsAllowedBlock f.layout f.home_blocks b → front ≡ reading_block f h b v → Agrees (record { front = front; engine = e })
-agrees-read f front e h b v agrees whole allowed after =
+    IsAllowedBlock f.layout f.home_blocks b → IsOpen f h → front ≡ reading_block f h b v → Agrees (record { front = front; engine = e })
+agrees-read f front e h b v agrees whole allowed handle after =
     let good : IsGoodStep e.layout e.shape (read_step h b v) = record { whole = whole; allowed = allowed-here agrees.layout agrees.home_blocks allowed } in
     let same : length (entries (f.running.steps ++ read_step h b v ∷ [])) ≡ length (entries f.running.steps) =
     ap (λ (es : List (ℕ × Entry)). length es) (entries-push_read f.running.steps (read_step h b v) refl) in
@@ -514,4 +535,4 @@ agrees-read f front e h b v agrees whole allowed after =
     subst (λ (x : Front). Agrees (record { front = x; engine = e })) (sym after)
     (agrees-like f _ e agrees refl refl refl refl refl refl refl
     (each-append (IsGoodStep e.layout e.shape) f.running.steps (read_step h b v ∷ []) agrees.steps (good, tt)) agrees.joined agrees.locked
-    refl (omega arith))
+    refl (omega arith) (read-kept f h b v handle agrees.handles))

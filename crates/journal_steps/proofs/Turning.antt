@@ -23,6 +23,7 @@ use Rattle.journal_world.proofs.Batches.{same-length}
 use Rattle.log_engine.specs.Call.{IsOneMoment}
 use Rattle.log_engine.specs.Engine.{IsDuringCommit, IsDuringRound}
 use Rattle.journal_steps.specs.Journal.{Agrees, IsDuringCheckTurn, IsDuringTurn, OpensNow, OpensOver}
+use Rattle.journal_steps.proofs.Audited.{fresh-kept}
 
 -- what opens over the batches opens over the transactions that they are of
 pub opens-over : (shape : Shape) (ts : History) (accepted : List Batch) (low : ℕ) (disk : Disk) → AreBatchesOf ts accepted →
@@ -151,6 +152,7 @@ fresh-agrees shape superblock next capacity j engine front is some =
       locked = λ lock. cc;
       capacity = is;
       credits = omega arith;
+      handles = fresh-kept e.layout e.shape.home_blocks capacity next;
     } in
     subst Agrees (sym (ap (λ (f : Front). record { front = f; engine = e }) front)) agrees
 

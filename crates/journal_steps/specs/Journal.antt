@@ -30,6 +30,7 @@ use Rattle.journal_steps.specs.declared.turn.Turn.TheVariants.{Idle as IdleTurn,
 use Rattle.log_engine.specs.Left.{round_calls}
 use Rattle.journal_front.specs.Front.{IsKeptOut, MayStep}
 use Rattle.journal_front.specs.Values.{HandleValue}
+use Rattle.journal_steps.specs.Handles.{KeepsHandles}
 use Rattle.journal_steps.specs.Values.{JournalValue}
 
 -- the journal and the disk of its device go from old to new by this one step
@@ -48,8 +49,8 @@ pub record IsGoodStep (l : Layout) (shape : Shape) (s : HandleStep) : Type 0 whe
   pub allowed : IsAllowedBlock l shape.home_blocks s.block
 
 -- front and engine agree: what is sealed is what is accepted, what is finished is what is committed, and callers are told
--- just that; the front knows the measures of log and device, and whether the device has failed; and no more credits are held
--- than the most that a transaction of this log may have
+-- just that; the front knows the measures of log and device, and whether the device has failed; no more credits are held than
+-- the most that a transaction of this log may have; and its handles are as an audit needs them
 pub record Agrees (j : Journal) : Type 0 where
   pub layout : j.front.layout ≡ j.engine.layout
   pub home_blocks : j.front.home_blocks ≡ j.engine.shape.home_blocks
@@ -63,6 +64,7 @@ pub record Agrees (j : Journal) : Type 0 where
   pub locked : j.front.locked ≡ true → 0 < length j.front.running.handles
   pub capacity : IsCapacity j.front.layout j.engine.ring.blocks j.front.capacity
   pub credits : held j.front ≤ j.front.capacity
+  pub handles : KeepsHandles j.front
 
 -- the front's last entry of a block is no copy that a read may hand out: it is a revoke, or memory ran out for a copy's holder
 pub data NoCopy (f : Front) (b : ℕ) (e : JournalError) : Type 0 where

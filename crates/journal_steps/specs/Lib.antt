@@ -1,3 +1,4 @@
 pub mod Direct
 pub mod Journal
 pub mod Values
+pub mod Handles

@@ -68,9 +68,9 @@ fn note<R: Record>(
 /// # Errors
 ///
 /// The first that applies; the buffer stays as it is. `Aborted` after a device failure; `BadBlock` where home has no such block,
-/// or its number is not below 2^32; `NoCredit` where the handle is none of this journal's open ones; `Revoked` where the block's
-/// last entry in the transactions that are not committed is a revoke: nothing changes. `Memory` where it ran out for the step:
-/// the journal stays as it is. `Device` where the device failed: the journal is aborted.
+/// or its number is not below 2^32 (in a log with numbers of 64 bits 2^48); `NoCredit` where the handle is none of this journal's
+/// open ones; `Revoked` where the block's last entry in the transactions that are not committed is a revoke: nothing changes.
+/// `Memory` where it ran out for the step: the journal stays as it is. `Device` where the device failed: the journal is aborted.
 pub fn read<D: Device, R: Record>(
     front: &mut Front<R>,
     engine: &mut Engine<D>,
@@ -279,9 +279,9 @@ pub fn checkpoint_turn<D: Device, R: Record>(
 ///
 /// # Errors
 ///
-/// `Aborted` after a device failure; `BadBlock` where home has no such block, or its number is not below 2^32; `NotDirect` where
-/// the transactions have a copy of the block, or one that is not committed has an entry of it: nothing changes. `Device` where
-/// the device failed: the journal is aborted.
+/// `Aborted` after a device failure; `BadBlock` where home has no such block, or its number is not below 2^32 (in a log with
+/// numbers of 64 bits 2^48); `NotDirect` where the transactions have a copy of the block, or one that is not committed has an
+/// entry of it: nothing changes. `Device` where the device failed: the journal is aborted.
 /// Source: this project's own, by what journal.rst says of revokes.
 pub fn write_direct<D: Device, R: Record>(
     front: &mut Front<R>,

@@ -6,7 +6,7 @@ use Rattle.journal_model.specs.declared.number.Area.TheVariants.{Log}
 use Rattle.log_model.specs.Chain.{ring_place}
 use Rattle.journal_model.specs.Disk.{Disk, IsOneOf, Shape, held}
 use Rattle.journal_model.specs.Layout.{uuid_bytes}
-use Rattle.log_model.specs.Opening.{greatest_number, ring_of}
+use Rattle.log_model.specs.Opening.{greatest_number, layout_of, ring_of}
 use Rattle.log_model.specs.Superblock.{Super, super_in, super_refusal}
 use Rattle.journal_world.specs.Journal.{fresh_engine}
 use Rattle.journal_world.specs.Opening.{IsBehind, IsOpenedLog, NamesNothing}
@@ -33,7 +33,7 @@ fresh-behind shape disk superblock next k v log one =
     record { below = λ magic. let low = behind.below magic in omega arith }
 
 -- what it keeps true of itself
-pub fresh-plain : (shape : Shape) (superblock : List ℕ) (next : ℕ) → NamesNothing shape (ring_of (super_in superblock)) next superblock →
+pub fresh-plain : (shape : Shape) (superblock : List ℕ) (next : ℕ) → NamesNothing shape (layout_of (super_in superblock)) (ring_of (super_in superblock)) next superblock →
     next ≤ greatest_number → IsPlain (fresh_engine shape superblock next)
 fresh-plain shape superblock next named number = record {
   layout = accepted-layout shape superblock named.is_superblock.accepted;
@@ -60,7 +60,7 @@ fresh-sound shape disk superblock next log = record {
   superblock =
       λ v one.
       Clean (inl refl)
-      (subst (NamesNothing shape (ring_of (super_in superblock)) next) (sym (held-durable disk 0 superblock v log.durable one)) log.named);
+      (subst (NamesNothing shape (layout_of (super_in superblock)) (ring_of (super_in superblock)) next) (sym (held-durable disk 0 superblock v log.durable one)) log.named);
   durable = λ k low below. absurd (omega arith);
   behind = λ k v low high one. inl (fresh-behind shape disk superblock next k v log one);
   stage = tt;

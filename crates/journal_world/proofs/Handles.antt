@@ -26,7 +26,7 @@ pub record HasHandles (given : ℕ) (ts : History) : Type 0 where
   pub least : AllByRecursion (λ h. h ≤ given) (handles_of ts)
 
 -- the handles of a history with one transaction behind it
-handles-last : (ts : History) (t : Transaction) → handles_of (ts ++ t ∷ []) ≡ handles_of ts ++ t.handles
+pub handles-last : (ts : History) (t : Transaction) → handles_of (ts ++ t ∷ []) ≡ handles_of ts ++ t.handles
 handles-last ts t = flat_map-append (λ x. x.handles) ts (t ∷ []) ∙ ap (λ hs. handles_of ts ++ hs) (append-nil t.handles)
 
 -- with one more handle in it

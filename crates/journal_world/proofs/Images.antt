@@ -23,15 +23,13 @@ use Rattle.journal_world.proofs.Left.Progress.{Before, Ending}
 use Rattle.journal_world.proofs.Openings.{ChainOpens, HoldsTexts, chain-opens, clean-opens}
 use Rattle.journal_world.proofs.Positions.{between_blocks, committed-few, first-split, first_blocks, position-more, position-grows, position-split}
 use Rattle.journal_world.proofs.Suffixes.{all-drop, batches-drop, numbered-drop}
-use Rattle.journal_model.proofs.Taken.{taken-layout}
-use Rattle.journal_world.proofs.Superblocks.{layout-agrees}
 use Rattle.journal_world.proofs.Texts.{block-behind, committed-more, due-more}
 
 -- what block 0 of an image says: that the log is clean, and then nothing was handed over; or where it begins, and then
 -- the transactions before are home
 data Found (e : Engine) (disk : Disk) (v : List ℕ) : Type 0 where
-  FindsNothing : NamesNothing e.shape e.ring e.first v → e.committed ≡ 0 → handed e.stage (length (due_blocks e)) ≡ 0 → Found e disk v
-  FindsTail : (r : ℕ) → e.released ≤ r → r ≤ e.committed → BeginsAt e.shape e.ring (e.first + r) (position e r) v → HomeHas e disk r →
+  FindsNothing : NamesNothing e.shape e.layout e.ring e.first v → e.committed ≡ 0 → handed e.stage (length (due_blocks e)) ≡ 0 → Found e disk v
+  FindsTail : (r : ℕ) → e.released ≤ r → r ≤ e.committed → BeginsAt e.shape e.layout e.ring (e.first + r) (position e r) v → HomeHas e disk r →
       Found e disk v
 
 -- where the log is not started nothing is committed, and nothing of the transaction that is due was handed over
@@ -66,10 +64,10 @@ found e disk v sound (Old names) =
     let low : e.released ≤ e.bound = sound.plain.order.0 in
     let high : e.bound ≤ e.committed = sound.plain.order.1 in
     FindsTail e.released (omega arith) (omega arith)
-    (subst (λ p. BeginsAt e.shape e.ring (e.first + e.released) p v) sound.plain.tail names) sound.home
+    (subst (λ p. BeginsAt e.shape e.layout e.ring (e.first + e.released) p v) sound.plain.tail names) sound.home
 found e disk v sound (New moves names) =
     FindsTail e.bound sound.plain.order.0 sound.plain.order.1
-    (subst (λ p. BeginsAt e.shape e.ring (e.first + e.bound) p v) sound.plain.bound_position names)
+    (subst (λ p. BeginsAt e.shape e.layout e.ring (e.first + e.bound) p v) sound.plain.bound_position names)
     (moved-home e disk moves sound.round)
 
 -- the log of the image has the texts of transactions r to n, and behind them, in the lap from the tail on, nothing that is due
@@ -81,10 +79,10 @@ record HoldsFirst (e : Engine) (image : Image) (r n : ℕ) : Type 0 where
   rest : (k : ℕ) → position e n ≤ k → k < e.tail + e.ring.blocks →
       IsNotDue e.layout e.shape.home_blocks (e.first + n) (image Log (ring_place e.ring k))
 
-module _ (e : Engine) (disk : Disk) (image : Image) (sound : Sound e disk) (leaves : Leaves disk image) (r : ℕ) (low : e.released ≤ r) (high : r ≤ e.committed) (names : BeginsAt e.shape e.ring (e.first + r) (position e r) (image Log 0)) (home : HomeHas e disk r) where
+module _ (e : Engine) (disk : Disk) (image : Image) (sound : Sound e disk) (leaves : Leaves disk image) (r : ℕ) (low : e.released ≤ r) (high : r ≤ e.committed) (names : BeginsAt e.shape e.layout e.ring (e.first + r) (position e r) (image Log 0)) (home : HomeHas e disk r) where
   -- the layout is one that texts are made in
   layout-left : IsLayout e.layout
-  layout-left = taken-layout sound.plain.layout.0
+  layout-left = sound.plain.layout.0
 
   -- the log begins behind what is released
   tail-below : e.tail ≤ position e r
@@ -149,7 +147,7 @@ module _ (e : Engine) (disk : Disk) (image : Image) (sound : Sound e disk) (leav
       let size : length (drop r e.accepted) ≡ length e.accepted - r = length-drop r e.accepted in
       let numbers = sound.plain.numbers in
       chain-opens e.layout e.shape e.ring e.uuid (e.first + r) (position e r) m (drop r e.accepted) image layout-left
-      (layout-agrees e.layout e.shape (image Log 0) sound.plain.layout.0 sound.plain.layout.1 names.is_superblock.accepted) names sound.plain.uuid
+      names.is_superblock.layout_is names sound.plain.uuid
       (all-drop (IsBatch e.layout e.shape) r e.accepted sound.plain.batches) (numbered-drop e.first r e.accepted sound.plain.numbered)
       (omega arith) (omega arith) (texts-left m holds)
 

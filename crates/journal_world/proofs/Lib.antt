@@ -12,6 +12,7 @@ pub mod Faults
 pub mod Fresh
 pub mod Fronts
 pub mod Histories
+pub mod Handles
 pub mod HomeCopies
 pub mod HomeRights
 pub mod Homes
@@ -42,7 +43,6 @@ mod Blocks
 mod Chains
 mod Committing
 mod Due
-mod Handles
 mod Laps
 mod Legal
 mod OwnBlocks

@@ -44,12 +44,12 @@ none-ahead r image limit each place a =
     omega arith
 
 -- the same of the ring that the image names
-nothing-ahead : (shape : Shape) (r : Ring) (image : Image) (limit : ℕ) → IsSuperblock shape r (image Log 0) →
+nothing-ahead : {l : Layout} (shape : Shape) (r : Ring) (image : Image) (limit : ℕ) → IsSuperblock shape l r (image Log 0) →
     ((k : ℕ) → k < r.blocks → IsBehind (suc limit) (image Log (ring_place r k))) → NothingAhead image limit
 nothing-ahead shape r image limit is each place a = none-ahead r image limit each place (subst (λ x. IsAhead x image limit place) is.ring_is a)
 
 -- a clean log whose ring blocks are behind the first number opens to none
-pub clean-opens : (shape : Shape) (r : Ring) (first : ℕ) (bs : List Batch) (image : Image) → NamesNothing shape r first (image Log 0) →
+pub clean-opens : {l : Layout} (shape : Shape) (r : Ring) (first : ℕ) (bs : List Batch) (image : Image) → NamesNothing shape l r first (image Log 0) →
     ((k : ℕ) → k < r.blocks → IsBehind first (image Log (ring_place r k))) → AreNumberedFrom first bs → OpensTo shape bs image 0
 clean-opens shape r first bs image names each numbered =
     let clean : IsClean shape image = record { accepted = names.is_superblock.accepted; clean = names.clean } in
@@ -111,12 +111,12 @@ rest-not_due l shape r image from texts next holds =
     subst (IsNotDue l shape.home_blocks next) (sym (ring-block r image from k)) (holds.rest k (omega arith) (omega arith)))
 
 -- the lap of a log that begins at a position
-lap-tail : (shape : Shape) (r : Ring) (first from : ℕ) (image : Image) → BeginsAt shape r first from (image Log 0) →
+lap-tail : {l : Layout} (shape : Shape) (r : Ring) (first from : ℕ) (image : Image) → BeginsAt shape l r first from (image Log 0) →
     log_lap image ≡ lap r image (ring_place r from)
 lap-tail shape r first from image names = ap₂ (λ x place. lap x image place) names.is_superblock.ring_is names.start
 
 -- such a log is started
-started-tail : (shape : Shape) (r : Ring) (first from : ℕ) (image : Image) → BeginsAt shape r first from (image Log 0) → IsStarted shape image
+started-tail : {l : Layout} (shape : Shape) (r : Ring) (first from : ℕ) (image : Image) → BeginsAt shape l r first from (image Log 0) → IsStarted shape image
 started-tail shape r first from image names =
     let some : 0 < r.first = first-above shape r (image Log 0) names.is_superblock in
     let start : (super_of image).s_start ≡ ring_place r from = names.start in
@@ -128,7 +128,7 @@ some-bytes l is = let bytes = is.1 in grind arith
 
 -- the texts that it holds are its chain, and there is no damage
 holds-chain : (l : Layout) (shape : Shape) (r : Ring) (first from : ℕ) (image : Image) (texts : List Text) → IsLayout l → layout_of (super_of image) ≡ l →
-    BeginsAt shape r first from (image Log 0) → AreTexts l shape.home_blocks first texts → HoldsTexts l shape r image from texts (first + length texts) →
+    BeginsAt shape l r first from (image Log 0) → AreTexts l shape.home_blocks first texts → HoldsTexts l shape r image from texts (first + length texts) →
     HasChain shape image texts
 holds-chain l shape r first from image texts is layout names are holds =
     let blocks : List (List ℕ) = log_lap image in
@@ -157,7 +157,7 @@ pub record ChainOpens (shape : Shape) (image : Image) (bs : List Batch) (n next 
 
 -- so it is with a started log that holds the texts of the first n batches, the first of which it names
 pub chain-opens : (l : Layout) (shape : Shape) (r : Ring) (uuid : List ℕ) (first from n : ℕ) (bs : List Batch) (image : Image) →
-    IsLayout l → layout_of (super_of image) ≡ l → BeginsAt shape r first from (image Log 0) → length uuid ≡ uuid_bytes → AllByRecursion (IsBatch l shape) bs → AreNumberedFrom first bs →
+    IsLayout l → layout_of (super_of image) ≡ l → BeginsAt shape l r first from (image Log 0) → length uuid ≡ uuid_bytes → AllByRecursion (IsBatch l shape) bs → AreNumberedFrom first bs →
     first + length bs ≤ greatest_number + 1 → n ≤ length bs → HoldsTexts l shape r image from (texts_of l uuid (take n bs)) (first + n) →
     ChainOpens shape image bs n (first + n)
 chain-opens l shape r uuid first from n bs image layout same names size each numbered least few holds =

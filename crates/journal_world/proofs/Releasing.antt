@@ -24,7 +24,6 @@ use Rattle.journal_world.proofs.Homes.{fault-same}
 use Rattle.journal_world.proofs.Places.{IsWrite, held-flushed, is_write-fault, is_write-written, next_lap, place-above, written-there}
 use Rattle.journal_world.proofs.Rounded.{IsRoundChange, cell-flushed, cell-kept, rounded-sound, started-names}
 use Rattle.journal_world.proofs.Rounds.{going, going-change, home-kept, may-kept, some-committed}
-use Rattle.journal_model.proofs.Taken.{taken-layout}
 use Rattle.journal_world.proofs.Superblocks.{first-above}
 use Rattle.journal_world.proofs.Tails.{tail-names}
 use Rattle.journal_world.proofs.Texts.{block-there}
@@ -61,7 +60,7 @@ tail-least e plain =
     (omega arith, omega arith)
 
 -- the superblock behind a round names the tail behind the round's transactions
-tail-named : (e : Engine) → IsPlain e → IsSuperblock e.shape e.ring e.superblock → NamesNewTail e (tail_superblock e)
+tail-named : (e : Engine) → IsPlain e → IsSuperblock e.shape e.layout e.ring e.superblock → NamesNewTail e (tail_superblock e)
 tail-named e plain is =
     let numbers : e.first + length e.accepted ≤ greatest_number + 1 = plain.numbers in
     let until : e.bound ≤ e.committed = plain.order.1 in
@@ -197,7 +196,7 @@ module _ (e : Engine) (disk : Disk) (sound : Sound e disk) (at : e.round ≡ Tai
   committed-block : (j : ℕ) → j < e.start → IsBehind (e.first + e.committed) (block_at (texts_blocks (committed_texts e)) j)
   committed-block j below =
       let start : e.start ≡ length (texts_blocks (committed_texts e)) = sound.plain.start in
-      let layout = taken-layout sound.plain.layout.0 in
+      let layout = sound.plain.layout.0 in
       all-at (IsBehind (e.first + e.committed)) (texts_blocks (committed_texts e)) j _
       (committed-behind e sound.plain layout (accepted-least e e.stage sound.plain.stage))
       (block-there (texts_blocks (committed_texts e)) j (omega arith))

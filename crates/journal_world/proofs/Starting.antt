@@ -41,13 +41,13 @@ started-names e a plain =
     let released : e.released ≡ 0 = (none-released (at e SuperblockWrite a) plain none).0 in
     let start : e.start ≡ 0 = none-taken (at e SuperblockWrite a) plain none in
     let order : e.tail ≤ e.start = tail-start (at e SuperblockWrite a) plain in
-    let named : BeginsAt e.shape e.ring (e.first + e.committed) e.start (started_superblock e) =
+    let named : BeginsAt e.shape e.layout e.ring (e.first + e.committed) e.start (started_superblock e) =
     tail-names e.shape e.ring e.superblock (e.first + e.committed) e.start
     (names-superblock (at e SuperblockWrite a) e.started e.superblock plain.names) (omega arith) in
     let number : e.first + e.committed ≡ e.first + e.released = omega arith in
     let place : e.start ≡ e.tail = omega arith in
-    subst (λ (k : ℕ). BeginsAt e.shape e.ring (e.first + e.released) k (started_superblock e)) place
-    (subst (λ (n : ℕ). BeginsAt e.shape e.ring n e.start (started_superblock e)) number named)
+    subst (λ (k : ℕ). BeginsAt e.shape e.layout e.ring (e.first + e.released) k (started_superblock e)) place
+    (subst (λ (n : ℕ). BeginsAt e.shape e.layout e.ring n e.start (started_superblock e)) number named)
 
 -- the write of that superblock, which may have failed
 pub record IsStart (e : Engine) (old new : Disk) : Type 0 where

@@ -1,17 +1,17 @@
 -- What an accepted superblock says of the log.
-use Rattle.std.proofs.Common.{◌≡◌, ◌⊎◌, ℕ, ◌-◌, ◌<◌, ◌≤◌, ◌==◌, ◌&&◌, Bool, true, false, List, [], ◌∷◌, Some, None, arith, refl, sym, ap, ◌∙◌}
-use Rattle.std.specs.Prelude.{nat_lt, nat_le, if◌then◌else◌}
+use Rattle.std.proofs.Common.{◌≡◌, ◌⊎◌, ℕ, ◌-◌, ◌<◌, ◌≤◌, ◌==◌, ◌&&◌, ◌||◌, Bool, true, false, List, [], ◌∷◌, Some, None, arith, refl, sym, ap}
+use Rattle.std.specs.Prelude.{◌≢◌, nat_lt, nat_le, if◌then◌else◌}
 use Rattle.std.specs.List.{AllByRecursion}
 use Rattle.std.proofs.lemmas.Bool.Decides.{nat_tests}
 use Rattle.std.proofs.lemmas.Option.{none-some}
 use Rattle.journal_model.specs.declared.refusal.JournalError.{JournalError}
 use Rattle.journal_model.specs.declared.refusal.JournalError.TheVariants.{BadLength}
 use Rattle.log_model.specs.Chain.{Ring}
-use Rattle.journal_model.specs.Layout.{IsTaken, Layout, narrow}
+use Rattle.journal_model.specs.Layout.{IsLayout, Layout}
 use Rattle.log_model.specs.Opening.{layout_of}
 use Rattle.journal_model.specs.Disk.{Shape}
-use Rattle.log_model.specs.Superblock.{first_failed, greatest_length, is_block_size, least_length, least_ring, super_in, super_refusal, super_tests}
-use Rattle.journal_model.proofs.Taken.{taken-narrow}
+use Rattle.log_model.specs.Superblock.{Super, first_failed, greatest_length, is_block_size, least_length, least_ring, revoke_feature, super_in, super_refusal, super_tests, wide_features}
+use Rattle.log_format.proofs.Layouts.{number-taken}
 use Rattle.journal_world.specs.declared.round.Round.{Round}
 use Rattle.journal_world.specs.declared.round.Round.TheVariants.{Idle as NoRound, Copies, TailWrite, TailFlush}
 use Rattle.journal_world.specs.Engine.{Engine}
@@ -52,16 +52,11 @@ accepted-block_size shape block accepted =
 
 -- so the layout is one that is taken, in blocks of the device
 pub accepted-layout : (shape : Shape) (block : List ℕ) → super_refusal shape block ≡ None →
-    IsTaken (layout_of (super_in block)) × ((layout_of (super_in block)).block_size ≡ shape.block_size)
+    IsLayout (layout_of (super_in block)) × ((layout_of (super_in block)).block_size ≡ shape.block_size)
 accepted-layout shape block accepted =
     let passes = size-passes (super_in block).s_blocksize shape.block_size (accepted-tests shape block accepted).1.1.0 in
     let sizes = passes.1 in
-    (((grind arith), refl), passes.0)
-
--- there is one such layout alone
-pub layout-agrees : (l : Layout) (shape : Shape) (block : List ℕ) → IsTaken l → l.block_size ≡ shape.block_size → super_refusal shape block ≡ None →
-    layout_of (super_in block) ≡ l
-layout-agrees l shape block taken size accepted = ap narrow (accepted-block_size shape block accepted ∙ sym size) ∙ sym (taken-narrow taken)
+    (((grind arith), number-taken _), passes.0)
 
 -- and a block has room for all fields of a superblock
 pub accepted-size : (shape : Shape) (block : List ℕ) → super_refusal shape block ≡ None → 1024 ≤ shape.block_size
@@ -81,6 +76,19 @@ accepted-ring shape block accepted =
 pub accepted-length : (shape : Shape) (block : List ℕ) → super_refusal shape block ≡ None → (super_in block).s_maxlen ≤ greatest_length
 accepted-length shape block accepted = grind (arith, nat_tests)
 
+-- features that pass their test, and are not those of 64-bit block numbers, are those of 32-bit ones
+narrow-passes : (compat ro_compat incompat users : ℕ) →
+    ((compat == 0) && (ro_compat == 0) && ((incompat == revoke_feature) || (incompat == wide_features)) && (users == 1)) ≡ true →
+    incompat ≢ wide_features → incompat ≡ revoke_feature
+narrow-passes compat ro_compat incompat users passes other = grind (arith, nat_tests)
+
+-- so are those of an accepted log
+pub accepted-narrow : (shape : Shape) (block : List ℕ) → super_refusal shape block ≡ None → (super_in block).s_feature_incompat ≢ wide_features →
+    (super_in block).s_feature_incompat ≡ revoke_feature
+accepted-narrow shape block accepted other =
+    let s : Super = super_in block in
+    narrow-passes s.s_feature_compat s.s_feature_ro_compat s.s_feature_incompat s.s_nr_users (accepted-tests shape block accepted).1.1.1.1.1.0 other
+
 -- lengths that pass their test
 within-passes : (m log : ℕ) → (nat_le least_length m && nat_le m greatest_length && nat_le m log) ≡ true → m ≤ log
 within-passes m log passes = grind (arith, nat_tests)
@@ -90,37 +98,37 @@ pub accepted-within : (shape : Shape) (block : List ℕ) → super_refusal shape
 accepted-within shape block accepted = within-passes (super_in block).s_maxlen shape.log_blocks (accepted-tests shape block accepted).1.1.1.0
 
 -- the ring of a superblock begins where the superblock says
-pub first-is : (shape : Shape) (ring : Ring) (block : List ℕ) → IsSuperblock shape ring block → (super_in block).s_first ≡ ring.first
+pub first-is : {l : Layout} (shape : Shape) (ring : Ring) (block : List ℕ) → IsSuperblock shape l ring block → (super_in block).s_first ≡ ring.first
 first-is shape ring block is = ap (λ (r : Ring). r.first) is.ring_is
 
 -- so it does not begin at block 0
-pub first-above : (shape : Shape) (ring : Ring) (block : List ℕ) → IsSuperblock shape ring block → 0 < ring.first
+pub first-above : {l : Layout} (shape : Shape) (ring : Ring) (block : List ℕ) → IsSuperblock shape l ring block → 0 < ring.first
 first-above shape ring block is =
     let above : 0 < (super_in block).s_first = accepted-first shape block is.accepted in
     let same : (super_in block).s_first ≡ ring.first = first-is shape ring block is in
     omega arith
 
 -- and it has blocks
-pub blocks-some : (shape : Shape) (ring : Ring) (block : List ℕ) → IsSuperblock shape ring block → 16 ≤ ring.blocks
+pub blocks-some : {l : Layout} (shape : Shape) (ring : Ring) (block : List ℕ) → IsSuperblock shape l ring block → 16 ≤ ring.blocks
 blocks-some shape ring block is =
     let blocks : 16 ≤ (super_in block).s_maxlen - (super_in block).s_first = accepted-ring shape block is.accepted in
     let same : (super_in block).s_maxlen - (super_in block).s_first ≡ ring.blocks = ap (λ (r : Ring). r.blocks) is.ring_is in
     omega arith
 
 -- whatever is named once the log has begun, it is a superblock
-started-superblock : (e : Engine) (round : Round) (block : List ℕ) → NamesStarted e round block → IsSuperblock e.shape e.ring block
+started-superblock : (e : Engine) (round : Round) (block : List ℕ) → NamesStarted e round block → IsSuperblock e.shape e.layout e.ring block
 started-superblock e NoRound block names = names.is_superblock
 started-superblock e (Copies transaction next) block names = names.is_superblock
 started-superblock e TailWrite block names = names.is_superblock
 started-superblock e TailFlush block names = names.is_superblock
 
 -- whatever it names, it is a superblock
-pub names-superblock : (e : Engine) (started : Bool) (block : List ℕ) → Names e started block → IsSuperblock e.shape e.ring block
+pub names-superblock : (e : Engine) (started : Bool) (block : List ℕ) → Names e started block → IsSuperblock e.shape e.layout e.ring block
 names-superblock e true block names = started-superblock e e.round block names
 names-superblock e false block names = names.is_superblock
 
 -- whatever a crash leaves of block 0 is a superblock
-pub may-superblock : (e : Engine) (block : List ℕ) → MayBeSuperblock e block → IsSuperblock e.shape e.ring block
+pub may-superblock : (e : Engine) (block : List ℕ) → MayBeSuperblock e block → IsSuperblock e.shape e.layout e.ring block
 may-superblock e block (Clean may names) = names.is_superblock
 may-superblock e block (Old names) = names.is_superblock
 may-superblock e block (New moves names) = names.is_superblock

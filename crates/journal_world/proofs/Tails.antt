@@ -1,12 +1,13 @@
 -- The superblock that says where the log begins: one with a new tail.
 use Rattle.std.proofs.Common.{◌∙◌, ap, ap₂, arith, inr, length-append, length-take, length-drop}
-use Rattle.std.specs.Prelude.{◌≡◌, ℕ, ◌+◌, ◌-◌, ◌<◌, ◌≤◌, List, length}
+use Rattle.std.specs.Prelude.{◌≡◌, ℕ, ◌+◌, ◌-◌, ◌==◌, ◌<◌, ◌≤◌, if◌then◌else◌, List, length}
 use Rattle.log_model.specs.Chain.{Ring, ring_place}
-use Rattle.log_model.specs.Opening.{greatest_number, ring_of}
+use Rattle.journal_model.specs.Layout.{Layout}
+use Rattle.log_model.specs.Opening.{greatest_number, layout_of, ring_of}
 use Rattle.journal_model.specs.Disk.{Shape}
-use Rattle.log_model.specs.Superblock.{greatest_length, super_in, with_tail}
+use Rattle.log_model.specs.Superblock.{greatest_length, super_in, wide_features, with_tail}
 use Rattle.log_format.proofs.Accepting.{tail_accepted}
-use Rattle.log_format.proofs.Superblocks.{before_tail, sequence_of_tail, start_of_tail}
+use Rattle.log_format.proofs.Superblocks.{before_tail, behind_tail, sequence_of_tail, start_of_tail}
 use Rattle.journal_world.specs.Opening.{IsSuperblock}
 use Rattle.journal_world.specs.Sound.{BeginsAt}
 use Rattle.journal_world.proofs.Places.{place-within}
@@ -25,8 +26,15 @@ ring-tail block sequence start long =
     (before_tail 0x14 block sequence start (omega arith) long)
     (before_tail 0x10 block sequence start (omega arith) long)
 
+-- and the layout
+pub layout-tail : (block : List ℕ) (sequence start : ℕ) → 24 ≤ length block → layout_of (super_in (with_tail block sequence start)) ≡ layout_of (super_in block)
+layout-tail block sequence start long =
+    ap₂ (λ (size features : ℕ). let l : Layout = record { block_size = size; number_bytes = 4 + (if features == wide_features then 4 else 0) } in l)
+    (before_tail 0x0c block sequence start (omega arith) long)
+    (behind_tail 8 block sequence start long)
+
 -- the place of a position is one that a superblock may name
-place-names : (shape : Shape) (ring : Ring) (block : List ℕ) (position : ℕ) → IsSuperblock shape ring block →
+place-names : {l : Layout} (shape : Shape) (ring : Ring) (block : List ℕ) (position : ℕ) → IsSuperblock shape l ring block →
     ((super_in block).s_first ≤ ring_place ring position) × (ring_place ring position < (super_in block).s_maxlen)
 place-names shape ring block position is =
     let first : (super_in block).s_first ≡ ring.first = first-is shape ring block is in
@@ -36,8 +44,8 @@ place-names shape ring block position is =
     (omega arith, omega arith)
 
 -- with the place of a position in its tail, it is the superblock of the same ring
-tail-superblock : (shape : Shape) (ring : Ring) (block : List ℕ) (sequence position : ℕ) → IsSuperblock shape ring block →
-    IsSuperblock shape ring (with_tail block sequence (ring_place ring position))
+tail-superblock : {l : Layout} (shape : Shape) (ring : Ring) (block : List ℕ) (sequence position : ℕ) → IsSuperblock shape l ring block →
+    IsSuperblock shape l ring (with_tail block sequence (ring_place ring position))
 tail-superblock shape ring block sequence position is =
     let size : length block ≡ shape.block_size = is.size in
     let large : 1024 ≤ shape.block_size = accepted-size shape block is.accepted in
@@ -45,12 +53,13 @@ tail-superblock shape ring block sequence position is =
       accepted =
           tail_accepted shape block sequence (ring_place ring position) (omega arith) is.accepted (inr (place-names shape ring block position is));
       size = length-tail block sequence (ring_place ring position) (omega arith) ∙ size;
+      layout_is = layout-tail block sequence (ring_place ring position) (omega arith) ∙ is.layout_is;
       ring_is = ring-tail block sequence (ring_place ring position) (omega arith) ∙ is.ring_is;
     }
 
 -- and names the transaction with this number, at that position, as the first
-pub tail-names : (shape : Shape) (ring : Ring) (block : List ℕ) (number position : ℕ) → IsSuperblock shape ring block →
-    number ≤ greatest_number + 1 → BeginsAt shape ring number position (with_tail block number (ring_place ring position))
+pub tail-names : {l : Layout} (shape : Shape) (ring : Ring) (block : List ℕ) (number position : ℕ) → IsSuperblock shape l ring block →
+    number ≤ greatest_number + 1 → BeginsAt shape l ring number position (with_tail block number (ring_place ring position))
 tail-names shape ring block number position is small =
     let size : length block ≡ shape.block_size = is.size in
     let large : 1024 ≤ shape.block_size = accepted-size shape block is.accepted in

@@ -4,8 +4,8 @@ use Rattle.std.specs.Prelude.{◌≡◌, ℕ, ◌+◌, ◌==◌, ◌<◌, ◌≤
 use Rattle.journal_model.specs.declared.number.Area.TheVariants.{Log, Home}
 use Rattle.log_model.specs.Chain.{Ring}
 use Rattle.journal_model.specs.Disk.{Disk, Image, IsOneOf, Leaves, Shape, flushed, held, reading}
-use Rattle.journal_model.specs.Layout.{begins_with_magic, sequence_in}
-use Rattle.log_model.specs.Opening.{OpensAs, Opens, HasLimit, greatest_number, ring_of}
+use Rattle.journal_model.specs.Layout.{Layout, begins_with_magic, sequence_in}
+use Rattle.log_model.specs.Opening.{OpensAs, Opens, HasLimit, greatest_number, layout_of, ring_of}
 use Rattle.log_model.specs.Superblock.{super_in, super_refusal, with_tail}
 use Rattle.journal_model.specs.Transaction.{History}
 
@@ -13,16 +13,17 @@ use Rattle.journal_model.specs.Transaction.{History}
 pub record IsBehind (next : ℕ) (v : List ℕ) : Type 0 where
   pub below : begins_with_magic v ≡ true → sequence_in v < next
 
--- a superblock that is accepted, of a log with this ring
-pub record IsSuperblock (shape : Shape) (ring : Ring) (block : List ℕ) : Type 0 where
+-- a superblock that is accepted, of a log with this layout and ring
+pub record IsSuperblock (shape : Shape) (l : Layout) (ring : Ring) (block : List ℕ) : Type 0 where
   pub accepted : super_refusal shape block ≡ None
   pub size : length block ≡ shape.block_size
+  pub layout_is : layout_of (super_in block) ≡ l
   pub ring_is : ring_of (super_in block) ≡ ring
 
 -- The superblock of a clean log whose next transaction has this number: it says the number before, or after a
 -- recovery that number itself.
-pub record NamesNothing (shape : Shape) (ring : Ring) (next : ℕ) (block : List ℕ) : Type 0 where
-  pub is_superblock : IsSuperblock shape ring block
+pub record NamesNothing (shape : Shape) (l : Layout) (ring : Ring) (next : ℕ) (block : List ℕ) : Type 0 where
+  pub is_superblock : IsSuperblock shape l ring block
   pub clean : (super_in block).s_start ≡ 0
   pub low : next ≤ (super_in block).s_sequence + 1
   pub high : (super_in block).s_sequence ≤ next
@@ -30,7 +31,7 @@ pub record NamesNothing (shape : Shape) (ring : Ring) (next : ℕ) (block : List
 -- a disk with an opened log: it is clean, all of block 0 is durable, and no ring block is numbered as the next
 -- transaction or above it
 pub record IsOpenedLog (shape : Shape) (disk : Disk) (superblock : List ℕ) (next : ℕ) : Type 0 where
-  pub named : NamesNothing shape (ring_of (super_in superblock)) next superblock
+  pub named : NamesNothing shape (layout_of (super_in superblock)) (ring_of (super_in superblock)) next superblock
   pub some : 0 < next
   pub number : next ≤ greatest_number
   pub durable : disk Log 0 ≡ record { reads = superblock; others = [] }

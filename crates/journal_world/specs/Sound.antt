@@ -7,7 +7,7 @@ use Rattle.journal_model.specs.declared.number.Area.TheVariants.{Log, Home}
 use Rattle.log_model.specs.Chain.{Ring, texts_blocks, ring_place}
 use Rattle.journal_model.specs.Disk.{Disk, Cell, Image, IsOneOf, Leaves, held, Shape}
 use Rattle.log_model.specs.HomeChange.{HomeAddsOnly, IsCommittedCopy}
-use Rattle.journal_model.specs.Layout.{IsTaken, uuid_bytes}
+use Rattle.journal_model.specs.Layout.{IsLayout, Layout, uuid_bytes}
 use Rattle.log_model.specs.Opening.{Opens, IsCountOf, greatest_number}
 use Rattle.log_model.specs.Superblock.{super_in}
 use Rattle.journal_model.specs.Transaction.{History}
@@ -20,18 +20,18 @@ use Rattle.journal_world.specs.Engine.{Engine, AreBatchesOf, IsBatch, block_at, 
 use Rattle.journal_world.specs.Opening.{IsBehind, IsSuperblock, NamesNothing}
 
 -- the superblock of a log that begins with the transaction of this number, at this position
-pub record BeginsAt (shape : Shape) (ring : Ring) (number position : ℕ) (block : List ℕ) : Type 0 where
-  pub is_superblock : IsSuperblock shape ring block
+pub record BeginsAt (shape : Shape) (l : Layout) (ring : Ring) (number position : ℕ) (block : List ℕ) : Type 0 where
+  pub is_superblock : IsSuperblock shape l ring block
   pub start : (super_in block).s_start ≡ ring_place ring position
   pub sequence : (super_in block).s_sequence ≡ number
 
 -- it names the tail: the first transaction that is not released
 abbrev pub NamesTail : Engine → List ℕ → Type 0
-NamesTail e v = BeginsAt e.shape e.ring (e.first + e.released) e.tail v
+NamesTail e v = BeginsAt e.shape e.layout e.ring (e.first + e.released) e.tail v
 
 -- or the tail that the round moves to: the first transaction that it does not release
 abbrev pub NamesNewTail : Engine → List ℕ → Type 0
-NamesNewTail e v = BeginsAt e.shape e.ring (e.first + e.bound) e.bound_position v
+NamesNewTail e v = BeginsAt e.shape e.layout e.ring (e.first + e.bound) e.bound_position v
 
 -- what the superblock of a log that is not clean says, as it was written last: the tail, the new one once a round has written it
 abbrev pub NamesStarted : Engine → Round → List ℕ → Type 0
@@ -43,7 +43,7 @@ NamesStarted e TailFlush v = NamesNewTail e v
 -- what the superblock says: nothing, in a clean log
 abbrev pub Names : Engine → Bool → List ℕ → Type 0
 Names e true v = NamesStarted e e.round v
-Names e false v = NamesNothing e.shape e.ring e.first v
+Names e false v = NamesNothing e.shape e.layout e.ring e.first v
 
 -- batches numbered first, first + 1, and so on
 abbrev pub AreNumberedFrom : ℕ → List Batch → Type 0
@@ -72,7 +72,7 @@ position e n = length (texts_blocks (map (text_of e) (take n e.accepted)))
 
 -- what the engine keeps true of itself alone
 pub record IsPlain (e : Engine) : Type 0 where
-  pub layout : IsTaken e.layout × (e.layout.block_size ≡ e.shape.block_size)
+  pub layout : IsLayout e.layout × (e.layout.block_size ≡ e.shape.block_size)
   pub names : Names e e.started e.superblock
   pub uuid : length e.uuid ≡ uuid_bytes
   pub batches : AllByRecursion (IsBatch e.layout e.shape) e.accepted
@@ -99,7 +99,7 @@ MovesTail e = (e.round ≡ TailWrite) ⊎ (e.round ≡ TailFlush)
 
 -- what a crash may leave of block 0, at most
 pub data MayBeSuperblock (e : Engine) (v : List ℕ) : Type 0 where
-  Clean : MayBeClean e → NamesNothing e.shape e.ring e.first v → MayBeSuperblock e v
+  Clean : MayBeClean e → NamesNothing e.shape e.layout e.ring e.first v → MayBeSuperblock e v
   Old : NamesTail e v → MayBeSuperblock e v
   New : MovesTail e → NamesNewTail e v → MayBeSuperblock e v
 

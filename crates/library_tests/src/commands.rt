@@ -13,6 +13,7 @@ mod locks;
 mod log_files;
 mod paths;
 mod sessions;
+mod wide_logs;
 
 /// What a command said, as one text: what it printed, a bar and what it said of a refusal, and then how it ended.
 fn text_of(alloc: Global, out: &[u8], err: &[u8], status: Status) -> Result<String, Fail> {

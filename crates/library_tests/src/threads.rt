@@ -1,7 +1,9 @@
-//! Two threads that share one journal over a device in memory.
+//! Two threads that share one journal, over a device in memory and over files.
 ghost use Rattle.std.specs.Prelude.{◌≡◌};
 
-use block_device::MemDevice;
+use crate::files::{holds, make_log, open_in, write_in};
+use block_device::{Device, MemDevice};
+use file_device::{FileDevice, UnknownContents};
 use group_commit::Turn;
 use handle::{JournalName, Seat, Status, Ticket};
 use journal_model::{BlockNo, Tid};
@@ -12,6 +14,7 @@ use std::sync::Wait;
 use std::sync::atomic::{AtomicU64, Ordering};
 use std::test::Fail;
 use std::thread::{Threads, join};
+use std::{fs, io};
 
 /// How often each thread reserves.
 const ROUNDS: u64 = 1_000_000;
@@ -39,9 +42,9 @@ fn hammer<J: JournalName>(
 }
 
 /// Writes so many blocks from `first` on, each through a handle of its own. It answers the last handle's ticket.
-fn write_all<J: JournalName, R: Wait>(
+fn write_all<J: JournalName, D: Device, R: Wait>(
     rt: &R,
-    journal: &Journal<J, MemDevice>,
+    journal: &Journal<J, D>,
     mut seat: Seat<J>,
     first: u64,
 ) -> Option<Ticket<J>> {
@@ -68,7 +71,7 @@ fn write_all<J: JournalName, R: Wait>(
 }
 
 /// Takes commit turns until the transaction is committed. It answers whether it is.
-fn commit<J: JournalName, R: Wait>(rt: &R, journal: &Journal<J, MemDevice>, tid: Tid) -> bool {
+fn commit<J: JournalName, D: Device, R: Wait>(rt: &R, journal: &Journal<J, D>, tid: Tid) -> bool {
     if journal.request(rt, tid).is_err() {
         return false;
     }
@@ -80,6 +83,24 @@ fn commit<J: JournalName, R: Wait>(rt: &R, journal: &Journal<J, MemDevice>, tid:
         }
     }
     false
+}
+
+/// Two threads write at once. It answers the last ticket of each.
+fn write_at_once<J: JournalName + Send + Sync, D: Device + Send, R: Threads + Wait + Sync>(
+    rt: &R,
+    journal: &Journal<J, D>,
+    one: Seat<J>,
+    two: Seat<J>,
+) -> Option<(Ticket<J>, Ticket<J>)> {
+    let (first, second) = join(
+        rt,
+        || -> Option<Ticket<J>> { write_all(rt, journal, one, 0) },
+        || -> Option<Ticket<J>> { write_all(rt, journal, two, 100) },
+    );
+    match (first, second) {
+        (Some(first), Some(second)) => Some((first, second)),
+        _ => None,
+    }
 }
 
 /// The last credits that a journal can grant to one seat: all, where nobody holds any.
@@ -126,12 +147,7 @@ fn shared<J: JournalName + Send + Sync, R: Threads + Wait + Abort + Sync>(
         || -> bool { hammer(&journal, two, all - 1, &held) },
     );
     assert!(rt; first && second && all_are_left(&journal, &mut seat, all));
-    let (first, second) = join(
-        rt,
-        || -> Option<Ticket<J>> { write_all(rt, &journal, three, 0) },
-        || -> Option<Ticket<J>> { write_all(rt, &journal, four, 100) },
-    );
-    let (Some(first), Some(second)) = (first, second) else {
+    let Some((first, second)) = write_at_once(rt, &journal, three, four) else {
         panic!(rt; "a handle is refused")
     };
     assert!(rt; journal.status(&first, &mut seat) == Status::Open);
@@ -157,7 +173,7 @@ fn shared<J: JournalName + Send + Sync, R: Threads + Wait + Abort + Sync>(
 #[test]
 fn two_threads_share_a_journal(rt: HostRuntime) -> Result<(), Fail> {
     let mut device = MemDevice::new(rt.alloc(), 1024, 1024, 4096);
-    recovery::format(&mut device, 1024, &[7; 16])?;
+    recovery::format(&mut device, 1024, &[7; 16], false)?;
     let Ok(opened) = recovery::open(rt.alloc(), device) else {
         panic!(rt; "the log is refused")
     };
@@ -165,5 +181,74 @@ fn two_threads_share_a_journal(rt: HostRuntime) -> Result<(), Fail> {
         panic!(rt; "the journal is refused")
     };
     shared::<Brand, _>(&rt, laid);
+    Ok(())
+}
+
+/// The name of the folder of the files.
+const FOLDER: &str = "two_threads_test";
+
+/// Blocks of the home file.
+const HOME_BLOCKS: usize = 128;
+
+/// A device over a log and a home file of zeros, in blocks of 1024 bytes.
+fn two_files(rt: &HostRuntime) -> io::Result<FileDevice<UnknownContents>> {
+    make_log(rt, FOLDER, &vec![in rt.alloc(); 0; 1024 * 256]?)?;
+    write_in(
+        rt,
+        FOLDER,
+        "home",
+        &vec![in rt.alloc(); 0; 1024 * HOME_BLOCKS]?,
+    )?;
+    let log = open_in(rt, FOLDER, "log")?;
+    let home = open_in(rt, FOLDER, "home")?;
+    Ok(FileDevice::new(rt.alloc(), UnknownContents, 1024, log, Some(home))?)
+}
+
+/// Two threads write at once, and all of it is committed in one transaction and written home.
+fn written<J: JournalName + Send + Sync, D: Device + Drop + Send, R: Threads + Wait + Abort + Sync>(
+    rt: &R,
+    laid: LaidJournal<D>,
+) -> D
+    requires board { laid.board ≡ J.board }
+    requires capacity { laid.capacity ≡ J.capacity }
+    requires block_size { laid.block_size ≡ J.block_size }
+{
+    let (journal, mut seat) = laid.named::<J>();
+    let (Some(one), Some(two)) = (journal.split_seat(&mut seat), journal.split_seat(&mut seat))
+    else {
+        panic!(rt; "there is no further seat")
+    };
+    let Some((first, _)) = write_at_once(rt, &journal, one, two) else {
+        panic!(rt; "a handle is refused")
+    };
+    assert!(rt; commit(rt, &journal, first.tid()));
+    let Ok(parts) = journal.close() else {
+        panic!(rt; "the close is refused")
+    };
+    assert_eq!(rt; parts.committed, 1);
+    parts.device
+}
+
+/// What the home file is to hold: the blocks that the threads wrote.
+fn expected_home(rt: &HostRuntime) -> io::Result<Vec<u8>> {
+    let mut home = vec![in rt.alloc(); 0; 1024 * HOME_BLOCKS]?;
+    home[..1024 * 20].fill(7);
+    home[1024 * 100..1024 * 120].fill(7);
+    Ok(home)
+}
+
+#[test]
+fn two_threads_share_a_journal_over_files(rt: HostRuntime) -> Result<(), Fail> {
+    let mut device = two_files(&rt)?;
+    recovery::format(&mut device, 256, &[7; 16], false)?;
+    let Ok(opened) = recovery::open(rt.alloc(), device) else {
+        panic!(rt; "the log is refused")
+    };
+    let Ok(laid) = lay(rt.alloc(), opened) else {
+        panic!(rt; "the journal is refused")
+    };
+    drop(written::<Brand, _, _>(&rt, laid));
+    assert!(rt; holds(&rt, FOLDER, "home", &expected_home(&rt)?)?);
+    fs::remove_dir_all(&rt, FOLDER)?;
     Ok(())
 }

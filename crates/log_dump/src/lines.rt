@@ -3,7 +3,7 @@ ghost use Rattle.std.specs.Prelude.{◌≡◌, ◌+◌, ◌++◌, ◌∷◌, [],
 ghost use Rattle.std.specs.Fmt.{decimal};
 ghost use Rattle.std.specs.Io.KnownBytes.{Appends};
 ghost use Rattle.std.specs.List.{join_with_byte};
-ghost use Rattle.log_model.specs.Dump.{comma, copy_caption, super_line};
+ghost use Rattle.log_model.specs.Dump.{comma, copy_caption, super_line, width_word};
 ghost use Rattle.log_dump.specs.Lines.{ended, listed, placed_line};
 
 use journal_model::BlockNo;
@@ -16,11 +16,23 @@ use std::io::Write;
 pub(crate) fn write_super<W: Write>(out: &mut W, fields: &Super) -> io::Result<()>
     ensures { OnOk result (Appends (W.contents out.old) (W.contents out.new) (ended (super_line fields.now))) }
 {
+    let width = width_word(fields);
     writeln!(
         out,
-        "super blocksize={} maxlen={} first={} sequence={} start={}",
+        "super blocksize={} maxlen={} first={} sequence={} start={}{width}",
         fields.s_blocksize, fields.s_maxlen, fields.s_first, fields.s_sequence, fields.s_start
     )
+}
+
+/// What the line of the superblock says of the width of block numbers.
+fn width_word(fields: &Super) -> &'static str
+    ensures { result.now ≡ width_word fields.now }
+{
+    if fields.has_wide_numbers() {
+        " wide"
+    } else {
+        ""
+    }
 }
 
 /// Prints the last line of a clean log: its s_sequence.

@@ -57,7 +57,7 @@ during-same e disk sound idle = record {
 pub was-closed : (e : Engine) (disk : Disk) → Sound e disk → KeepsClean e disk → e.started ≡ false → e.stage ≡ Idle → IsClosedLog e disk
 was-closed e disk sound keeps fresh idle = record { clean = clean; opens = opens-all e disk sound idle }
   where
-    names : NamesNothing e.shape e.ring e.first e.superblock
+    names : NamesNothing e.shape e.layout e.ring e.first e.superblock
     names = subst (λ b. Names e b e.superblock) fresh sound.plain.names
 
     first : (image : Image) → Leaves disk image → image Log 0 ≡ e.superblock

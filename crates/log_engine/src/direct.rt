@@ -28,8 +28,8 @@ impl<D: Device> Engine<D> {
     ///
     /// # Errors
     ///
-    /// `Aborted` after a device failure; `BadBlock` where home has no such block, or no tag of the log can spell its number;
-    /// `NotDirect` where the block is not left to home: nothing changes. `Device` where the device fails: the journal is
+    /// `Aborted` after a device failure; `BadBlock` where home has no such block, or no tag of the log can spell its number, or it
+    /// has more than 48 bits; `NotDirect` where the block is not left to home: nothing changes. `Device` where the device fails: the journal is
     /// aborted, and home reads the block as before or as these bytes, and a stop may leave either.
     /// Source: this project's own, by what journal.rst says of revokes.
     pub fn write_direct(&mut self, block: BlockNo, bytes: &[u8]) -> Result<(), JournalError>

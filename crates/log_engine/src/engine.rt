@@ -1,7 +1,7 @@
 //! The engine that a journal stands on: one contract for each step, of the machine's own steps.
 ghost use Rattle.std.specs.Prelude.{◌≡◌, ◌≢◌, ◌+◌, ◌≤◌, ◌↔◌, ℕ, List, IsTrue, false, length, is_some, IfOk, IfErr, IfSome, MatchResult, OnOk};
 ghost use Rattle.journal_model.specs.declared.refusal.JournalError.TheVariants.{Device as DeviceFailed, Memory};
-ghost use Rattle.journal_model.specs.Layout.{IsTaken};
+ghost use Rattle.journal_model.specs.Layout.{IsLayout};
 ghost use Rattle.journal_model.specs.Transaction.{copied, revoked};
 ghost use Rattle.log_model.specs.Opening.{ring_of};
 ghost use Rattle.log_model.specs.Room.{need};
@@ -142,7 +142,7 @@ impl<D: Device> Engine<D> {
     /// The layout of the log.
     pub fn layout(&self) -> LogLayout
         ensures layout { result ≡ self.now.engine.layout }
-        ensures taken { IsTaken result }
+        ensures taken { IsLayout result }
     {
         self.ledger.layout
     }
@@ -266,8 +266,9 @@ impl<D: Device> Engine<D> {
     ///
     /// # Errors
     ///
-    /// `Aborted` after a device failure; `BadBlock` where home has no such block, or no tag of the log can spell its number: nothing
-    /// changes. `Device` where the device fails: the journal is aborted, and the buffer's bytes are unspecified.
+    /// `Aborted` after a device failure; `BadBlock` where home has no such block, or no tag of the log can spell its number, or it
+    /// has more than 48 bits: nothing changes. `Device` where the device fails: the journal is aborted, and the buffer's bytes are
+    /// unspecified.
     pub fn read(&mut self, block: BlockNo, into: &mut [u8]) -> Result<(), JournalError>
         requires { length into.old ≡ (D.state self.old.device).shape.block_size }
         ensures may { OnOk result ((self.old.engine.aborted ≡ false) × MayTouch self.old.engine block) }

@@ -8,14 +8,14 @@ use Rattle.journal_model.specs.declared.number.Area.TheVariants.{Log}
 use Rattle.log_model.specs.Chain.{Ring}
 use Rattle.journal_model.specs.Disk.{Disk, Image, IsOneOf, Shape, held}
 use Rattle.journal_model.specs.Layout.{begins_with_magic, sequence_in}
-use Rattle.log_model.specs.Opening.{HasChain, IsClean, NothingAhead, greatest_number, ring_of, super_of}
+use Rattle.log_model.specs.Opening.{HasChain, IsClean, NothingAhead, greatest_number, layout_of, ring_of, super_of}
 use Rattle.log_model.specs.Superblock.{super_in, super_refusal, with_tail}
 use Rattle.log_format.proofs.Accepting.{tail_accepted}
 use Rattle.log_format.proofs.Superblocks.{before_tail, sequence_of_tail, start_of_tail}
 use Rattle.journal_world.specs.Opening.{IsBehind, IsOpenedLog, NamesNothing, cleaned}
 use Rattle.journal_world.specs.Sound.{durable_cell}
 use Rattle.journal_world.proofs.Superblocks.{accepted-first, accepted-size}
-use Rattle.journal_world.proofs.Tails.{length-tail}
+use Rattle.journal_world.proofs.Tails.{layout-tail, length-tail}
 use Rattle.log_epochs.specs.OpeningSteps.{Found, HasTexts, IsFound, clean_superblock, next_of}
 use Rattle.log_epochs.specs.OpeningSteps.HasTexts.{NoTexts, Texts}
 
@@ -33,6 +33,7 @@ pub record IsCleanTail (shape : Shape) (superblock tail : List ℕ) (next : ℕ)
   pub size : length tail ≡ shape.block_size
   pub clean : (super_in tail).s_start ≡ 0
   pub sequence : (super_in tail).s_sequence ≡ next
+  pub layout : layout_of (super_in tail) ≡ layout_of (super_in superblock)
   pub ring : ring_of (super_in tail) ≡ ring_of (super_in superblock)
 
 -- that superblock
@@ -46,6 +47,7 @@ clean-tail shape superblock next accepted size small =
       size = length-tail superblock next 0 (omega arith) ∙ size;
       clean = start_of_tail superblock next 0 (omega arith) (omega arith);
       sequence = sequence_of_tail superblock next 0 (omega arith) (omega arith);
+      layout = layout-tail superblock next 0 (omega arith);
       ring = ring-tail superblock next 0 (omega arith);
     }
 
@@ -68,7 +70,7 @@ behind-limit image limit n v none low high is = record {
 
 -- a log whose block 0 is durable and whose ring is as the image, in which nothing is ahead, is opened
 pub opened-log : (shape : Shape) (image : Image) (disk : Disk) (superblock : List ℕ) (limit : ℕ) →
-    NamesNothing shape (ring_of (super_in superblock)) (limit + 1) superblock → limit < greatest_number →
+    NamesNothing shape (layout_of (super_in superblock)) (ring_of (super_in superblock)) (limit + 1) superblock → limit < greatest_number →
     disk Log 0 ≡ durable_cell superblock → ((n : ℕ) (v : List ℕ) → n ≢ 0 → IsOneOf (held (disk Log n)) v → v ≡ image Log n) →
     ring_of (super_in superblock) ≡ ring_of (super_of image) → NothingAhead image limit → IsOpenedLog shape disk superblock (limit + 1)
 opened-log shape image disk superblock limit named small durable ring_is same none = record {
@@ -105,7 +107,7 @@ opened-clean shape found disk is clean durable =
     subst (λ (block : List ℕ). IsOpenedLog shape disk block (next_of found)) (sym (cleaned-clean (found.image Log 0) (next_of found) clean.clean))
     (opened-log shape found.image disk (found.image Log 0) found.limit
     (record {
-      is_superblock = record { accepted = clean.accepted; size = is.size; ring_is = refl };
+      is_superblock = record { accepted = clean.accepted; size = is.size; layout_is = refl; ring_is = refl };
       clean = clean.clean;
       low = omega arith;
       high = omega arith;
@@ -125,7 +127,7 @@ opened-replayed shape found disk is has durable ring =
     subst (λ (block : List ℕ). IsOpenedLog shape disk block (next_of found)) (sym (cleaned-started (found.image Log 0) (next_of found) has.started.started))
     (opened-log shape found.image disk (clean_superblock found) found.limit
     (record {
-      is_superblock = record { accepted = tail.accepted; size = tail.size; ring_is = refl };
+      is_superblock = record { accepted = tail.accepted; size = tail.size; layout_is = refl; ring_is = refl };
       clean = tail.clean;
       low = omega arith;
       high = omega arith;

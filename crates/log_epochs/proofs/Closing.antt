@@ -66,7 +66,7 @@ module _ (e : Engine) (disk after_write : Disk) (image : Image) (sound : Sound e
   all-released : e.start ≡ e.tail
   all-released = sound.plain.start ∙ ap (position e) (sym may.released) ∙ sym sound.plain.tail
 
-  is-superblock : IsSuperblock e.shape e.ring e.superblock
+  is-superblock : IsSuperblock e.shape e.layout e.ring e.superblock
   is-superblock = names-superblock e e.started e.superblock sound.plain.names
 
   -- no ring block has the next number
@@ -90,12 +90,12 @@ module _ (e : Engine) (disk after_write : Disk) (image : Image) (sound : Sound e
       let numbers = sound.plain.numbers in
       clean-tail e.shape e.superblock (e.first + e.committed) is-superblock.accepted is-superblock.size (omega arith)
 
-  closed-names : image Log 0 ≡ closed_superblock e → NamesNothing e.shape e.ring (e.first + e.committed) (image Log 0)
+  closed-names : image Log 0 ≡ closed_superblock e → NamesNothing e.shape e.layout e.ring (e.first + e.committed) (image Log 0)
   closed-names is =
       let tail = tail-left in
       let sequence : (super_in (closed_superblock e)).s_sequence ≡ e.first + e.committed = tail.sequence in
-      subst (NamesNothing e.shape e.ring (e.first + e.committed)) (sym is) (record {
-        is_superblock = record { accepted = tail.accepted; size = tail.size; ring_is = tail.ring ∙ is-superblock.ring_is };
+      subst (NamesNothing e.shape e.layout e.ring (e.first + e.committed)) (sym is) (record {
+        is_superblock = record { accepted = tail.accepted; size = tail.size; layout_is = tail.layout ∙ is-superblock.layout_is; ring_is = tail.ring ∙ is-superblock.ring_is };
         clean = tail.clean;
         low = omega arith;
         high = omega arith;

@@ -11,10 +11,13 @@ use Rattle.log_epochs.specs.EngineSteps.{Event, Happens}
 use Rattle.log_epochs.specs.EngineSteps.Event.{Accept, Read, CommitStep, CommitFault, CheckpointStep, CheckpointFault, ReadFault, DirectWrite, DirectWriteFault, DirectSync, DirectSyncFault}
 use Rattle.log_epochs.specs.EngineWorld.{Begins, Leads, Move, Moves, World}
 use Rattle.log_epochs.specs.EngineWorld.Begins.{Unopened, Made}
-use Rattle.log_epochs.specs.EngineWorld.Move.{Step, CloseStep, CloseFault, GiveUp, Stop, Begin, OpeningStep, OpeningFault, AnswerOk}
+use Rattle.log_epochs.specs.EngineWorld.Move.{Step, CloseStep, CloseFault, GiveUp, Stop, Begin, OpeningStep, OpeningFault, AnswerOk, Upgrade}
 use Rattle.log_epochs.specs.Epoch.{Epoch, pinning, pinning_at}
 use Rattle.log_epochs.specs.OpeningSteps.{OpeningStage}
 use Rattle.log_epochs.specs.OpeningSteps.OpeningStage.{LogFlush, Copies, SuperblockWrite, SuperblockFlush, Done}
+use Rattle.log_epochs.specs.UpgradeSteps.{UpgradeStage, pinning_in}
+use Rattle.log_epochs.specs.UpgradeSteps.UpgradeStage.{LogFlush as LogUnflushed, SuperblockWrite as Unwritten, SuperblockFlush as Unflushed, Done as Upgraded}
+use Rattle.log_epochs.specs.EngineWorld.UpgradeMove.{BeginUpgrade, UpgradeStep, UpgradeFault}
 
 -- what is known of the engine of an epoch; and this where there is no epoch
 abbrev pub OfEngine : Type 0 → (Engine → Type 0) → Option Epoch → Type 0
@@ -31,6 +34,12 @@ stage-engine none P Copies epoch image of = of
 stage-engine none P SuperblockWrite epoch image of = of
 stage-engine none P SuperblockFlush epoch image of = of
 stage-engine none P Done epoch image of = of
+
+upgrade-engine : (none : Type 0) (P : Engine → Type 0) (stage : UpgradeStage) (epoch : Option Epoch) (image : Image) → OfEngine none P epoch → OfEngine none P (pinning_in stage epoch image)
+upgrade-engine none P LogUnflushed epoch image of = pinning-engine none P epoch image of
+upgrade-engine none P Unwritten epoch image of = of
+upgrade-engine none P Unflushed epoch image of = of
+upgrade-engine none P Upgraded epoch image of = of
 
 pub now-engine : (none : Type 0) (P : Engine → Type 0) (epoch : Option Epoch) (now : Epoch) → epoch ≡ Some now → OfEngine none P epoch → P now.engine
 now-engine none P epoch now is of = subst (OfEngine none P) is of
@@ -51,6 +60,10 @@ move-engine none P old new (Begin found) steps fresh moves of = subst (λ (w : W
 move-engine none P old new OpeningStep steps fresh moves of =
     subst (λ (w : World). OfEngine none P w.epoch) (sym moves.after) (stage-engine none P moves.stage old.epoch (reading old.disk) of)
 move-engine none P old new OpeningFault steps fresh moves of = subst (λ (w : World). OfEngine none P w.epoch) (sym moves.after) of
+move-engine none P old new (Upgrade (BeginUpgrade block)) steps fresh moves of = subst (λ (w : World). OfEngine none P w.epoch) (sym moves.after) of
+move-engine none P old new (Upgrade UpgradeStep) steps fresh moves of =
+    subst (λ (w : World). OfEngine none P w.epoch) (sym moves.after) (upgrade-engine none P moves.stage old.epoch (reading old.disk) of)
+move-engine none P old new (Upgrade UpgradeFault) steps fresh moves of = subst (λ (w : World). OfEngine none P w.epoch) (sym moves.after) of
 move-engine none P old new AnswerOk steps fresh moves of = subst (λ (w : World). OfEngine none P w.epoch) (sym moves.after) (fresh _ refl)
 
 -- a step of the engine takes a batch, or the engine goes on
@@ -121,4 +134,7 @@ move-shape old new (Stop left) moves = ap (λ (w : World). w.shape) moves.after
 move-shape old new (Begin found) moves = ap (λ (w : World). w.shape) moves.after
 move-shape old new OpeningStep moves = ap (λ (w : World). w.shape) moves.after
 move-shape old new OpeningFault moves = ap (λ (w : World). w.shape) moves.after
+move-shape old new (Upgrade (BeginUpgrade block)) moves = ap (λ (w : World). w.shape) moves.after
+move-shape old new (Upgrade UpgradeStep) moves = ap (λ (w : World). w.shape) moves.after
+move-shape old new (Upgrade UpgradeFault) moves = ap (λ (w : World). w.shape) moves.after
 move-shape old new AnswerOk moves = ap (λ (w : World). w.shape) moves.after

@@ -9,10 +9,13 @@ use Rattle.log_epochs.specs.EnginePromise.{Continues}
 use Rattle.log_epochs.specs.EngineSteps.{with_directs}
 use Rattle.log_epochs.specs.EngineWorld.{Begins, Leads, Move, Moves, World}
 use Rattle.log_epochs.specs.EngineWorld.Begins.{Unopened, Made}
-use Rattle.log_epochs.specs.EngineWorld.Move.{Step, CloseStep, CloseFault, GiveUp, Stop, Begin, OpeningStep, OpeningFault, AnswerOk}
+use Rattle.log_epochs.specs.EngineWorld.Move.{Step, CloseStep, CloseFault, GiveUp, Stop, Begin, OpeningStep, OpeningFault, AnswerOk, Upgrade}
 use Rattle.log_epochs.specs.Epoch.{Ended, Epoch, ending, fresh_epoch, pinning, pinning_at}
 use Rattle.log_epochs.specs.OpeningSteps.{OpeningStage, next_of}
 use Rattle.log_epochs.specs.OpeningSteps.OpeningStage.{LogFlush, Copies, SuperblockWrite, SuperblockFlush, Done}
+use Rattle.log_epochs.specs.UpgradeSteps.{UpgradeStage, pinning_in}
+use Rattle.log_epochs.specs.UpgradeSteps.UpgradeStage.{LogFlush as LogUnflushed, SuperblockWrite as Unwritten, SuperblockFlush as Unflushed, Done as Upgraded}
+use Rattle.log_epochs.specs.EngineWorld.UpgradeMove.{BeginUpgrade, UpgradeStep, UpgradeFault}
 
 abbrev Follows : World → Type 0
 Follows w = Continues w.epoch w.ended
@@ -36,6 +39,13 @@ stage-follows SuperblockWrite epoch image ended follows = follows
 stage-follows SuperblockFlush epoch image ended follows = follows
 stage-follows Done epoch image ended follows = follows
 
+upgrade-follows : (stage : UpgradeStage) (epoch : Option Epoch) (image : Image) (ended : List Ended) → Continues epoch ended →
+    Continues (pinning_in stage epoch image) ended
+upgrade-follows LogUnflushed epoch image ended follows = pinning-follows epoch image ended follows
+upgrade-follows Unwritten epoch image ended follows = follows
+upgrade-follows Unflushed epoch image ended follows = follows
+upgrade-follows Upgraded epoch image ended follows = follows
+
 -- an epoch that begins as another ends follows it
 ending-follows : (epoch : Option Epoch) (fresh : Epoch) (ended : List Ended) → Continues epoch ended →
     Continues (Some fresh) (ending epoch fresh.opening ended)
@@ -55,6 +65,10 @@ move-follows old new (Begin found) moves follows = subst Follows (sym moves.afte
 move-follows old new OpeningStep moves follows =
     subst Follows (sym moves.after) (stage-follows moves.stage old.epoch (reading old.disk) old.ended follows)
 move-follows old new OpeningFault moves follows = subst Follows (sym moves.after) follows
+move-follows old new (Upgrade (BeginUpgrade block)) moves follows = subst Follows (sym moves.after) follows
+move-follows old new (Upgrade UpgradeStep) moves follows =
+    subst Follows (sym moves.after) (upgrade-follows moves.stage old.epoch (reading old.disk) old.ended follows)
+move-follows old new (Upgrade UpgradeFault) moves follows = subst Follows (sym moves.after) follows
 move-follows old new AnswerOk moves follows =
     let fresh : Epoch = fresh_epoch old.shape (cleaned (moves.found.image Log 0) (next_of moves.found)) (next_of moves.found) old.disk in
     subst Follows (sym moves.after) (ending-follows old.epoch fresh old.ended follows)

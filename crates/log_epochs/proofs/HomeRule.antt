@@ -20,11 +20,15 @@ use Rattle.log_epochs.specs.EngineSteps.{Event, Happens, closed_superblock}
 use Rattle.log_epochs.specs.EngineSteps.Event.{Accept, Read, CommitStep, CommitFault, CheckpointStep, CheckpointFault, ReadFault, DirectWrite, DirectWriteFault, DirectSync, DirectSyncFault}
 use Rattle.log_epochs.specs.EngineWorld.{CloseCall, Move, Moves, Phase, World}
 use Rattle.log_epochs.specs.EngineWorld.CloseCall.{WriteClosed, FlushClosed}
-use Rattle.log_epochs.specs.EngineWorld.Move.{Step, CloseStep, CloseFault, GiveUp, Stop, Begin, OpeningStep, OpeningFault, AnswerOk}
+use Rattle.log_epochs.specs.EngineWorld.Move.{Step, CloseStep, CloseFault, GiveUp, Stop, Begin, OpeningStep, OpeningFault, AnswerOk, Upgrade}
 use Rattle.log_epochs.specs.Epoch.{Epoch}
 use Rattle.log_epochs.specs.OpeningSteps.{Found, OpeningCall, OpeningStage, clean_superblock}
 use Rattle.log_epochs.specs.OpeningSteps.OpeningCall.{FlushClean, FlushLog, CopyHome, FlushHome, WriteSuperblock, FlushSuperblock}
 use Rattle.log_epochs.proofs.Homes.{copying-fault, copying-flushed, copying-same, copying-written, flush-undone}
+use Rattle.log_epochs.specs.UpgradeSteps.{UpgradeCall, UpgradeStage}
+use Rattle.log_epochs.specs.UpgradeSteps.UpgradeCall.{FlushLog as UpgradeFlush, WriteSuperblock as UpgradeWrite, FlushSuperblock as UpgradeEnd}
+use Rattle.log_epochs.specs.EngineWorld.UpgradeMove.{BeginUpgrade, UpgradeStep, UpgradeFault}
+use Rattle.log_model.specs.Superblock.{widened}
 
 -- a disk that is the old one adds nothing
 pub same-adds : (may : Addition) (old new : Disk) → new ≡ old → HomeAddsOnly may old new
@@ -88,6 +92,19 @@ opening-fault-adds shape found disk after stage next call WriteSuperblock fault 
     adds-none (IsNewest found.texts) disk after (is_write-fault disk after 0 (clean_superblock found) fault).home.same
 opening-fault-adds shape found disk after stage next call FlushSuperblock fault = same-adds (IsNewest found.texts) disk after (flush-undone disk after fault)
 
+-- a call of an upgrade adds nothing
+upgrade-adds : (may : Addition) (disk : Disk) (block : List ℕ) (stage next : UpgradeStage) (call : Call) → UpgradeCall block stage call next →
+    HomeAddsOnly may disk (after_success call disk)
+upgrade-adds may disk block stage next call UpgradeFlush = adds-none may disk _ (λ b. refl)
+upgrade-adds may disk block stage next call UpgradeWrite = adds-none may disk _ (λ b. refl)
+upgrade-adds may disk block stage next call UpgradeEnd = adds-none may disk _ (λ b. refl)
+
+upgrade-fault-adds : (may : Addition) (disk after : Disk) (block : List ℕ) (stage next : UpgradeStage) (call : Call) → UpgradeCall block stage call next →
+    IsAfterFault call disk after → HomeAddsOnly may disk after
+upgrade-fault-adds may disk after block stage next call UpgradeFlush fault = same-adds may disk after (flush-undone disk after fault)
+upgrade-fault-adds may disk after block stage next call UpgradeWrite fault = adds-none may disk after (is_write-fault disk after 0 (widened block) fault).home.same
+upgrade-fault-adds may disk after block stage next call UpgradeEnd fault = same-adds may disk after (flush-undone disk after fault)
+
 -- a stop leaves of each block what was held there
 stop-adds : (disk : Disk) (left : Image) → Leaves disk left → HomeAddsOnly (λ b v. IsOneOf (held (disk Home b)) v) disk (disk_of left)
 stop-adds disk left leaves = record {
@@ -117,4 +134,9 @@ move-home w OpeningStep new moves =
 move-home w OpeningFault new moves =
     subst (λ (p : Phase). HomeAddsOnly (OpeningMayAdd p) w.disk new.disk) (sym moves.opening)
     (opening-fault-adds w.shape moves.found w.disk new.disk moves.stage moves.next moves.call moves.due moves.disk_is)
+move-home w (Upgrade (BeginUpgrade block)) new moves = same-adds (MayAdd w (Upgrade (BeginUpgrade block))) w.disk new.disk (ap (λ (x : World). x.disk) moves.after)
+move-home w (Upgrade UpgradeStep) new moves =
+    of-world (MayAdd w (Upgrade UpgradeStep)) w.disk new _ moves.after (upgrade-adds (MayAdd w (Upgrade UpgradeStep)) w.disk moves.block moves.stage moves.next moves.call moves.due)
+move-home w (Upgrade UpgradeFault) new moves =
+    upgrade-fault-adds (MayAdd w (Upgrade UpgradeFault)) w.disk new.disk moves.block moves.stage moves.next moves.call moves.due moves.disk_is
 move-home w AnswerOk new moves = same-adds (MayAdd w AnswerOk) w.disk new.disk (ap (λ (x : World). x.disk) moves.after)

@@ -14,7 +14,7 @@ use Rattle.log_epochs.specs.DirectPromise.{LeavesAlone as BelowLeavesAlone}
 use Rattle.log_epochs.specs.EngineSteps.{Event as EngineEvent}
 use Rattle.log_epochs.specs.EngineSteps.Event.{Accept, Read, CommitStep as EngineCommit, CommitFault as EngineCommitFault, CheckpointStep as EngineCheckpoint, CheckpointFault as EngineCheckpointFault, ReadFault as EngineReadFault, DirectWrite as EngineDirect, DirectWriteFault as EngineDirectFault, DirectSync as EngineSync, DirectSyncFault as EngineSyncFault}
 use Rattle.log_epochs.specs.EngineWorld.{Move as BelowMove, Moves as BelowMoves, World}
-use Rattle.log_epochs.specs.EngineWorld.Move.{Step as EngineStep, CloseStep, CloseFault, GiveUp, Stop, Begin, OpeningStep, OpeningFault, AnswerOk}
+use Rattle.log_epochs.specs.EngineWorld.Move.{Step as EngineStep, CloseStep, CloseFault, GiveUp, Stop, Begin, OpeningStep, OpeningFault, AnswerOk, Upgrade}
 use Rattle.log_epochs.specs.JournalDirect.{IsNoStop, IsSynced, IsThatOrLater, KeepsDirect, LeaveAlone, LeavesAlone, SealsWithout, since_write}
 use Rattle.log_epochs.specs.JournalDirect.IsHandedOver.{Succeeded, Failed}
 use Rattle.log_epochs.specs.JournalWorld.{Begins, JournalWorld, Leads, Move, Moves, TellsAfter, TellsAfterStep}
@@ -106,6 +106,7 @@ module _ (P : List ℕ → Type 0) (b : ℕ) where
   quiet (Begin found) old new tells = (tt, tt)
   quiet OpeningStep old new tells = (tt, tt)
   quiet OpeningFault old new tells = (tt, tt)
+  quiet (Upgrade move) old new tells = (tt, tt)
   quiet AnswerOk old new tells = (tt, tt)
 
   -- a move that is no stop keeps the block safe

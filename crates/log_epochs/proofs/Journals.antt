@@ -26,8 +26,8 @@ use Rattle.log_epochs.specs.EngineSteps.{Event}
 use Rattle.log_epochs.specs.EngineSteps.Event.{Accept, Read, CommitStep, CommitFault, CheckpointStep, CheckpointFault, ReadFault, DirectWrite, DirectWriteFault, DirectSync, DirectSyncFault}
 use Rattle.log_epochs.specs.EngineWorld.{Begins as BelowBegins, Leads as BelowLeads, Move as BelowMove, Moves as BelowMoves, Phase, Steps as BelowSteps, World}
 use Rattle.log_epochs.specs.EngineWorld.Begins.{Unopened, Made}
-use Rattle.log_epochs.specs.EngineWorld.Move.{Step as EngineStep, CloseStep, CloseFault, GiveUp, Stop, Begin, OpeningStep, OpeningFault, AnswerOk}
-use Rattle.log_epochs.specs.EngineWorld.Phase.{Shut, Opening, Running, Closing, Closed}
+use Rattle.log_epochs.specs.EngineWorld.Move.{Step as EngineStep, CloseStep, CloseFault, GiveUp, Stop, Begin, OpeningStep, OpeningFault, AnswerOk, Upgrade}
+use Rattle.log_epochs.specs.EngineWorld.Phase.{Shut, Opening, Upgrading, Running, Closing, Closed}
 use Rattle.log_epochs.specs.Epoch.{Ended, Epoch, ending, pinning, pinning_at}
 use Rattle.log_epochs.specs.JournalPromise.{HaveEndedWell, KeepsClosed, KeepsFrontNow, KeepsNow, KeepsPromise, JournalMayAdd, Kept, MakesSteps, MayAdd, StepMayAdd}
 use Rattle.log_epochs.specs.JournalPromise.MakesSteps.{NoStep, Begun}
@@ -40,6 +40,9 @@ use Rattle.log_epochs.proofs.Homes.{flush-undone}
 use Rattle.log_epochs.proofs.Keeping.{reads-left}
 use Rattle.log_epochs.proofs.JournalSteps.{Agrees, IsBelow, below_event, event-agrees, event-below, event-steps}
 use Rattle.log_epochs.proofs.JournalSteps.IsBelow.{Nothing, Same}
+use Rattle.log_epochs.specs.UpgradeSteps.{UpgradeStage, pinning_in}
+use Rattle.log_epochs.specs.UpgradeSteps.UpgradeStage.{LogFlush as LogUnflushed, SuperblockWrite as Unwritten, SuperblockFlush as Unflushed, Done as Upgraded}
+use Rattle.log_epochs.specs.EngineWorld.UpgradeMove.{BeginUpgrade, UpgradeStep, UpgradeFault}
 
 -- what was told in an epoch agrees with its engine
 abbrev pub AgreesIn : Epoch → Told → Type 0
@@ -70,6 +73,12 @@ stage-agrees Copies epoch image told agrees = agrees
 stage-agrees SuperblockWrite epoch image told agrees = agrees
 stage-agrees SuperblockFlush epoch image told agrees = agrees
 stage-agrees Done epoch image told agrees = agrees
+
+upgrade-agrees : (stage : UpgradeStage) (epoch : Option Epoch) (image : Image) (told : Told) → AgreesNow epoch told → AgreesNow (pinning_in stage epoch image) told
+upgrade-agrees LogUnflushed epoch image told agrees = pinning-agrees epoch image told agrees
+upgrade-agrees Unwritten epoch image told agrees = agrees
+upgrade-agrees Unflushed epoch image told agrees = agrees
+upgrade-agrees Upgraded epoch image told agrees = agrees
 
 -- what was told stays, and what agrees with the world below does so still
 same-holds : (old new : JournalWorld) (below : World) → new.below ≡ below → below.ended ≡ old.below.ended → TellsSame old new →
@@ -151,6 +160,10 @@ below-holds old new (Begin found) moves tells holds = same-holds old new _ moves
 below-holds old new OpeningStep moves tells holds =
     same-holds old new _ moves.after refl tells (stage-agrees moves.stage old.below.epoch (reading old.below.disk) old.told holds.0) holds.1
 below-holds old new OpeningFault moves tells holds = same-holds old new _ moves.after refl tells holds.0 holds.1
+below-holds old new (Upgrade (BeginUpgrade block)) moves tells holds = same-holds old new _ moves.after refl tells holds.0 holds.1
+below-holds old new (Upgrade UpgradeStep) moves tells holds =
+    same-holds old new _ moves.after refl tells (upgrade-agrees moves.stage old.below.epoch (reading old.below.disk) old.told holds.0) holds.1
+below-holds old new (Upgrade UpgradeFault) moves tells holds = same-holds old new _ moves.after refl tells holds.0 holds.1
 below-holds old new AnswerOk moves tells holds = answer-holds old new moves tells holds
 
 -- one more answer, where there is an epoch
@@ -287,6 +300,7 @@ closed-kept : (shape : Shape) (epoch : Option Epoch) (disk : Disk) (told : Told)
     BelowKeepsClosed shape epoch disk phase → KeepsClosed shape disk told phase
 closed-kept shape epoch disk told Shut agrees keeps = tt
 closed-kept shape epoch disk told (Opening found stage) agrees keeps = tt
+closed-kept shape epoch disk told (Upgrading block stage) agrees keeps = tt
 closed-kept shape epoch disk told Running agrees keeps = tt
 closed-kept shape epoch disk told Closing agrees keeps = tt
 closed-kept shape None disk told Closed agrees keeps = absurd keeps
@@ -393,6 +407,7 @@ below-steps old new (Stop left) tells = told-steps (Below (Stop left)) old new t
 below-steps old new (Begin found) tells = told-steps (Below (Begin found)) old new tells
 below-steps old new OpeningStep tells = told-steps (Below OpeningStep) old new tells
 below-steps old new OpeningFault tells = told-steps (Below OpeningFault) old new tells
+below-steps old new (Upgrade move) tells = told-steps (Below (Upgrade move)) old new tells
 below-steps old new AnswerOk tells =
     let front : new.told.front ≡ _ = tells.fresh.journal.front in Begun refl (ap (λ (f : Front). f.sealed) front) (ap (λ (f : Front). f.running.steps) front)
 

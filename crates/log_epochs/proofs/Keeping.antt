@@ -135,7 +135,7 @@ pinning-pins None image = tt
 pinning-pins (Some epoch) image = (unwrap_or epoch.pin image, refl)
 
 -- where there is one, another image does not matter
-pin-stays : (pin : Option Image) (p image other : Image) → pin ≡ Some p → unwrap_or pin image ≡ unwrap_or pin other
+pub pin-stays : (pin : Option Image) (p image other : Image) → pin ≡ Some p → unwrap_or pin image ≡ unwrap_or pin other
 pin-stays pin p image other is = ap (λ (o : Option Image). unwrap_or o image) is ∙ sym (ap (λ (o : Option Image). unwrap_or o other) is)
 
 -- the disk as the flush of the log left it, at the begin of an opening

@@ -9,6 +9,7 @@ pub mod Moments
 pub mod OpeningLeads
 pub mod Replaying
 pub mod Running
+pub mod UpgradeMoments
 pub mod Whole
 -- The others.
 mod CleanRuns
@@ -21,3 +22,4 @@ mod JournalSynced
 mod ReplayMoments
 mod Stages
 mod Synced
+mod Upgrading

@@ -19,15 +19,17 @@ use Rattle.log_epochs.specs.EngineSteps.{Event, MayClose, closed_superblock, wit
 use Rattle.log_epochs.specs.EngineWorld.{AnswersOk, Begins, CloseCall, Leads, Move, Moves, Phase, Steps, World}
 use Rattle.log_epochs.specs.Epoch.{Ended, Epoch, ending, fresh_epoch}
 use Rattle.log_epochs.specs.EngineWorld.CloseCall.{WriteClosed, FlushClosed}
-use Rattle.log_epochs.specs.EngineWorld.Move.{Step, CloseStep, CloseFault, GiveUp, Stop, Begin, OpeningStep, OpeningFault, AnswerOk}
+use Rattle.log_epochs.specs.EngineWorld.Move.{Step, CloseStep, CloseFault, GiveUp, Stop, Begin, OpeningStep, OpeningFault, AnswerOk, Upgrade}
 use Rattle.log_epochs.specs.EngineWorld.Begins.{Unopened, Made}
-use Rattle.log_epochs.specs.EngineWorld.Phase.{Shut, Opening, Running, Closing, Closed}
+use Rattle.log_epochs.specs.EngineWorld.Phase.{Shut, Opening, Upgrading, Running, Closing, Closed}
 use Rattle.log_epochs.proofs.Closing.{close-closes, close-keeps}
 use Rattle.log_epochs.proofs.Following.{begin-follows, run-follows}
 use Rattle.log_epochs.proofs.HomeRule.{move-home}
 use Rattle.log_epochs.proofs.Keeping.{IsPinned, flush-keeps, flushed-leaves, stop-keeps}
 use Rattle.log_epochs.proofs.Running.{IsRunning, event-runs, running-keeps, running_epoch}
 use Rattle.log_epochs.proofs.Stages.{IsDone, StageHolds, call-holds, fault-keeps, stage-keeps, undone-keeps}
+use Rattle.log_epochs.specs.EngineWorld.UpgradeMove.{BeginUpgrade, UpgradeStep, UpgradeFault}
+use Rattle.log_epochs.proofs.Upgrading.{UpgradeHolds, upgrade-call, upgrade-fault, upgrade-keeps}
 
 -- an epoch whose engine runs
 pub record RunsIn (shape : Shape) (epoch : Epoch) (disk : Disk) : Type 0 where
@@ -45,6 +47,7 @@ pub record IsClosing (shape : Shape) (epoch : Option Epoch) (disk : Disk) : Type
 abbrev pub HoldsAt : Shape → Option Epoch → Disk → Phase → Type 0
 HoldsAt shape epoch disk Shut = KeepsNow shape epoch disk
 HoldsAt shape epoch disk (Opening found stage) = (base : Disk) × IsFound shape found × StageHolds shape found base stage epoch disk
+HoldsAt shape epoch disk (Upgrading block stage) = UpgradeHolds shape block stage epoch disk
 HoldsAt shape epoch disk Running = (now : Epoch) × (epoch ≡ Some now) × RunsIn shape now disk
 HoldsAt shape epoch disk Closing = IsClosing shape epoch disk
 HoldsAt shape epoch disk Closed = KeepsNow shape epoch disk × KeepsClosed shape epoch disk Closed
@@ -67,6 +70,7 @@ of-now shape epoch now disk is none keeps =
 pub phase-keeps : (shape : Shape) (epoch : Option Epoch) (disk : Disk) (phase : Phase) → HoldsAt shape epoch disk phase → KeepsNow shape epoch disk
 phase-keeps shape epoch disk Shut holds = holds
 phase-keeps shape epoch disk (Opening found stage) holds = stage-keeps shape found holds.0 stage epoch disk holds.1 holds.2
+phase-keeps shape epoch disk (Upgrading block stage) holds = upgrade-keeps shape block stage epoch disk holds
 phase-keeps shape epoch disk Running (now, is, runs) =
     of-now shape epoch now disk is runs.pin (running-keeps shape now.opening now.directs now.engine disk runs.runs)
 phase-keeps shape epoch disk Closing holds = holds.keeps
@@ -79,6 +83,8 @@ phase-closed shape None disk Shut holds = tt
 phase-closed shape (Some epoch) disk Shut holds = tt
 phase-closed shape None disk (Opening found stage) holds = tt
 phase-closed shape (Some epoch) disk (Opening found stage) holds = tt
+phase-closed shape None disk (Upgrading block stage) holds = tt
+phase-closed shape (Some epoch) disk (Upgrading block stage) holds = tt
 phase-closed shape None disk Running holds = tt
 phase-closed shape (Some epoch) disk Running holds = tt
 phase-closed shape None disk Closing holds = tt
@@ -221,6 +227,16 @@ move-holds old new OpeningFault holds moves =
       fault-keeps old.shape moves.found opening.0 moves.stage moves.next moves.call old.epoch old.disk new.disk opening.1 moves.due opening.2 moves.disk_is,
       holds.1,
     )
+move-holds old new (Upgrade (BeginUpgrade block)) holds moves =
+    subst Holds (sym moves.after)
+    (record { may = moves.on.may; reads = moves.on.read; keeps = subst (HoldsAt old.shape old.epoch old.disk) moves.shut holds.0 }, holds.1)
+move-holds old new (Upgrade UpgradeStep) holds moves =
+    let upgrading = subst (HoldsAt old.shape old.epoch old.disk) moves.upgrading holds.0 in
+    subst Holds (sym moves.after) (upgrade-call old.shape moves.block moves.stage moves.next moves.call old.epoch old.disk moves.due upgrading, holds.1)
+move-holds old new (Upgrade UpgradeFault) holds moves =
+    let upgrading = subst (HoldsAt old.shape old.epoch old.disk) moves.upgrading holds.0 in
+    subst Holds (sym moves.after)
+    (upgrade-fault old.shape moves.block moves.stage moves.next moves.call old.epoch old.disk new.disk moves.due upgrading moves.disk_is, holds.1)
 move-holds old new AnswerOk holds moves = answer-holds old new holds moves
 
 -- so do moves that follow one another

@@ -30,8 +30,8 @@ use Rattle.log_epochs.specs.EngineSteps.{Event, Happens}
 use Rattle.log_epochs.specs.EngineSteps.Event.{Accept, Read, CommitStep, CommitFault, CheckpointStep, CheckpointFault, ReadFault, DirectWrite, DirectWriteFault, DirectSync, DirectSyncFault}
 use Rattle.log_epochs.specs.EngineWorld.{Begins, CloseCall, Leads, Move, Moves, Phase, World}
 use Rattle.log_epochs.specs.EngineWorld.CloseCall.{WriteClosed, FlushClosed}
-use Rattle.log_epochs.specs.EngineWorld.Move.{Step, CloseStep, CloseFault, GiveUp, Stop, Begin, OpeningStep, OpeningFault, AnswerOk}
-use Rattle.log_epochs.specs.EngineWorld.Phase.{Shut, Opening, Running, Closing, Closed}
+use Rattle.log_epochs.specs.EngineWorld.Move.{Step, CloseStep, CloseFault, GiveUp, Stop, Begin, OpeningStep, OpeningFault, AnswerOk, Upgrade}
+use Rattle.log_epochs.specs.EngineWorld.Phase.{Shut, Opening, Upgrading, Running, Closing, Closed}
 use Rattle.log_epochs.specs.Epoch.{Epoch}
 use Rattle.log_epochs.specs.OpeningRun.{IsFoundOn}
 use Rattle.log_epochs.specs.OpeningSteps.{Found, HasTexts}
@@ -42,6 +42,7 @@ use Rattle.log_epochs.proofs.HomeRule.{move-home}
 use Rattle.log_epochs.proofs.Keeping.{reads-left}
 use Rattle.log_epochs.proofs.Lives.{Holds, HoldsAt, begin-holds, life-holds, move-holds, phase-keeps, runs-in}
 use Rattle.log_epochs.proofs.Replaying.{IsOpened, opened-by_chain}
+use Rattle.log_epochs.specs.EngineWorld.UpgradeMove.{BeginUpgrade, UpgradeStep, UpgradeFault}
 
 -- a block that is left to home stays so over each step that leaves it alone
 event-left : (b : ℕ) (old new : Engine) (disk after : Disk) (event : Event) → LeavesAlone b (Step event) → Happens old disk event new after →
@@ -99,11 +100,13 @@ HandsOver P b (Begin found) = ⊤
 HandsOver P b OpeningStep = ⊤
 HandsOver P b OpeningFault = ⊤
 HandsOver P b AnswerOk = ⊤
+HandsOver P b (Upgrade move) = ⊤
 
 -- so does replay in an opening
 abbrev pub ReplaysAs : (List ℕ → Type 0) → ℕ → Phase → Type 0
 ReplaysAs P b (Opening found stage) = (u : List ℕ) → IsNewest found.texts b u → P u
 ReplaysAs P b Shut = ⊤
+ReplaysAs P b (Upgrading block stage) = ⊤
 ReplaysAs P b Running = ⊤
 ReplaysAs P b Closing = ⊤
 ReplaysAs P b Closed = ⊤
@@ -143,6 +146,7 @@ module _ (P : List ℕ → Type 0) (b : ℕ) where
   opening-may : (phase : Phase) (u : List ℕ) → ReplaysAs P b phase → OpeningMayAdd phase b u → P u
   opening-may (Opening found stage) u replays may = replays u may
   opening-may Shut u replays may = absurd may
+  opening-may (Upgrading block stage) u replays may = absurd may
   opening-may Running u replays may = absurd may
   opening-may Closing u replays may = absurd may
   opening-may Closed u replays may = absurd may
@@ -158,6 +162,7 @@ module _ (P : List ℕ → Type 0) (b : ℕ) where
   move-may w GiveUp u goes hands safe may = absurd may
   move-may w (Begin found) u goes hands safe may = absurd may
   move-may w AnswerOk u goes hands safe may = absurd may
+  move-may w (Upgrade move) u goes hands safe may = absurd may
 
   -- what may come home in an opening that has just begun
   begin-replays : (epoch : Option Epoch) (shape : Shape) (found : Found) (disk : Disk) → b < shape.home_blocks → P (disk Home b).reads →
@@ -185,6 +190,9 @@ module _ (P : List ℕ → Type 0) (b : ℕ) where
   move-replays w new OpeningStep holds history safe moves =
       subst (λ (x : World). ReplaysAs P b x.phase) (sym moves.after) (subst (ReplaysAs P b) moves.opening safe.replays)
   move-replays w new OpeningFault holds history safe moves = subst (λ (x : World). ReplaysAs P b x.phase) (sym moves.after) tt
+  move-replays w new (Upgrade (BeginUpgrade block)) holds history safe moves = subst (λ (x : World). ReplaysAs P b x.phase) (sym moves.after) tt
+  move-replays w new (Upgrade UpgradeStep) holds history safe moves = subst (λ (x : World). ReplaysAs P b x.phase) (sym moves.after) tt
+  move-replays w new (Upgrade UpgradeFault) holds history safe moves = subst (λ (x : World). ReplaysAs P b x.phase) (sym moves.after) tt
   move-replays w new AnswerOk holds history safe moves = subst (λ (x : World). ReplaysAs P b x.phase) (sym moves.after) tt
 
   -- a move keeps the block safe where it still reads so
@@ -222,6 +230,7 @@ module _ (P : List ℕ → Type 0) (b : ℕ) where
       held-may (Begin found) hands may = move-may w (Begin found) u tt hands safe may
       held-may OpeningStep hands may = move-may w OpeningStep u tt hands safe may
       held-may OpeningFault hands may = move-may w OpeningFault u tt hands safe may
+      held-may (Upgrade move) hands may = move-may w (Upgrade move) u tt hands safe may
       held-may AnswerOk hands may = move-may w AnswerOk u tt hands safe may
 
   -- what a world carries along
@@ -297,6 +306,7 @@ handed-among since moves b v within (Begin found) among = tt
 handed-among since moves b v within OpeningStep among = tt
 handed-among since moves b v within OpeningFault among = tt
 handed-among since moves b v within AnswerOk among = tt
+handed-among since moves b v within (Upgrade move) among = tt
 
 -- behind a direct write the block is safe
 pub written-safe : (P : List ℕ → Type 0) (b : ℕ) (v : List ℕ) (w new : World) → Holds w → OfEngine ⊤ HasHistory w.epoch → Moves w (Step (DirectWrite b v)) new →

@@ -6,7 +6,7 @@ use Rattle.journal_model.specs.Disk.{IsOneOf, held}
 use Rattle.journal_world.specs.Checkpoint.{IsRead}
 use Rattle.log_epochs.specs.EngineSteps.Event.{Accept, Read, CommitStep, CommitFault, CheckpointStep, CheckpointFault, ReadFault, DirectWrite, DirectWriteFault, DirectSync, DirectSyncFault}
 use Rattle.log_epochs.specs.EngineWorld.{Leads, Move, Moves, World}
-use Rattle.log_epochs.specs.EngineWorld.Move.{Step, CloseStep, CloseFault, GiveUp, Stop, Begin, OpeningStep, OpeningFault, AnswerOk}
+use Rattle.log_epochs.specs.EngineWorld.Move.{Step, CloseStep, CloseFault, GiveUp, Stop, Begin, OpeningStep, OpeningFault, AnswerOk, Upgrade}
 use Rattle.log_epochs.specs.EngineWorld.Phase.{Running}
 use Rattle.log_epochs.specs.Epoch.{Epoch}
 
@@ -21,6 +21,7 @@ IsNoStop (Begin found) = ⊤
 IsNoStop OpeningStep = ⊤
 IsNoStop OpeningFault = ⊤
 IsNoStop AnswerOk = ⊤
+IsNoStop (Upgrade move) = ⊤
 
 -- the move hands over no transaction that has an entry of the block
 abbrev pub LeavesAlone : ℕ → Move → Type 0
@@ -43,6 +44,7 @@ LeavesAlone b (Begin found) = ⊤
 LeavesAlone b OpeningStep = ⊤
 LeavesAlone b OpeningFault = ⊤
 LeavesAlone b AnswerOk = ⊤
+LeavesAlone b (Upgrade move) = ⊤
 
 -- Block b is written directly as v, and then home is synced, with no stop between. Before it and behind it anything may
 -- come. No transaction that is handed over since that write has an entry of the block.

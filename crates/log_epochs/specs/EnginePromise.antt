@@ -15,8 +15,8 @@ use Rattle.log_epochs.specs.EngineSteps.{Event}
 use Rattle.log_epochs.specs.EngineSteps.Event.{Accept, Read, CommitStep, CommitFault, CheckpointStep, CheckpointFault, ReadFault, DirectWrite, DirectWriteFault, DirectSync, DirectSyncFault}
 use Rattle.log_epochs.specs.Epoch.{Ended, Epoch}
 use Rattle.log_epochs.specs.EngineWorld.{Move, Moves, Phase, World}
-use Rattle.log_epochs.specs.EngineWorld.Move.{Step, CloseStep, CloseFault, GiveUp, Stop, Begin, OpeningStep, OpeningFault, AnswerOk}
-use Rattle.log_epochs.specs.EngineWorld.Phase.{Shut, Opening, Running, Closing, Closed}
+use Rattle.log_epochs.specs.EngineWorld.Move.{Step, CloseStep, CloseFault, GiveUp, Stop, Begin, OpeningStep, OpeningFault, AnswerOk, Upgrade}
+use Rattle.log_epochs.specs.EngineWorld.Phase.{Shut, Opening, Upgrading, Running, Closing, Closed}
 
 -- What an image keeps, over transactions whose entries the epoch's batches are. It opens to a number n, from the committed
 -- to the accepted ones. That is the count of what the log of the image that pinned it has, and of its own where none has.
@@ -64,6 +64,7 @@ KeepsClosed shape (Some epoch) disk Closed = (image : Image) → Leaves disk ima
 KeepsClosed shape None disk Closed = ⊥
 KeepsClosed shape epoch disk Shut = ⊤
 KeepsClosed shape epoch disk (Opening found stage) = ⊤
+KeepsClosed shape epoch disk (Upgrading block stage) = ⊤
 KeepsClosed shape epoch disk Running = ⊤
 KeepsClosed shape epoch disk Closing = ⊤
 
@@ -90,6 +91,7 @@ EngineMayAdd (Some epoch) event b v = StepMayAdd epoch.engine event b v
 abbrev pub OpeningMayAdd : Phase → Addition
 OpeningMayAdd (Opening found stage) b v = IsNewest found.texts b v
 OpeningMayAdd Shut b v = ⊥
+OpeningMayAdd (Upgrading block stage) b v = ⊥
 OpeningMayAdd Running b v = ⊥
 OpeningMayAdd Closing b v = ⊥
 OpeningMayAdd Closed b v = ⊥
@@ -105,6 +107,7 @@ MayAdd w CloseFault b v = ⊥
 MayAdd w GiveUp b v = ⊥
 MayAdd w (Begin found) b v = ⊥
 MayAdd w AnswerOk b v = ⊥
+MayAdd w (Upgrade move) b v = ⊥
 
 -- Each epoch keeps its promise: the one of now whatever a stop leaves at this moment, those that ended whatever one left
 -- then. Whatever move comes next adds to home nothing but what it may.

@@ -12,11 +12,14 @@ use Rattle.log_epochs.specs.Epoch.{Ended, Epoch, ending, fresh_epoch, pinning, p
 use Rattle.log_epochs.specs.OpeningRun.{IsFoundOn}
 use Rattle.log_epochs.specs.OpeningSteps.{Found, OpeningCall, OpeningStage, next_of}
 use Rattle.log_epochs.specs.OpeningSteps.OpeningStage.{LogFlush, Done}
+use Rattle.log_epochs.specs.UpgradeSteps.{IsUpgradableOn, UpgradeCall, UpgradeStage, pinning_in}
+use Rattle.log_epochs.specs.UpgradeSteps.UpgradeStage.{LogFlush as LogUnflushed}
 
 -- who works on the device
 pub data Phase : Type 0 where
   Shut : Phase  -- nobody: it was never opened, a stop came, or it was handed out
   Opening : (found : Found) → (stage : OpeningStage) → Phase
+  Upgrading : (block : List ℕ) → (stage : UpgradeStage) → Phase  -- an upgrade of a log with this superblock
   Running : Phase  -- the epoch's engine
   Closing : Phase  -- the engine has written the superblock of a clean log, which is to be flushed
   Closed : Phase  -- the close answered Ok
@@ -33,6 +36,12 @@ pub data CloseCall (e : Engine) : Phase → Call → Phase → Type 0 where
   WriteClosed : MayClose e → CloseCall e Running (Write Log 0 (closed_superblock e)) Closing
   FlushClosed : CloseCall e Closing (Flush Log) Closed
 
+-- what may come in an upgrade
+pub data UpgradeMove : Type 0 where
+  BeginUpgrade : (block : List ℕ) → UpgradeMove  -- it has read and tested the superblock
+  UpgradeStep : UpgradeMove
+  UpgradeFault : UpgradeMove
+
 -- what may come
 pub data Move : Type 0 where
   Step : (event : Event) → Move  -- the engine makes a step, or the device fails in it
@@ -44,6 +53,7 @@ pub data Move : Type 0 where
   OpeningStep : Move
   OpeningFault : Move
   AnswerOk : Move  -- the opening answers Ok
+  Upgrade : (move : UpgradeMove) → Move  -- of a log that nobody works on
 
 pub record Steps (old : World) (event : Event) (new : World) : Type 0 where
   pub running : old.phase ≡ Running
@@ -115,6 +125,39 @@ pub record AnswersOk (old new : World) : Type 0 where
     ended = ending old.epoch old.disk old.ended;
   }
 
+pub record BeginsUpgrade (old : World) (block : List ℕ) (new : World) : Type 0 where
+  pub shut : old.phase ≡ Shut
+  pub on : IsUpgradableOn old.shape block old.disk
+  pub after : new ≡ record old { phase = Upgrading block LogUnflushed }
+
+pub record Upgrades (old new : World) : Type 0 where
+  pub block : List ℕ
+  pub stage : UpgradeStage
+  pub next : UpgradeStage
+  pub upgrading : old.phase ≡ Upgrading block stage
+  pub call : Call
+  pub due : UpgradeCall block stage call next
+  pub after : new ≡ record old {
+    disk = after_success call old.disk;
+    phase = Upgrading block next;
+    epoch = pinning_in stage old.epoch (reading old.disk);
+  }
+
+pub record UpgradeFails (old new : World) : Type 0 where
+  pub block : List ℕ
+  pub stage : UpgradeStage
+  pub next : UpgradeStage
+  pub upgrading : old.phase ≡ Upgrading block stage
+  pub call : Call
+  pub due : UpgradeCall block stage call next
+  pub disk_is : IsAfterFault call old.disk new.disk
+  pub after : new ≡ record old { disk = new.disk; phase = Shut }
+
+abbrev pub UpgradeMoves : World → UpgradeMove → World → Type 0
+UpgradeMoves old (BeginUpgrade block) new = BeginsUpgrade old block new
+UpgradeMoves old UpgradeStep new = Upgrades old new
+UpgradeMoves old UpgradeFault new = UpgradeFails old new
+
 abbrev pub Moves : World → Move → World → Type 0
 Moves old (Step event) new = Steps old event new
 Moves old CloseStep new = Closes old new
@@ -125,6 +168,7 @@ Moves old (Begin found) new = BeginsOpening old found new
 Moves old OpeningStep new = Recovers old new
 Moves old OpeningFault new = RecoveryFails old new
 Moves old AnswerOk new = AnswersOk old new
+Moves old (Upgrade move) new = UpgradeMoves old move new
 
 -- these moves, one after the other, may lead from one world to the other
 abbrev pub Leads : World → List Move → World → Type 0

@@ -15,7 +15,7 @@ use Rattle.log_epochs.specs.Epoch.{Ended, Epoch}
 use Rattle.log_epochs.specs.EnginePromise.{Continues, MayAdd as BelowMayAdd}
 use Rattle.log_epochs.specs.EngineWorld.{Phase}
 use Rattle.log_epochs.specs.EngineWorld.Move.{AnswerOk}
-use Rattle.log_epochs.specs.EngineWorld.Phase.{Shut, Opening, Running, Closing, Closed}
+use Rattle.log_epochs.specs.EngineWorld.Phase.{Shut, Opening, Upgrading, Running, Closing, Closed}
 use Rattle.log_epochs.specs.JournalWorld.{JournalWorld, Move, Moves, Told}
 use Rattle.log_epochs.specs.JournalWorld.Move.{Step, Answer, Below}
 
@@ -63,6 +63,7 @@ abbrev pub KeepsClosed : Shape → Disk → Told → Phase → Type 0
 KeepsClosed shape disk told Closed = (image : Image) → Leaves disk image → IsClosed shape told.front.sealed image
 KeepsClosed shape disk told Shut = ⊤
 KeepsClosed shape disk told (Opening found stage) = ⊤
+KeepsClosed shape disk told (Upgrading block stage) = ⊤
 KeepsClosed shape disk told Running = ⊤
 KeepsClosed shape disk told Closing = ⊤
 

@@ -8,7 +8,7 @@ use Rattle.journal_world.specs.Journal.Event.{FrontStep, Seal, CommitStep as Com
 use Rattle.log_epochs.specs.EngineSteps.{Event as EngineEvent}
 use Rattle.log_epochs.specs.EngineSteps.Event.{Accept, Read, CommitStep, CommitFault, CheckpointStep, CheckpointFault, ReadFault, DirectWrite, DirectWriteFault, DirectSync, DirectSyncFault}
 use Rattle.log_epochs.specs.EngineWorld.{Begins as BelowBegins, Move as BelowMove, Moves as BelowMoves, World}
-use Rattle.log_epochs.specs.EngineWorld.Move.{Step as EngineStep, CloseStep, CloseFault, GiveUp, Stop, Begin, OpeningStep, OpeningFault, AnswerOk}
+use Rattle.log_epochs.specs.EngineWorld.Move.{Step as EngineStep, CloseStep, CloseFault, GiveUp, Stop, Begin, OpeningStep, OpeningFault, AnswerOk, Upgrade}
 use Rattle.log_epochs.specs.EngineWorld.Phase.{Running}
 use Rattle.log_epochs.specs.Epoch.{Epoch}
 
@@ -113,6 +113,7 @@ TellsAfter (Begin found) old new = TellsSame old new
 TellsAfter OpeningStep old new = TellsSame old new
 TellsAfter OpeningFault old new = TellsSame old new
 TellsAfter AnswerOk old new = TellsAnew old new
+TellsAfter (Upgrade move) old new = TellsSame old new
 
 pub record GoesBelow (old : JournalWorld) (move : BelowMove) (new : JournalWorld) : Type 0 where
   pub below : BelowMoves old.below move new.below

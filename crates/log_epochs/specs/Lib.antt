@@ -2,6 +2,8 @@ pub mod OpeningSteps
 pub mod OpeningRun
 pub mod EngineSteps
 pub mod Epoch
+pub mod UpgradeSteps
+pub mod UpgradeRun
 pub mod EngineWorld
 pub mod EnginePromise
 pub mod DirectPromise

@@ -8,6 +8,7 @@ ghost use Rattle.journal_world.specs.Opening.{IsOpening, cleaned};
 ghost use Rattle.log_epochs.specs.OpeningSteps.{Found, IsFound, next_of};
 ghost use Rattle.log_epochs.specs.OpeningSteps.OpeningStage.{Done};
 ghost use Rattle.log_epochs.specs.OpeningRun.{IsFoundOn, IsMoment, KeepsCount, Reached};
+ghost use Rattle.log_epochs.specs.UpgradeRun.{IsUpgradeMoment, KeepsNumber};
 ghost use Rattle.log_epochs.specs.EngineWorld.{World, Move, Begins, ComesToRun, Leads};
 ghost use Rattle.log_epochs.specs.EngineWorld.Phase.{Shut};
 ghost use Rattle.log_epochs.specs.EnginePromise.{KeepsPromise};
@@ -20,6 +21,12 @@ ghost use Rattle.log_epochs.specs.JournalPromise.{KeepsPromise as JournalKeepsPr
 /// opens to what every image opened to at that flush.
 pub fn every_moment_of_an_opening_keeps_n()
     ensures { (shape : Shape) (old disk : Disk) → IsMoment shape old disk → KeepsCount shape old disk }
+{}
+
+/// At each moment of an upgrade nothing is written yet, or the log was flushed, and then each image that a stop may leave opens to
+/// what every image opened to at that flush, with the same next number.
+pub fn every_moment_of_an_upgrade_keeps_n_and_the_next_number()
+    ensures { (shape : Shape) (old disk : Disk) → IsUpgradeMoment shape old disk → KeepsNumber shape old disk }
 {}
 
 /// An image that opens is one that an opening finds good, where its block 0 fills a block and numbers are left.

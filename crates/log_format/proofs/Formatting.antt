@@ -1,11 +1,11 @@
 -- The superblock of an empty log, as it is written piece by piece.
 use Rattle.std.proofs.Common.{refl, ap, ap₂, ◌∙◌, arith, length-append, length-take, length-drop}
-use Rattle.std.specs.Prelude.{◌≡◌, ℕ, ◌+◌, ◌-◌, ◌≤◌, List, [], ◌∷◌, ◌++◌, length, take, drop, replicate}
+use Rattle.std.specs.Prelude.{◌≡◌, ℕ, ◌+◌, ◌-◌, ◌≤◌, Bool, List, [], ◌∷◌, ◌++◌, length, take, drop, replicate}
 use Rattle.std.specs.List.{flat_map}
 use Rattle.std.proofs.lemmas.Slice.{take-put_mid}
 use borrow.Rule.Slice.PartMut.{put_mid}
 use Rattle.journal_model.specs.Layout.{big_endian, header, padded, super_type}
-use Rattle.log_model.specs.Superblock.{formatted_super}
+use Rattle.log_model.specs.Superblock.{features_of, formatted_super}
 use Rattle.log_format.proofs.Writing.{filled, written_more}
 
 -- writing within a list leaves it as long as it was
@@ -14,19 +14,19 @@ length-put_mid at k block bytes within size =
     omega (arith, length-append (take at block) (bytes ++ drop k (drop at block)), length-append bytes (drop k (drop at block)), length-take at block, length-drop k (drop at block), length-drop at block)
 
 -- the numbers between the header and the UUID
-abbrev pub numbers_of_super : ℕ → ℕ → List ℕ
-numbers_of_super size maxlen = size ∷ maxlen ∷ 1 ∷ 1 ∷ 0 ∷ 0 ∷ 0 ∷ 1 ∷ 0 ∷ []
+abbrev pub numbers_of_super : ℕ → ℕ → Bool → List ℕ
+numbers_of_super size maxlen is_wide = size ∷ maxlen ∷ 1 ∷ 1 ∷ 0 ∷ 0 ∷ 0 ∷ features_of is_wide ∷ 0 ∷ []
 
 -- the header, the numbers, the UUID, the count of users and zeros are the superblock
-pub formatted : (first second third fourth numbers uuid users rest zeros : List ℕ) (maxlen : ℕ) →
+pub formatted : (first second third fourth numbers uuid users rest zeros : List ℕ) (maxlen : ℕ) (is_wide : Bool) →
     1024 ≤ length first → take 12 first ≡ header super_type 0 →
-    numbers ≡ flat_map (big_endian 4) (numbers_of_super (length first) maxlen) → second ≡ put_mid 12 36 first numbers →
+    numbers ≡ flat_map (big_endian 4) (numbers_of_super (length first) maxlen is_wide) → second ≡ put_mid 12 36 first numbers →
     length uuid ≡ 16 → third ≡ put_mid 48 16 second uuid →
     users ≡ big_endian 4 1 ++ rest → length users ≡ length third - 64 → fourth ≡ put_mid 64 (length third - 64) third users →
     zeros ≡ replicate (length (take (length fourth - 68) (drop 68 fourth))) 0 →
-    put_mid 68 (length fourth - 68) fourth zeros ≡ formatted_super (length first) maxlen uuid
+    put_mid 68 (length fourth - 68) fourth zeros ≡ formatted_super (length first) maxlen uuid is_wide
 unfolding formatted_super
-formatted first second third fourth numbers uuid users rest zeros maxlen room begun numbers_are second_is uuid_size third_is users_are users_size fourth_is blank =
+formatted first second third fourth numbers uuid users rest zeros maxlen is_wide room begun numbers_are second_is uuid_size third_is users_are users_size fourth_is blank =
     let numbers_size : length numbers ≡ 36 = ap length numbers_are in
     let size2 : length second ≡ length first = ap length second_is ∙ length-put_mid 12 36 first numbers (omega arith) numbers_size in
     let size3 : length third ≡ length second = ap length third_is ∙ length-put_mid 48 16 second uuid (omega arith) uuid_size in

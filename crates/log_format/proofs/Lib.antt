@@ -3,8 +3,10 @@ pub mod Accepting
 pub mod Formatted
 pub mod Layouts
 pub mod Superblocks
+pub mod Widening
 pub mod Written
 -- The others.
+mod Counts
 mod Flags
 mod Formatting
 mod Numbers

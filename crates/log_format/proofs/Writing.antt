@@ -1,15 +1,16 @@
 -- Writing a block from its beginning on: what stands there so far, and zeros behind it in the end.
-use Rattle.std.proofs.Common.{refl, ap, sym, ◌∙◌, arith, append_assoc, append-nil, drop-drop, drop_at, get_or, length-append, length-take, length-drop, subst}
-use Rattle.std.specs.Prelude.{◌≡◌, ℕ, ◌+◌, ◌-◌, ◌*◌, ◌/◌, ◌<◌, ◌≤◌, Bool, true, false, if◌then◌else◌, List, [], ◌∷◌, ◌++◌, length, take, drop, replicate, All}
+use Rattle.std.proofs.Common.{refl, ap, sym, ◌∙◌, arith, append_assoc, append-nil, drop-drop, drop_at, get_or, le_of_eq, le_trans, length-append, length-take, length-drop}
+use Rattle.std.specs.Prelude.{◌≡◌, ℕ, ◌+◌, ◌-◌, ◌*◌, ◌<◌, ◌≤◌, Bool, true, false, if◌then◌else◌, List, [], ◌∷◌, ◌++◌, length, take, drop, replicate, All}
 use Rattle.std.specs.List.{flat_map}
 use Rattle.std.proofs.lemmas.List.{drop_all, flat_map_more, take_at, take_more, take_rest}
 use Rattle.std.proofs.lemmas.List.Folds.{length-flat_map-take}
 use Rattle.std.proofs.lemmas.List.Elements.{All-head, All-tail}
 use borrow.Rule.Slice.PartMut.{put_mid}
 use Rattle.log_model.specs.declared.log.Tag.{Tag}
-use Rattle.journal_model.specs.Layout.{IsTaken, Layout, header_bytes, padded, tag_bytes, uuid_bytes}
+use Rattle.journal_model.specs.Layout.{IsLayout, Layout, padded, tag_bytes, uuid_bytes}
 use Rattle.log_model.specs.Descriptor.{tag_spelling, uuid_behind}
 use Rattle.log_format.specs.Size.{FitDescriptor}
+use Rattle.log_model.proofs.OwnTextHeader.{HasMeasures, measures, tags_fit}
 use Rattle.log_model.proofs.OwnTextTags.{length-tag_spelling}
 
 -- zeros behind what is written fill up the block
@@ -41,42 +42,43 @@ spelled_more f front xs i x here is =
     ∙ ap (λ ys. front ++ flat_map f ys) (sym (take_more xs i x here))
 
 -- tags without a UUID behind them
-length_same_uuid : (l : Layout) (uuid : List ℕ) (tags : List Tag) → IsTaken l →
+length_same_uuid : (l : Layout) (uuid : List ℕ) (tags : List Tag) → 4 ≤ l.number_bytes →
     length uuid ≡ uuid_bytes → All (λ t. t.same_uuid ≡ true) tags →
-    length (flat_map (tag_spelling l uuid) tags) ≡ 8 * length tags
-length_same_uuid l uuid [] taken size same = refl
-length_same_uuid l uuid (t ∷ ts) taken size same =
-    let others = length_same_uuid l uuid ts taken size (All-tail (λ t. t.same_uuid ≡ true) t ts same) in
-    let this = length-tag_spelling l uuid t (omega (arith, taken.1)) size in
+    length (flat_map (tag_spelling l uuid) tags) ≡ length tags * tag_bytes l
+length_same_uuid l uuid [] small size same = omega arith
+length_same_uuid l uuid (t ∷ ts) small size same =
+    let others = length_same_uuid l uuid ts small size (All-tail (λ t. t.same_uuid ≡ true) t ts same) in
+    let this = length-tag_spelling l uuid t small size in
     let no_uuid : uuid_behind t ≡ 0 = rw (All-head (λ t. t.same_uuid ≡ true) t ts same) refl in
-    omega (arith, taken.1, length-append (tag_spelling l uuid t) (flat_map (tag_spelling l uuid) ts))
+    length-append (tag_spelling l uuid t) (flat_map (tag_spelling l uuid) ts) ∙ omega (arith, this, others, no_uuid)
 
 -- the tags that the writer puts into one descriptor
-pub length_tags : (l : Layout) (uuid : List ℕ) (tags : List Tag) → IsTaken l →
+pub length_tags : (l : Layout) (uuid : List ℕ) (tags : List Tag) → 4 ≤ l.number_bytes →
     length uuid ≡ uuid_bytes → All (λ t. t.same_uuid ≡ true) (drop 1 tags) →
-    length (flat_map (tag_spelling l uuid) tags) ≤ 8 * length tags + 16
-length_tags l uuid [] taken size same = omega arith
-length_tags l uuid (t ∷ ts) taken size same =
-    let this = length-tag_spelling l uuid t (omega (arith, taken.1)) size in
+    length (flat_map (tag_spelling l uuid) tags) ≤ length tags * tag_bytes l + 16
+length_tags l uuid [] small size same = omega arith
+length_tags l uuid (t ∷ ts) small size same =
+    let this = length-tag_spelling l uuid t small size in
     let one_uuid : uuid_behind t ≤ 16 = at_most t.same_uuid in
-    omega (arith, taken.1, length-append (tag_spelling l uuid t) (flat_map (tag_spelling l uuid) ts), length_same_uuid l uuid ts taken size same)
+    let others = length_same_uuid l uuid ts small size same in
+    le_trans (le_of_eq (length-append (tag_spelling l uuid t) (flat_map (tag_spelling l uuid) ts))) (omega (arith, this, one_uuid, others))
   where
     at_most : (same : Bool) → (if same then 0 else uuid_bytes) ≤ 16
     at_most true = omega arith
     at_most false = omega arith
 
 -- the next tag fits behind those that are written
-pub tag_fits : (l : Layout) (uuid : List ℕ) (i : ℕ) (tags : List Tag) (t : Tag) → IsTaken l →
+pub tag_fits : (l : Layout) (uuid : List ℕ) (i : ℕ) (tags : List Tag) (t : Tag) → IsLayout l →
     length uuid ≡ uuid_bytes → FitDescriptor l tags → i < length tags → t ≡ get_or tags i t →
     12 + length (flat_map (tag_spelling l uuid) (take i tags)) + (tag_bytes l + uuid_behind t) ≤ l.block_size
 tag_fits l uuid i tags t taken long fit here is =
-    let few : length tags ≤ (l.block_size - header_bytes - uuid_bytes - uuid_bytes) / 8 =
-    subst (λ (n : ℕ). length tags ≤ (l.block_size - header_bytes - uuid_bytes - uuid_bytes) / (n + 4)) taken.1 fit.few in
-    let all = length_tags l uuid tags taken long fit.one_uuid in
+    let m : HasMeasures l = measures l taken in
+    let few = tags_fit l (length tags) m fit.few in
+    let all = length_tags l uuid tags m.small long fit.one_uuid in
     let next = length-flat_map-take (tag_spelling l uuid) tags i t here in
     let this : length (tag_spelling l uuid (get_or tags i t)) ≡ tag_bytes l + uuid_behind t =
-    rw (← is) (length-tag_spelling l uuid t (omega (arith, taken.1)) long) in
-    omega (arith, few, taken.0, taken.1)
+    rw (← is) (length-tag_spelling l uuid t m.small long) in
+    omega (arith, few, all, next, this)
 
 -- bytes that are written at a place leave those before and behind as they were
 pub written_over : (block bytes new : List ℕ) (at n : ℕ) →

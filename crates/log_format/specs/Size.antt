@@ -1,11 +1,15 @@
 -- The sizes that a block may have, and what fits one.
-use Rattle.std.specs.Prelude.{◌≡◌, ◌⊎◌, ℕ, ◌-◌, ◌/◌, ◌<◌, ◌≤◌, true, List, length, drop, All}
+use Rattle.std.specs.Prelude.{◌≡◌, ◌⊎◌, ℕ, ◌-◌, ◌/◌, ◌<◌, ◌≤◌, true, List, length, drop, All, Option, unwrap_or}
 use Rattle.log_model.specs.declared.log.Tag.{Tag}
 use Rattle.journal_model.specs.Layout.{Layout, every_number, header_bytes, numbers_of, tag_bytes, tags_of}
 
 -- the size of a block in bytes: 1, 2 or 4 KiB
 abbrev pub IsBlockSize : ℕ → Type 0
 IsBlockSize n = (n ≡ 1024) ⊎ ((n ≡ 2048) ⊎ (n ≡ 4096))
+
+-- the blocks of the home area, or where it is not known a count above each number that the log can spell
+abbrev pub count_of : Layout → Option ℕ → ℕ
+count_of l home_blocks = unwrap_or home_blocks (every_number l)
 
 -- the most tags that a descriptor can have, each without a UUID behind it
 abbrev pub most_tags : Layout → ℕ

@@ -1,5 +1,5 @@
 //! What is written is read back. Each function states a law of the words in `specs/`, and has no body to run.
-ghost use Rattle.std.specs.Prelude.{◌≡◌, ◌⊎◌, ℕ, ◌^◌, ◌<◌, ◌≤◌, true, List, length, None, All};
+ghost use Rattle.std.specs.Prelude.{◌≡◌, ◌⊎◌, ℕ, ◌^◌, ◌<◌, ◌≤◌, true, Bool, List, length, None, All};
 ghost use Rattle.log_model.specs.declared.log.Tag.{Tag};
 ghost use Rattle.journal_model.specs.Block.{IsAllowedBlock};
 ghost use Rattle.log_model.specs.Descriptor.{IsDescriptor, descriptor_block};
@@ -7,7 +7,7 @@ ghost use Rattle.journal_model.specs.Layout.{IsLayout, Layout, every_number, num
 ghost use Rattle.log_model.specs.OwnText.{commit_block, tags_from};
 ghost use Rattle.log_model.specs.RevokeBlock.{IsRevokeBlock, revoke_block};
 ghost use Rattle.journal_model.specs.Disk.{Shape};
-ghost use Rattle.log_model.specs.Superblock.{Super, formatted_super, greatest_length, least_length, revoke_feature, super_in, super_refusal, with_tail};
+ghost use Rattle.log_model.specs.Superblock.{Super, formatted_super, features_of, greatest_length, least_length, revoke_feature, super_in, super_refusal, wide_features, widened, with_tail};
 ghost use Rattle.log_model.specs.Text.{IsCommitBlock};
 ghost use Rattle.log_format.specs.Size.{FitDescriptor, FitRevokeBlock, IsBlockSize};
 
@@ -51,7 +51,7 @@ pub fn one_reading()
 
 /// The superblock of an empty log says what it was formatted with.
 pub fn a_formatted_superblock_says_its_fields()
-    ensures { (size maxlen : ℕ) (uuid : List ℕ) →
+    ensures { (size maxlen : ℕ) (uuid : List ℕ) (is_wide : Bool) →
         IsBlockSize size → maxlen < 2 ^ 32 → length uuid ≡ uuid_bytes →
         let fields : Super = record {
           s_blocksize = size;
@@ -61,19 +61,19 @@ pub fn a_formatted_superblock_says_its_fields()
           s_start = 0;
           s_errno = 0;
           s_feature_compat = 0;
-          s_feature_incompat = revoke_feature;
+          s_feature_incompat = features_of is_wide;
           s_feature_ro_compat = 0;
           s_uuid = uuid;
           s_nr_users = 1;
-        } in super_in (formatted_super size maxlen uuid) ≡ fields }
+        } in super_in (formatted_super size maxlen uuid is_wide) ≡ fields }
 {}
 
 /// It is taken, where the length is one that is and the log area has as many blocks.
 pub fn a_formatted_superblock_is_accepted()
-    ensures { (size maxlen log_blocks home_blocks : ℕ) (uuid : List ℕ) →
+    ensures { (size maxlen log_blocks home_blocks : ℕ) (uuid : List ℕ) (is_wide : Bool) →
         IsBlockSize size → least_length ≤ maxlen → maxlen ≤ greatest_length → maxlen ≤ log_blocks → length uuid ≡ uuid_bytes →
         let shape : Shape = record { block_size = size; log_blocks = log_blocks; home_blocks = home_blocks } in
-        super_refusal shape (formatted_super size maxlen uuid) ≡ None }
+        super_refusal shape (formatted_super size maxlen uuid is_wide) ≡ None }
 {}
 
 /// A superblock with another s_sequence and s_start says these, and else what it said before.
@@ -96,4 +96,17 @@ pub fn a_new_tail_replaces_the_last()
     ensures { (block : List ℕ) (last_sequence last_start sequence start : ℕ) →
         IsBlockSize (length block) →
         with_tail (with_tail block last_sequence last_start) sequence start ≡ with_tail block sequence start }
+{}
+
+/// A superblock with the features of a log whose block numbers have 64 bits says these, and else what it said before.
+pub fn a_widened_superblock_changes_one_field()
+    ensures { (block : List ℕ) → IsBlockSize (length block) →
+        super_in (widened block) ≡ record (super_in block) { s_feature_incompat = wide_features } }
+{}
+
+/// It is accepted, where that of a log whose block numbers have 32 bits was.
+pub fn a_widened_superblock_is_accepted()
+    ensures { (shape : Shape) (block : List ℕ) →
+        IsBlockSize (length block) → super_refusal shape block ≡ None → (super_in block).s_feature_incompat ≡ revoke_feature →
+        super_refusal shape (widened block) ≡ None }
 {}

@@ -3,7 +3,7 @@ ghost use Rattle.std.specs.Prelude.{ℕ, ◌≡◌, ◌≤◌, ◌-◌, ◌==◌
 ghost use Rattle.journal_model.specs.Layout.{super_type, type_in};
 ghost use Rattle.log_model.specs.Opening.{layout_of};
 ghost use Rattle.journal_model.specs.Disk.{Shape};
-ghost use Rattle.log_model.specs.Superblock.{formatted_super, greatest_length, is_block_size, least_length, least_ring, revoke_feature, super_in, super_refusal, with_tail};
+ghost use Rattle.log_model.specs.Superblock.{features_of, wide_features, formatted_super, greatest_length, is_block_size, least_length, least_ring, revoke_feature, super_in, super_refusal, widened, with_tail};
 ghost use Rattle.log_format.specs.Accepted.{IsAccepted};
 ghost use Rattle.log_format.specs.Size.{IsBlockSize};
 
@@ -13,8 +13,11 @@ use journal_model::layout::{GREATEST_LENGTH, LEAST_LENGTH, MAGIC, SUPER_TYPE};
 use journal_model::{JournalError, LogLayout};
 use std::marker::Model;
 
-/// The one incompatible feature that is taken: revoke blocks.
+/// The incompatible feature that each log has: revoke blocks.
 const REVOKE_FEATURE: u32 = 1;
+
+/// The incompatible features of a log whose block numbers have 64 bits.
+const WIDE_FEATURES: u32 = 3;
 
 /// The fewest blocks of a ring.
 const LEAST_RING: u32 = 16;
@@ -116,16 +119,17 @@ impl Super {
     /// begins at block 1. Its s_sequence is 1, so that its first transaction will have the number 2: in a clean log the
     /// next transaction has the number behind s_sequence.
     /// Source: journal.rst, "Super Block".
-    pub fn format(block: &mut [u8], maxlen: u32, uuid: &[u8; 16])
+    pub fn format(block: &mut [u8], maxlen: u32, uuid: &[u8; 16], wide: bool)
         requires { IsBlockSize (length block.old) }
-        ensures { block.new ≡ formatted_super (length block.old) maxlen uuid.now }
+        ensures { block.new ≡ formatted_super (length block.old) maxlen uuid.now wide }
     {
         let header = Header {
             block_type: SUPER_TYPE,
             sequence: 0,
         };
         header.write(block);
-        let fields = [block.len() as u32, maxlen, 1, 1, 0, 0, 0, REVOKE_FEATURE, 0];
+        let features = features_of(wide);
+        let fields = [block.len() as u32, maxlen, 1, 1, 0, 0, 0, features, 0];
         BigEndian::write_u32_into(&fields, &mut block[0x0c..0x30]);
         block[0x30..0x40].copy_from_slice(uuid);
         BigEndian::write_u32(&mut block[0x40..], 1);
@@ -143,6 +147,16 @@ impl Super {
     {
         BigEndian::write_u32(&mut block[0x18..], sequence);
         BigEndian::write_u32(&mut block[0x1c..], start);
+    }
+
+    /// Writes the features of a log whose block numbers have 64 bits into a superblock of 1024, 2048 or 4096 bytes. Every other byte
+    /// of the block stays as it was.
+    /// Source: this project's own.
+    pub fn widen(block: &mut [u8])
+        requires { IsBlockSize (length block.old) }
+        ensures { block.new ≡ widened block.old }
+    {
+        BigEndian::write_u32(&mut block[0x28..], WIDE_FEATURES);
     }
 
     /// The fields of a superblock, as they stand in the first 1024 bytes of a log, which is what `block` begins with.
@@ -170,12 +184,25 @@ impl Super {
         }
     }
 
+    /// Whether its features say that block numbers have 64 bits.
+    /// Source: journal.rst, "Super Block" (the features).
+    pub fn has_wide_numbers(&self) -> bool
+        ensures { result ≡ (self.now.s_feature_incompat == wide_features) }
+    {
+        self.s_feature_incompat == WIDE_FEATURES
+    }
+
     /// The layout of the log.
     /// Source: journal.rst, "Super Block" (the features).
     pub fn layout(&self) -> LogLayout
         ensures { result ≡ layout_of self.now }
     {
-        LogLayout::narrow(self.s_blocksize as usize)
+        let block_size = self.s_blocksize as usize;
+        if self.has_wide_numbers() {
+            LogLayout::wide(block_size)
+        } else {
+            LogLayout::narrow(block_size)
+        }
     }
 
     /// The block size is one that is taken, and the device's.
@@ -203,11 +230,12 @@ impl Super {
 
     /// The features are those that are taken, and one file system uses the log.
     fn has_features(&self) -> bool
-        ensures { result ≡ ((self.now.s_feature_compat == 0) && (self.now.s_feature_ro_compat == 0) && (self.now.s_feature_incompat == revoke_feature) && (self.now.s_nr_users == 1)) }
+        ensures { result ≡ ((self.now.s_feature_compat == 0) && (self.now.s_feature_ro_compat == 0) && ((self.now.s_feature_incompat == revoke_feature) || (self.now.s_feature_incompat == wide_features)) && (self.now.s_nr_users == 1)) }
     {
         self.s_feature_compat == 0
             && self.s_feature_ro_compat == 0
-            && self.s_feature_incompat == REVOKE_FEATURE
+            && (self.s_feature_incompat == REVOKE_FEATURE
+                || self.s_feature_incompat == WIDE_FEATURES)
             && self.s_nr_users == 1
     }
 
@@ -224,6 +252,13 @@ impl Super {
     {
         self.s_errno == 0
     }
+}
+
+/// The incompatible features of a log whose block numbers have 64 bits, or 32.
+fn features_of(wide: bool) -> u32
+    ensures { result ≡ features_of wide }
+{
+    if wide { WIDE_FEATURES } else { REVOKE_FEATURE }
 }
 
 /// The type in a block's header is that of a superblock. A block too short for a type has none.

@@ -8,7 +8,7 @@ ghost use Rattle.journal_model.specs.declared.entry.Entry.TheVariants.{Copy, Rev
 ghost use Rattle.log_model.specs.declared.log.Piece.TheVariants.{Copies, Revokes};
 ghost use Rattle.log_model.specs.Descriptor.{tag_spelling};
 ghost use Rattle.log_model.specs.Escape.{unescaped};
-ghost use Rattle.journal_model.specs.Layout.{narrow};
+ghost use Rattle.journal_model.specs.Layout.{narrow, wide};
 ghost use Rattle.log_model.specs.OwnText.{own_text};
 ghost use Rattle.log_model.specs.Room.{IsCapacity, need};
 ghost use Rattle.log_model.specs.Superblock.{formatted_super};
@@ -31,6 +31,19 @@ pub fn tags_as_spelled()
     ensures sole_escaped { tag_spelling (narrow 1024) (replicate 16 0xaa)
         (record { block = 20; escaped = true; same_uuid = false; last = true })
         ≡ 0 ∷ 0 ∷ 0 ∷ 0x14 ∷ 0 ∷ 0 ∷ 0 ∷ 9 ∷ replicate 16 0xaa }
+{}
+
+/// With numbers of 64 bits a tag has the high half of its number behind the flags.
+pub fn tags_of_64_bits_as_spelled()
+    ensures first { tag_spelling (wide 1024) (replicate 16 0xaa)
+        (record { block = 9; escaped = false; same_uuid = false; last = false })
+        ≡ 0 ∷ 0 ∷ 0 ∷ 9 ∷ 0 ∷ 0 ∷ 0 ∷ 0 ∷ 0 ∷ 0 ∷ 0 ∷ 0 ∷ replicate 16 0xaa }
+    ensures last { tag_spelling (wide 1024) (replicate 16 0xaa)
+        (record { block = 10; escaped = false; same_uuid = true; last = true })
+        ≡ 0 ∷ 0 ∷ 0 ∷ 10 ∷ 0 ∷ 0 ∷ 0 ∷ 10 ∷ 0 ∷ 0 ∷ 0 ∷ 0 ∷ [] }
+    ensures sole { tag_spelling (wide 1024) (replicate 16 0xaa)
+        (record { block = 4294967301; escaped = false; same_uuid = false; last = true })
+        ≡ 0 ∷ 0 ∷ 0 ∷ 5 ∷ 0 ∷ 0 ∷ 0 ∷ 8 ∷ 0 ∷ 0 ∷ 0 ∷ 1 ∷ replicate 16 0xaa }
 {}
 
 /// A transaction of two copies: one descriptor with both tags, the copies and a commit block.
@@ -60,6 +73,21 @@ pub fn text_of_one_copy()
               ∷ 0 ∷ 0 ∷ 0 ∷ 9 ∷ 0 ∷ 0 ∷ 0 ∷ 8
               ∷ replicate 16 0xaa ++ replicate 988 0)
               (record { block = 9; escaped = false; same_uuid = false; last = true } ∷ [])
+              ((0x11 ∷ 0 ∷ 0 ∷ 0 ∷ 0 ∷ 0 ∷ 0 ∷ 0 ∷ []) ∷ []) ∷ [];
+          commit = 0xc0 ∷ 0x3b ∷ 0x39 ∷ 0x98 ∷ 0 ∷ 0 ∷ 0 ∷ 2 ∷ 0 ∷ 0 ∷ 0 ∷ 2 ∷ replicate 1012 0;
+        } }
+{}
+
+/// A transaction of one copy, of a block whose number has more than 32 bits.
+pub fn text_of_one_copy_of_a_far_block()
+    ensures { own_text (wide 1024) (replicate 16 0xaa) 2
+        ((4294967301, Copy (0x11 ∷ 0 ∷ 0 ∷ 0 ∷ 0 ∷ 0 ∷ 0 ∷ 0 ∷ [])) ∷ [])
+        ≡ record {
+          pieces = Copies
+              (0xc0 ∷ 0x3b ∷ 0x39 ∷ 0x98 ∷ 0 ∷ 0 ∷ 0 ∷ 1 ∷ 0 ∷ 0 ∷ 0 ∷ 2
+              ∷ 0 ∷ 0 ∷ 0 ∷ 5 ∷ 0 ∷ 0 ∷ 0 ∷ 8 ∷ 0 ∷ 0 ∷ 0 ∷ 1
+              ∷ replicate 16 0xaa ++ replicate 984 0)
+              (record { block = 4294967301; escaped = false; same_uuid = false; last = true } ∷ [])
               ((0x11 ∷ 0 ∷ 0 ∷ 0 ∷ 0 ∷ 0 ∷ 0 ∷ 0 ∷ []) ∷ []) ∷ [];
           commit = 0xc0 ∷ 0x3b ∷ 0x39 ∷ 0x98 ∷ 0 ∷ 0 ∷ 0 ∷ 2 ∷ 0 ∷ 0 ∷ 0 ∷ 2 ∷ replicate 1012 0;
         } }
@@ -98,6 +126,18 @@ pub fn text_of_revokes()
           pieces = Revokes
               (0xc0 ∷ 0x3b ∷ 0x39 ∷ 0x98 ∷ 0 ∷ 0 ∷ 0 ∷ 5 ∷ 0 ∷ 0 ∷ 0 ∷ 3 ∷ 0 ∷ 0 ∷ 0 ∷ 0x18 ∷ 0 ∷ 0 ∷ 0 ∷ 7 ∷ 0 ∷ 0 ∷ 0 ∷ 9 ∷ replicate 1000 0)
               (7 ∷ 9 ∷ []) ∷ [];
+          commit = 0xc0 ∷ 0x3b ∷ 0x39 ∷ 0x98 ∷ 0 ∷ 0 ∷ 0 ∷ 2 ∷ 0 ∷ 0 ∷ 0 ∷ 3 ∷ replicate 1012 0;
+        } }
+{}
+
+/// A revoke of a block whose number has more than 32 bits.
+pub fn text_of_a_revoke_of_a_far_block()
+    ensures { own_text (wide 1024) (replicate 16 0xaa) 3
+        ((4294967301, Revoke) ∷ [])
+        ≡ record {
+          pieces = Revokes
+              (0xc0 ∷ 0x3b ∷ 0x39 ∷ 0x98 ∷ 0 ∷ 0 ∷ 0 ∷ 5 ∷ 0 ∷ 0 ∷ 0 ∷ 3 ∷ 0 ∷ 0 ∷ 0 ∷ 0x18 ∷ 0 ∷ 0 ∷ 0 ∷ 1 ∷ 0 ∷ 0 ∷ 0 ∷ 5 ∷ replicate 1000 0)
+              (4294967301 ∷ []) ∷ [];
           commit = 0xc0 ∷ 0x3b ∷ 0x39 ∷ 0x98 ∷ 0 ∷ 0 ∷ 0 ∷ 2 ∷ 0 ∷ 0 ∷ 0 ∷ 3 ∷ replicate 1012 0;
         } }
 {}
@@ -142,6 +182,9 @@ pub fn capacities_of_rings()
     ensures smallest { IsCapacity (narrow 1024) 16 2 }
     ensures small { IsCapacity (narrow 1024) 32 6 }
     ensures large { IsCapacity (narrow 1024) 1024 252 }
+    ensures smallest_of_64_bits { IsCapacity (wide 1024) 16 2 }
+    ensures small_of_64_bits { IsCapacity (wide 1024) 32 6 }
+    ensures large_of_64_bits { IsCapacity (wide 1024) 1024 251 }
 {}
 
 /// The log blocks of transactions: a descriptor has room for 122 tags, and a revoke block for 252 numbers.
@@ -154,14 +197,36 @@ pub fn needs_of_transactions()
     ensures two_descriptors { need (narrow 1024) 123 0 ≡ 126 }
 {}
 
+/// With numbers of 64 bits a descriptor has room for 81 tags, and a revoke block for 126 numbers.
+pub fn needs_with_numbers_of_64_bits()
+    ensures full_revoke_block { need (wide 1024) 0 126 ≡ 2 }
+    ensures two_revoke_blocks { need (wide 1024) 0 127 ≡ 3 }
+    ensures full_descriptor { need (wide 1024) 81 0 ≡ 83 }
+    ensures two_descriptors { need (wide 1024) 82 0 ≡ 85 }
+    ensures two_unequal_descriptors { need (wide 1024) 123 0 ≡ 126 }
+{}
+
 /// The superblock of a log of 33 blocks that was just formatted.
 pub fn superblock_of_33_blocks()
-    ensures { formatted_super 1024 33 (replicate 16 0xaa)
+    ensures { formatted_super 1024 33 (replicate 16 0xaa) false
         ≡ 0xc0 ∷ 0x3b ∷ 0x39 ∷ 0x98 ∷ 0 ∷ 0 ∷ 0 ∷ 4 ∷ 0 ∷ 0 ∷ 0 ∷ 0
         ∷ 0 ∷ 0 ∷ 4 ∷ 0 ∷ 0 ∷ 0 ∷ 0 ∷ 0x21
         ∷ 0 ∷ 0 ∷ 0 ∷ 1 ∷ 0 ∷ 0 ∷ 0 ∷ 1 ∷ 0 ∷ 0 ∷ 0 ∷ 0
         ∷ 0 ∷ 0 ∷ 0 ∷ 0
         ∷ 0 ∷ 0 ∷ 0 ∷ 0 ∷ 0 ∷ 0 ∷ 0 ∷ 1 ∷ 0 ∷ 0 ∷ 0 ∷ 0
+        ∷ replicate 16 0xaa
+        ++ 0 ∷ 0 ∷ 0 ∷ 1
+        ∷ replicate 956 0 }
+{}
+
+/// The same with block numbers of 64 bits: another feature is set.
+pub fn superblock_of_33_blocks_with_numbers_of_64_bits()
+    ensures { formatted_super 1024 33 (replicate 16 0xaa) true
+        ≡ 0xc0 ∷ 0x3b ∷ 0x39 ∷ 0x98 ∷ 0 ∷ 0 ∷ 0 ∷ 4 ∷ 0 ∷ 0 ∷ 0 ∷ 0
+        ∷ 0 ∷ 0 ∷ 4 ∷ 0 ∷ 0 ∷ 0 ∷ 0 ∷ 0x21
+        ∷ 0 ∷ 0 ∷ 0 ∷ 1 ∷ 0 ∷ 0 ∷ 0 ∷ 1 ∷ 0 ∷ 0 ∷ 0 ∷ 0
+        ∷ 0 ∷ 0 ∷ 0 ∷ 0
+        ∷ 0 ∷ 0 ∷ 0 ∷ 0 ∷ 0 ∷ 0 ∷ 0 ∷ 3 ∷ 0 ∷ 0 ∷ 0 ∷ 0
         ∷ replicate 16 0xaa
         ++ 0 ∷ 0 ∷ 0 ∷ 1
         ∷ replicate 956 0 }

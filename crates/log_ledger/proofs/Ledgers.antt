@@ -10,7 +10,7 @@ use Rattle.journal_model.specs.declared.refusal.JournalError.{JournalError}
 use Rattle.journal_model.specs.declared.refusal.JournalError.TheVariants.{NeedSpace}
 use Rattle.log_model.specs.Chain.{ring_place}
 use Rattle.journal_model.specs.Block.{IsAllowedBlock}
-use Rattle.journal_model.specs.Layout.{IsTaken, Layout, every_number}
+use Rattle.journal_model.specs.Layout.{IsLayout, Layout, every_number}
 use Rattle.log_model.specs.Opening.{greatest_number}
 use Rattle.journal_model.specs.Transaction.{copied}
 use Rattle.log_model.specs.OwnText.{own_text}
@@ -194,7 +194,7 @@ module _ (l : Ledger) (size : ℕ) (on : CanRunOn l size) where
   on-size = subst IsBlockSize (sym on.size_is) (runs-size (engine_of on.shape l) on.runs.plain)
 
   -- and its layout is one of such blocks
-  pub on-taken : IsTaken l.layout
+  pub on-taken : IsLayout l.layout
   on-taken = on.runs.plain.layout.0
 
   pub on-layout : size ≡ l.layout.block_size

@@ -27,7 +27,6 @@ use Rattle.journal_world.specs.Engine.{Engine, due_blocks, stepped_from}
 use Rattle.journal_world.specs.Sound.{IsPlain, StageAgrees, position}
 use Rattle.journal_world.proofs.Kept.{HasThose, pending-before}
 use Rattle.journal_world.proofs.Positions.{position-more}
-use Rattle.journal_model.proofs.Taken.{taken-layout}
 use Rattle.journal_world.proofs.Texts.{due-of}
 use Rattle.log_ledger.specs.Ledger.{IsPlaced, IsStillUnwritten, KeepsPending}
 use Rattle.log_ledger.proofs.PendingLists.{all-kept, blocks_of, contains-at, each-recursion, fewer-kept, key-number, key-there, keys_of, none-kept, place-of, touch-cases, untouched}
@@ -44,7 +43,7 @@ need-copies l c r = more c (ceil_div c (tags_of l)) (ceil_div r (numbers_of l))
 -- so the copies of the one that is being committed are no more than its log blocks
 copies-fit : (e : Engine) (b : Batch) → IsPlain e → slice_get e.accepted e.committed ≡ Some b → length (copied b.entries) ≤ length (due_blocks e)
 copies-fit e b plain due =
-    let layout : IsLayout e.layout = taken-layout plain.layout.0 in
+    let layout : IsLayout e.layout = plain.layout.0 in
     let size : length (due_blocks e) ≡ need e.layout (length (copied b.entries)) (length (revoked b.entries)) =
     ap length (due-of e b due) ∙ length_own_text e.layout e.uuid b.tid b.entries layout in
     subst (λ (n : ℕ). length (copied b.entries) ≤ n) (sym size) (need-copies e.layout (length (copied b.entries)) (length (revoked b.entries)))

@@ -42,7 +42,7 @@ use Rattle.log_ledger.proofs.Ledgers.{kept-alike}
 use Rattle.log_ledger.proofs.Pendings.{begun-keeps, next-copy}
 
 -- the superblock is one
-superblock-here : (e : Engine) → IsPlain e → IsSuperblock e.shape e.ring e.superblock
+superblock-here : (e : Engine) → IsPlain e → IsSuperblock e.shape e.layout e.ring e.superblock
 superblock-here e plain = names-superblock e e.started e.superblock plain.names
 
 module _ (l : Ledger) (size : ℕ) (on : CanRunOn l size) where

@@ -1,9 +1,9 @@
 -- What an engine that can run knows of its measures and of the transaction that it commits.
-use Rattle.std.proofs.Common.{arith, refl, sym, ap, subst, ◌∙◌, le_refl}
-use Rattle.std.specs.Prelude.{◌≡◌, ◌≢◌, ℕ, ◌+◌, ◌-◌, ◌*◌, ◌/◌, ◌^◌, ◌<◌, ◌≤◌, false, true, length, Some, slice_get}
+use Rattle.std.proofs.Common.{arith, inl, inr, refl, sym, ap, subst, ◌∙◌, le_refl}
+use Rattle.std.specs.Prelude.{◌≡◌, ◌≢◌, ◌⊎◌, ℕ, ◌+◌, ◌-◌, ◌*◌, ◌/◌, ◌^◌, ◌<◌, ◌≤◌, false, true, length, Some, slice_get}
 use Rattle.journal_model.specs.declared.entry.Batch.{Batch}
 use Rattle.log_model.specs.Chain.{Ring}
-use Rattle.journal_model.specs.Layout.{IsTaken, Layout, numbers_of, tags_of}
+use Rattle.journal_model.specs.Layout.{IsLayout, Layout, numbers_of, tags_of}
 use Rattle.journal_model.specs.Transaction.{copied, revoked}
 use Rattle.log_model.specs.OwnText.{ceil_div}
 use Rattle.log_model.specs.Room.{need}
@@ -23,14 +23,14 @@ use Rattle.journal_world.proofs.Changes.{plain-at}
 use Rattle.journal_world.proofs.Plain.{accepts-plain, step-plain}
 use Rattle.journal_world.proofs.Positions.{tail-start}
 use Rattle.std.proofs.lemmas.Nat.{mul-le}
-use Rattle.journal_model.proofs.Taken.{taken-layout}
+use Rattle.log_model.proofs.OwnTextHeader.{measures, numbers_of-positive}
 use Rattle.journal_world.proofs.Superblocks.{accepted-first, accepted-length, accepted-ring, accepted-within, names-superblock}
 use Rattle.journal_world.proofs.Texts.{due-of}
 use Rattle.log_ledger.specs.Steps.{MayHandOver}
 use Rattle.log_ledger.proofs.Copies.{counted}
 
 -- the superblock is one
-pub superblock-of : (e : Engine) → IsPlain e → IsSuperblock e.shape e.ring e.superblock
+pub superblock-of : (e : Engine) → IsPlain e → IsSuperblock e.shape e.layout e.ring e.superblock
 superblock-of e plain = names-superblock e e.started e.superblock plain.names
 
 -- the block size is one that a block may have
@@ -74,18 +74,23 @@ needed_by l b = need l (length (copied b.entries)) (length (revoked b.entries))
 
 -- its text takes just as many
 length-text : (e : Engine) (b : Batch) → IsPlain e → length (text_blocks (text_of e b)) ≡ needed_by e.layout b
-length-text e b plain = length_own_text e.layout e.uuid b.tid b.entries (taken-layout plain.layout.0)
+length-text e b plain = length_own_text e.layout e.uuid b.tid b.entries plain.layout.0
 
 -- the blocks that are due are as many as the transaction needs
 pub runs-blocks : (e : Engine) (b : Batch) → IsPlain e → slice_get e.accepted e.committed ≡ Some b → length (due_blocks e) ≡ needed_by e.layout b
 runs-blocks e b plain stands = ap length (due-of e b stands) ∙ length-text e b plain
 
+-- a block has no more than 1020 numbers
+most-numbers : (k size : ℕ) → (k ≡ 4) ⊎ (k ≡ 8) → size ≤ 4096 → (size - 16) / k ≤ 1020
+most-numbers k size (inl four) most = rw four (omega arith)
+most-numbers k size (inr eight) most = rw eight (omega arith)
+
 -- a revoke block has no more than 1020 numbers, so all have that often no more than there are blocks
-few-revokes : (l : Layout) (r : ℕ) → IsTaken l → r ≤ 1020 * ceil_div r (numbers_of l)
+few-revokes : (l : Layout) (r : ℕ) → IsLayout l → r ≤ 1020 * ceil_div r (numbers_of l)
 few-revokes l r taken =
-    let count : numbers_of l ≡ (l.block_size - 16) / 4 = ap (λ (n : ℕ). (l.block_size - 16) / n) taken.1 in
-    let most : numbers_of l ≤ 1020 = omega (arith, taken.0) in
-    let some : 0 < numbers_of l = omega (arith, taken.0) in
+    let m = measures l taken in
+    let some : 0 < numbers_of l = numbers_of-positive l m in
+    let most : numbers_of l ≤ 1020 = most-numbers l.number_bytes l.block_size taken.1 m.most in
     let blocks = enough r (numbers_of l) some in
     let product = mul-le (numbers_of l) (ceil_div r (numbers_of l)) 1020 (ceil_div r (numbers_of l)) most (le_refl (ceil_div r (numbers_of l))) in
     omega arith
@@ -95,7 +100,7 @@ few-revokes l r taken =
     enough c n positive = omega arith
 
 -- what needs few blocks has few copies and few revokes
-pub few-needed : (l : Layout) (c r most : ℕ) → IsTaken l → need l c r ≤ most → most ≤ 1048576 → (c ≤ most) × (c + r ≤ 2 ^ 32)
+pub few-needed : (l : Layout) (c r most : ℕ) → IsLayout l → need l c r ≤ most → most ≤ 1048576 → (c ≤ most) × (c + r ≤ 2 ^ 32)
 few-needed l c r most taken fits small =
     let revokes : r ≤ 1020 * ceil_div r (numbers_of l) = few-revokes l r taken in
     few-sum c r (ceil_div c (tags_of l)) (ceil_div r (numbers_of l)) most revokes fits small

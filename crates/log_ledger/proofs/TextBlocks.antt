@@ -6,7 +6,7 @@ use Rattle.std.proofs.lemmas.Option.{slice_get-get_or}
 use Rattle.journal_model.specs.declared.entry.Entry.{Entry}
 use Rattle.journal_model.specs.declared.entry.Entry.TheVariants.{Copy, Revoke}
 use Rattle.log_model.specs.Escape.{escaped}
-use Rattle.journal_model.specs.Layout.{IsTaken, Layout, every_number, header_bytes, numbers_of}
+use Rattle.journal_model.specs.Layout.{IsLayout, Layout, every_number, header_bytes, numbers_of}
 use Rattle.journal_model.specs.Transaction.{copied, revoked}
 use Rattle.log_model.proofs.OwnTextEntries.{revoked_below}
 use Rattle.journal_world.specs.Engine.{block_at}
@@ -30,7 +30,7 @@ whole-entry size (Copy v) some full = full
 whole-entry size Revoke some full = absurd (omega arith)
 
 -- a block has bytes, and enough for a header
-some-bytes : (l : Layout) → IsTaken l → (0 < l.block_size) × (header_bytes ≤ l.block_size)
+some-bytes : (l : Layout) → IsLayout l → (0 < l.block_size) × (header_bytes ≤ l.block_size)
 some-bytes l taken = (omega (arith, taken.0), omega (arith, taken.0))
 
 module _ (entries : List (ℕ × Entry)) (plan : Plan) (is : IsPlanOf entries plan) where
@@ -59,7 +59,7 @@ module _ (entries : List (ℕ × Entry)) (plan : Plan) (is : IsPlanOf entries pl
       (All-take P tags (drop first (copied entries)) (All-drop P first (copied entries) each))
 
   -- so they are long enough for a header where each is a block
-  pub long-of : (l : Layout) (first tags to : ℕ) (places : List ℕ) → to ≡ first + tags → places ≡ plan.copies.items → IsTaken l →
+  pub long-of : (l : Layout) (first tags to : ℕ) (places : List ℕ) → to ≡ first + tags → places ≡ plan.copies.items → IsLayout l →
       All (λ c. length c.1 ≡ l.block_size) (copied entries) → All (λ c. header_bytes ≤ length c.1) (copies_at entries (take (to - first) (drop first places)))
   long-of l first tags to places behind all taken whole =
       each-of (λ c. header_bytes ≤ length c.1) first tags to places behind all
@@ -87,7 +87,7 @@ module _ (entries : List (ℕ × Entry)) (plan : Plan) (is : IsPlanOf entries pl
       few-of n bs few = let size = length-take n bs in omega arith
 
   -- the entry at the place of a copy is one of the entries, and a copy of one block
-  pub whole-at : (l : Layout) (k place : ℕ) → IsTaken l → All (λ c. length c.1 ≡ l.block_size) (copied entries) → k < length (copied entries) →
+  pub whole-at : (l : Layout) (k place : ℕ) → IsLayout l → All (λ c. length c.1 ≡ l.block_size) (copied entries) → k < length (copied entries) →
       place ≡ get_or plan.copies.items k place → (place < length entries) × IsWholeCopy l.block_size (entry_at entries place).1
   whole-at l k place taken whole within here =
       let there : k < length plan.copies.items = subst (λ (n : ℕ). k < n) (sym count-copies) within in

@@ -3,7 +3,7 @@ use Rattle.std.specs.Prelude.{◌≡◌, ℕ, ◌≤◌, Bool, false, List, [], 
 use Rattle.journal_model.specs.declared.entry.Entry.{Entry}
 use Rattle.journal_model.specs.declared.entry.Entry.TheVariants.{Copy, Revoke}
 use Rattle.log_model.specs.Escape.{escaped}
-use Rattle.journal_model.specs.Layout.{IsTaken, Layout, begins_with_magic, header_bytes, tags_of}
+use Rattle.journal_model.specs.Layout.{IsLayout, Layout, begins_with_magic, header_bytes, tags_of}
 use Rattle.journal_model.specs.Transaction.{copied, revoked}
 use Rattle.log_format.specs.Size.{IsBlockSize}
 use Rattle.log_ledger.specs.declared.plan.Plan.{Plan}
@@ -51,4 +51,4 @@ IsStored Revoke block = ⊥
 
 -- a block of so many bytes, and so many tags, are enough for each block of a log that is taken and has blocks of this size
 abbrev pub HasRoomFor : ℕ → ℕ → Type 0
-HasRoomFor block tags = IsBlockSize block × ((l : Layout) → IsTaken l → block ≡ l.block_size → tags_of l ≤ tags)
+HasRoomFor block tags = IsBlockSize block × ((l : Layout) → IsLayout l → block ≡ l.block_size → tags_of l ≤ tags)

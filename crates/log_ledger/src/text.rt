@@ -1,7 +1,7 @@
 //! The log blocks of a transaction, built one at a time.
 ghost use Rattle.std.specs.Prelude.{◌≡◌, ◌+◌, ◌^◌, ◌<◌, ◌≤◌, true, length, IfOk, All};
 ghost use Rattle.log_model.specs.Descriptor.{descriptor_block};
-ghost use Rattle.journal_model.specs.Layout.{IsTaken, every_number, header_bytes, tags_of};
+ghost use Rattle.journal_model.specs.Layout.{Layout as LayoutOf, IsLayout, every_number, header_bytes, tags_of};
 ghost use Rattle.journal_model.specs.Transaction.{copied, revoked};
 ghost use Rattle.log_model.specs.OwnText.{own_text, tags_from};
 ghost use Rattle.log_model.specs.Superblock.{with_tail};
@@ -37,15 +37,23 @@ impl Model for TextWriter {
     ghost invariant = { λ w. HasRoomFor (length w.block.items) (length w.tags.items) };
 }
 
+/// The most tags that the writer puts into a descriptor of this block size, whatever the width of block numbers.
+fn most_tags(layout: LogLayout) -> usize
+    requires { IsLayout layout }
+    ensures { (l : LayoutOf) → IsLayout l → layout.block_size ≡ l.block_size → tags_of l ≤ result }
+{
+    Layout::tags_of(LogLayout::narrow(layout.block_size)) as usize
+}
+
 impl TextWriter {
     /// A writer for logs of this layout. It fails where memory runs out.
     pub fn new(alloc: Global, layout: LogLayout) -> Result<Self, AllocError>
-        requires { IsTaken layout }
+        requires { IsLayout layout }
         ensures { IfOk result (λ w. length w ≡ layout.block_size) }
     {
         Ok(TextWriter {
             block: vec![in alloc; 0; layout.block_size]?,
-            tags: vec![in alloc; Tag::UNUSED; Layout::tags_of(layout) as usize]?,
+            tags: vec![in alloc; Tag::UNUSED; most_tags(layout)]?,
         })
     }
 
@@ -65,7 +73,7 @@ impl TextWriter {
         plan: &Plan,
         k: u64,
     )
-        requires taken { IsTaken layout }
+        requires taken { IsLayout layout }
         requires size { length self.old ≡ layout.block_size }
         requires plan { IsPlanOf batch.now.entries plan.now }
         requires whole { All (λ c. length c.1 ≡ layout.block_size) (copied batch.now.entries) }
@@ -118,7 +126,7 @@ fn write_log_block(
     plan: &Plan,
     k: u64,
 )
-    requires taken { IsTaken layout }
+    requires taken { IsLayout layout }
     requires size { length block.old ≡ layout.block_size }
     requires room { tags_of layout ≤ length tags.old }
     requires plan { IsPlanOf entries.now plan.now }
@@ -152,7 +160,7 @@ fn write_part(
     plan: &Plan,
     part: Part,
 )
-    requires taken { IsTaken layout }
+    requires taken { IsLayout layout }
     requires size { length block.old ≡ layout.block_size }
     requires room { tags_of layout ≤ length tags.old }
     requires plan { IsPlanOf entries.now plan.now }
@@ -190,7 +198,7 @@ fn write_descriptor(
     entries: &[(BlockNo, Entry)],
     places: &[usize],
 )
-    requires taken { IsTaken layout }
+    requires taken { IsLayout layout }
     requires size { length block.old ≡ layout.block_size }
     requires room { tags_of layout ≤ length tags.old }
     requires long { All (λ c. header_bytes ≤ length c.1) (copies_at entries.now places.now) }

@@ -9,7 +9,7 @@ use Rattle.log_model.specs.declared.log.Text.{Text}
 use Rattle.journal_model.specs.declared.number.Area.TheVariants.{Log}
 use Rattle.journal_model.specs.declared.refusal.JournalError.{JournalError}
 use Rattle.journal_model.specs.declared.refusal.JournalError.TheVariants.{Damage}
-use Rattle.log_model.specs.Superblock.{Super, super_refusal}
+use Rattle.log_model.specs.Superblock.{Super, super_refusal, wide_features}
 use Rattle.journal_model.specs.Disk.{Image, Shape}
 use Rattle.journal_model.specs.Layout.{every_number}
 use Rattle.log_model.specs.Chain.{place_from}
@@ -45,12 +45,16 @@ abbrev pub texts_captions : ℕ → List Text → List (List ℕ)
 texts_captions sequence [] = []
 texts_captions sequence (t ∷ ts) = text_captions sequence t ++ texts_captions (suc sequence) ts
 
+-- what it says of the width of block numbers
+abbrev pub width_word : Super → List ℕ
+width_word s = if s.s_feature_incompat == wide_features then codes " wide" else []
+
 -- the first line
 abbrev pub super_line : Super → List ℕ
 super_line s =
     codes "super blocksize=" ++ decimal s.s_blocksize ++ codes " maxlen=" ++ decimal s.s_maxlen
     ++ codes " first=" ++ decimal s.s_first ++ codes " sequence=" ++ decimal s.s_sequence
-    ++ codes " start=" ++ decimal s.s_start
+    ++ codes " start=" ++ decimal s.s_start ++ width_word s
 
 -- the lines of the chain's blocks, each with its place before it
 abbrev pub block_lines : Super → List Text → List (List ℕ)

@@ -1,13 +1,13 @@
 -- What an opening finds in an image, and what it means that an image opens to n. Source: fs/jbd2/recovery.c by
 -- behaviour; the refusals are this project's own.
-use Rattle.std.specs.Prelude.{◌≡◌, ◌≢◌, ℕ, ◌+◌, ◌-◌, ◌<◌, ◌≤◌, nat_lt, List, length, count_by, Some, None}
+use Rattle.std.specs.Prelude.{◌≡◌, ◌≢◌, ℕ, ◌+◌, ◌-◌, ◌==◌, ◌<◌, ◌≤◌, nat_lt, if◌then◌else◌, List, length, count_by, Some, None}
 use Rattle.log_model.specs.declared.log.Text.{Text}
 use Rattle.journal_model.specs.declared.number.Area.TheVariants.{Log, Home}
 use Rattle.journal_model.specs.declared.refusal.JournalError.{JournalError}
 use Rattle.journal_model.specs.declared.refusal.JournalError.TheVariants.{SequenceEnd, Ahead, Damage}
 use Rattle.journal_model.specs.Disk.{Image, Shape}
-use Rattle.journal_model.specs.Layout.{Layout, narrow}
-use Rattle.log_model.specs.Superblock.{Super, super_in, super_refusal}
+use Rattle.journal_model.specs.Layout.{Layout}
+use Rattle.log_model.specs.Superblock.{Super, super_in, super_refusal, wide_features}
 use Rattle.log_model.specs.Chain.{Ring, lap, place_from, IsChain, IsDamaged, IsAhead}
 use Rattle.log_model.specs.Replay.{IsReplayed}
 use Rattle.journal_model.specs.Transaction.{History, Volume, Recovered}
@@ -20,7 +20,7 @@ abbrev pub ring_of : Super → Ring
 ring_of s = record { first = s.s_first; blocks = s.s_maxlen - s.s_first }
 
 abbrev pub layout_of : Super → Layout
-layout_of s = narrow s.s_blocksize
+layout_of s = record { block_size = s.s_blocksize; number_bytes = 4 + (if s.s_feature_incompat == wide_features then 4 else 0) }
 
 -- one lap of the log, from s_start on
 abbrev pub log_lap : Image → List (List ℕ)

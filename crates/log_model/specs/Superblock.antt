@@ -50,9 +50,16 @@ least_length = 17
 abbrev pub greatest_length : ℕ
 greatest_length = 1048576
 
--- the one incompatible feature that is taken: revoke blocks
+-- the incompatible features that are taken: revoke blocks, and with them 64-bit block numbers
 abbrev pub revoke_feature : ℕ
 revoke_feature = 1
+
+abbrev pub wide_features : ℕ
+wide_features = 3
+
+-- those of a log whose block numbers have 64 bits, or 32
+abbrev pub features_of : Bool → ℕ
+features_of is_wide = if is_wide then wide_features else revoke_feature
 
 -- the tests of a superblock on a device of this shape, each with the refusal where it fails, in their order
 abbrev pub super_tests : Shape → List ℕ → List (Bool × JournalError)
@@ -63,7 +70,7 @@ super_tests shape block =
     ∷ (is_block_size s.s_blocksize && (s.s_blocksize == shape.block_size), BadBlockSize)
     ∷ (nat_le least_length s.s_maxlen && nat_le s.s_maxlen greatest_length && nat_le s.s_maxlen shape.log_blocks, BadLength)
     ∷ (nat_lt 0 s.s_first && nat_le least_ring (s.s_maxlen - s.s_first), BadFirst)
-    ∷ ((s.s_feature_compat == 0) && (s.s_feature_ro_compat == 0) && (s.s_feature_incompat == revoke_feature) && (s.s_nr_users == 1), BadFeature)
+    ∷ ((s.s_feature_compat == 0) && (s.s_feature_ro_compat == 0) && ((s.s_feature_incompat == revoke_feature) || (s.s_feature_incompat == wide_features)) && (s.s_nr_users == 1), BadFeature)
     ∷ ((s.s_start == 0) || (nat_le s.s_first s.s_start && nat_lt s.s_start s.s_maxlen), BadStart)
     ∷ (s.s_errno == 0, ErrnoSet)
     ∷ []
@@ -78,13 +85,17 @@ abbrev pub super_refusal : Shape → List ℕ → Option JournalError
 super_refusal shape block = if shape.log_blocks == 0 then Some BadLength else first_failed (super_tests shape block)
 
 -- the superblock of a log that was just formatted
-unfoldable pub formatted_super : ℕ → ℕ → List ℕ → List ℕ
-formatted_super size maxlen uuid =
+unfoldable pub formatted_super : ℕ → ℕ → List ℕ → Bool → List ℕ
+formatted_super size maxlen uuid is_wide =
     padded size
     (header super_type 0
     ++ big_endian 4 size ++ big_endian 4 maxlen ++ big_endian 4 1 ++ big_endian 4 1 ++ big_endian 4 0
-    ++ big_endian 4 0 ++ big_endian 4 0 ++ big_endian 4 revoke_feature ++ big_endian 4 0
+    ++ big_endian 4 0 ++ big_endian 4 0 ++ big_endian 4 (features_of is_wide) ++ big_endian 4 0
     ++ uuid ++ big_endian 4 1)
+
+-- the block with the features of a log whose block numbers have 64 bits: every other byte stays as it was
+unfoldable pub widened : List ℕ → List ℕ
+widened block = take 0x28 block ++ big_endian 4 wide_features ++ drop 0x2c block
 
 -- the block with another s_sequence and s_start: every other byte stays as it was
 unfoldable pub with_tail : List ℕ → ℕ → ℕ → List ℕ

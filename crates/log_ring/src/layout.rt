@@ -2,7 +2,7 @@
 ghost use Rattle.std.specs.Prelude.{◌≡◌, ℕ, ◌+◌, ◌<◌, ◌≤◌, ◌^◌, List, length, Some, slice_get};
 ghost use Rattle.journal_model.specs.declared.entry.Entry.{Entry};
 ghost use Rattle.log_model.specs.Chain.{ring_place};
-ghost use Rattle.journal_model.specs.Layout.{IsTaken, numbers_of, tags_of};
+ghost use Rattle.journal_model.specs.Layout.{IsLayout, numbers_of, tags_of};
 ghost use Rattle.journal_model.specs.Transaction.{copied, revoked};
 ghost use Rattle.log_model.specs.OwnText.{ceil_div, own_text};
 ghost use Rattle.log_model.specs.Room.{IsCapacity, need};
@@ -42,19 +42,19 @@ pub struct Layout {
 
 impl Model for Layout {
     ghost use Rattle.std.specs.Prelude.{◌≤◌, ◌^◌};
-    ghost use Rattle.journal_model.specs.Layout.{IsTaken};
+    ghost use Rattle.journal_model.specs.Layout.{IsLayout};
     ghost use Rattle.log_ring.specs.Parts.{LayoutValue};
 
     ghost Value = { LayoutValue };
 
     ghost view = { λ l. record { layout = l.layout; copies = l.copies; revokes = l.revokes } };
 
-    ghost invariant = { λ l. IsTaken l.layout × (l.copies ≤ 2 ^ 32) × (l.revokes ≤ 2 ^ 32) };
+    ghost invariant = { λ l. IsLayout l.layout × (l.copies ≤ 2 ^ 32) × (l.revokes ≤ 2 ^ 32) };
 }
 
 /// How many numbers one revoke block holds.
 fn numbers_of(layout: LogLayout) -> u64
-    requires { IsTaken layout }
+    requires { IsLayout layout }
     ensures numbers { result ≡ numbers_of layout }
     ensures some { 0 < result }
     ensures few { result ≤ 1020 }
@@ -65,7 +65,7 @@ fn numbers_of(layout: LogLayout) -> u64
 impl Layout {
     /// The layout of a transaction of so many copies and revokes, in a log of this layout.
     pub fn new(layout: LogLayout, copies: u64, revokes: u64) -> Self
-        requires taken { IsTaken layout }
+        requires taken { IsLayout layout }
         requires copies { copies ≤ 2 ^ 32 }
         requires revokes { revokes ≤ 2 ^ 32 }
         ensures { result ≡ record { layout = layout; copies = copies; revokes = revokes } }
@@ -77,10 +77,11 @@ impl Layout {
         }
     }
 
-    /// How many tags the writer puts into one descriptor: with numbers of 32 bits 122, 250 or 506, by the bytes of a block.
+    /// How many tags the writer puts into one descriptor: 122, 250 or 506, by the bytes of a block, and with numbers of 64 bits
+    /// 81, 167 or 337.
     /// Source: journal.rst, "Descriptor Block"; fs/jbd2/commit.c by behaviour (room for one more UUID is left).
     pub fn tags_of(layout: LogLayout) -> u64
-        requires { IsTaken layout }
+        requires { IsLayout layout }
         ensures tags { result ≡ tags_of layout }
         ensures some { 0 < result }
         ensures few { result ≤ 506 }
@@ -93,7 +94,7 @@ impl Layout {
     /// Source: fs/jbd2 by behaviour (`j_max_transaction_buffers` is a quarter of the log); that descriptors and the commit
     /// block count is this project's own.
     pub fn capacity(layout: LogLayout, ring_blocks: u64) -> u64
-        requires taken { IsTaken layout }
+        requires taken { IsLayout layout }
         requires least { least_ring ≤ ring_blocks }
         ensures { IsCapacity layout ring_blocks result }
     {

@@ -2,7 +2,7 @@
 ghost use Rattle.std.specs.Prelude.{◌≡◌, ◌+◌, ◌-◌, ◌<◌, ◌≤◌, ◌^◌, OnOk, IfOk, IfErr};
 ghost use Rattle.journal_model.specs.declared.refusal.JournalError.TheVariants.{NeedSpace};
 ghost use Rattle.log_model.specs.Chain.{place_from, ring_place};
-ghost use Rattle.journal_model.specs.Layout.{IsTaken};
+ghost use Rattle.journal_model.specs.Layout.{IsLayout};
 ghost use Rattle.log_model.specs.Room.{need};
 ghost use Rattle.log_model.specs.Superblock.{least_ring};
 ghost use Rattle.log_ring.specs.Ring.{IsRing, free, taken};
@@ -83,7 +83,7 @@ impl Ring {
     /// more than 2^32 of either.
     /// Source: journal.rst, "Layout".
     pub fn need(layout: LogLayout, copies: u64, revokes: u64) -> u64
-        requires taken { IsTaken layout }
+        requires taken { IsLayout layout }
         requires copies { copies ≤ 2 ^ 32 }
         requires revokes { revokes ≤ 2 ^ 32 }
         ensures { result ≡ need layout copies revokes }

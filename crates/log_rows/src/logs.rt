@@ -2,8 +2,9 @@
 //!
 //! ```text
 //! LOG    = [ DEVICE ] { BLOCKS }
-//! DEVICE = "device" { "log=" N | "home=" N | "block=" N }   33 blocks of the log's area, 64 home blocks, and 1024 bytes
-//!                                                           of a block, unless they are said
+//! DEVICE = "device" { "log=" N | "home=" N | "block=" N | "wide" }   33 blocks of the log's area, 64 home blocks, and 1024
+//!                                                           bytes of a block, unless they are said; block numbers of 32 bits,
+//!                                                           or of 64
 //! BLOCKS = P ":" BLOCK { "|" BLOCK }                        blocks of the log's area, from block P on
 //! ```
 //!
@@ -19,7 +20,7 @@ use std::alloc::{AllocError, Global};
 /// The measures of a device.
 #[derive(Clone, Copy)]
 pub struct Shape {
-    /// Bytes of a block, and blocks of the log's area.
+    /// Bytes of a block, blocks of the log's area, and the width of block numbers.
     pub measures: Measures,
     /// Blocks of home.
     pub home_blocks: u64,
@@ -30,6 +31,7 @@ const USUAL: Shape = Shape {
     measures: Measures {
         block_size: 1024,
         log_blocks: 33,
+        wide: false,
     },
     home_blocks: 64,
 };
@@ -47,15 +49,25 @@ pub struct Log {
 fn shape_of(words: &str) -> Result<Shape, RowError> {
     let mut shape = USUAL;
     for word in words.split_whitespace() {
-        let (name, value) = cut(word, "=")?;
-        match name {
-            "log" => shape.measures.log_blocks = number(value)?,
-            "home" => shape.home_blocks = number(value)?,
-            "block" => shape.measures.block_size = count(value)?,
-            _ => return Err(RowError::Unread),
+        if word == "wide" {
+            shape.measures.wide = true;
+        } else {
+            set_measure(&mut shape, word)?;
         }
     }
     Ok(shape)
+}
+
+/// Takes the measure of a word.
+fn set_measure(shape: &mut Shape, word: &str) -> Result<(), RowError> {
+    let (name, value) = cut(word, "=")?;
+    match name {
+        "log" => shape.measures.log_blocks = number(value)?,
+        "home" => shape.home_blocks = number(value)?,
+        "block" => shape.measures.block_size = count(value)?,
+        _ => return Err(RowError::Unread),
+    }
+    Ok(())
 }
 
 /// The measures of a text, which its first line may give, and the lines behind that.
@@ -120,6 +132,7 @@ pub fn device_of(alloc: Global, log: &Log) -> Result<MemDevice, RowError> {
     let Measures {
         block_size,
         log_blocks,
+        wide: _,
     } = log.shape.measures;
     let mut device = MemDevice::new(alloc, block_size, log_blocks, log.shape.home_blocks);
     for (place, block) in log.blocks.as_slice() {

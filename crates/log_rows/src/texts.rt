@@ -1,6 +1,8 @@
 //! Rows of the texts in a log, by the plain program: chains and damage, newest copies, and copies that are covered.
 //!
 //! The blocks of the log stand one after the other from a place on, as `logs` spells them.
+ghost use Rattle.std.specs.Prelude.{◌<◌, ◌≤◌};
+
 use crate::logs::{Log, log_of};
 use format_rows::RowError;
 use format_rows::telling::{add_bytes, tag_word, text};
@@ -22,6 +24,14 @@ fn blocks_of(alloc: Global, log: &Log) -> Result<Items<Block>, RowError> {
     Ok(blocks)
 }
 
+/// How many bytes a block number of a log has.
+fn number_bytes(log: &Log) -> usize
+    ensures some { 0 < result }
+    ensures few { result ≤ 8 }
+{
+    if log.shape.measures.wide { 8 } else { 4 }
+}
+
 /// The texts of a log from this number on.
 fn texts_of(alloc: Global, log: &Log, number: u64) -> Result<Items<Text>, RowError> {
     let blocks = blocks_of(alloc, log)?;
@@ -29,7 +39,7 @@ fn texts_of(alloc: Global, log: &Log, number: u64) -> Result<Items<Text>, RowErr
     Ok(chain(
         alloc,
         size,
-        4,
+        number_bytes(log),
         log.shape.home_blocks,
         number,
         blocks.as_slice(),
@@ -114,7 +124,7 @@ pub fn chains(alloc: Global, given: &str) -> Result<String, RowError> {
     let place = damage(
         alloc,
         size,
-        4,
+        number_bytes(&log),
         log.shape.home_blocks,
         number,
         blocks.as_slice(),

@@ -5,7 +5,6 @@ use Rattle.journal_model.proofs.ListElements.{get-front}
 use Rattle.log_model.specs.declared.log.Piece.{Piece}
 use Rattle.log_model.specs.declared.log.Piece.TheVariants.{Copies, Revokes}
 use Rattle.log_model.specs.declared.log.Text.{Text}
-use Rattle.journal_model.specs.declared.refusal.JournalError.{JournalError}
 use Rattle.journal_model.specs.declared.refusal.JournalError.TheVariants.{Damage}
 use Rattle.log_model.specs.Chain.{lap, place_from}
 use Rattle.journal_model.specs.Disk.{Disk, Image, Shape, reading}

@@ -2,13 +2,14 @@
 ghost use Rattle.std.specs.Prelude.{◌≡◌, ◌<◌, ◌≤◌, length, OnOk};
 ghost use Rattle.journal_model.specs.Disk.{reading};
 ghost use Rattle.log_model.specs.Escape.{unescaped};
+ghost use Rattle.log_model.specs.Superblock.{widened};
 ghost use Rattle.block_device.specs.State.{CountsCall, CountsFaults, Stays, blocks_in};
 ghost use Rattle.log_format.specs.Size.{IsBlockSize};
 ghost use Rattle.log_scan.specs.Finding.{most_bytes};
 
 use block_device::{Device, DeviceFault};
 use journal_model::Area;
-use log_format::unescape;
+use log_format::{Super, unescape};
 use std::marker::Model;
 
 /// A buffer of one block of at most 4096 bytes. It holds them itself, and takes no memory. Contracts see the block.
@@ -67,6 +68,16 @@ impl BlockBuffer {
         ensures honest { D.honest device.new → D.honest device.old }
     {
         device.read(area, n, &mut self.bytes[..self.size])
+    }
+
+    /// Writes the features of a log whose block numbers have 64 bits into the block, which is a superblock of 1024, 2048 or 4096
+    /// bytes.
+    pub fn widen(&mut self)
+        requires { IsBlockSize (length self.old) }
+        ensures size { length self.new ≡ length self.old }
+        ensures bytes { self.new ≡ widened self.old }
+    {
+        Super::widen(&mut self.bytes[..self.size]);
     }
 
     /// Puts the magic back into the first four bytes where the block stands for an escaped copy. It has 1024, 2048 or 4096

@@ -3,10 +3,11 @@ ghost use Rattle.std.specs.Prelude.{◌≡◌, ℕ, ◌<◌, ◌≤◌, length, 
 ghost use Rattle.log_model.specs.Chain.{place_from};
 ghost use Rattle.journal_model.specs.Disk.{reading};
 ghost use Rattle.log_model.specs.Escape.{unescaped};
-ghost use Rattle.journal_model.specs.Layout.{HasHeader, IsTaken, descriptor_type, revoke_type, sequence_in};
+ghost use Rattle.journal_model.specs.Layout.{HasHeader, IsLayout, descriptor_type, revoke_type, sequence_in};
 ghost use Rattle.log_model.specs.Opening.{layout_of, ring_of};
 ghost use Rattle.block_device.specs.State.{CountsCall, IsDeviceFailure, Stays};
 ghost use Rattle.log_format.specs.Accepted.{IsAccepted};
+ghost use Rattle.log_format.specs.Size.{count_of};
 ghost use Rattle.log_scan.specs.Finding.{Fits, IsFound, IsSequenceOf, MakesCalls, Says, blocks_from, limit_of, log_block, reads_of};
 
 use crate::buffer::BlockBuffer;
@@ -54,14 +55,14 @@ pub struct Finder {
 
 impl Model for Finder {
     ghost use Rattle.std.specs.Prelude.{◌≡◌, length};
-    ghost use Rattle.journal_model.specs.Layout.{IsTaken};
+    ghost use Rattle.journal_model.specs.Layout.{IsLayout};
     ghost use Rattle.log_scan.specs.Finding.{FinderValue, greatest_numbers, greatest_tags};
 
     ghost Value = { FinderValue };
 
     ghost view = { λ f. record { layout = f.layout; block = f.block; tags = f.tags; numbers = f.numbers } };
 
-    ghost invariant = { λ f. IsTaken f.layout × (length f.block ≡ f.layout.block_size)
+    ghost invariant = { λ f. IsLayout f.layout × (length f.block ≡ f.layout.block_size)
         × (length f.tags ≡ greatest_tags)
         × (length f.numbers ≡ greatest_numbers) };
 }
@@ -69,7 +70,7 @@ impl Model for Finder {
 impl Finder {
     /// A finder for logs of this layout. It holds its buffers itself, and takes no memory.
     pub fn new(layout: LogLayout) -> Self
-        requires { IsTaken layout }
+        requires { IsLayout layout }
         ensures { result.layout ≡ layout }
     {
         Finder {
@@ -195,14 +196,13 @@ impl Finder {
             return Ok(Found::Nothing);
         }
         self.block.read(device, Area::Log, log.place(position))?;
-        let limit = home_blocks.unwrap_or(self.layout.every_number());
-        Ok(self.parse(limit, sequence, log.blocks() - position - 1))
+        Ok(self.parse(home_blocks, sequence, log.blocks() - position - 1))
     }
 
     /// What the block is to the transaction `sequence`, where so many blocks stand behind it in the ring, and the numbers of
     /// home blocks are below this limit.
-    fn parse(&mut self, limit: u64, sequence: u64, behind: u64) -> Found
-        ensures says { Says self.old.layout limit sequence behind self.old.block self.new result }
+    fn parse(&mut self, home_blocks: Option<u64>, sequence: u64, behind: u64) -> Found
+        ensures says { Says self.old.layout (count_of self.old.layout home_blocks) sequence behind self.old.block self.new result }
         ensures block { self.new.block ≡ self.old.block }
         ensures layout { self.new.layout ≡ self.old.layout }
     {
@@ -213,21 +213,21 @@ impl Finder {
             return Found::Nothing;
         }
         match header.block_type {
-            DESCRIPTOR_TYPE => self.parse_descriptor(limit, behind),
+            DESCRIPTOR_TYPE => self.parse_descriptor(home_blocks, behind),
             COMMIT_TYPE => Found::CommitBlock,
-            REVOKE_TYPE => self.parse_revokes(limit),
+            REVOKE_TYPE => self.parse_revokes(home_blocks),
             _ => Found::Nothing,
         }
     }
 
     /// What the block is, which has the header of a descriptor.
-    fn parse_descriptor(&mut self, limit: u64, behind: u64) -> Found
+    fn parse_descriptor(&mut self, home_blocks: Option<u64>, behind: u64) -> Found
         requires { HasHeader descriptor_type (sequence_in self.old.block) self.old.block }
-        ensures says { Says self.old.layout limit (sequence_in self.old.block) behind self.old.block self.new result }
+        ensures says { Says self.old.layout (count_of self.old.layout home_blocks) (sequence_in self.old.block) behind self.old.block self.new result }
         ensures block { self.new.block ≡ self.old.block }
         ensures layout { self.new.layout ≡ self.old.layout }
     {
-        match Descriptor::read(self.layout, self.block.bytes(), limit, &mut self.tags) {
+        match Descriptor::read(self.layout, self.block.bytes(), home_blocks, &mut self.tags) {
             Ok(tags) if tags as u64 <= behind => Found::Descriptor(tags),
             Ok(_) => Found::Nothing,
             Err(_) => Found::Malformed,
@@ -235,13 +235,18 @@ impl Finder {
     }
 
     /// What the block is, which has the header of a revoke block.
-    fn parse_revokes(&mut self, limit: u64) -> Found
+    fn parse_revokes(&mut self, home_blocks: Option<u64>) -> Found
         requires { HasHeader revoke_type (sequence_in self.old.block) self.old.block }
-        ensures says { (behind : ℕ) → Says self.old.layout limit (sequence_in self.old.block) behind self.old.block self.new result }
+        ensures says { (behind : ℕ) → Says self.old.layout (count_of self.old.layout home_blocks) (sequence_in self.old.block) behind self.old.block self.new result }
         ensures block { self.new.block ≡ self.old.block }
         ensures layout { self.new.layout ≡ self.old.layout }
     {
-        match RevokeBlock::read(self.layout, self.block.bytes(), limit, &mut self.numbers) {
+        match RevokeBlock::read(
+            self.layout,
+            self.block.bytes(),
+            home_blocks,
+            &mut self.numbers,
+        ) {
             Ok(numbers) => Found::RevokeBlock(numbers),
             Err(_) => Found::Malformed,
         }

@@ -1,7 +1,7 @@
-//! Rows of the device calls by which an opening changes what a device holds.
+//! Rows of the device calls by which an opening changes what a device holds, and the device that notes them.
 ghost use Rattle.std.specs.Prelude.{◌≡◌};
 
-use block_device::{Device, DeviceFault, MemDevice};
+use block_device::{Device, DeviceFault};
 use format_rows::RowError;
 use journal_model::Area;
 use log_rows::logs::{device_of, log_of};
@@ -21,10 +21,46 @@ const MOST_CALLS: usize = 64;
 
 /// A device that notes the first of these calls.
 #[derive(Drop)]
-struct NotedCalls<D> {
+pub(crate) struct NotedCalls<D> {
     device: D,
     calls: [Option<Call>; MOST_CALLS],
     count: usize,
+}
+
+impl<D: Device + Drop> NotedCalls<D> {
+    /// A device over this one, of which no call is noted yet.
+    pub(crate) fn new(device: D) -> Self
+        ensures { result.device ≡ device }
+    {
+        NotedCalls {
+            device,
+            calls: [None; MOST_CALLS],
+            count: 0,
+        }
+    }
+
+    /// The device behind it.
+    pub(crate) fn into_inner(self) -> D
+        ensures { result ≡ self.device }
+    {
+        self.device
+    }
+
+    /// The lines of the calls that were noted.
+    ///
+    /// # Errors
+    ///
+    /// `Unread` where there are more than can be noted; `Memory`.
+    pub(crate) fn text(&self, alloc: Global) -> Result<String, RowError> {
+        if self.count > MOST_CALLS {
+            return Err(RowError::Unread);
+        }
+        let mut told = String::new(alloc);
+        for call in self.calls.iter().flatten() {
+            add_call(&mut told, *call)?;
+        }
+        Ok(told)
+    }
 }
 
 impl<D: Device> NotedCalls<D> {
@@ -83,28 +119,12 @@ fn add_call(told: &mut String, call: Call) -> Result<(), AllocError> {
     }
 }
 
-/// The lines of the calls that were noted.
-fn calls_text(alloc: Global, device: &NotedCalls<MemDevice>) -> Result<String, RowError> {
-    if device.count > MOST_CALLS {
-        return Err(RowError::Unread);
-    }
-    let mut told = String::new(alloc);
-    for call in device.calls.iter().flatten() {
-        add_call(&mut told, *call)?;
-    }
-    Ok(told)
-}
-
 /// Device calls of openings. Given: a log, on a device that lost power with it and whose home is zeros. Found: a line for each
 /// write and each flush that the opening makes, in their order.
 pub fn opening_calls(alloc: Global, given: &str) -> Result<String, RowError> {
-    let device = NotedCalls {
-        device: device_of(alloc, &log_of(alloc, given)?)?,
-        calls: [None; MOST_CALLS],
-        count: 0,
-    };
+    let device = NotedCalls::new(device_of(alloc, &log_of(alloc, given)?)?);
     match open(alloc, device) {
-        Ok(opened) => calls_text(alloc, &opened.into_device()),
-        Err((device, _)) => calls_text(alloc, &device),
+        Ok(opened) => opened.into_device().text(alloc),
+        Err((device, _)) => device.text(alloc),
     }
 }

@@ -2,8 +2,8 @@
 //!
 //! A log has 17 to 33 blocks and up to 15 home blocks. Copies, commit blocks and zeros of older days stand in its area. Of
 //! up to seven transactions each has up to three pieces, as far as the ring has room. Bytes of some blocks are changed then, a
-//! block with a number near the log's is put into some ring, and in some superblocks a field is wrong. `bench/openings.py` draws
-//! the same logs from the same seed.
+//! block with a number near the log's is put into some ring, and in some superblocks a field is wrong. A wide log has block numbers
+//! of 64 bits, and is drawn as another one is. `bench/openings.py` draws the same logs from the same seed.
 ghost use Rattle.std.specs.Prelude.{◌<◌};
 
 use rand_core::{Rng, SeedableRng};
@@ -55,6 +55,8 @@ struct Measures {
     start: u64,
     /// The number that it begins with.
     sequence: u64,
+    /// Whether block numbers have 64 bits.
+    wide: bool,
 }
 
 /// A log that is drawn.
@@ -77,8 +79,8 @@ fn draw_sequence(draws: &mut Draws) -> u64 {
 }
 
 impl Measures {
-    /// Measures within their limits.
-    fn draw(draws: &mut Draws) -> Measures {
+    /// Measures within their limits, of a log whose block numbers have 64 bits or 32.
+    fn draw(draws: &mut Draws, wide: bool) -> Measures {
         let maxlen = 17 + draws.below(17);
         let first = 1 + draws.below(maxlen - 16);
         let area = maxlen + draws.below(2);
@@ -92,6 +94,7 @@ impl Measures {
             home,
             start,
             sequence,
+            wide,
         }
     }
 
@@ -112,7 +115,7 @@ impl Measures {
 /// The words of a copy: some bytes at its front and one further behind, mostly near; zeros; or what a log block begins with.
 fn draw_copy(alloc: Global, draws: &mut Draws, measures: &Measures) -> Result<String, AllocError> {
     match draws.below(40) {
-        0 => format!(in alloc; "magic 2 {}", measures.number(draws.below(3))),
+        0 => format!(in alloc; "commit={}", measures.number(draws.below(3))),
         1..=3 => Ok(String::new(alloc)),
         4..=7 => format!(in alloc; "bytes=00000000{:02x}", draws.below(256)),
         _ => {
@@ -188,7 +191,8 @@ fn draw_revoke_block(
     tid: u64,
 ) -> Result<String, AllocError> {
     let count = draws.below(4);
-    let mut words = format!(in alloc; "revoke={tid} used={}", 16 + 4 * count)?;
+    let bytes = if measures.wide { 8 } else { 4 };
+    let mut words = format!(in alloc; "revoke={tid} used={}", 16 + bytes * count)?;
     for _ in 0..count {
         write!(words, " {}", draw_home_block(draws, measures))?;
     }
@@ -239,7 +243,7 @@ fn wrong_field(
         2 => "s_blocksize=2048",
         3 => return format!(in alloc; "s_maxlen={}", measures.area.saturating_add(1)),
         4 => "s_first=0",
-        5 => "s_feature_incompat=3",
+        5 => "s_feature_incompat=2",
         6 => "s_nr_users=2",
         7 => return format!(in alloc; "s_start={}", measures.maxlen),
         _ => "s_errno=5",
@@ -271,9 +275,9 @@ fn draw_superblock(
 }
 
 impl RandomLog {
-    /// The next log of these draws.
-    pub fn draw(alloc: Global, draws: &mut Draws) -> Result<RandomLog, AllocError> {
-        let measures = Measures::draw(draws);
+    /// The next log of these draws, whose block numbers have 64 bits or 32.
+    pub fn draw(alloc: Global, draws: &mut Draws, wide: bool) -> Result<RandomLog, AllocError> {
+        let measures = Measures::draw(draws, wide);
         let mut log = RandomLog {
             measures,
             used: 0,
@@ -371,8 +375,14 @@ impl RandomLog {
 
     /// The text that spells it.
     pub fn text(&self, alloc: Global) -> Result<String, AllocError> {
-        let Measures { area, home, .. } = self.measures;
-        let mut all = format!(in alloc; "device log={area} home={home}")?;
+        let Measures {
+            area,
+            home,
+            wide,
+            ..
+        } = self.measures;
+        let width = if wide { " wide" } else { "" };
+        let mut all = format!(in alloc; "device log={area} home={home}{width}")?;
         for (place, words) in self.blocks.iter().enumerate() {
             if !words.is_empty() {
                 write!(all, "\n{place}: {words}")?;

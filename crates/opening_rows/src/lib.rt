@@ -1,4 +1,4 @@
-//! What is done with rows of openings: of one log, of each that differs from it in a byte, and of random ones.
+//! What is done with rows of openings: of one log, of each that differs from it in a byte, and of random ones; and with rows of upgrades.
 //!
 //! A row gives a text and says what text is wanted. Each kind of rows is a function here, as in `log_rows`, whose module `logs`
 //! says how logs are spelled in every row. Openings of many logs are compared with what the plain program finds.
@@ -15,6 +15,7 @@ mod plain_opening;
 mod planning;
 mod random;
 mod told;
+mod upgrading;
 
 pub use before_damage::openings_before_damage;
 pub use calls::opening_calls;
@@ -23,3 +24,4 @@ pub use forgetting::forgetful_openings;
 pub use opening::{failed_openings, openings, second_openings};
 pub use planning::plans;
 pub use random::random_logs;
+pub use upgrading::{failed_upgrades, stopped_upgrades, upgrades};

@@ -1,4 +1,6 @@
 //! What an opening has to tell of a log, by the plain program: it reads the chain and its damage, and finds the newest copies.
+ghost use Rattle.std.specs.Prelude.{◌<◌, ◌≤◌};
+
 use crate::told::{Told, add_home, report_text};
 use format_rows::RowError;
 use format_rows::telling::refusal_text;
@@ -84,6 +86,14 @@ fn place_of(fields: &Super, behind: usize) -> u64 {
     }
 }
 
+/// How many bytes a block number of a log with this superblock has.
+fn number_bytes(fields: &Super) -> usize
+    ensures some { 0 < result }
+    ensures few { result ≤ 8 }
+{
+    if fields.has_wide_numbers() { 8 } else { 4 }
+}
+
 /// The complete transactions of a log. A malformed block behind them refuses it.
 fn texts_of(
     alloc: Global,
@@ -94,11 +104,11 @@ fn texts_of(
     let size = log.shape.measures.block_size;
     let home = log.shape.home_blocks;
     let lap = lap_of(alloc, area, fields)?;
-    let number = u64::from(fields.s_sequence);
-    if let Some(behind) = damage(alloc, size, 4, home, number, lap.as_slice())? {
+    let (number, bytes) = (u64::from(fields.s_sequence), number_bytes(fields));
+    if let Some(behind) = damage(alloc, size, bytes, home, number, lap.as_slice())? {
         return Err(NotOpened::Refused(JournalError::Damage(place_of(fields, behind))));
     }
-    Ok(chain(alloc, size, 4, home, number, lap.as_slice())?)
+    Ok(chain(alloc, size, bytes, home, number, lap.as_slice())?)
 }
 
 /// Whether a block begins as one of the log's own, with a sequence above this.

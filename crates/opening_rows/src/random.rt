@@ -2,7 +2,7 @@
 use crate::agreement::{Stop, Tally, agreed};
 use crate::drawing::{Draws, RandomLog};
 use format_rows::RowError;
-use format_rows::words::values;
+use format_rows::words::{split_width, values};
 use log_rows::logs::log_of;
 use std::alloc::Global;
 
@@ -15,28 +15,35 @@ fn name_of(answer: &str) -> &str {
     }
 }
 
-/// Draws an image and opens it.
-fn open_one(alloc: Global, draws: &mut Draws, tally: &mut Tally) -> Result<(), Stop> {
-    let spelled = RandomLog::draw(alloc, draws)?.text(alloc)?;
+/// Draws an image, whose block numbers have 64 bits or 32, and opens it.
+fn open_one(alloc: Global, draws: &mut Draws, wide: bool, tally: &mut Tally) -> Result<(), Stop> {
+    let spelled = RandomLog::draw(alloc, draws, wide)?.text(alloc)?;
     let log = log_of(alloc, spelled.as_str())?;
     let told = agreed(alloc, &log, spelled.as_str())?;
     Ok(tally.add(alloc, name_of(told.answer.as_str()), told.writes)?)
 }
 
 /// Draws so many images and opens them.
-fn open_all(alloc: Global, draws: &mut Draws, images: u64, tally: &mut Tally) -> Result<(), Stop> {
+fn open_all(
+    alloc: Global,
+    draws: &mut Draws,
+    images: u64,
+    wide: bool,
+    tally: &mut Tally,
+) -> Result<(), Stop> {
     for _ in 0..images {
-        open_one(alloc, draws, tally)?;
+        open_one(alloc, draws, wide, tally)?;
     }
     Ok(())
 }
 
-/// Openings of random logs. Given: `seed=N images=N`. Found: how many images there are, how many writes their openings make,
-/// and how often each answer comes, without places. The first image whose opening does not tell what the plain program says of
+/// Openings of random logs. Given: `seed=N images=N`, and `wide` where block numbers have 64 bits. Found: how many images there are,
+/// how many writes their openings make, and how often each answer comes, without places. The first image whose opening does not tell what the plain program says of
 /// it is found in their place, as a log that a row of another kind may give.
 pub fn random_logs(alloc: Global, given: &str) -> Result<String, RowError> {
+    let (given, wide) = split_width(given);
     let [seed, images] = values::<2>(given, "seed images")?;
     let mut tally = Tally::new(alloc);
-    let went = open_all(alloc, &mut Draws::new(seed), images, &mut tally);
+    let went = open_all(alloc, &mut Draws::new(seed), images, wide, &mut tally);
     tally.found(alloc, went)
 }

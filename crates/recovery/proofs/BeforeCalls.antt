@@ -161,7 +161,7 @@ module _ (shape : Shape) (old : Disk) (texts : List Text) (greatest : ℕ) (stop
         let sequence : (super_in (tail_of old greatest)).s_sequence ≡ greatest + 1 = tail.sequence in
         opened-log shape (reading old) (ended copied) (tail_of old greatest) greatest
         (record {
-          is_superblock = record { accepted = tail.accepted; size = tail.size; ring_is = refl };
+          is_superblock = record { accepted = tail.accepted; size = tail.size; layout_is = refl; ring_is = refl };
           clean = tail.clean;
           low = omega arith;
           high = omega arith;
@@ -195,7 +195,7 @@ module _ (shape : Shape) (old : Disk) (texts : List Text) (greatest : ℕ) (stop
           log =
               opened-log shape (reading old) (flushed old Log) (old Log 0).reads greatest
               (record {
-                is_superblock = record { accepted = taken-accepted shape (reading old) texts takes.taken; size = size; ring_is = refl };
+                is_superblock = record { accepted = taken-accepted shape (reading old) texts takes.taken; size = size; layout_is = refl; ring_is = refl };
                 clean = clean;
                 low = omega arith;
                 high = omega arith;

@@ -22,11 +22,11 @@ use Rattle.recovery.specs.Before.BeforeRefused.{ByDevice, ByMemory, ByNumber as 
 use Rattle.recovery.specs.BeforeSteps.{HoldsTexts, IsReadBeforeOn, IsSurveyed}
 use Rattle.recovery.specs.Gather.{IsGatherRefused, TablesValue, tables_of}
 use Rattle.recovery.specs.Opening.{IsReadingRefused, IsRefusedLog, IsTested, IsWellRead}
-use Rattle.recovery.proofs.Examining.{IsTaken, later-failure, limit-image, on-stays, refused-image, stays-joined, taken}
+use Rattle.recovery.proofs.Examining.{IsLayout, later-failure, limit-image, on-stays, refused-image, stays-joined, taken}
 use Rattle.log_scan.specs.Scanning.{IsChainOf}
 
 -- an image that passes the tests is refused for its numbers alone
-not-refused : (shape : Shape) (image : Image) (transactions : ℕ) → IsTaken shape image → IsTested (super_of image) shape.home_blocks image transactions →
+not-refused : (shape : Shape) (image : Image) (transactions : ℕ) → IsLayout shape image → IsTested (super_of image) shape.home_blocks image transactions →
     (e : JournalError) → e ≢ SequenceEnd → IsRefused shape image e → ⊥
 not-refused shape image transactions is tested e other (RefusedBySuperblock f refused) = let accepted = is.accepted in cc
 not-refused shape image transactions is tested e other (ByDamage k damaged) = (tested.has.scanned damaged.started.started).are.undamaged k damaged.damaged
@@ -37,14 +37,14 @@ not-refused shape image transactions is tested e other (ByAhead limit place has 
 not-refused shape image transactions is tested e other (ByNumber limit has none great) = other refl
 
 -- which refusal is passed over
-passed-over : (shape : Shape) (image : Image) (transactions : ℕ) (stopped : Option JournalError) → IsTaken shape image →
+passed-over : (shape : Shape) (image : Image) (transactions : ℕ) (stopped : Option JournalError) → IsLayout shape image →
     MatchOption stopped (IsTested (super_of image) shape.home_blocks image transactions) (λ e. (e ≢ SequenceEnd) × IsRefusedLog (super_of image) shape.home_blocks image e) →
     IsPassedOver shape image stopped
 passed-over shape image transactions None is tested = not-refused shape image transactions is tested
 passed-over shape image transactions (Some e) is refused = (refused.0, refused-image shape image e is refused.1)
 
 -- what is taken of the image, of texts that the log holds
-taken-texts : (shape : Shape) (image : Image) (texts : List Text) → IsTaken shape image → HoldsTexts (super_of image) shape.home_blocks image texts → AreTaken shape image texts
+taken-texts : (shape : Shape) (image : Image) (texts : List Text) → IsLayout shape image → HoldsTexts (super_of image) shape.home_blocks image texts → AreTaken shape image texts
 taken-texts shape image texts is holds =
     elim (cases_eq (super_of image).s_start 0) [
       | inl clean ↦ subst (AreTaken shape image) (sym (holds.clean clean)) (OfClean (record { accepted = is.accepted; clean = clean }))

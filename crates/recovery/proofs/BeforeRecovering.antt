@@ -217,7 +217,7 @@ made-named shape superblock fields transactions greatest stopped next is number 
     let sequence : (super_in (with_tail superblock next 0)).s_sequence ≡ next = tail.sequence in
     record {
       named = record {
-        is_superblock = record { accepted = tail.accepted; size = tail.size; ring_is = refl };
+        is_superblock = record { accepted = tail.accepted; size = tail.size; layout_is = refl; ring_is = refl };
         clean = tail.clean;
         low = omega arith;
         high = omega arith;

@@ -27,17 +27,17 @@ use Rattle.recovery.specs.Opening.IsRingRefusal.{NamesAhead, NamesDamaged, NoNum
 use Rattle.recovery.specs.Opening.IsRefusedLog.{ForAhead, ForDamage, ForNumber}
 
 -- block 0 of the image is accepted
-pub record IsTaken (shape : Shape) (image : Image) : Type 0 where
+pub record IsLayout (shape : Shape) (image : Image) : Type 0 where
   pub size : length (image Log 0) ≡ shape.block_size
   pub accepted : super_refusal shape (image Log 0) ≡ None
 
 -- what was read and is accepted is
-pub taken : (shape : Shape) (image : Image) (superblock : List ℕ) (fields : Super) → IsWellRead shape superblock fields → superblock ≡ image Log 0 → IsTaken shape image
+pub taken : (shape : Shape) (image : Image) (superblock : List ℕ) (fields : Super) → IsWellRead shape superblock fields → superblock ≡ image Log 0 → IsLayout shape image
 taken shape image superblock fields well read =
     record { size = ap length (sym read) ∙ well.size; accepted = ap (super_refusal shape) (sym read) ∙ well.tested }
 
 -- an image with a chain
-chain-image : (shape : Shape) (image : Image) (texts : List Text) → IsTaken shape image → (super_of image).s_start ≢ 0 →
+chain-image : (shape : Shape) (image : Image) (texts : List Text) → IsLayout shape image → (super_of image).s_start ≢ 0 →
     AreTextsOf (super_of image) shape.home_blocks image texts → HasChain shape image texts
 chain-image shape image texts is started are = record {
   started = record { accepted = is.accepted; started = started };
@@ -46,7 +46,7 @@ chain-image shape image texts is started are = record {
 }
 
 -- the limit of what it holds
-pub limit-image : (shape : Shape) (image : Image) (transactions : ℕ) → IsTaken shape image → HasTransactions (super_of image) shape.home_blocks image transactions →
+pub limit-image : (shape : Shape) (image : Image) (transactions : ℕ) → IsLayout shape image → HasTransactions (super_of image) shape.home_blocks image transactions →
     HasLimit shape image ((super_of image).s_sequence + transactions)
 limit-image shape image transactions is has =
     elim (cases_eq (super_of image).s_start 0) [
@@ -61,7 +61,7 @@ limit-image shape image transactions is has =
     ]
 
 -- what the log is refused for, the image is
-pub refused-image : (shape : Shape) (image : Image) (e : JournalError) → IsTaken shape image → IsRefusedLog (super_of image) shape.home_blocks image e →
+pub refused-image : (shape : Shape) (image : Image) (e : JournalError) → IsLayout shape image → IsRefusedLog (super_of image) shape.home_blocks image e →
     IsRefused shape image e
 refused-image shape image e is (ForDamage f started damage) =
     subst (IsRefused shape image) (sym damage.refusal)
@@ -79,7 +79,7 @@ record Finds (shape : Shape) (disk : Disk) (transactions : ℕ) : Type 0 where
   texts : (super_of (reading disk)).s_start ≢ 0 → IsChainOf (super_of (reading disk)) shape.home_blocks (reading disk) found.texts
 
 -- in a clean log, no texts
-finds-clean : (shape : Shape) (disk : Disk) (transactions : ℕ) → IsTaken shape (reading disk) →
+finds-clean : (shape : Shape) (disk : Disk) (transactions : ℕ) → IsLayout shape (reading disk) →
     IsTested (super_of (reading disk)) shape.home_blocks (reading disk) transactions → (super_of (reading disk)).s_sequence + transactions < greatest_number →
     (super_of (reading disk)).s_start ≡ 0 → Finds shape disk transactions
 finds-clean shape disk transactions is tested small clean =
@@ -102,7 +102,7 @@ finds-clean shape disk transactions is tested small clean =
     }
 
 -- in any other, those that were scanned
-finds-chain : (shape : Shape) (disk : Disk) (transactions : ℕ) → IsTaken shape (reading disk) →
+finds-chain : (shape : Shape) (disk : Disk) (transactions : ℕ) → IsLayout shape (reading disk) →
     IsTested (super_of (reading disk)) shape.home_blocks (reading disk) transactions → (super_of (reading disk)).s_sequence + transactions < greatest_number →
     (super_of (reading disk)).s_start ≢ 0 → Finds shape disk transactions
 finds-chain shape disk transactions is tested small started =
@@ -123,7 +123,7 @@ finds-chain shape disk transactions is tested small started =
       texts = λ other. scanned.are.chain;
     }
 
-finds : (shape : Shape) (disk : Disk) (transactions : ℕ) → IsTaken shape (reading disk) →
+finds : (shape : Shape) (disk : Disk) (transactions : ℕ) → IsLayout shape (reading disk) →
     IsTested (super_of (reading disk)) shape.home_blocks (reading disk) transactions → (super_of (reading disk)).s_sequence + transactions < greatest_number →
     Finds shape disk transactions
 finds shape disk transactions is tested small =

@@ -30,4 +30,6 @@ mod SameLogs
 mod Surveys
 mod Testing
 mod UnfinishedTables
+mod UpgradeCalls
+mod Upgrades
 mod Zeroed

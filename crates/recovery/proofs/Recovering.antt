@@ -95,7 +95,7 @@ clean-named shape superblock fields transactions next is start number =
     let small = is.number in
     record {
       named = record {
-        is_superblock = record { accepted = is.well.tested; size = is.well.size; ring_is = refl };
+        is_superblock = record { accepted = is.well.tested; size = is.well.size; layout_is = refl; ring_is = refl };
         clean = ap (λ (s : Super). s.s_start) (sym same) ∙ start;
         low = omega arith;
         high = omega arith;
@@ -113,7 +113,7 @@ tail-named shape superblock fields transactions next is number =
     let sequence : (super_in (with_tail superblock next 0)).s_sequence ≡ next = tail.sequence in
     record {
       named = record {
-        is_superblock = record { accepted = tail.accepted; size = tail.size; ring_is = refl };
+        is_superblock = record { accepted = tail.accepted; size = tail.size; layout_is = refl; ring_is = refl };
         clean = tail.clean;
         low = omega arith;
         high = omega arith;

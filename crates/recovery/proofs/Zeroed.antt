@@ -1,6 +1,6 @@
 -- The blocks of a log that is made: zeros, one after another, and then the superblock.
 use Rattle.std.proofs.Common.{refl, sym, ◌∙◌, ap, subst, arith, inl, inr}
-use Rattle.std.specs.Prelude.{◌≡◌, ℕ, ◌+◌, ◌==◌, ◌<◌, ◌≤◌, true, false, List, replicate}
+use Rattle.std.specs.Prelude.{◌≡◌, ℕ, ◌+◌, ◌==◌, ◌<◌, ◌≤◌, Bool, true, false, List, replicate}
 use Rattle.std.proofs.lemmas.Bool.{cases_eq}
 use Rattle.std.proofs.lemmas.Bool.Decides.{nat_tests}
 use Rattle.journal_model.specs.declared.number.Area.TheVariants.{Log}
@@ -39,12 +39,12 @@ zeros-more zeros n old disk new has is = subst (HasZeros zeros (n + 1) old) (sym
 })
 
 -- what the log leaves once it is flushed: the superblock, the zeros and what lies behind them
-pub formatted : (shape : Shape) (maxlen : ℕ) (uuid block : List ℕ) (old zeroed first second new : Disk) → IsBlockSize shape.block_size →
-    least_length ≤ maxlen → maxlen ≤ greatest_length → maxlen ≤ shape.log_blocks → block ≡ formatted_super shape.block_size maxlen uuid →
+pub formatted : (shape : Shape) (maxlen : ℕ) (uuid block : List ℕ) (is_wide : Bool) (old zeroed first second new : Disk) → IsBlockSize shape.block_size →
+    least_length ≤ maxlen → maxlen ≤ greatest_length → maxlen ≤ shape.log_blocks → block ≡ formatted_super shape.block_size maxlen uuid is_wide →
     HasZeros (replicate shape.block_size 0) maxlen old zeroed → first ≡ flushed zeroed Log → second ≡ written first Log 0 block →
-    new ≡ flushed second Log → IsFormatted shape maxlen uuid old new
-formatted shape maxlen uuid block old zeroed first second new allowed least most there is has flush write last =
-    subst (IsFormatted shape maxlen uuid old) (sym all) (record {
+    new ≡ flushed second Log → IsFormatted shape maxlen uuid is_wide old new
+formatted shape maxlen uuid block is_wide old zeroed first second new allowed least most there is has flush write last =
+    subst (IsFormatted shape maxlen uuid is_wide old) (sym all) (record {
       block_size = allowed;
       least = least;
       most = most;

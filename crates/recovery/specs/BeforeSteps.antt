@@ -79,6 +79,12 @@ pub record IsDoneBefore (old new : DeviceState) (stopped : Option JournalError) 
   pub number : next ≡ greatest + 1
   pub made : IsLeftClean old new stopped superblock texts greatest ⊎ IsMadeClean old new stopped superblock texts greatest
 
+-- such an opening was done, whatever it takes
+pub record HasDoneBefore (old new : DeviceState) (stopped : Option JournalError) (superblock : List ℕ) (next : ℕ) : Type 0 where
+  pub texts : List Text
+  pub greatest : ℕ
+  pub is : IsDoneBefore old new stopped superblock next texts greatest
+
 -- one that the device failed in: it came no farther than to read, or some of the calls were made that are due for what it takes
 pub data IsBrokenBefore (old new : DeviceState) : Type 0 where
   Reading : Stays old new → IsBrokenBefore old new

@@ -6,4 +6,5 @@ pub mod Choice
 pub mod Gather
 pub mod Opening
 pub mod Planned
+pub mod Upgrade
 pub mod Values

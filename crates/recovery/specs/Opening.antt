@@ -23,12 +23,12 @@ use Rattle.recovery.specs.Gather.{TablesValue, tables_of}
 
 -- A log of `maxlen` blocks that was just formatted, and both sizes are within their limits. Its superblock is durable, and
 -- its other blocks are zeros, durably. The log area's blocks behind it read as they did, durably, and home is as it was.
-pub record IsFormatted (shape : Shape) (maxlen : ℕ) (uuid : List ℕ) (old new : Disk) : Type 0 where
+pub record IsFormatted (shape : Shape) (maxlen : ℕ) (uuid : List ℕ) (is_wide : Bool) (old new : Disk) : Type 0 where
   pub block_size : IsBlockSize shape.block_size
   pub least : least_length ≤ maxlen
   pub most : maxlen ≤ greatest_length
   pub within : maxlen ≤ shape.log_blocks
-  pub superblock : new Log 0 ≡ durable_cell (formatted_super shape.block_size maxlen uuid)
+  pub superblock : new Log 0 ≡ durable_cell (formatted_super shape.block_size maxlen uuid is_wide)
   pub zeros : (n : ℕ) → 0 < n → n < maxlen → new Log n ≡ durable_cell (replicate shape.block_size 0)
   pub behind : (n : ℕ) → maxlen ≤ n → new Log n ≡ flushed old Log Log n
   pub home : (b : ℕ) → new Home b ≡ old Home b

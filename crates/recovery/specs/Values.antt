@@ -1,6 +1,6 @@
 -- What contracts see of an opened log.
 use Rattle.std.specs.Prelude.{ℕ, ◌<◌, ◌≤◌, Bool, List}
-use Rattle.log_model.specs.Opening.{greatest_number, ring_of}
+use Rattle.log_model.specs.Opening.{greatest_number, layout_of, ring_of}
 use Rattle.journal_model.specs.Disk.{Shape}
 use Rattle.log_model.specs.Superblock.{super_in}
 use Rattle.journal_world.specs.Opening.{NamesNothing}
@@ -16,6 +16,6 @@ pub record OpenedValue (D : Type 0) : Type 0 where
 
 -- the superblock says that the log is clean, and which number the next transaction has
 pub record IsNextNamed (shape : Shape) (superblock : List ℕ) (next : ℕ) : Type 0 where
-  pub named : NamesNothing shape (ring_of (super_in superblock)) next superblock
+  pub named : NamesNothing shape (layout_of (super_in superblock)) (ring_of (super_in superblock)) next superblock
   pub some : 0 < next
   pub number : next ≤ greatest_number

@@ -10,7 +10,7 @@ ghost use Rattle.block_device.specs.State.{EachMoment, Stays};
 ghost use Rattle.log_format.specs.Accepted.{IsAccepted};
 ghost use Rattle.log_format.specs.Size.{IsBlockSize};
 ghost use Rattle.recovery.specs.Before.{BeforeRefused, IsMomentBefore, IsOpeningBefore, TellsBefore};
-ghost use Rattle.recovery.specs.BeforeSteps.{HoldsTexts, IsBrokenBefore, IsDoneBefore, IsReadBefore, IsReadBeforeOn};
+ghost use Rattle.recovery.specs.BeforeSteps.{HasDoneBefore, HoldsTexts, IsBrokenBefore, IsDoneBefore, IsReadBefore, IsReadBeforeOn};
 ghost use Rattle.recovery.specs.Calls.{HasBegun, HasMade, cleaning_calls, writes_home};
 ghost use Rattle.recovery.specs.Gather.{IsReplayRefused, tables_of};
 ghost use Rattle.recovery.specs.HomeCopies.{home_copies};
@@ -65,6 +65,9 @@ pub fn open_before_damage<D: Device>(
     ensures opened { IfOk result (λ r. D.honest r.0.device → (texts : List Text) × (greatest : ℕ) ×
         IsOpeningBefore (D.state device).shape (D.state device).disk (D.state r.0.device).disk texts greatest r.1 r.0.superblock r.0.next
         × TellsBefore (reading (D.state device).disk) texts r.0.clean r.0.ends_at r.0.transactions) }
+    ensures calls { MatchResult result
+        (λ r. D.honest r.0.device → HasDoneBefore (D.state device) (D.state r.0.device) r.1 r.0.superblock r.0.next)
+        (λ e. D.honest e.0 → IsBrokenBefore (D.state device) (D.state e.0)) }
     ensures moments { MatchResult result
         (λ r. D.honest r.0.device → EachMoment (IsMomentBefore (D.state device).shape (D.state device).disk) (D.state device) (D.state r.0.device))
         (λ e. D.honest e.0 → EachMoment (IsMomentBefore (D.state device).shape (D.state device).disk) (D.state device) (D.state e.0)) }

@@ -23,8 +23,13 @@ const MOST_BYTES: usize = 4096;
 /// `BadBlockSize` where the device's blocks don't have 1024, 2048 or 4096 bytes, `BadLength` where the length is outside its
 /// limits or above the log area's blocks: nothing is written. `Device` where the device failed.
 /// Source: journal.rst, "Super Block"; the zeros are this project's own.
-pub fn format<D: Device>(device: &mut D, maxlen: u32, uuid: &[u8; 16]) -> Result<(), JournalError>
-    ensures ok { OnOk result (IsFormatted (D.state device.old).shape maxlen uuid.now (D.state device.old).disk (D.state device.new).disk) }
+pub fn format<D: Device>(
+    device: &mut D,
+    maxlen: u32,
+    uuid: &[u8; 16],
+    wide: bool,
+) -> Result<(), JournalError>
+    ensures ok { OnOk result (IsFormatted (D.state device.old).shape maxlen uuid.now wide (D.state device.old).disk (D.state device.new).disk) }
     ensures err { IfErr result (λ e. FormatRefused maxlen (D.state device.old) (D.state device.new) e) }
     ensures no_fault { OnOk result ((D.state device.new).faults ≡ (D.state device.old).faults) }
     ensures shape { (D.state device.new).shape ≡ (D.state device.old).shape }
@@ -41,7 +46,7 @@ pub fn format<D: Device>(device: &mut D, maxlen: u32, uuid: &[u8; 16]) -> Result
         return Err(JournalError::BadLength);
     }
     let mut buffer = [0; MOST_BYTES];
-    write_log(device, &mut buffer[..size], maxlen, uuid)
+    write_log(device, &mut buffer[..size], maxlen, uuid, wide)
 }
 
 /// Writes an empty log by way of a buffer of one block: first zeros behind the superblock, and then that.
@@ -50,13 +55,14 @@ fn write_log<D: Device>(
     block: &mut [u8],
     maxlen: u32,
     uuid: &[u8; 16],
+    wide: bool,
 ) -> Result<(), JournalError>
     requires block { length block.old ≡ (D.state device.old).shape.block_size }
     requires allowed { IsBlockSize (D.state device.old).shape.block_size }
     requires least { least_length ≤ maxlen }
     requires most { maxlen ≤ greatest_length }
     requires there { maxlen ≤ (D.state device.old).shape.log_blocks }
-    ensures ok { OnOk result (IsFormatted (D.state device.old).shape maxlen uuid.now (D.state device.old).disk (D.state device.new).disk) }
+    ensures ok { OnOk result (IsFormatted (D.state device.old).shape maxlen uuid.now wide (D.state device.old).disk (D.state device.new).disk) }
     ensures faults { MatchResult result (λ _. (D.state device.new).faults ≡ (D.state device.old).faults) (λ e. IsDeviceFailure (D.state device.old) (D.state device.new) e) }
     ensures shape { (D.state device.new).shape ≡ (D.state device.old).shape }
     ensures honest { D.honest device.new → D.honest device.old }
@@ -64,7 +70,7 @@ fn write_log<D: Device>(
     block.fill(0);
     write_zeros(device, block, u64::from(maxlen))?;
     device.flush(Area::Log)?;
-    Super::format(block, maxlen, uuid);
+    Super::format(block, maxlen, uuid, wide);
     device.write(Area::Log, 0, block)?;
     device.flush(Area::Log)?;
     Ok(())

@@ -2,7 +2,7 @@
 ghost use Rattle.std.specs.Prelude.{◌<◌, ◌≡◌, ◌+◌, OnOk, IfOk, IfErr, MatchResult};
 ghost use Rattle.journal_model.specs.declared.refusal.JournalError.TheVariants.{BadLength};
 ghost use Rattle.journal_model.specs.Disk.{reading};
-ghost use Rattle.journal_model.specs.Layout.{IsTaken};
+ghost use Rattle.journal_model.specs.Layout.{IsLayout};
 ghost use Rattle.log_model.specs.Opening.{greatest_number, layout_of};
 ghost use Rattle.log_model.specs.Superblock.{super_in};
 ghost use Rattle.block_device.specs.State.{EachMoment};
@@ -132,7 +132,7 @@ impl<D: Device> Opened<D> {
     /// The layout of its log.
     pub fn layout(&self) -> LogLayout
         ensures layout { result ≡ layout_of (super_in self.now.superblock) }
-        ensures taken { IsTaken result }
+        ensures taken { IsLayout result }
         ensures size { result.block_size ≡ (D.state self.now.device).shape.block_size }
     {
         Super::fields(&self.superblock).layout()
@@ -151,6 +151,13 @@ impl<D: Device> Opened<D> {
         ensures named { IsNextNamed (D.state self.now.device).shape self.now.superblock self.now.next }
     {
         &self.superblock
+    }
+
+    /// The device that it stands over, lent: of it only what changes nothing can be asked.
+    pub fn device(&self) -> &D
+        ensures { result.now ≡ self.now.device }
+    {
+        &self.device
     }
 
     /// The device, whose log is clean.

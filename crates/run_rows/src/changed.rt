@@ -75,7 +75,7 @@ fn run_over(
     out: &mut Vec<u8>,
 ) -> Result<Stopped, Fault> {
     match open(alloc, device) {
-        Ok(opened) => run_operations_over::<AnyHome>(
+        Ok(opened) => run_operations_over::<AnyHome, _>(
             alloc,
             opened,
             operations,

@@ -115,7 +115,7 @@ fn calls_of_opening(alloc: Global) -> Result<u64, RowError> {
 /// An empty log, opened on a device that stops at a write, or of which a call fails.
 fn opened(alloc: Global, stop: u64, fail: u64) -> Result<Opened<FaultyDevice>, RowError> {
     let mut device = MemDevice::new(alloc, 1024, 33, 64);
-    if format(&mut device, 33, &[0xaa; 16]).is_err() {
+    if format(&mut device, 33, &[0xaa; 16], false).is_err() {
         return Err(RowError::Memory);
     }
     let device = FailOnce::new(StopAt::new(device.crash(&[]), stop), fail);

@@ -36,7 +36,7 @@ fn bytes_of(alloc: Global, text: &str) -> Result<Vec<u8>, AllocError> {
 }
 
 /// Whether a text is a script, and the measures that its keys give: `no script`, or as
-/// `block 1024, log 33, home 64, uuid aa...`.
+/// `block 1024, log 33, home 64, uuid aa...`, and behind that `, wide` where block numbers have 64 bits.
 pub fn script(alloc: Global, given: &str) -> Result<String, RowError> {
     let bytes = bytes_of(alloc, given)?;
     match script_of(alloc, &bytes)? {
@@ -52,6 +52,9 @@ pub fn measures_text(alloc: Global, measures: &Measures) -> Result<String, Alloc
         measures.block_size, measures.log_blocks, measures.home_blocks
     )?;
     write_hex(&mut text, &measures.uuid)?;
+    if measures.wide {
+        text.push_str(", wide")?;
+    }
     Ok(text)
 }
 

@@ -1,6 +1,7 @@
 -- What is left of a journal at its end.
-use Rattle.std.proofs.Common.{sym, subst, ◌∙◌}
+use Rattle.std.proofs.Common.{inl, sym, subst, ◌∙◌}
 use Rattle.std.specs.Prelude.{◌≡◌, ℕ, ◌++◌, List, Option, None}
+use Rattle.journal_model.specs.declared.refusal.JournalError.{JournalError}
 use Rattle.journal_model.specs.Disk.{Disk, Image, Leaves, Shape}
 use Rattle.journal_model.specs.Transaction.{History}
 use Rattle.block_device.specs.State.{DeviceState}
@@ -10,8 +11,10 @@ use Rattle.log_epochs.specs.EngineWorld.Phase.{Closed, Running, Shut}
 use Rattle.log_epochs.specs.JournalPromise.{IsClosed}
 use Rattle.log_epochs.specs.JournalWorld.{JournalWorld, Leads}
 use Rattle.log_epochs.proofs.Leading.{leads-behind}
-use Rattle.group_commit.specs.Close.{CloseDid, EndsWith}
+use Rattle.journal_steps.specs.Values.{JournalValue}
+use Rattle.group_commit.specs.Close.{CloseDid, CloseRefused, EndsWith, IsSealedInClose}
 use Rattle.group_commit.specs.Close.CloseDid.{ClosesLog, StaysClean}
+use Rattle.group_commit.specs.Close.CloseRefused.{CloseAborted, CloseFailed, NoMemory}
 use Rattle.journal_script.specs.declared.script.Operation.{Operation}
 use Rattle.script_client.specs.Ended.{IsEnded, IsLeftClosed, world_in}
 use Rattle.script_client.specs.Told.{HasLedTo, IsLedTo, running_world}
@@ -75,4 +78,50 @@ pub left-closed : (Fact : Shape → Disk → Type 0) (operations : List Operatio
     → ((image : Image) → Leaves after.disk image → IsClosed old.engine.shape sealed image) → after.shape ≡ before.shape → IsLeftClosed after sealed
 left-closed Fact operations old before after sealed shown led closed shape = record {
   each = λ image leaves. subst (λ (s : Shape). IsClosed s sealed image) (led.measures ∙ sym shape) (closed image leaves);
+}
+
+-- what is sealed where a close is refused
+pub refused-sealed : {D : Type 0} (state : D → DeviceState) (old : JournalValue D) (device : D) (sealed : History) (committed : ℕ) (e : JournalError)
+    → CloseRefused state old device sealed committed e → IsSealedInClose old.journal.front sealed
+refused-sealed state old device sealed committed e (CloseAborted aborted same is count) = inl is
+refused-sealed state old device sealed committed e (CloseFailed running is count faults) = is
+refused-sealed state old device sealed committed e (NoMemory running unsealed faults) = inl unsealed.same
+
+-- what was led to with this known of the disk was so with less
+pub led-weaker : (F G : Shape → Disk → Type 0) (operations : List Operation) (state : DeviceState) (sealed : History) (shown : Option ℕ) → ((s : Shape) (d : Disk) → F s d → G s d)
+    → IsLedTo F operations state sealed shown → IsLedTo G operations state sealed shown
+led-weaker F G operations state sealed shown less to = record {
+  journal = to.journal;
+  led = record {
+    measures = to.led.measures;
+    opening = to.led.opening;
+    fact = less state.shape to.led.opening to.led.fact;
+    start = to.led.start;
+    begins = to.led.begins;
+    moves = to.led.moves;
+    directs = to.led.directs;
+    written = to.led.written;
+    answered = to.led.answered;
+    leads = to.led.leads;
+    greatest = to.led.greatest;
+  };
+  sealed_is = to.sealed_is;
+}
+
+pub ended-weaker : (F G : Shape → Disk → Type 0) (operations : List Operation) (state : DeviceState) (sealed : History) (shown : Option ℕ) → ((s : Shape) (d : Disk) → F s d → G s d)
+    → IsEnded F operations state sealed shown → IsEnded G operations state sealed shown
+ended-weaker F G operations state sealed shown less to = record {
+  opening = to.opening;
+  fact = less state.shape to.opening to.fact;
+  start = to.start;
+  begins = to.begins;
+  moves = to.moves;
+  journal = to.journal;
+  phase = to.phase;
+  directs = to.directs;
+  written = to.written;
+  answered = to.answered;
+  leads = to.leads;
+  greatest = to.greatest;
+  sealed_is = to.sealed_is;
 }

@@ -1,4 +1,5 @@
 pub mod Ended
+pub mod Lines
 pub mod Names
 pub mod Outcomes
 pub mod Performed

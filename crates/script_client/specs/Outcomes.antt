@@ -1,51 +1,133 @@
 -- What a list of operations came to, one after the other.
-use Rattle.std.specs.Prelude.{◌≡◌, ◌⊎◌, ℕ, ◌++◌, List, [], ◌∷◌, Option, length, take}
+use Rattle.std.specs.Prelude.{◌≡◌, ◌⊎◌, ⊤, ℕ, ◌++◌, List, [], ◌∷◌, Option, Result, Err, IsOk, MatchResult, length, take}
+use Rattle.std.specs.Io.KnownBytes.{Appends}
 use Rattle.std.specs.List.{AllByRecursion}
+use Rattle.journal_model.specs.declared.refusal.JournalError.{JournalError}
 use Rattle.journal_model.specs.declared.refusal.JournalError.TheVariants.{Device}
 use Rattle.journal_model.specs.Transaction.{History}
 use Rattle.block_device.specs.State.{DeviceState}
+use Rattle.group_commit.specs.Close.{IsSealedInClose, closing}
 use Rattle.recovery.specs.Values.{OpenedValue}
 use Rattle.journal_script.specs.declared.script.Operation.{Operation}
+use Rattle.script_client.specs.declared.fault.Fault.{Fault}
+use Rattle.script_client.specs.declared.fault.Fault.TheVariants.{Output, Refused as RefusedAll}
 use Rattle.script_client.specs.declared.outcome.Outcome.{Outcome}
 use Rattle.script_client.specs.declared.outcome.Outcome.TheVariants.{Refused}
 use Rattle.script_client.specs.declared.performing.AfterFailure.{AfterFailure}
 use Rattle.script_client.specs.declared.performing.AfterFailure.TheVariants.{End}
+use Rattle.script_client.specs.declared.performing.AfterRefusal.{AfterRefusal}
+use Rattle.script_client.specs.declared.performing.AfterRefusal.TheVariants.{End as EndThere}
+use Rattle.script_client.specs.declared.performing.Ending.{Ending}
+use Rattle.script_client.specs.declared.performing.Ending.TheVariants.{Close, Stay}
+use Rattle.script_client.specs.Lines.{line_of}
 use Rattle.script_client.specs.Performed.{HasDone, IsBegun, Table}
 use Rattle.script_client.specs.Shown.{IsLeftOf}
+use Rattle.script_client.specs.Told.{ClientValue}
 
 -- no operation is performed behind one that came to this
 abbrev pub IsLast : AfterFailure → Outcome → Type 0
 IsLast after outcome = (after ≡ End) × (outcome ≡ Refused Device)
 
--- these operations were performed, in order, and came to these outcomes; behind none of them but the last the list was to end
-pub data Performs {D : Type 0} (state : D → DeviceState) (honest : D → Type 0) (after : AfterFailure) : List Operation → List Outcome → Table D → Table D → Type 0 where
-  NoneYet : (t : Table D) → Performs state honest after [] [] t t
-  OneMore : (operations : List Operation) (outcomes : List Outcome) (one : Operation) (outcome : Outcome) (t u v : Table D) →
-      Performs state honest after operations outcomes t u → AllByRecursion (λ o. IsLast after o → ⊥) outcomes → HasDone state honest one outcome u v →
-      Performs state honest after (operations ++ one ∷ []) (outcomes ++ outcome ∷ []) t v
+-- nor, of those that are applied, behind one that was refused so
+abbrev pub EndsApply : AfterRefusal → JournalError → Type 0
+EndsApply after e = (after ≡ EndThere) ⊎ (e ≡ Device)
+
+abbrev pub IsLastApplied : AfterRefusal → Outcome → Type 0
+IsLastApplied after outcome = (e : JournalError) × (outcome ≡ Refused e) × EndsApply after e
+
+-- these operations were performed, in order, came to these outcomes, and have these lines; behind none of them but the last the
+-- list was to end
+pub data Performs {D : Type 0} (state : D → DeviceState) (honest : D → Type 0) (Last : Outcome → Type 0) : List Operation → List Outcome → List ℕ → Table D → Table D → Type 0 where
+  NoneYet : (t : Table D) → Performs state honest Last [] [] [] t t
+  OneMore : (operations : List Operation) (outcomes : List Outcome) (lines : List ℕ) (one : Operation) (outcome : Outcome) (t u v : Table D) →
+      Performs state honest Last operations outcomes lines t u → AllByRecursion (λ o. Last o → ⊥) outcomes → HasDone state honest one outcome u v →
+      Performs state honest Last (operations ++ one ∷ []) (outcomes ++ outcome ∷ []) (lines ++ line_of one outcome) t v
 
 -- the list was to end behind its last outcome
-abbrev pub EndsHere : AfterFailure → List Outcome → Type 0
-EndsHere after outcomes = (before : List Outcome) × (last : Outcome) × (outcomes ≡ before ++ last ∷ []) × IsLast after last
+abbrev pub EndsHere : (Last : Outcome → Type 0) → List Outcome → Type 0
+EndsHere Last outcomes = (before : List Outcome) × (last : Outcome) × (outcomes ≡ before ++ last ∷ []) × Last last
 
--- operations were performed, all of them, or those up to the one behind which the list was to end
-pub record PerformsAll {D : Type 0} (state : D → DeviceState) (honest : D → Type 0) (after : AfterFailure) (operations : List Operation) (old new : Table D) : Type 0 where
+-- operations were performed, all of them, or those up to the one behind which the list was to end, and these are their lines
+pub record PerformsAll {D : Type 0} (state : D → DeviceState) (honest : D → Type 0) (Last : Outcome → Type 0) (operations : List Operation) (old new : Table D) (lines : List ℕ) : Type 0 where
   pub count : ℕ
   pub outcomes : List Outcome
-  pub performs : Performs state honest after (take count operations) outcomes old new
-  pub all : (count ≡ length operations) ⊎ EndsHere after outcomes
+  pub performs : Performs state honest Last (take count operations) outcomes lines old new
+  pub all : (count ≡ length operations) ⊎ EndsHere Last outcomes
 
 -- so they were from here on, and this is left: the device of the journal, the transactions that were sealed, and the greatest that a
 -- wait or a status showed committed
 pub record PerformsTo {D : Type 0} (state : D → DeviceState) (honest : D → Type 0) (start : Table D) (operations : List Operation) (after : AfterFailure)
-    (device : D) (sealed : History) (shown : Option ℕ) : Type 0 where
+    (device : D) (sealed : History) (shown : Option ℕ) (lines : List ℕ) : Type 0 where
   pub last : Table D
-  pub all : PerformsAll state honest after operations start last
+  pub all : PerformsAll state honest (IsLast after) operations start last lines
   pub left : IsLeftOf last.client device sealed shown
 
 -- so they were on a journal that was just made on an opened log
 pub record HasPerformed {D : Type 0} (state : D → DeviceState) (honest : D → Type 0) (opened : OpenedValue D) (operations : List Operation) (after : AfterFailure)
-    (device : D) (sealed : History) (shown : Option ℕ) : Type 0 where
+    (device : D) (sealed : History) (shown : Option ℕ) (lines : List ℕ) : Type 0 where
   pub start : Table D
   pub begun : IsBegun state opened operations start
-  pub performs : PerformsTo state honest start operations after device sealed shown
+  pub performs : PerformsTo state honest start operations after device sealed shown lines
+
+-- lines were written, and these are of what was done
+pub record Writes (before written : Option (List ℕ)) (AreOf : List ℕ → Type 0) : Type 0 where
+  pub lines : List ℕ
+  pub said : Appends before written lines
+  pub are : AreOf lines
+
+-- all operations of a list were performed, and behind none of them it was to end; their lines were written
+pub record AppliesAll {D : Type 0} (state : D → DeviceState) (honest : D → Type 0) (Last : Outcome → Type 0) (operations : List Operation) (old new : Table D)
+    (before written : Option (List ℕ)) : Type 0 where
+  pub outcomes : List Outcome
+  pub performs : Writes before written (λ lines. Performs state honest Last operations outcomes lines old new)
+  pub go : AllByRecursion (λ o. Last o → ⊥) outcomes
+
+-- those up to one that was refused so were, and behind that the list was to end; their lines were written
+pub record AppliesUpTo {D : Type 0} (state : D → DeviceState) (honest : D → Type 0) (Last : Outcome → Type 0) (operations : List Operation) (old new : Table D)
+    (before written : Option (List ℕ)) (e : JournalError) : Type 0 where
+  pub count : ℕ
+  pub outcomes : List Outcome
+  pub performs : Writes before written (λ lines. Performs state honest Last (take count operations) (outcomes ++ Refused e ∷ []) lines old new)
+  pub last : Last (Refused e)
+
+-- those up to one whose line could not be written were
+pub record AppliesSome {D : Type 0} (state : D → DeviceState) (honest : D → Type 0) (Last : Outcome → Type 0) (operations : List Operation) (old new : Table D) : Type 0 where
+  pub count : ℕ
+  pub outcomes : List Outcome
+  pub lines : List ℕ
+  pub performs : Performs state honest Last (take count operations) outcomes lines old new
+
+-- why operations that are applied ended before the last one
+abbrev pub EndsFor : {D : Type 0} → (D → DeviceState) → (honest : D → Type 0) → (Last : Outcome → Type 0) → List Operation → Table D → Table D → (before written : Option (List ℕ)) → Fault → Type 0
+EndsFor state honest Last operations old new before written (RefusedAll e) = AppliesUpTo state honest Last operations old new before written e
+EndsFor state honest Last operations old new before written (Output e) = AppliesSome state honest Last operations old new
+
+abbrev pub Applies : {D : Type 0} → (D → DeviceState) → (honest : D → Type 0) → (Last : Outcome → Type 0) → List Operation → Table D → Table D → (before written : Option (List ℕ)) → Result (Unit {0}) Fault → Type 0
+Applies state honest Last operations old new before written applied =
+    MatchResult applied (λ _. AppliesAll state honest Last operations old new before written) (EndsFor state honest Last operations old new before written)
+
+-- what is left of a journal that was closed, or whose close was refused: at its end all that the operations had sealed was sealed, and the
+-- running transaction where a handle had joined it; a refused close may not have come to that one
+pub record IsClosedAs {D : Type 0} (last : ClientValue D) (sealed : History) (shown : Option ℕ) (end : Result (Unit {0}) Fault) : Type 0 where
+  pub sealed_is : MatchResult end (λ _. sealed ≡ closing last.journal.journal.front) (λ _. IsSealedInClose last.journal.journal.front sealed)
+  pub shown_is : shown ≡ last.shown
+
+-- what is left behind the last operation, where all were performed
+abbrev pub EndsAs : {D : Type 0} → Ending → ClientValue D → (device : D) → History → (shown : Option ℕ) → Result (Unit {0}) Fault → Type 0
+EndsAs Stay last device sealed shown end = IsOk end × IsLeftOf last device sealed shown
+EndsAs Close last device sealed shown end = IsClosedAs last sealed shown end
+
+-- what is left of operations that were applied so: where they ended before the last one, that was why, and the journal is as they left it
+abbrev pub IsAppliedAs : {D : Type 0} → (applied : Result (Unit {0}) Fault) → Ending → ClientValue D → (device : D) → History → (shown : Option ℕ) → Result (Unit {0}) Fault → Type 0
+IsAppliedAs applied ending last device sealed shown end =
+    MatchResult applied (λ _. EndsAs ending last device sealed shown end) (λ fault. (end ≡ Err fault) × IsLeftOf last device sealed shown)
+
+-- so operations were applied to a journal that was just made on an opened log
+pub record HasApplied {D : Type 0} (state : D → DeviceState) (honest : D → Type 0) (opened : OpenedValue D) (operations : List Operation) (after : AfterRefusal) (ending : Ending)
+    (device : D) (sealed : History) (shown : Option ℕ) (end : Result (Unit {0}) Fault) (before written : Option (List ℕ)) : Type 0 where
+  pub start : Table D
+  pub begun : IsBegun state opened operations start
+  pub last : Table D
+  pub applied : Result (Unit {0}) Fault
+  pub applies : Applies state honest (IsLastApplied after) operations start last before written applied
+  pub ends : IsAppliedAs applied ending last.client device sealed shown end

@@ -1,5 +1,5 @@
 //! The client of a journal: it calls it, and records what it is shown.
-ghost use Rattle.std.specs.Prelude.{◌≡◌, ◌+◌, ◌≤◌, length, IfErr, IfOk, OnOk};
+ghost use Rattle.std.specs.Prelude.{◌≡◌, ◌+◌, ◌≤◌, length, IfErr, IfOk, MatchResult, OnOk};
 ghost use Rattle.journal_model.specs.declared.refusal.JournalError.TheVariants.{Memory};
 ghost use Rattle.journal_model.specs.Disk.{Disk, Shape};
 ghost use Rattle.journal_world.specs.Front.FrontEvent.{RevokeBlock, WriteBlock};
@@ -17,7 +17,7 @@ use journal_model::{BlockNo, JournalError, Sealed, Tid};
 use journal_script::Operation;
 use recovery::Opened;
 use std::alloc::Global;
-use std::marker::{Model, PhantomData};
+use std::marker::{Brand, Model, PhantomData};
 
 /// What is known of the disk on which a run begins.
 pub trait HomeFact {
@@ -29,6 +29,13 @@ pub trait HomeFact {
 pub struct AnyHome;
 
 impl HomeFact for AnyHome {
+    ghost use Rattle.script_client.specs.Told.{IsAnyHome};
+
+    ghost holds = { IsAnyHome };
+}
+
+/// What the call that brings it in picks, in proofs alone.
+impl HomeFact for Brand {
     ghost use Rattle.script_client.specs.Told.{IsAnyHome};
 
     ghost holds = { IsAnyHome };
@@ -86,6 +93,7 @@ pub enum Waited {
 }
 
 impl<'a, D: Device + Drop, H: HomeFact> Client<'a, D, H> {
+    ghost use Rattle.group_commit.specs.Close.{IsSealedInClose, closing};
     ghost use Rattle.script_client.specs.Ended.{IsEnded, IsLeftClosed};
     ghost use Rattle.script_client.specs.Shown.{IsWaited, IsNewClient, IsNextHandle, IsLeftOf, IsRefusedAborted, IsSameButJournal, IsShown, ticket_of};
     ghost use Rattle.script_client.specs.Told.{IsLedTo, with_told};
@@ -391,6 +399,10 @@ impl<'a, D: Device + Drop, H: HomeFact> Client<'a, D, H> {
     pub fn close(self) -> Ended<D>
         ensures ended { D.honest result.parts.device → IsEnded H.holds self.entry.operations (D.state result.parts.device) result.parts.sealed.items result.acknowledged }
         ensures closed { OnOk result.closed (D.honest result.parts.device → IsLeftClosed (D.state result.parts.device) result.parts.sealed.items) }
+        ensures sealed { MatchResult result.closed
+            (λ _. result.parts.sealed.items ≡ closing self.entry.journal.journal.front)
+            (λ _. IsSealedInClose self.entry.journal.journal.front result.parts.sealed.items) }
+        ensures shown { result.acknowledged ≡ self.entry.shown }
     {
         let Client {
             journal,

@@ -81,6 +81,7 @@ fn told(tid: Tid, status: Status) -> Outcome
 impl<'a, D: Device + Drop, H: HomeFact> Interpreter<'a, D, H> {
     ghost use Rattle.std.specs.Prelude.{OnOk};
     ghost use Rattle.journal_script.specs.Named.{IsDirectOf};
+    ghost use Rattle.group_commit.specs.Close.{IsSealedInClose, closing};
     ghost use Rattle.script_client.specs.Ended.{IsEnded, IsLeftClosed};
     ghost use Rattle.script_client.specs.Names.{stands_for};
     ghost use Rattle.script_client.specs.Performed.{HasDone, HasRequested, HasRestarted, HasStatus, HasStopped, HasTouched, HasWaited, IsBegun, IsTouch, OrRefused, ReadsBlock, StartsNamed, StartsNone, SyncsDirectly, TakesCheckTurns, TakesOneCheckTurn, TakesOneTurn, TakesTurns, TellsAgain, Touches, WaitsFor, WritesBlock, WritesDirectly};
@@ -155,6 +156,10 @@ impl<'a, D: Device + Drop, H: HomeFact> Interpreter<'a, D, H> {
     pub fn close(self) -> Ended<D>
         ensures ended { D.honest result.parts.device → IsEnded H.holds self.entry.client.operations (D.state result.parts.device) result.parts.sealed.items result.acknowledged }
         ensures closed { OnOk result.closed (D.honest result.parts.device → IsLeftClosed (D.state result.parts.device) result.parts.sealed.items) }
+        ensures sealed { MatchResult result.closed
+            (λ _. result.parts.sealed.items ≡ closing self.entry.client.journal.journal.front)
+            (λ _. IsSealedInClose self.entry.client.journal.journal.front result.parts.sealed.items) }
+        ensures shown { result.acknowledged ≡ self.entry.client.shown }
     {
         self.into_stopped().close()
     }
@@ -163,6 +168,7 @@ impl<'a, D: Device + Drop, H: HomeFact> Interpreter<'a, D, H> {
     fn into_stopped(self) -> Client<'a, D, H>
         ensures operations { result.operations ≡ self.entry.client.operations }
         ensures left { IsLeftOf self.entry.client result.journal.device result.journal.journal.front.sealed result.shown }
+        ensures running { result.journal.journal.front.running ≡ self.entry.client.journal.journal.front.running }
     {
         let Interpreter {
             alloc: _,

@@ -1,4 +1,7 @@
 //! What an operation came to, as the right side of its line says it.
+ghost use Rattle.std.specs.Fmt.{WritesOnOk};
+ghost use Rattle.script_client.specs.Lines.{check_turn_text, done_text, hex_digits, refused_text, turn_text};
+
 use group_commit::{CheckTurn, Turn};
 use journal_model::{JournalError, Tid};
 use std::fmt;
@@ -30,11 +33,16 @@ pub enum Outcome {
 }
 
 impl fmt::Display for Outcome {
+    ghost use Rattle.std.specs.Prelude.{Some};
+    ghost use Rattle.script_client.specs.Lines.{outcome_text};
+
+    ghost output = { λ outcome. Some (outcome_text outcome) };
+
     fn fmt<W: fmt::Write>(&self, f: &mut fmt::Formatter<W>) -> fmt::Result {
         match self {
-            Outcome::Transaction(tid) => tid.0.fmt(f),
+            Outcome::Transaction(tid) => write!(f, "{}", tid.0),
             Outcome::Done => f.write_str("ok"),
-            Outcome::Begins(bytes) => Hex(bytes).fmt(f),
+            Outcome::Begins(bytes) => write!(f, "{}", Hex(bytes)),
             Outcome::Turn(turn) => write_turn(f, *turn),
             Outcome::CheckTurn(turn) => write_check_turn(f, *turn),
             Outcome::Committed(_) => f.write_str("committed"),
@@ -50,21 +58,37 @@ impl fmt::Display for Outcome {
 pub struct Hex<'a>(pub &'a [u8]);
 
 impl fmt::Display for Hex<'_> {
+    ghost use Rattle.std.specs.Prelude.{Some};
+    ghost use Rattle.script_client.specs.Lines.{hex_text};
+
+    ghost output = { λ hex. Some (hex_text hex.0.now) };
+
     fn fmt<W: fmt::Write>(&self, f: &mut fmt::Formatter<W>) -> fmt::Result {
         for byte in self.0 {
-            write!(f, "{byte:02x}")?;
+            write_byte(f, *byte)?;
         }
         Ok(())
     }
 }
 
+/// Writes a byte in two hex digits.
+fn write_byte<W: fmt::Write>(f: &mut fmt::Formatter<W>, byte: u8) -> fmt::Result
+    ensures { WritesOnOk W.write_str_gives f.old result (hex_digits byte) f.new }
+{
+    write!(f, "{byte:02x}")
+}
+
 /// Writes why an operation is refused.
-fn write_refusal<W: fmt::Write>(f: &mut fmt::Formatter<W>, e: JournalError) -> fmt::Result {
+fn write_refusal<W: fmt::Write>(f: &mut fmt::Formatter<W>, e: JournalError) -> fmt::Result
+    ensures { WritesOnOk W.write_str_gives f.old result (refused_text e) f.new }
+{
     write!(f, "refused {} {e}", e.number())
 }
 
 /// Writes what a commit turn did.
-fn write_turn<W: fmt::Write>(f: &mut fmt::Formatter<W>, turn: Turn) -> fmt::Result {
+fn write_turn<W: fmt::Write>(f: &mut fmt::Formatter<W>, turn: Turn) -> fmt::Result
+    ensures { WritesOnOk W.write_str_gives f.old result (turn_text turn) f.new }
+{
     match turn {
         Turn::Idle => f.write_str("idle"),
         Turn::Waiting => f.write_str("waiting"),
@@ -75,7 +99,9 @@ fn write_turn<W: fmt::Write>(f: &mut fmt::Formatter<W>, turn: Turn) -> fmt::Resu
 }
 
 /// Writes what a checkpoint turn did.
-fn write_check_turn<W: fmt::Write>(f: &mut fmt::Formatter<W>, turn: CheckTurn) -> fmt::Result {
+fn write_check_turn<W: fmt::Write>(f: &mut fmt::Formatter<W>, turn: CheckTurn) -> fmt::Result
+    ensures { WritesOnOk W.write_str_gives f.old result (check_turn_text turn) f.new }
+{
     match turn {
         CheckTurn::Idle => f.write_str("idle"),
         CheckTurn::Step => f.write_str("step"),
@@ -84,6 +110,8 @@ fn write_check_turn<W: fmt::Write>(f: &mut fmt::Formatter<W>, turn: CheckTurn) -
 }
 
 /// Writes what was done to a transaction.
-fn write_done<W: fmt::Write>(f: &mut fmt::Formatter<W>, done: &str, tid: Tid) -> fmt::Result {
+fn write_done<W: fmt::Write>(f: &mut fmt::Formatter<W>, done: &str, tid: Tid) -> fmt::Result
+    ensures { WritesOnOk W.write_str_gives f.old result (done_text done.now tid) f.new }
+{
     write!(f, "{done} {}", tid.0)
 }

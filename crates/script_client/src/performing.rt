@@ -1,8 +1,11 @@
 //! The operations of a script, one after the other.
-ghost use Rattle.std.specs.Prelude.{◌≡◌, ◌↔◌, IfOk, IsTrue, OnOk};
+ghost use Rattle.std.specs.Prelude.{◌≡◌, ◌↔◌, IfNone, IfOk, IfSome, IsTrue, OnOk};
+ghost use Rattle.std.specs.Io.KnownBytes.{Appends};
+ghost use Rattle.script_client.specs.declared.outcome.Outcome.TheVariants.{Refused};
 ghost use Rattle.script_client.specs.declared.performing.Ending.TheVariants.{Close, Stay};
 ghost use Rattle.script_client.specs.Ended.{IsEnded, IsLeftClosed};
-ghost use Rattle.script_client.specs.Outcomes.{HasPerformed, IsLast, PerformsAll, PerformsTo};
+ghost use Rattle.script_client.specs.Lines.{line_of};
+ghost use Rattle.script_client.specs.Outcomes.{Applies, EndsApply, EndsAs, HasApplied, HasPerformed, IsAppliedAs, IsClosedAs, IsLast, IsLastApplied, PerformsAll, PerformsTo, Writes};
 ghost use Rattle.script_client.specs.Shown.{IsLeftOf};
 ghost use Rattle.script_client.specs.Told.{IsLedTo};
 
@@ -17,6 +20,7 @@ use recovery::Opened;
 use std::alloc::Global;
 use std::io;
 use std::io::Write;
+use std::marker::Brand;
 
 /// What the operations behind a device failure come to.
 #[derive(Clone, Copy, Debug, PartialEq, Eq)]
@@ -72,18 +76,18 @@ pub struct Applied<D> {
 ///
 /// `Fault::Refused` with `Memory` where there is none for the journal; `Fault::Output` where a line can't be written. Some of the
 /// lines may have been.
-pub fn perform<D: Device + Drop, H: HomeFact>(
+pub fn perform<D: Device + Drop, H: HomeFact, W: Write>(
     alloc: Global,
     opened: Opened<D>,
     operations: &[Operation],
     after: AfterFailure,
-    out: &mut impl Write,
+    out: &mut W,
 ) -> Result<Performed<D>, Fault>
     requires { D.honest opened.device → H.holds (D.state opened.device).shape (D.state opened.device).disk }
     ensures led { IfOk result (λ performed. D.honest performed.device →
         IsLedTo H.holds operations.now (D.state performed.device) performed.sealed.items performed.acknowledged) }
-    ensures outcomes { IfOk result (λ performed.
-        HasPerformed D.state D.honest opened operations.now after performed.device performed.sealed.items performed.acknowledged) }
+    ensures outcomes { IfOk result (λ performed. Writes (W.contents out.old) (W.contents out.new)
+        (HasPerformed D.state D.honest opened operations.now after performed.device performed.sealed.items performed.acknowledged)) }
 {
     match Interpreter::<D, H>::new(alloc, opened, operations) {
         Ok(interpreter) => perform_by(interpreter, operations, after, out),
@@ -92,17 +96,17 @@ pub fn perform<D: Device + Drop, H: HomeFact>(
 }
 
 /// Performs the operations of an interpreter, and ends the journal.
-fn perform_by<D: Device + Drop, H: HomeFact>(
+fn perform_by<D: Device + Drop, H: HomeFact, W: Write>(
     interpreter: Interpreter<'_, D, H>,
     operations: &[Operation],
     after: AfterFailure,
-    out: &mut impl Write,
+    out: &mut W,
 ) -> Result<Performed<D>, Fault>
     requires { interpreter.client.operations ≡ operations.now }
     ensures led { IfOk result (λ performed. D.honest performed.device →
         IsLedTo H.holds operations.now (D.state performed.device) performed.sealed.items performed.acknowledged) }
-    ensures outcomes { IfOk result (λ performed.
-        PerformsTo D.state D.honest (record { client = interpreter.entry.client; names = interpreter.entry.slots }) operations.now after performed.device performed.sealed.items performed.acknowledged) }
+    ensures outcomes { IfOk result (λ performed. Writes (W.contents out.old) (W.contents out.new)
+        (PerformsTo D.state D.honest (record { client = interpreter.entry.client; names = interpreter.entry.slots }) operations.now after performed.device performed.sealed.items performed.acknowledged)) }
 {
     let mut interpreter = interpreter;
     match perform_all(&mut interpreter, operations, after, out) {
@@ -121,13 +125,13 @@ fn perform_by<D: Device + Drop, H: HomeFact>(
 /// # Errors
 ///
 /// `Memory` where there is none for the journal: nothing was done.
-pub fn apply<D: Device + Drop, H: HomeFact>(
+pub fn apply<D: Device + Drop, H: HomeFact, W: Write>(
     alloc: Global,
     opened: Opened<D>,
     operations: &[Operation],
     after: AfterRefusal,
     ending: Ending,
-    out: &mut impl Write,
+    out: &mut W,
 ) -> Result<Applied<D>, JournalError>
     requires { D.honest opened.device → H.holds (D.state opened.device).shape (D.state opened.device).disk }
     ensures ended { IfOk result (λ applied. D.honest applied.left.device →
@@ -136,6 +140,31 @@ pub fn apply<D: Device + Drop, H: HomeFact>(
         IsLeftClosed (D.state applied.left.device) applied.left.sealed.items)) }
     ensures stays { ending ≡ Stay → IfOk result (λ applied. D.honest applied.left.device →
         IsLedTo H.holds operations.now (D.state applied.left.device) applied.left.sealed.items applied.left.acknowledged) }
+    ensures outcomes { IfOk result (λ applied.
+        HasApplied D.state D.honest opened operations.now after ending applied.left.device applied.left.sealed.items applied.left.acknowledged applied.end (W.contents out.old) (W.contents out.new)) }
+    ensures honest { IfOk result (λ applied. D.honest applied.left.device → D.honest opened.device) }
+{
+    apply_known::<D, Brand, W>(alloc, opened, operations, after, ending, out)
+}
+
+/// The same, where the caller picks what is known of the disk.
+fn apply_known<D: Device + Drop, H: HomeFact, W: Write>(
+    alloc: Global,
+    opened: Opened<D>,
+    operations: &[Operation],
+    after: AfterRefusal,
+    ending: Ending,
+    out: &mut W,
+) -> Result<Applied<D>, JournalError>
+    requires { D.honest opened.device → H.holds (D.state opened.device).shape (D.state opened.device).disk }
+    ensures ended { IfOk result (λ applied. D.honest applied.left.device →
+        IsEnded H.holds operations.now (D.state applied.left.device) applied.left.sealed.items applied.left.acknowledged) }
+    ensures closed { ending ≡ Close → IfOk result (λ applied. OnOk applied.end (D.honest applied.left.device →
+        IsLeftClosed (D.state applied.left.device) applied.left.sealed.items)) }
+    ensures stays { ending ≡ Stay → IfOk result (λ applied. D.honest applied.left.device →
+        IsLedTo H.holds operations.now (D.state applied.left.device) applied.left.sealed.items applied.left.acknowledged) }
+    ensures outcomes { IfOk result (λ applied.
+        HasApplied D.state D.honest opened operations.now after ending applied.left.device applied.left.sealed.items applied.left.acknowledged applied.end (W.contents out.old) (W.contents out.new)) }
 {
     let mut interpreter = Interpreter::<D, H>::new(alloc, opened, operations)?;
     let applied = apply_all(&mut interpreter, operations, after, out);
@@ -147,25 +176,47 @@ pub fn apply<D: Device + Drop, H: HomeFact>(
 /// # Errors
 ///
 /// `Fault::Refused`: the last one was refused, and was to be the last for that. `Fault::Output`: its line can't be written.
-fn apply_all<D: Device + Drop, H: HomeFact>(
+fn apply_all<D: Device + Drop, H: HomeFact, W: Write>(
     interpreter: &mut Interpreter<'_, D, H>,
     operations: &[Operation],
     after: AfterRefusal,
-    out: &mut impl Write,
+    out: &mut W,
 ) -> Result<(), Fault>
     requires { interpreter.old.client.operations ≡ operations.now }
-    ensures { interpreter.new.client.operations ≡ interpreter.old.client.operations }
+    ensures operations { interpreter.new.client.operations ≡ interpreter.old.client.operations }
+    ensures applies { Applies D.state D.honest (IsLastApplied after) operations.now
+        (record { client = interpreter.old.client; names = interpreter.old.slots }) (record { client = interpreter.new.client; names = interpreter.new.slots })
+        (W.contents out.old) (W.contents out.new) result }
 {
     for operation in operations {
         let outcome = interpreter.perform(operation);
-        writeln!(out, "{operation} = {outcome}")?;
-        if let Outcome::Refused(e) = outcome
-            && (after == AfterRefusal::End || e == JournalError::Device)
-        {
+        match write_line(operation, &outcome, out) {
+            Ok(()) => {}
+            Err(e) => return Err(Fault::Output(e)),
+        }
+        if let Some(e) = last_refusal(outcome, after) {
             return Err(Fault::Refused(e));
         }
     }
     Ok(())
+}
+
+/// Prints the line of an operation.
+fn write_line<W: Write>(operation: &Operation, outcome: &Outcome, out: &mut W) -> io::Result<()>
+    ensures { OnOk result (Appends (W.contents out.old) (W.contents out.new) (line_of operation.now outcome.now)) }
+{
+    writeln!(out, "{operation} = {outcome}")
+}
+
+/// Why an operation that came to this is the last one that is applied, if it is.
+fn last_refusal(outcome: Outcome, after: AfterRefusal) -> Option<JournalError>
+    ensures some { IfSome result (λ e. (outcome ≡ Refused e) × EndsApply after e) }
+    ensures none { IfNone result (IsLastApplied after outcome → ⊥) }
+{
+    match outcome {
+        Outcome::Refused(e) if after == AfterRefusal::End || e == JournalError::Device => Some(e),
+        _ => None,
+    }
 }
 
 /// Ends the journal, as `ending` tells where all operations were performed.
@@ -177,6 +228,7 @@ fn end_of<D: Device + Drop, H: HomeFact>(
     ensures ended { D.honest result.left.device → IsEnded H.holds interpreter.entry.client.operations (D.state result.left.device) result.left.sealed.items result.left.acknowledged }
     ensures closed { ending ≡ Close → OnOk result.end (D.honest result.left.device → IsLeftClosed (D.state result.left.device) result.left.sealed.items) }
     ensures stays { ending ≡ Stay → D.honest result.left.device → IsLedTo H.holds interpreter.entry.client.operations (D.state result.left.device) result.left.sealed.items result.left.acknowledged }
+    ensures applied { IsAppliedAs applied ending interpreter.entry.client result.left.device result.left.sealed.items result.left.acknowledged result.end }
 {
     match applied {
         Ok(()) => end_as(interpreter, ending),
@@ -192,6 +244,7 @@ fn end_as<D: Device + Drop, H: HomeFact>(
     ensures ended { D.honest result.left.device → IsEnded H.holds interpreter.entry.client.operations (D.state result.left.device) result.left.sealed.items result.left.acknowledged }
     ensures closed { ending ≡ Close → OnOk result.end (D.honest result.left.device → IsLeftClosed (D.state result.left.device) result.left.sealed.items) }
     ensures stays { ending ≡ Stay → D.honest result.left.device → IsLedTo H.holds interpreter.entry.client.operations (D.state result.left.device) result.left.sealed.items result.left.acknowledged }
+    ensures ends { EndsAs ending interpreter.entry.client result.left.device result.left.sealed.items result.left.acknowledged result.end }
 {
     match ending {
         Ending::Close => close(interpreter),
@@ -206,6 +259,7 @@ fn stay<D: Device + Drop, H: HomeFact>(
 ) -> Applied<D>
     ensures ended { D.honest result.left.device → IsEnded H.holds interpreter.entry.client.operations (D.state result.left.device) result.left.sealed.items result.left.acknowledged }
     ensures led { D.honest result.left.device → IsLedTo H.holds interpreter.entry.client.operations (D.state result.left.device) result.left.sealed.items result.left.acknowledged }
+    ensures left { IsLeftOf interpreter.entry.client result.left.device result.left.sealed.items result.left.acknowledged }
     ensures end { result.end ≡ end }
 {
     Applied {
@@ -218,6 +272,7 @@ fn stay<D: Device + Drop, H: HomeFact>(
 fn close<D: Device + Drop, H: HomeFact>(interpreter: Interpreter<'_, D, H>) -> Applied<D>
     ensures ended { D.honest result.left.device → IsEnded H.holds interpreter.entry.client.operations (D.state result.left.device) result.left.sealed.items result.left.acknowledged }
     ensures closed { OnOk result.end (D.honest result.left.device → IsLeftClosed (D.state result.left.device) result.left.sealed.items) }
+    ensures closed_as { IsClosedAs interpreter.entry.client result.left.sealed.items result.left.acknowledged result.end }
 {
     let Ended {
         parts,
@@ -239,20 +294,20 @@ fn close<D: Device + Drop, H: HomeFact>(interpreter: Interpreter<'_, D, H>) -> A
 }
 
 /// Performs the operations of an interpreter, and prints a line for each.
-fn perform_all<D: Device + Drop, H: HomeFact>(
+fn perform_all<D: Device + Drop, H: HomeFact, W: Write>(
     interpreter: &mut Interpreter<'_, D, H>,
     operations: &[Operation],
     after: AfterFailure,
-    out: &mut impl Write,
+    out: &mut W,
 ) -> io::Result<()>
     requires { interpreter.old.client.operations ≡ operations.now }
     ensures operations { interpreter.new.client.operations ≡ interpreter.old.client.operations }
-    ensures all { OnOk result (PerformsAll D.state D.honest after operations.now
-        (record { client = interpreter.old.client; names = interpreter.old.slots }) (record { client = interpreter.new.client; names = interpreter.new.slots })) }
+    ensures all { OnOk result (Writes (W.contents out.old) (W.contents out.new) (PerformsAll D.state D.honest (IsLast after) operations.now
+        (record { client = interpreter.old.client; names = interpreter.old.slots }) (record { client = interpreter.new.client; names = interpreter.new.slots }))) }
 {
     for operation in operations {
         let outcome = interpreter.perform(operation);
-        writeln!(out, "{operation} = {outcome}")?;
+        write_line(operation, &outcome, out)?;
         if is_last(outcome, after) {
             return Ok(());
         }

@@ -1,6 +1,6 @@
 -- The disk on which a run begins.
 use Rattle.std.proofs.Common.{◌∙◌, refl, sym, ap, subst, arith, false}
-use Rattle.std.specs.Prelude.{◌≡◌, ℕ, ◌^◌, ◌<◌, ◌≤◌, List, [], ◌∷◌, length, replicate}
+use Rattle.std.specs.Prelude.{◌≡◌, ℕ, ◌^◌, ◌<◌, ◌≤◌, Bool, List, [], ◌∷◌, length, replicate}
 use Rattle.journal_model.specs.declared.number.Area.{Area}
 use Rattle.journal_model.specs.declared.number.Area.TheVariants.{Home, Log}
 use Rattle.journal_model.specs.Disk.{Cell, Disk, Shape, flushed}
@@ -13,8 +13,9 @@ use Rattle.journal_world.specs.Opening.{IsOpening}
 use Rattle.journal_world.specs.Sound.{durable_cell}
 use Rattle.log_format.proofs.Formatted.{formatted_says}
 use Rattle.recovery.specs.Opening.{IsFormatted}
+use Rattle.journal_script.specs.declared.measures.Measures.{Measures}
 use Rattle.script_client.specs.Told.{IsZeroHome}
-use Rattle.script_run.specs.Disks.{IsEmptyLog, disk_behind, run_state}
+use Rattle.script_run.specs.Disks.{IsEmptyLog, disk_behind, run_state, shape_of}
 
 -- a crash that keeps no write leaves what was flushed
 kept-none : (v : List ℕ) (ws : List (ℕ × List ℕ)) → kept_value [] v ws ≡ v
@@ -29,35 +30,42 @@ small : (n : ℕ) → n ≤ greatest_length → n < 2 ^ 32
 small n most = omega (arith, most)
 
 -- what a crash leaves of a device that was blank, and then formatted
-pub empty-log : (shape : Shape) (maxlen : ℕ) (uuid : List ℕ) (blank formatted left : MemState)
-    → blank ≡ record { shape = shape; calls = []; faults = 0; calls_made = 0 } → formatted.shape ≡ blank.shape
-    → IsFormatted blank.shape maxlen uuid (state_of blank).disk (state_of formatted).disk → length uuid ≡ 16
+pub empty-log : (m : Measures) (blank formatted left : MemState)
+    → blank ≡ record { shape = shape_of m; calls = []; faults = 0; calls_made = 0 } → formatted.shape ≡ blank.shape
+    → IsFormatted blank.shape m.log_blocks m.uuid m.wide (state_of blank).disk (state_of formatted).disk → length m.uuid ≡ 16
     → ((a : Area) (n : ℕ) → (state_of left).disk a n ≡ record { reads = crashed [] formatted a n; others = [] })
     → left.shape ≡ formatted.shape
-    → IsEmptyLog (state_of left)
-empty-log shape maxlen uuid blank formatted left new same is long crash left_shape =
-    let size : left.shape ≡ shape = left_shape ∙ same ∙ ap (λ (m : MemState). m.shape) new in
+    → IsEmptyLog m (state_of left)
+empty-log m blank formatted left new same is long crash left_shape =
+    let shape : Shape = shape_of m in
+    let maxlen : ℕ = m.log_blocks in
+    let uuid : List ℕ = m.uuid in
+    let is_wide : Bool = m.wide in
+    let size : left.shape ≡ shape = left_shape ∙ same ∙ ap (λ (s : MemState). s.shape) new in
     let zeros : List ℕ = replicate shape.block_size 0 in
-    let blank_home : (b : ℕ) → (state_of blank).disk Home b ≡ durable_cell zeros = λ b. ap (λ (m : MemState). (state_of m).disk Home b) new in
+    let blank_home : (b : ℕ) → (state_of blank).disk Home b ≡ durable_cell zeros = λ b. ap (λ (s : MemState). (state_of s).disk Home b) new in
     let home : (b : ℕ) → (state_of left).disk Home b ≡ durable_cell zeros = λ b.
     crash Home b ∙ ap durable_cell (crashed-durable formatted Home b zeros (is.home b ∙ blank_home b)) in
-    let log : ((state_of left).disk Log 0).reads ≡ formatted_super blank.shape.block_size maxlen uuid =
-    ap (λ (c : Cell). c.reads) (crash Log 0) ∙ crashed-durable formatted Log 0 (formatted_super blank.shape.block_size maxlen uuid) is.superblock in
+    let log : ((state_of left).disk Log 0).reads ≡ formatted_super blank.shape.block_size maxlen uuid is_wide =
+    ap (λ (c : Cell). c.reads) (crash Log 0) ∙ crashed-durable formatted Log 0 (formatted_super blank.shape.block_size maxlen uuid is_wide) is.superblock in
     record {
+      shape_is = size;
       home = λ b. home b ∙ ap (λ (s : Shape). durable_cell (replicate s.block_size 0)) (sym size);
+      superblock = log ∙ ap (λ (s : MemState). formatted_super s.shape.block_size maxlen uuid is_wide) new;
       clean = ap (λ (block : List ℕ). (super_in block).s_start) log
-          ∙ ap (λ (s : Super). s.s_start) (formatted_says blank.shape.block_size maxlen uuid is.block_size (small maxlen is.most) long);
+          ∙ ap (λ (s : Super). s.s_start) (formatted_says blank.shape.block_size maxlen uuid is_wide is.block_size (small maxlen is.most) long);
     }
 
 -- the opening of an empty log leaves home as it is
-pub opened-zero : (old new : DeviceState) (superblock : List ℕ) (next : ℕ) → IsEmptyLog old → IsOpening old.shape old.disk new.disk superblock next → new.shape ≡ old.shape
+pub opened-zero : (m : Measures) (old new : DeviceState) (superblock : List ℕ) (next : ℕ) → IsEmptyLog m old → IsOpening old.shape old.disk new.disk superblock next → new.shape ≡ old.shape
     → IsZeroHome new.shape new.disk
-opened-zero old new superblock next empty is shape =
+opened-zero m old new superblock next empty is shape =
     let still : new.disk ≡ flushed old.disk Log = is.untouched empty.clean in
     λ b. ap (λ (d : Disk). d Home b) still ∙ empty.home b ∙ ap (λ (s : Shape). durable_cell (replicate s.block_size 0)) (sym shape)
 
 -- the device of a run has the disk of the one behind it
-pub empty-run : (disk : MemState) (device : FailOnce (StopAt MemState)) → disk_behind device ≡ disk → IsEmptyLog (state_of disk) → IsEmptyLog (run_state device)
-empty-run disk device is empty =
-    let moved : IsEmptyLog (state_of (disk_behind device)) = subst (λ (m : MemState). IsEmptyLog (state_of m)) (sym is) empty in
-    record { home = moved.home; clean = moved.clean }
+pub empty-run : (m : Measures) (disk : MemState) (device : FailOnce (StopAt MemState)) → disk_behind device ≡ disk → IsEmptyLog m (state_of disk)
+    → IsEmptyLog m (run_state device)
+empty-run m disk device is empty =
+    let moved : IsEmptyLog m (state_of (disk_behind device)) = subst (λ (s : MemState). IsEmptyLog m (state_of s)) (sym is) empty in
+    record { shape_is = moved.shape_is; home = moved.home; superblock = moved.superblock; clean = moved.clean }

@@ -1,18 +1,26 @@
 -- The disk on which a run begins, and the device over it.
 use Rattle.std.specs.Prelude.{◌≡◌, ℕ, ◌+◌, ◌-◌, ◌^◌, min, false, Option, Some, unwrap_or}
 use Rattle.journal_model.specs.declared.number.Area.TheVariants.{Log}
-use Rattle.log_model.specs.Superblock.{super_in}
+use Rattle.journal_model.specs.Disk.{Shape}
+use Rattle.log_model.specs.Superblock.{formatted_super, super_in}
 use Rattle.block_device.specs.Fail.{failing}
 use Rattle.block_device.specs.Memory.{MemState, state_of}
 use Rattle.block_device.specs.State.{DeviceState}
 use Rattle.block_device.specs.Stop.{stopping}
 use Rattle.block_device.specs.declared.fail.FailOnce.{FailOnce}
 use Rattle.block_device.specs.declared.stop.StopAt.{StopAt}
+use Rattle.journal_script.specs.declared.measures.Measures.{Measures}
 use Rattle.script_client.specs.Told.{IsZeroHome}
 
--- home is zeros, and the log is clean
-pub record IsEmptyLog (state : DeviceState) : Type 0 where
+-- a device of these measures has as many blocks, of so many bytes
+abbrev pub shape_of : Measures → Shape
+shape_of m = record { block_size = m.block_size; log_blocks = m.log_blocks; home_blocks = m.home_blocks }
+
+-- a disk of these measures: home is zeros, and the log has the superblock of one that was just formatted, which is clean
+pub record IsEmptyLog (m : Measures) (state : DeviceState) : Type 0 where
+  pub shape_is : state.shape ≡ shape_of m
   pub home : IsZeroHome state.shape state.disk
+  pub superblock : (state.disk Log 0).reads ≡ formatted_super m.block_size m.log_blocks m.uuid m.wide
   pub clean : (super_in (state.disk Log 0).reads).s_start ≡ 0
 
 -- the disk behind the device of a run

@@ -12,7 +12,15 @@ use Rattle.script_run.specs.Verdict.{IsImageVerdict}
 use Rattle.script_run.specs.declared.running.Stopped.{Stopped}
 use Rattle.script_run.specs.declared.stops.Stop.{Stop}
 use Rattle.script_run.specs.declared.stops.Stops.{Stops}
+use Rattle.block_device.specs.declared.fail.FailOnce.{FailOnce}
+use Rattle.block_device.specs.declared.stop.StopAt.{StopAt}
+use Rattle.recovery.specs.Values.{OpenedValue}
+use Rattle.journal_script.specs.declared.script.Operation.{Operation}
+use Rattle.script_client.specs.declared.performing.AfterFailure.{AfterFailure}
+use Rattle.script_client.specs.declared.performing.AfterFailure.TheVariants.{End, GoOn}
+use Rattle.script_client.specs.Outcomes.{HasPerformed}
 use Rattle.script_client.specs.Told.{IsLedTo, IsZeroHome}
+use Rattle.script_run.specs.Disks.{disk_behind, run_state}
 
 -- the verdict on an image, by the write at which its opening stops, where one is named, and what it then keeps
 abbrev pub IsVerdictBy : Option ℕ → (keep : List ℕ) → MemState → History → Option ℕ → NamedBlocks → Bool → Type 0
@@ -38,12 +46,34 @@ IsStoppedAtWrite (Some k) (Some at) writes = (at ≡ k) × (writes ≡ k)
 abbrev pub IsStoppedBy : Option ℕ → Stopped → Type 0
 IsStoppedBy stop stopped = IsStoppedAtWrite stop stopped.at_write (writes_of stopped.device.calls)
 
+-- the script goes on behind a failure where a call is to fail, and ends with it where the device stops
+abbrev pub after_call : Option ℕ → AfterFailure
+after_call None = End
+after_call (Some call) = GoOn
+
+-- operations were performed over the device of a run, on this opened log, and came to outcomes of which these are the lines; this disk
+-- is behind the device
+pub record HasRun (opened : OpenedValue (FailOnce (StopAt MemState))) (operations : List Operation) (after : AfterFailure) (device : MemState) (sealed : History) (shown : Option ℕ)
+    (lines : List ℕ) : Type 0 where
+  pub over : FailOnce (StopAt MemState)
+  pub performs : HasPerformed run_state (λ d. Unit {0}) opened operations after over sealed shown lines
+  pub behind : device ≡ disk_behind over
+
+-- so they were on an empty log, on a home of zeros
+pub record HasRunAnew (operations : List Operation) (after : AfterFailure) (device : MemState) (sealed : History) (shown : Option ℕ) (lines : List ℕ) : Type 0 where
+  pub opened : OpenedValue (FailOnce (StopAt MemState))
+  pub zero : IsZeroHome (run_state opened.device).shape (run_state opened.device).disk
+  pub run : HasRun opened operations after device sealed shown lines
+
 -- The end of a script's run: moves of the machine led from an empty log, on a home of zeros, to a device, to the transactions that
--- were sealed, and to the greatest one that was answered committed. It stopped at the write that is named, or at the end. The image is
+-- were sealed, and to the greatest one that was answered committed. Each operation was performed, up to the one at which the script
+-- ended, and came to an outcome, of which there is a line. The device stopped at the write that is named, or at the end. The image is
 -- what a crash of it leaves, and the blocks are those that the script names.
-pub record IsEndOf (script : Script) (stop : Stop) (image : MemState) (sealed : History) (shown : Option ℕ) (named : NamedBlocks) : Type 0 where
+pub record IsEndOf (script : Script) (stop : Stop) (failing_call : Option ℕ) (image : MemState) (sealed : History) (shown : Option ℕ) (named : NamedBlocks) : Type 0 where
   pub device : MemState
   pub led : IsLedTo IsZeroHome script.operations.items (state_of device) sealed shown
+  pub lines : List ℕ
+  pub outcomes : HasRunAnew script.operations.items (after_call failing_call) device sealed shown lines
   pub at_write : Option ℕ
   pub stops : IsStoppedAtWrite stop.at_write at_write (writes_of device.calls)
   pub crash : IsCrashOf device stop.keep.now image
@@ -54,7 +84,7 @@ pub record IsRunTo (script : Script) (stops : Stops) (image : MemState) (right :
   pub sealed : History
   pub shown : Option ℕ
   pub named : NamedBlocks
-  pub end : IsEndOf script stops.run image sealed shown named
+  pub end : IsEndOf script stops.run stops.failing_call image sealed shown named
   pub verdict : IsLeftVerdict image stops.opening sealed shown named right
 
 -- a run of a script, with this verdict

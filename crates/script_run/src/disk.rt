@@ -2,7 +2,7 @@
 ghost use Rattle.std.specs.Prelude.{◌≡◌, IfOk, MatchOption, None};
 ghost use Rattle.block_device.specs.Memory.{state_of};
 ghost use Rattle.script_client.specs.Told.{IsZeroHome};
-ghost use Rattle.script_run.specs.Disks.{IsCallBehind, IsEmptyLog, run_device_over, run_state};
+ghost use Rattle.script_run.specs.Disks.{IsCallBehind, IsEmptyLog, run_device_over, run_state, shape_of};
 
 use block_device::{FailOnce, MemDevice, StopAt};
 use journal_model::JournalError;
@@ -23,11 +23,16 @@ pub type RunDevice = FailOnce<StopAt<MemDevice>>;
 /// `Device` where memory ran out for its blocks. `BadBlockSize` and `BadLength` where the measures are outside their
 /// limits.
 pub fn empty_disk(alloc: Global, measures: &Measures) -> Result<MemDevice, JournalError>
-    ensures { IfOk result (λ disk. IsEmptyLog (state_of disk)) }
+    ensures { IfOk result (λ disk. IsEmptyLog measures.now (state_of disk)) }
 {
     let log_blocks = u64::from(measures.log_blocks);
     let mut device = MemDevice::new(alloc, measures.block_size, log_blocks, measures.home_blocks);
-    format(&mut device, measures.log_blocks, &measures.uuid)?;
+    format(
+        &mut device,
+        measures.log_blocks,
+        &measures.uuid,
+        measures.wide,
+    )?;
     // All is flushed, so this loses nothing. The image's writes are numbered from 1.
     Ok(device.crash(&[]))
 }
@@ -54,7 +59,8 @@ pub(crate) fn empty_log(
     stop: Option<u64>,
     fail: Option<u64>,
 ) -> Result<Opened<RunDevice>, JournalError>
-    ensures { IfOk result (λ opened. IsZeroHome (run_state opened.device).shape (run_state opened.device).disk) }
+    ensures home { IfOk result (λ opened. IsZeroHome (run_state opened.device).shape (run_state opened.device).disk) }
+    ensures shape { IfOk result (λ opened. (run_state opened.device).shape ≡ shape_of measures.now) }
 {
     let fail = call_behind_opening(alloc, measures, fail)?;
     let device = run_device(empty_disk(alloc, measures)?, stop, fail);

@@ -4,9 +4,10 @@ ghost use Rattle.std.specs.BTreeSet.{keys};
 ghost use Rattle.journal_model.specs.declared.number.Area.{Area};
 ghost use Rattle.block_device.specs.Memory.{crashed, state_of, writes_of};
 ghost use Rattle.journal_script.specs.declared.script.Operation.{Operation};
+ghost use Rattle.script_client.specs.Outcomes.{Writes};
 ghost use Rattle.script_client.specs.Told.{IsLedTo, IsZeroHome};
-ghost use Rattle.script_run.specs.Disks.{run_state};
-ghost use Rattle.script_run.specs.Left.{IsEndOf, IsLeftVerdict, IsRunOf, IsStoppedBy};
+ghost use Rattle.script_run.specs.Disks.{disk_behind, run_state};
+ghost use Rattle.script_run.specs.Left.{HasRun, HasRunAnew, IsEndOf, IsLeftVerdict, IsRunOf, IsStoppedBy, after_call};
 ghost use Rattle.script_run.specs.Verdict.{IsVerdict};
 
 use crate::disk::{NEVER, RunDevice, empty_log};
@@ -113,7 +114,7 @@ pub(crate) fn end_of_run(
     failing_call: Option<u64>,
     out: &mut impl Write,
 ) -> Result<Ended, Fault>
-    ensures { IfOk result (λ ended. IsEndOf script.now stop.entry ended.left.image ended.left.recorded.sealed.items ended.left.recorded.acknowledged ended.named) }
+    ensures { IfOk result (λ ended. IsEndOf script.now stop.entry failing_call ended.left.image ended.left.recorded.sealed.items ended.left.recorded.acknowledged ended.named) }
 {
     let named = match script.named_blocks(alloc) {
         Ok(named) => named,
@@ -133,23 +134,31 @@ pub(crate) fn end_of_run(
 ///
 /// `Fault::Refused` where memory runs out; `Fault::Output` where the output can't be written. Some of the lines may have been
 /// written.
-pub fn run_operations(
+pub fn run_operations<W: Write>(
     alloc: Global,
     script: &Script,
     stop: Option<u64>,
     failing_call: Option<u64>,
-    out: &mut impl Write,
+    out: &mut W,
 ) -> Result<Stopped, Fault>
     ensures led { IfOk result (λ stopped. IsLedTo IsZeroHome script.now.operations.items (state_of stopped.device) stopped.recorded.sealed.items stopped.recorded.acknowledged) }
+    ensures outcomes { IfOk result (λ stopped. Writes (W.contents out.old) (W.contents out.new)
+        (HasRunAnew script.now.operations.items (after_call failing_call) stopped.device stopped.recorded.sealed.items stopped.recorded.acknowledged)) }
     ensures stop { IfOk result (λ stopped. IsStoppedBy stop stopped) }
 {
-    let after = if failing_call.is_some() {
-        AfterFailure::GoOn
-    } else {
-        AfterFailure::End
-    };
+    let after = after_failing(failing_call);
     let opened = empty_log(alloc, &script.measures, stop, failing_call)?;
-    run_operations_over::<ZeroHome>(alloc, opened, &script.operations, after, stop, out)
+    run_operations_over::<ZeroHome, _>(alloc, opened, &script.operations, after, stop, out)
+}
+
+/// What comes behind a failure, where this call is to fail, or the device is to stop.
+fn after_failing(failing_call: Option<u64>) -> AfterFailure
+    ensures { result ≡ after_call failing_call }
+{
+    match failing_call {
+        Some(_) => AfterFailure::GoOn,
+        None => AfterFailure::End,
+    }
 }
 
 /// Runs operations over an opened log in memory, of whose disk `H` is known, and prints a line for each. The device stops at write
@@ -159,19 +168,21 @@ pub fn run_operations(
 ///
 /// `Fault::Refused` where memory runs out; `Fault::Output` where the output can't be written. Some of the lines may have been
 /// written.
-pub fn run_operations_over<H: HomeFact>(
+pub fn run_operations_over<H: HomeFact, W: Write>(
     alloc: Global,
     opened: Opened<RunDevice>,
     operations: &[Operation],
     after: AfterFailure,
     stop: Option<u64>,
-    out: &mut impl Write,
+    out: &mut W,
 ) -> Result<Stopped, Fault>
     requires { H.holds (run_state opened.device).shape (run_state opened.device).disk }
     ensures led { IfOk result (λ stopped. IsLedTo H.holds operations.now (state_of stopped.device) stopped.recorded.sealed.items stopped.recorded.acknowledged) }
+    ensures outcomes { IfOk result (λ stopped. Writes (W.contents out.old) (W.contents out.new)
+        (HasRun opened operations.now after stopped.device stopped.recorded.sealed.items stopped.recorded.acknowledged)) }
     ensures stop { IfOk result (λ stopped. IsStoppedBy stop stopped) }
 {
-    let performed = perform::<RunDevice, H>(alloc, opened, operations, after, out)?;
+    let performed = perform::<RunDevice, H, _>(alloc, opened, operations, after, out)?;
     let stopped = stopped_of::<H>(performed, stop);
     if is_stopped_by(stop, &stopped) {
         Ok(stopped)
@@ -183,8 +194,10 @@ pub fn run_operations_over<H: HomeFact>(
 
 /// What the performed operations leave.
 fn stopped_of<H: HomeFact>(performed: Performed<RunDevice>, stop: Option<u64>) -> Stopped
-    ensures { (operations : List Operation) → IsLedTo H.holds operations (run_state performed.device) performed.sealed.items performed.acknowledged
+    ensures led { (operations : List Operation) → IsLedTo H.holds operations (run_state performed.device) performed.sealed.items performed.acknowledged
         → IsLedTo H.holds operations (state_of result.device) result.recorded.sealed.items result.recorded.acknowledged }
+    ensures behind { result.device ≡ disk_behind performed.device }
+    ensures recorded { result.recorded ≡ record { sealed = performed.sealed; acknowledged = performed.acknowledged } }
 {
     let device = performed.device.into_inner();
     Stopped {

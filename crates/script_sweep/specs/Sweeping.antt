@@ -22,7 +22,7 @@ use Rattle.script_sweep.specs.declared.counts.FailureCounts.{FailureCounts}
 use Rattle.script_sweep.specs.declared.counts.NotRight.{NotRight}
 use Rattle.script_sweep.specs.declared.judging.Found.{Found}
 use Rattle.script_sweep.specs.Places.{choices_of, kept_of}
-use Rattle.script_sweep.specs.Swept.{HasRun, one_more}
+use Rattle.script_sweep.specs.Swept.{HasRun, MakesCalls, one_more}
 
 -- a verdict that is false is counted
 abbrev pub counted : Bool → NotRight → NotRight
@@ -32,6 +32,14 @@ counted false n = record n { wrong = one_more n.wrong }
 -- so is an image that is refused
 abbrev pub with_refusal : NotRight → NotRight
 with_refusal n = record n { refused = one_more n.refused }
+
+-- a count stays at 2^64 - 1
+abbrev pub capped : ℕ → ℕ
+capped n = min n (2 ^ 64 - 1)
+
+-- how many openings were not right
+abbrev pub not_right_of : NotRight → ℕ
+not_right_of n = capped (n.wrong + n.refused)
 
 -- none so far
 abbrev pub none_wrong : NotRight
@@ -134,10 +142,6 @@ abbrev pub images_of : ℕ → ℕ
 images_of zero = 0
 images_of (suc n) = images_of n + choices_of (suc n)
 
--- a count stays at 2^64 - 1
-abbrev pub capped : ℕ → ℕ
-capped n = min n (2 ^ 64 - 1)
-
 -- what a run left by this choice of its last writes was opened and judged
 pub record FailsChoice (keeps : Type 0) (stopped : Stopped) (named : NamedBlocks) (choice : ℕ) (old new : NotRight) : Type 0 where
   pub image : MemState
@@ -151,8 +155,9 @@ pub record FailsCall (keeps : Type 0) (script : Script) (named : NamedBlocks) (o
   pub run : keeps → HasRun script.operations.items None stopped
   pub choices : Steps (FailsChoice keeps stopped named) (choices_of (writes_of stopped.device.calls)) old new
 
--- a sweep of failing calls: each of so many calls was swept
+-- A sweep of failing calls: a run of the script of which none failed made so many calls, and each of them was swept.
 pub record IsFailureSweep (keeps : Type 0) (script : Script) (counts : FailureCounts) : Type 0 where
   pub named : NamedBlocks
   pub names : AreNamedBy script named
+  pub whole : keeps → MakesCalls script.operations.items counts.calls
   pub calls : Steps (λ i. FailsCall keeps script named) counts.calls none_wrong counts.not_right

@@ -1,15 +1,23 @@
 -- What is known within a sweep of a journal that keeps its contracts.
-use Rattle.std.specs.Prelude.{ℕ, ◌+◌, ◌-◌, ◌^◌, List, Option, min}
+use Rattle.std.specs.Prelude.{◌≡◌, ℕ, ◌+◌, ◌-◌, ◌^◌, List, Option, min}
 use Rattle.std.specs.BTreeSet.{keys}
 use Rattle.journal_model.specs.Disk.{reading}
+use Rattle.journal_model.specs.Transaction.{History}
+use Rattle.block_device.specs.Fail.{calls_of}
 use Rattle.block_device.specs.Memory.{MemState, state_of}
+use Rattle.block_device.specs.declared.fail.FailOnce.{FailOnce}
+use Rattle.block_device.specs.declared.stop.StopAt.{StopAt}
 use Rattle.recovery.specs.declared.opening.Report.{Report}
 use Rattle.recovery.specs.Opening.{Tells}
+use Rattle.recovery.specs.Values.{OpenedValue}
 use Rattle.journal_script.specs.declared.script.NamedBlocks.{NamedBlocks}
 use Rattle.journal_script.specs.declared.script.Operation.{Operation}
 use Rattle.journal_script.specs.Named.{HasDirects}
+use Rattle.script_client.specs.declared.performing.AfterFailure.TheVariants.{End}
+use Rattle.script_client.specs.Outcomes.{HasPerformed}
 use Rattle.script_client.specs.Told.{IsLedTo, IsZeroHome}
 use Rattle.script_run.specs.declared.running.Stopped.{Stopped}
+use Rattle.script_run.specs.Disks.{run_state}
 use Rattle.script_run.specs.Left.{IsStoppedBy}
 
 -- a run of these operations was led to what it left, and stopped at this write, where one is named
@@ -22,6 +30,16 @@ pub record HasRunNamed (stopped : Stopped) (named : NamedBlocks) : Type 0 where
   pub operations : List Operation
   pub run : IsLedTo IsZeroHome operations (state_of stopped.device) stopped.recorded.sealed.items stopped.recorded.acknowledged
   pub directs : HasDirects operations (keys named.directs)
+
+-- these operations were performed over an opened log, and made so many calls of its device behind those of the opening
+pub record MakesCalls (operations : List Operation) (calls : ℕ) : Type 0 where
+  pub opened : OpenedValue (FailOnce (StopAt MemState))
+  pub device : FailOnce (StopAt MemState)
+  pub sealed : History
+  pub shown : Option ℕ
+  pub lines : List ℕ
+  pub performed : HasPerformed run_state (λ d. Unit {0}) opened operations End device sealed shown lines
+  pub calls_are : calls ≡ calls_of device - calls_of opened.device
 
 -- this is what an opening finds in the image
 abbrev pub IsFirst : MemState → Report → Type 0

@@ -1,4 +1,7 @@
 //! How many device calls are made where none fails.
+ghost use Rattle.std.specs.Prelude.{IfOk};
+ghost use Rattle.script_sweep.specs.Swept.{MakesCalls};
+
 use journal_model::JournalError;
 use journal_script::{Measures, Script};
 use recovery::{Opened, open};
@@ -13,10 +16,12 @@ use std::io;
 /// # Errors
 ///
 /// `Fault::Refused` where memory runs out.
-pub fn calls_of_run(alloc: Global, script: &Script) -> Result<u64, Fault> {
-    let calls_before = calls_of_opening(alloc, &script.measures)?;
+pub fn calls_of_run(alloc: Global, script: &Script) -> Result<u64, Fault>
+    ensures { IfOk result (MakesCalls script.now.operations.items) }
+{
     let opened = empty_log(alloc, &script.measures)?;
-    let performed = perform::<RunDevice, AnyHome>(
+    let calls_before = opened.device().calls();
+    let performed = perform::<RunDevice, AnyHome, _>(
         alloc,
         opened,
         &script.operations,

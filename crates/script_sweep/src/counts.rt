@@ -1,5 +1,6 @@
 //! What a sweep counts.
 ghost use Rattle.std.specs.Prelude.{◌≡◌};
+ghost use Rattle.script_sweep.specs.Sweeping.{not_right_of};
 
 /// Openings that did not come to a verdict that is ok.
 #[derive(Clone, Copy, Debug, PartialEq, Eq)]
@@ -21,8 +22,10 @@ impl NotRight {
         }
     }
 
-    /// How many there are.
-    pub fn count(&self) -> u64 {
+    /// How many there are. It stays at 2^64 - 1.
+    pub fn count(&self) -> u64
+        ensures { result ≡ not_right_of self.now }
+    {
         self.wrong.saturating_add(self.refused)
     }
 }

@@ -34,7 +34,8 @@ pub fn sweep_failures<J: Swept>(
     ensures right { IfOk result (λ counts. J.keeps → counts.not_right.wrong ≡ 0) }
 {
     let named = named_blocks(alloc, script)?;
-    let mut counts = FailureCounts::of_calls(journal.calls(alloc, script)?);
+    let calls = journal.calls(alloc, script)?;
+    let mut counts = FailureCounts::of_calls(calls);
     let swept = fail_calls(alloc, journal, script, &named, &mut counts, watch, err);
     watch.ends();
     swept?;

@@ -3,7 +3,7 @@ ghost use Rattle.std.specs.Prelude.{IfOk};
 ghost use Rattle.block_device.specs.Memory.{state_of};
 ghost use Rattle.script_run.specs.OpenedImages.{IsOpenedImage};
 ghost use Rattle.script_run.specs.Reopening.{IsAttempt};
-ghost use Rattle.script_sweep.specs.Swept.{HasRun};
+ghost use Rattle.script_sweep.specs.Swept.{HasRun, MakesCalls};
 
 use crate::calls::calls_of_run;
 use block_device::MemDevice;
@@ -38,7 +38,8 @@ pub trait Swept {
     /// # Errors
     ///
     /// `Fault::Refused` where memory runs out.
-    fn calls(&self, alloc: Global, script: &Script) -> Result<u64, Fault>;
+    fn calls(&self, alloc: Global, script: &Script) -> Result<u64, Fault>
+        ensures { IfOk result (λ calls. keeps → MakesCalls script.now.operations.items calls) };
 
     /// Opens what a crash left.
     ///

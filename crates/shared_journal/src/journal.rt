@@ -165,7 +165,7 @@ impl<J: JournalName, D: Device, R: Record> Journal<J, D, R> {
     /// # Errors
     ///
     /// Nothing changes. `Aborted` after a device failure, `BadBlock` where home has no such block, or its number is not below
-    /// 2^32, `NoCredit` at a first touch without a credit left, and `Memory`.
+    /// 2^32 (in a log with numbers of 64 bits 2^48), `NoCredit` at a first touch without a credit left, and `Memory`.
     /// Source: journalling.rst (`journal_get_write_access`, `journal_dirty_metadata`).
     pub fn write<W: Wait>(
         &self,
@@ -210,8 +210,8 @@ impl<J: JournalName, D: Device, R: Record> Journal<J, D, R> {
     /// # Errors
     ///
     /// The first that applies; the buffer stays as it is. `Aborted` after a device failure; `BadBlock` where home has no such
-    /// block, or its number is not below 2^32; `Revoked` where the block's last entry in the transactions that are not committed
-    /// is a revoke; `Memory`: nothing changes. `Device` where the device failed: the journal is aborted. (`NoCredit` where the
+    /// block, or its number is not below 2^32 (in a log with numbers of 64 bits 2^48); `Revoked` where the block's last entry in
+    /// the transactions that are not committed is a revoke; `Memory`: nothing changes. `Device` where the device failed: the journal is aborted. (`NoCredit` where the
     /// handle is not open can't come, and no contract says so yet.)
     /// Source: journalling.rst (handles see the running transaction).
     pub fn read<W: Wait>(
@@ -237,8 +237,9 @@ impl<J: JournalName, D: Device, R: Record> Journal<J, D, R> {
     ///
     /// # Errors
     ///
-    /// `Aborted` after a device failure; `BadBlock` where home has no such block, or its number is not below 2^32; `NotDirect`
-    /// where the transactions have a copy of the block, or one that is not committed has an entry of it: nothing changes.
+    /// `Aborted` after a device failure; `BadBlock` where home has no such block, or its number is not below 2^32 (in a log with
+    /// numbers of 64 bits 2^48); `NotDirect` where the transactions have a copy of the block, or one that is not committed has
+    /// an entry of it: nothing changes.
     /// `Device` where the device failed: the journal is aborted.
     /// Source: this project's own, by what journal.rst says of revokes.
     pub fn write_direct<W: Wait>(

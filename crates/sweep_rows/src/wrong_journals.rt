@@ -293,7 +293,7 @@ impl Swept for WrongJournal {
             AfterFailure::End
         };
         let operations = &script.operations;
-        Ok(stopped(perform::<WrongDevice, AnyHome>(
+        Ok(stopped(perform::<WrongDevice, AnyHome, _>(
             alloc,
             opened,
             operations,

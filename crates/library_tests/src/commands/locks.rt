@@ -155,7 +155,7 @@ fn others(rt: &HostRuntime) -> Result<[Option<String>; 3], Fail> {
 }
 
 /// Whether a lock was not taken since another opening has one.
-fn is_held(taken: Result<(), Unlocked>) -> bool {
+fn is_held<L: Drop>(taken: Result<L, Unlocked>) -> bool {
     matches!(taken, Err(Unlocked::Held))
 }
 

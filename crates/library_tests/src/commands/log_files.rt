@@ -80,6 +80,7 @@ const SHORTEST: Measures = Measures {
     log_blocks: 17,
     home_blocks: 1,
     uuid: [0x5c; 16],
+    wide: false,
 };
 
 /// What is said of a log of these measures.

@@ -46,7 +46,7 @@ returns-in-Some-clause-agrees g c =
     let last = rw c.in-Some.is at c.in_ok-copy.ensures.ok in
     noted-agrees g.D.Device.state g.D.Device.honest c.args.front.now c.note.new.front c.args.engine.now c.args.engine.now c.args.handle.now c.args.block c.in-Some.copy
     c.note.new.into c.args.into.now c.note.result c.in_ok-admit.ensures.ok c.requires.agrees
-    (kept-whole j c.args.block c.in-Some.copy c.requires.agrees c.recall_invariant.ensures.plain last) refl c.note.ensures.ok c.note.ensures.err
+    (kept-whole j c.args.block c.in-Some.copy c.requires.agrees c.recall_invariant.ensures.plain last) refl c.note.ensures.ok c.note.ensures.err c.note.ensures.open
 
 -- it is the machine's read
 pub returns-in-Some-clause-ok : goal.returns-in-Some-clause-ok
@@ -92,6 +92,12 @@ returns-in-Some-clause-opens g c =
     (kept-whole j c.args.block c.in-Some.copy c.requires.agrees c.recall_invariant.ensures.plain last) refl c.note.ensures.ok c.note.ensures.err in
     λ honest. opens-read c.args.front.now c.note.new.front c.args.engine.now.engine c.args.engine.now.engine _ _ sealed refl refl (opens-now _ _ c.requires.agrees (c.recall_invariant.ensures.opens honest))
 
+pub returns-in_err-new-clause-opens : goal.returns-in_err-new-clause-opens
+returns-in_err-new-clause-opens g c = λ honest.
+    opens-read c.args.front.now c.room_for_read.new.self c.args.engine.now.engine c.read.new.self.engine _ _
+    (ap (λ (f : Front). f.sealed) c.room_for_read.ensures.same) c.in_default-read.ensures.ok.1 c.read.ensures.stays.disk
+    (opens-now _ _ c.requires.agrees (c.recall_invariant.ensures.opens honest))
+
 -- after a read that failed front and engine agree, once the front is told
 pub returns-in-Err-clause-agrees : goal.returns-in-Err-clause-agrees
 returns-in-Err-clause-agrees g c =
@@ -129,6 +135,7 @@ returns-clause-agrees g c =
     let unnoted = rw c.room_for_read.ensures.same at c.note-2.ensures.err in
     noted-agrees g.D.Device.state g.D.Device.honest c.args.front.now c.note-2.new.front c.args.engine.now c.read.new.self c.args.handle.now c.args.block seen
     c.note-2.new.into c.args.into.now c.note-2.result c.in_ok-admit.ensures.ok c.requires.agrees whole c.in_default-read.ensures.ok.1 noted unnoted
+    (rw c.room_for_read.ensures.same at c.note-2.ensures.open)
 
 -- it is the machine's read
 pub returns-clause-ok : goal.returns-clause-ok

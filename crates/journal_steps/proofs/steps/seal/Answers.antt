@@ -78,4 +78,4 @@ pub returns-clause-agrees : goal.returns-clause-agrees
 returns-clause-agrees g c =
     let taken = subst (λ (b : Batch). Accepts c.args.engine.now.engine b c.accept.new.self.engine) c.in_ok-batch.ensures.ok c.in_default-accept.ensures.ok in
     subst (λ (f : Front). Agrees (record { front = f; engine = c.accept.new.self.engine })) (sym c.seal.ensures)
-    (agrees-sealed c.args.front.now c.args.engine.now.engine c.accept.new.self.engine c.requires.agrees taken.after)
+    (agrees-sealed c.args.front.now c.args.engine.now.engine c.accept.new.self.engine c.requires.agrees c.requires.due.stopped taken.after)

@@ -3,7 +3,7 @@ use Rattle.std.specs.Io.KnownBytes.{Appends}
 use Rattle.std.proofs.lemmas.Result.{IfErr-weaker, err_from_is_err_and, on_ok_weaker}
 use Rattle.journal_model.specs.Disk.{Disk, reading}
 use Rattle.log_model.specs.Dump.{dump_text}
-use Rattle.journal_model.specs.Layout.{IsTaken}
+use Rattle.journal_model.specs.Layout.{IsLayout}
 use Rattle.log_model.specs.Superblock.{Super}
 use Rattle.log_scan.specs.Finding.{every_block}
 use Rattle.log_scan.specs.Scanning.{AreTextsOf, IsScanned}
@@ -129,7 +129,7 @@ write_log-requires-clause-accepted g c =
 
 pub new-finder-requires : goal.new-finder-requires
 new-finder-requires g c =
-    subst IsTaken (sym c.layout.ensures) (accepted-taken c.in_ok-log.ensures.accepted)
+    subst IsLayout (sym c.layout.ensures) (accepted-taken c.in_ok-log.ensures.accepted)
 
 pub write_log-requires-clause-layout : goal.write_log-requires-clause-layout
 write_log-requires-clause-layout g c = c.in_ok-transactions.ensures.layout ∙ c.new-finder.ensures ∙ c.layout.ensures

@@ -4,7 +4,6 @@ use Rattle.log_model.specs.OwnText.{own_text}
 use Rattle.log_model.specs.Room.{need}
 use Rattle.log_model.specs.Text.{text_blocks}
 use Rattle.log_model.proofs.OwnTextWhole.{length_own_text}
-use Rattle.journal_model.proofs.Taken.{taken-layout}
 use Rattle.log_ring.specs.Parts.{LayoutValue, part_block}
 use Rattle.log_ledger.proofs.Copies.{counted}
 use Rattle.log_ledger.proofs.TextBlocks.{block-here, count-copies, count-revokes}
@@ -31,7 +30,7 @@ part-requires c =
     omega (arith, count-copies entries c.args.plan.now c.requires.plan, c.len.ensures, c.args.plan.now.copies.ok.0) in
     let revokes : c.len-2.result ≡ length (revoked entries) =
     omega (arith, count-revokes entries c.args.plan.now c.requires.plan, c.len-2.ensures, c.args.plan.now.revokes.ok.0) in
-    let count = length_own_text l c.args.uuid.now c.args.sequence entries (taken-layout c.requires.taken) ∙ ap₂ (need l) (sym copies) (sym revokes) in
+    let count = length_own_text l c.args.uuid.now c.args.sequence entries c.requires.taken ∙ ap₂ (need l) (sym copies) (sym revokes) in
     subst (λ (v : LayoutValue). c.args.k < need v.layout v.copies v.revokes) (sym c.new-text.ensures)
     (subst (λ (n : ℕ). c.args.k < n) count c.requires.there)
 

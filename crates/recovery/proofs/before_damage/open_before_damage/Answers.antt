@@ -29,6 +29,12 @@ returns-in-Ok-clause-opened g c = λ honest.
       done.3,
     )
 
+-- by the calls that are due
+pub returns-in-Ok-clause-calls : goal.returns-in-Ok-clause-calls
+returns-in-Ok-clause-calls g c = λ honest.
+    let done = c.in-Ok.ensures.done honest in
+    record { texts = done.0; greatest = done.1; is = done.2 }
+
 -- each of its moments
 pub returns-in-Ok-clause-moments : goal.returns-in-Ok-clause-moments
 returns-in-Ok-clause-moments g c = λ honest.

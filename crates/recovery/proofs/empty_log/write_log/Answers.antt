@@ -15,9 +15,9 @@ returns-clause-ok g c =
     let zeroed : Disk = (g.D.Device.state c.write_zeros.new.device).disk in
     let zeros : HasZeros c.fill.new.self c.args.maxlen old zeroed =
     subst (λ (n : ℕ). HasZeros c.fill.new.self n old zeroed) c.from.ensures c.in_ok-write_zeros.ensures.ok in
-    formatted shape c.args.maxlen c.args.uuid.now c.format.new.block old zeroed (g.D.Device.state c.flush.new.self).disk
+    formatted shape c.args.maxlen c.args.uuid.now c.format.new.block c.args.wide old zeroed (g.D.Device.state c.flush.new.self).disk
     (g.D.Device.state c.write.new.self).disk (g.D.Device.state c.flush-2.new.self).disk c.requires.allowed c.requires.least c.requires.most c.requires.there
-    (c.format.ensures ∙ ap (λ (n : ℕ). formatted_super n c.args.maxlen c.args.uuid.now) (c.fill.auto.self ∙ c.requires.block))
+    (c.format.ensures ∙ ap (λ (n : ℕ). formatted_super n c.args.maxlen c.args.uuid.now c.args.wide) (c.fill.auto.self ∙ c.requires.block))
     (subst (λ (bytes : List ℕ). HasZeros bytes c.args.maxlen old zeroed) (c.fill.ensures.after (λ y same. same) ∙ ap (λ (n : ℕ). replicate n 0) c.requires.block) zeros)
     c.in_ok-flush.ensures.ok.now c.in_ok-write.ensures.ok.now c.in_ok-flush-2.ensures.ok.now
 

@@ -1,18 +1,27 @@
-use Rattle.std.proofs.Common.{◌∙◌, List, subst}
-use Rattle.journal_script.specs.declared.script.Operation.{Operation}
+use Rattle.std.proofs.lemmas.Result.{IfOk-weaker}
+use Rattle.journal_model.specs.Disk.{Disk, Shape}
 use Rattle.script_client.specs.Ended.{IsEnded}
 use Rattle.script_client.specs.Told.{IsLedTo}
+use Rattle.script_client.proofs.Closing.{ended-weaker, led-weaker}
 use Rattle.script_client.proofs.performing.apply.Goals as goal
 
--- of these operations
+-- both are known where reads were honest
+pub apply_known-requires : goal.apply_known-requires
+apply_known-requires g c = λ honest. (c.requires honest, honest)
+
+-- one of them is what was known of the disk
 pub returns-clause-ended : goal.returns-clause-ended
-returns-clause-ended g c = λ honest.
-    let left = c.end_of.result.left in
-    subst (λ (operations : List Operation). IsEnded g.H.HomeFact.holds operations (g.D.Device.state left.device) left.sealed.items left.acknowledged)
-    (c.apply_all-applied.ensures ∙ c.in_ok-interpreter.ensures.client.operations_are) (c.end_of.ensures.ended honest)
+returns-clause-ended g c =
+    IfOk-weaker c.apply_known.result _ _ (λ applied ended. λ honest.
+    ended-weaker (λ shape disk. g.H.HomeFact.holds shape disk × g.D.Device.honest c.args.opened.device) g.H.HomeFact.holds c.args.operations.now (g.D.Device.state applied.left.device)
+    applied.left.sealed.items applied.left.acknowledged (λ shape disk both. both.0) (ended honest)) c.apply_known.ensures.ended
 
 pub returns-clause-stays : goal.returns-clause-stays
-returns-clause-stays g c = λ ending honest.
-    let left = c.end_of.result.left in
-    subst (λ (operations : List Operation). IsLedTo g.H.HomeFact.holds operations (g.D.Device.state left.device) left.sealed.items left.acknowledged)
-    (c.apply_all-applied.ensures ∙ c.in_ok-interpreter.ensures.client.operations_are) (c.end_of.ensures.stays ending honest)
+returns-clause-stays g c = λ ending.
+    IfOk-weaker c.apply_known.result _ _ (λ applied led. λ honest.
+    led-weaker (λ shape disk. g.H.HomeFact.holds shape disk × g.D.Device.honest c.args.opened.device) g.H.HomeFact.holds c.args.operations.now (g.D.Device.state applied.left.device)
+    applied.left.sealed.items applied.left.acknowledged (λ shape disk both. both.0) (led honest)) (c.apply_known.ensures.stays ending)
+
+-- and the other that reads were honest
+pub returns-clause-honest : goal.returns-clause-honest
+returns-clause-honest g c = IfOk-weaker c.apply_known.result _ _ (λ applied ended. λ honest. (ended honest).fact.1) c.apply_known.ensures.ended

@@ -8,10 +8,12 @@ pub returns : goal.returns
 returns g c =
     let stopped = c.in_ok-stopped.stopped in
     let left = c.crash.result in
-    subst (λ (r : Record). IsEndOf c.args.script.now c.args.stop left.image r.sealed.items r.acknowledged c.in-Ok.named) (sym c.crash.ensures.recorded)
+    subst (λ (r : Record). IsEndOf c.args.script.now c.args.stop c.args.failing_call left.image r.sealed.items r.acknowledged c.in-Ok.named) (sym c.crash.ensures.recorded)
     (record {
       device = stopped.device;
       led = c.in_ok-stopped.ensures.led;
+      lines = c.in_ok-stopped.ensures.outcomes.lines;
+      outcomes = c.in_ok-stopped.ensures.outcomes.are;
       at_write = stopped.at_write;
       stops = c.in_ok-stopped.ensures.stop;
       crash = record { each = c.crash.ensures.image; shape_is = c.crash.ensures.shape };

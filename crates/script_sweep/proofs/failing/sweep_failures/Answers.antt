@@ -1,8 +1,9 @@
-use Rattle.std.proofs.Common.{ℕ, ap, subst, sym}
+use Rattle.std.proofs.Common.{ℕ, ◌∙◌, ap, subst, sym}
 use Rattle.script_sweep.specs.declared.counts.FailureCounts.{FailureCounts}
 use Rattle.script_sweep.specs.declared.counts.NotRight.{NotRight}
 use Rattle.script_sweep.specs.Steps.{Steps}
 use Rattle.script_sweep.specs.Sweeping.{FailsCall, none_wrong}
+use Rattle.script_sweep.specs.Swept.{MakesCalls}
 use Rattle.script_sweep.proofs.Sweeps.{failures-right}
 use Rattle.script_sweep.proofs.failing.sweep_failures.Goals as goal
 
@@ -14,6 +15,9 @@ returns-clause-swept g c =
     record {
       named = c.in_ok-named.named;
       names = c.in_ok-named.ensures;
+      whole =
+          subst (λ (n : ℕ). g.J.Swept.keeps → MakesCalls c.args.script.now.operations.items n)
+          (sym (c.fail_calls-swept.ensures.calls ∙ ap (λ (f : FailureCounts). f.calls) c.of_calls-counts.ensures)) c.in_ok-calls.ensures;
       calls =
           subst (λ (n : ℕ). Steps (λ i. FailsCall g.J.Swept.keeps c.args.script.now c.in_ok-named.named) n none_wrong new.not_right) (sym c.fail_calls-swept.ensures.calls)
           (subst (λ (s : NotRight). Steps (λ i. FailsCall g.J.Swept.keeps c.args.script.now c.in_ok-named.named) old.calls s new.not_right)

@@ -2,6 +2,8 @@ use Rattle.std.proofs.Common.{ℕ, refl, sym, ap, subst, ◌∙◌}
 use Rattle.std.proofs.lemmas.Bool.{true≢false}
 use Rattle.journal_world.specs.Front.{Front, StopsHandle}
 use Rattle.journal_steps.specs.Values.{JournalValue}
+use Rattle.journal_world.specs.Front.FrontEvent.{StopHandle}
+use Rattle.journal_steps.proofs.Kept.{kept-step}
 use Rattle.group_commit.proofs.journal.Journal.stop.Goals as goal
 use Rattle.group_commit.proofs.journal.Journal.stop.Goals.{else-is_open, then-is_open}
 
@@ -32,3 +34,8 @@ returns-clause-running g c =
       | then-is_open w ↦ rw (w.self-is) (ap (λ (f : Front). f.running) w.stop.ensures.after)
       | else-is_open w ↦ rw (w.self-is) (sym (ap (λ (v : JournalValue g.row.D.Denot). v.journal.front.running) c.self.view_is))
     ])
+
+-- front and engine agree once an open handle stopped
+pub invariant_of-self : goal.invariant_of-self
+invariant_of-self g c =
+    kept-step c.self.inside.front c.stop.new.self c.self.inside.engine.engine c.self.invariant (StopHandle c.number.result) (λ touch. touch) c.stop.ensures

@@ -1,6 +1,6 @@
 use Rattle.std.proofs.Common.{ℕ, List, ◌≡◌, ◌+◌, ◌≤◌, length, arith, ap, sym, ◌∙◌}
 use Rattle.journal_model.specs.declared.entry.Entry.{Entry}
-use Rattle.journal_model.specs.Transaction.{copied, entries, revoked}
+use Rattle.journal_model.specs.Transaction.{copied, entries}
 use Rattle.journal_front.specs.Transaction.{OpenTransaction}
 use Rattle.journal_front.proofs.Counting.{all-copies, counts-copy, counts-revoke, few-copies, none-yet, other-revokes}
 use Rattle.journal_front.proofs.transaction.Transaction.counts.Goals as goal

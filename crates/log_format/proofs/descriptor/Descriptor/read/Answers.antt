@@ -1,10 +1,11 @@
 -- The tags so far, and one more, are those that the block begins with; where no tag can follow, there are none.
-use Rattle.std.proofs.Common.{◌≡◌, ◌<◌, ◌≤◌, ◌+◌, ◌-◌, ◌/◌, ℕ, List, true, false, length, take, drop, subst, sym, ap, ◌∙◌, arith, drop-drop, get_or-set_same, length-set, length-drop}
+use Rattle.std.proofs.Common.{◌≡◌, ◌<◌, ◌≤◌, ◌+◌, ◌-◌, ℕ, List, true, false, length, take, drop, subst, sym, ap, ◌∙◌, arith, drop-drop, get_or-set_same, length-set, length-drop}
 use Rattle.std.proofs.lemmas.List.{take_more_set, take_rest}
 use Rattle.std.proofs.lemmas.Result.{err_from_is_err_and}
 use Rattle.log_model.specs.declared.log.Tag.{Tag}
 use Rattle.journal_model.specs.Layout.{Layout, header_bytes, tag_bytes}
 use Rattle.log_model.specs.Descriptor.{BeginsWithTag, uuid_behind}
+use Rattle.log_format.proofs.Counts.{no_more}
 use Rattle.log_format.proofs.Reading.{reads_last, reads_next, reads_short, reads_stuck}
 use Rattle.log_format.proofs.descriptor.Descriptor.read.Goals as goal
 
@@ -66,8 +67,6 @@ loop-count-preserved c =
 
 pub returns : goal.returns
 returns c ts is =
-    let most : (c.args.layout.block_size - header_bytes) / 8 ≤ length c.args.tags.now =
-    subst (λ (n : ℕ). (c.args.layout.block_size - header_bytes) / (n + 4) ≤ length c.args.tags.now) c.requires.taken.1 c.requires.room in
     reads_stuck _ _ _ _ _ ts c.loop-count.invariant.reads
-    (λ t begins low. omega (arith, most, begins.room, length-drop c.loop-count.at c.args.block.now))
+    (λ t begins low. omega (arith, no_more (c.args.layout.block_size - header_bytes) (tag_bytes c.args.layout) c.loop-count.count (omega arith) (omega (arith, c.requires.room)), begins.room, length-drop c.loop-count.at c.args.block.now))
     is.spelled is.below

@@ -1,4 +1,4 @@
-use Rattle.std.proofs.Common.{sym, ap, ap₂, subst, ◌∙◌, ◌≡◌, ◌<◌, ◌+◌, ◌*◌, ◌^◌, ℕ, arith}
+use Rattle.std.proofs.Common.{sym, ap, ap₂, subst, ◌∙◌, ◌≡◌, ◌+◌, ℕ, arith}
 use Rattle.std.proofs.lemmas.Option.{slice_get_within}
 use Rattle.checkpoint.specs.declared.version.HomeCopy.{HomeCopy}
 use Rattle.journal_world.specs.declared.round.Round.TheVariants.{Copies}
@@ -38,7 +38,7 @@ overflow_add-copy-inside c =
     let e = engine_of on.shape l in
     let n = next-home on.shape l c.args.copy on.runs due in
     let allowed = placed-allowed e n.index c.args.copy.block c.args.copy.version.place on.runs.plain n.placed in
-    let spelled : c.args.copy.block < 2 ^ 32 = subst (λ (n : ℕ). c.args.copy.block < 2 ^ (8 * n)) on.runs.plain.layout.0.1 allowed.spelled in
+    let small = allowed.small in
     let block = ap (λ (h : HomeCopy). h.block) c.copy.view_is in
     omega arith
 

@@ -3,7 +3,6 @@ use Rattle.journal_model.specs.Layout.{tags_of}
 use Rattle.log_model.specs.OwnText.{ceil_div}
 use Rattle.log_ring.specs.declared.layout.Part.TheVariants.{Descriptor}
 use Rattle.log_ring.specs.Parts.{LayoutValue}
-use Rattle.journal_model.proofs.Taken.{taken-layout}
 use Rattle.log_ring.proofs.PartPlaces.{copy-here, copy-within, descriptor-here}
 use Rattle.log_ring.proofs.layout.Layout.copy_part.Goals as goal
 
@@ -14,9 +13,9 @@ returns-then-place-gt0 c =
     let copies = c.self.inside.copies in
     let most = c.tags_of-most.ensures in
     let there = subst (λ (v : LayoutValue). c.args.k < v.copies + ceil_div v.copies (tags_of v.layout)) (sym c.self.view_is) c.requires in
-    let within = copy-within l copies (taken-layout c.self.invariant.0) c.args.k _ most.tags most.some there in
+    let within = copy-within l copies c.self.invariant.0 c.args.k _ most.tags most.some there in
     rw (← c.self.view_is) (record {
-      part = copy-here l copies (taken-layout c.self.invariant.0) c.args.k _ most.tags most.some there _ (omega arith) c.if-place-gt0.true;
+      part = copy-here l copies c.self.invariant.0 c.args.k _ most.tags most.some there _ (omega arith) c.if-place-gt0.true;
       fits = omega arith;
     })
 
@@ -27,11 +26,11 @@ returns-else-place-gt0 c =
     let copies = c.self.inside.copies in
     let most = c.tags_of-most.ensures in
     let there = subst (λ (v : LayoutValue). c.args.k < v.copies + ceil_div v.copies (tags_of v.layout)) (sym c.self.view_is) c.requires in
-    let within = copy-within l copies (taken-layout c.self.invariant.0) c.args.k _ most.tags most.some there in
+    let within = copy-within l copies c.self.invariant.0 c.args.k _ most.tags most.some there in
     let least = c.min.ensures in
     rw (← c.self.view_is) (record {
       part =
-          descriptor-here l copies (taken-layout c.self.invariant.0) c.args.k _ most.tags most.some there _ refl (omega arith)
+          descriptor-here l copies c.self.invariant.0 c.args.k _ most.tags most.some there _ refl (omega arith)
           ∙ ap (λ (n : ℕ). Some (Descriptor (c.args.k / (c.tags_of-most.result + 1) * c.tags_of-most.result) n)) (sym least);
       fits = (omega arith, omega arith, omega arith);
     })

@@ -4,6 +4,7 @@ use Rattle.journal_model.specs.Layout.{HasHeader, descriptor_type, sequence_in}
 use Rattle.log_scan.specs.declared.finding.Found.{Found}
 use Rattle.log_scan.specs.declared.finding.Found.TheVariants.{Descriptor, Malformed, Nothing}
 use Rattle.log_scan.specs.Finding.{FinderValue, Says}
+use Rattle.log_format.specs.Size.{count_of}
 use Rattle.log_scan.proofs.Fronts.{other-many}
 use Rattle.log_scan.proofs.Looking.{says-same}
 use Rattle.std.proofs.lemmas.List.{length-take-le}
@@ -18,7 +19,7 @@ same c = c.bytes.ensures ∙ ap (λ (f : FinderValue). f.block) c.self.view_is
 says : (c : Joined-read) → Found → List Tag → List ℕ → Type 0
 says c found tags x =
     let f : FinderValue = record { layout = c.self.inside.layout; block = c.self.inside.block; tags = tags; numbers = c.self.inside.numbers } in
-    Says c.self.inside.layout c.args.limit (sequence_in x) c.args.behind x f found
+    Says c.self.inside.layout (count_of c.self.inside.layout c.args.home_blocks) (sequence_in x) c.args.behind x f found
 
 -- its tags, or that it has none
 tags-said : (c : Joined-read) → says c c.match-read.result c.read.new.tags c.args.self.now.block
@@ -44,5 +45,5 @@ pub returns-clause-says : goal.returns-clause-says
 unfolding says
 returns-clause-says c =
     let f : FinderValue = record { layout = c.self.inside.layout; block = c.self.inside.block; tags = c.read.new.tags; numbers = c.self.inside.numbers } in
-    says-same (sequence_in c.args.self.now.block) c.args.behind f c.match-read.result (ap (λ (f : FinderValue). f.layout) c.self.view_is) refl refl
+    says-same (sequence_in c.args.self.now.block) c.args.behind f c.match-read.result (ap (λ (f : FinderValue). f.layout) c.self.view_is) (ap (λ (f : FinderValue). count_of f.layout c.args.home_blocks) c.self.view_is) refl
     (tags-said c)

@@ -1,5 +1,5 @@
 use Rattle.std.proofs.Common.{◌≤◌, ℕ, List, ap, sym, subst, arith, ◌∙◌, length}
-use Rattle.journal_model.specs.Layout.{IsTaken, Layout}
+use Rattle.journal_model.specs.Layout.{IsLayout, Layout}
 use Rattle.log_model.specs.Opening.{layout_of}
 use Rattle.log_model.specs.Superblock.{super_in}
 use Rattle.journal_world.proofs.Superblocks.{accepted-layout, accepted-size}
@@ -24,7 +24,7 @@ returns-clause-layout g c =
 pub returns-clause-taken : goal.returns-clause-taken
 returns-clause-taken g c =
     let accepted = accepted-layout (g.D.Device.state c.self.inside.device).shape c.self.inside.superblock.items c.self.invariant.0.named.is_superblock.accepted in
-    subst IsTaken (sym (c.layout.ensures ∙ ap layout_of c.fields.ensures ∙ ap (λ (block : List ℕ). layout_of (super_in block)) c.deref.ensures.value)) accepted.0
+    subst IsLayout (sym (c.layout.ensures ∙ ap layout_of c.fields.ensures ∙ ap (λ (block : List ℕ). layout_of (super_in block)) c.deref.ensures.value)) accepted.0
 
 pub returns-clause-size : goal.returns-clause-size
 returns-clause-size g c =

@@ -1,8 +1,9 @@
-use Rattle.std.proofs.Common.{sym, subst}
+use Rattle.std.proofs.Common.{◌≡◌, inl, sym, subst}
+use Rattle.group_commit.specs.Close.{IsSealedInClose, closing}
 use Rattle.log_epochs.specs.EngineWorld.Phase.{Shut}
 use Rattle.script_client.specs.Ended.{IsEnded}
 use Rattle.script_client.specs.Told.{ClientValue}
-use Rattle.script_client.proofs.Closing.{close-ended, ends-ended, led-ended, left-closed}
+use Rattle.script_client.proofs.Closing.{close-ended, ends-ended, led-ended, left-closed, refused-sealed}
 use Rattle.script_client.proofs.client.Client.close.Goals as goal
 
 -- a handle is open: nothing was done
@@ -41,3 +42,19 @@ returns-in-Err-clause-ended g c = λ honest.
     subst (λ (v : ClientValue _). IsEnded g.H.HomeFact.holds v.operations (g.D.Device.state parts.device) parts.sealed.items c.self.inside.acknowledged) c.self.view_is
     (ends-ended g.H.HomeFact.holds c.self.inside.operations.now old.journal (g.D.Device.state old.device) (g.D.Device.state parts.device) parts.sealed.items parts.committed c.self.inside.acknowledged Shut
     (c.self.invariant (c.in-Err.ensures.honest honest)) c.in-Err.ensures.moves c.in-Err.ensures.shape)
+
+-- what was sealed is so still
+pub returns-then-has_open_handles-clause-sealed : goal.returns-then-has_open_handles-clause-sealed
+returns-then-has_open_handles-clause-sealed g c =
+    subst (λ (v : ClientValue _). IsSealedInClose v.journal.journal.front c.into_parts.result.sealed.items) c.self.view_is (inl c.into_parts.ensures.sealed)
+
+-- all is that a close seals
+pub returns-in-Ok-clause-sealed : goal.returns-in-Ok-clause-sealed
+returns-in-Ok-clause-sealed g c =
+    subst (λ (v : ClientValue _). c.in-Ok.parts.sealed.items ≡ closing v.journal.journal.front) c.self.view_is c.in-Ok.ensures.ok.0
+
+-- or some of it
+pub returns-in-Err-clause-sealed : goal.returns-in-Err-clause-sealed
+returns-in-Err-clause-sealed g c =
+    subst (λ (v : ClientValue _). IsSealedInClose v.journal.journal.front c.in-Err.parts.sealed.items) c.self.view_is
+    (refused-sealed g.D.Device.state c.self.inside.journal c.in-Err.parts.device c.in-Err.parts.sealed.items c.in-Err.parts.committed c.in-Err.e c.in-Err.ensures.err)

@@ -1,9 +1,9 @@
 use Rattle.std.proofs.Common.{◌∙◌, ap}
 use Rattle.script_client.specs.Told.{ClientValue}
-use Rattle.script_client.proofs.InOrder.{ends-sealed}
+use Rattle.script_client.proofs.InOrder.{ends-running, ends-sealed}
 use Rattle.script_client.proofs.interpreter.Interpreter.into_stopped.Goals as goal
 
--- the end of a handle changes neither
+-- the end of a handle changes none of them
 pub loop-slot-preserved-in-Open : goal.loop-slot-preserved-in-Open
 loop-slot-preserved-in-Open g c =
     let left = c.loop-slot.invariant.left in
@@ -16,4 +16,5 @@ loop-slot-preserved-in-Open g c =
         sealed_is = ends-sealed g.D.Device.state c.in-Open.handle c.loop-slot.client.journal c.stop.new.self.journal ends ∙ left.sealed_is;
         shown_is = ap (λ (v : ClientValue _). v.shown) rest ∙ left.shown_is;
       };
+      running = ends-running g.D.Device.state c.in-Open.handle c.loop-slot.client.journal c.stop.new.self.journal ends ∙ c.loop-slot.invariant.running;
     }

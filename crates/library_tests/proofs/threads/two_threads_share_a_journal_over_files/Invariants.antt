@@ -1,0 +1,5 @@
+use Rattle.library_tests.proofs.threads.two_threads_share_a_journal_over_files.Given as goal
+
+-- the name is that of the laid journal
+abbrev pub ghosts-written : goal.ghosts-written
+ghosts-written g a = record { board = a.laid.board; capacity = a.laid.capacity; block_size = a.laid.block_size }
