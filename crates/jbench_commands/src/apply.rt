@@ -208,8 +208,8 @@ fn read_super<D: Device>(alloc: Global, device: &mut D) -> Result<Super, Journal
 /// Does operations on a new journal on an opened log, of whose disk `H` is known, and prints a line for each. `after` tells which refused
 /// one is the last; one that is refused because the device failed always is. All open handles are stopped behind the last, and then the
 /// journal is closed, where `ending` tells so: the last line is then the number that the next opening will give the next transaction. What
-/// is left comes back however the work ended. It is not closed where `end` is an error, but for output that could not be written behind
-/// the close; what was committed is in the log or at home.
+/// is left comes back however the work ended. It is not closed where `end` is an error, but for one that came behind the close: its line
+/// could not be written, or the superblock not be read for it. What was committed is in the log or at home.
 ///
 /// # Errors
 ///
