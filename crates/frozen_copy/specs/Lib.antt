@@ -1,0 +1,4 @@
+pub mod Noted
+pub mod Slot
+pub mod Slots
+pub mod Versions

@@ -1,0 +1,5 @@
+use Rattle.meeting.proofs.tests.a_follower_meets_a_counter.Given as goal
+
+-- the name is that of the meeting
+abbrev pub ghosts-rises_between_meetings : goal.ghosts-rises_between_meetings
+ghosts-rises_between_meetings g a = record { meeting = a.unnamed }

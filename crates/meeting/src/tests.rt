@@ -1,0 +1,96 @@
+//! A counter, and what it was when both last met.
+ghost use Rattle.std.specs.Prelude.{◌≡◌, ◌≤◌};
+
+use crate::{Follower, Meeting, MeetingName, Owner, Since, UnnamedMeeting};
+use std::marker::{Brand, Model};
+use std::process::Abort;
+use std::test::Fail;
+
+/// How high the counter rises.
+const RISES: u64 = 1000;
+
+/// A counter never falls.
+struct Rises;
+
+impl Since<u64> for Rises {
+    ghost since = { λ met now. met ≤ now };
+}
+
+/// The counter.
+#[derive(Drop)]
+struct Counter<J: MeetingName> {
+    count: u64,
+    now: Owner<J, u64>,
+}
+
+impl<J: MeetingName> Model for Counter<J> {
+    ghost use Rattle.std.specs.Prelude.{◌≡◌, ℕ};
+
+    ghost Value = { ℕ };
+
+    ghost view = { λ c. c.count };
+
+    ghost invariant = { λ c. c.now ≡ c.count };
+}
+
+/// The counter as it was when both last met.
+#[derive(Drop)]
+struct Last<J: MeetingName> {
+    count: u64,
+    met: Follower<J, u64>,
+}
+
+impl<J: MeetingName> Model for Last<J> {
+    ghost use Rattle.std.specs.Prelude.{◌≡◌, ℕ};
+
+    ghost Value = { ℕ };
+
+    ghost view = { λ c. c.count };
+
+    ghost invariant = { λ c. c.met ≡ c.count };
+}
+
+/// The counter rises, and nobody else is asked.
+fn rise<J: MeetingName>(meeting: &Meeting<J, u64, Rises>, counter: &mut Counter<J>) {
+    if counter.count < RISES {
+        counter.count += 1;
+    }
+    meeting.go_on(&mut counter.now, &counter.count);
+}
+
+/// Both meet. It answers how much the counter has risen since they last did, which is no less than nothing.
+fn meet<J: MeetingName>(
+    meeting: &Meeting<J, u64, Rises>,
+    last: &mut Last<J>,
+    counter: &mut Counter<J>,
+) -> u64
+    ensures { last.old ≤ counter.old }
+{
+    meeting.meet(&mut last.met, &mut counter.now, &counter.count);
+    let risen = counter.count - last.count;
+    last.count = counter.count;
+    risen
+}
+
+/// A counter that rises between two meetings: each finds how far it has risen since the other.
+fn rises_between_meetings<J: MeetingName, R: Abort>(rt: &R, unnamed: UnnamedMeeting<u64, Rises>)
+    requires { unnamed ≡ J.meeting }
+{
+    let (meeting, met, now) = unnamed.named::<J>(&0);
+    let mut last = Last { count: 0, met };
+    let mut counter = Counter { count: 0, now };
+    rise(&meeting, &mut counter);
+    rise(&meeting, &mut counter);
+    assert_eq!(rt; meet(&meeting, &mut last, &mut counter), 2);
+    assert_eq!(rt; meet(&meeting, &mut last, &mut counter), 0);
+    rise(&meeting, &mut counter);
+    assert_eq!(rt; meet(&meeting, &mut last, &mut counter), 1);
+    assert_eq!(rt; last.count, 3);
+}
+
+#[test]
+fn a_follower_meets_a_counter(rt: HostRuntime) -> Result<(), Fail> {
+    let unnamed = UnnamedMeeting::new(rt.alloc())?;
+    rises_between_meetings::<Brand, _>(&rt, unnamed);
+    Ok(())
+}

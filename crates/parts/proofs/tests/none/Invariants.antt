@@ -1,0 +1,6 @@
+use Rattle.std.specs.Prelude.{Some}
+use Rattle.parts.proofs.tests.none.Given as goal
+
+-- it has nothing
+abbrev pub ghosts-add : goal.ghosts-add
+ghosts-add g a = record { next = Some 0 }

@@ -1,0 +1,6 @@
+use Rattle.std.specs.Prelude.{Some}
+use Rattle.parts.proofs.tests.take.Given as goal
+
+-- it has all of the number
+abbrev pub ghosts-step : goal.ghosts-step
+ghosts-step g a = record { next = Some a.now.now }

@@ -1,0 +1,5 @@
+use Rattle.parts.proofs.tests.two_shares_of_a_number.Given as goal
+
+-- the name is that of the whole
+abbrev pub ghosts-rises_between : goal.ghosts-rises_between
+ghosts-rises_between g a = record { parts = a.unnamed }
