@@ -3,9 +3,8 @@
 //! Source: this project's own, by what journal.rst says of revokes (a block that is no longer journalled may be written in
 //! place).
 ghost use Rattle.std.specs.Prelude.{◌≡◌, length, IfErr, OnOk};
-ghost use Rattle.block_device.specs.State.{EachMoment, MakesAtMostOneCall};
 ghost use Rattle.journal_world.specs.Journal.Event.{DirectSync, DirectWrite};
-ghost use Rattle.log_engine.specs.Call.{IsOneMoment};
+ghost use Rattle.log_engine.specs.Call.{MakesOneCall};
 ghost use Rattle.journal_steps.specs.Direct.{DirectSyncRefused, DirectWriteRefused, IsDuringDirectSync, IsDuringDirectWrite, MayWriteDirectly};
 ghost use Rattle.journal_steps.specs.Journal.{Does};
 
@@ -35,12 +34,7 @@ impl<D: Device, R: Record> Journal<D, R> {
         ensures ok { OnOk result (Does D.state self.old (DirectWrite block bytes.now) self.new) }
         ensures err { IfErr result (λ e. DirectWriteRefused D.state self.old block bytes.now self.new e) }
         ensures no_fault { OnOk result ((D.state self.new.device).faults ≡ (D.state self.old.device).faults) }
-        ensures shape { (D.state self.new.device).shape ≡ (D.state self.old.device).shape }
-        ensures moments { D.honest self.old.device →
-            EachMoment (IsDuringDirectWrite self.old.journal block bytes.now (D.state self.old.device).disk) (D.state self.old.device) (D.state self.new.device) }
-        ensures one { IsOneMoment (D.state self.old.device) (D.state self.new.device) }
-        ensures calls { MakesAtMostOneCall (D.state self.old.device) (D.state self.new.device) }
-        ensures honest { D.honest self.new.device → D.honest self.old.device }
+        ensures device { MakesOneCall D.state D.honest (IsDuringDirectWrite self.old.journal block bytes.now (D.state self.old.device).disk) self.old.device self.new.device }
     {
         steps::write_direct(&mut self.front, &mut self.engine, block, bytes)
     }
@@ -56,12 +50,7 @@ impl<D: Device, R: Record> Journal<D, R> {
         ensures ok { OnOk result (Does D.state self.old DirectSync self.new) }
         ensures err { IfErr result (λ e. DirectSyncRefused D.state self.old self.new e) }
         ensures no_fault { OnOk result ((D.state self.new.device).faults ≡ (D.state self.old.device).faults) }
-        ensures shape { (D.state self.new.device).shape ≡ (D.state self.old.device).shape }
-        ensures moments { D.honest self.old.device →
-            EachMoment (IsDuringDirectSync self.old.journal (D.state self.old.device).disk) (D.state self.old.device) (D.state self.new.device) }
-        ensures one { IsOneMoment (D.state self.old.device) (D.state self.new.device) }
-        ensures calls { MakesAtMostOneCall (D.state self.old.device) (D.state self.new.device) }
-        ensures honest { D.honest self.new.device → D.honest self.old.device }
+        ensures device { MakesOneCall D.state D.honest (IsDuringDirectSync self.old.journal (D.state self.old.device).disk) self.old.device self.new.device }
     {
         steps::sync_direct(&mut self.front, &mut self.engine)
     }

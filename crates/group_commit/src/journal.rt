@@ -3,7 +3,7 @@ ghost use Rattle.std.specs.Prelude.{◌≡◌, ◌<◌, ◌≤◌, ◌≢◌, �
 ghost use Rattle.journal_model.specs.declared.refusal.JournalError.TheVariants.{Aborted, Device as DeviceFailed, Memory};
 ghost use Rattle.journal_model.specs.Disk.{Image, Leaves};
 ghost use Rattle.journal_model.specs.Transaction.{entries};
-ghost use Rattle.block_device.specs.State.{EachMoment, MakesAtMostOneCall, Stays, one_more_fault};
+ghost use Rattle.block_device.specs.State.{MakesAtMostOneCall, one_more_fault};
 ghost use Rattle.journal_world.specs.declared.stage.Stage.TheVariants.{Idle};
 ghost use Rattle.journal_world.specs.Front.{held, next_handle};
 ghost use Rattle.journal_world.specs.Front.FrontEvent.{GiveBack, Join, Reserve, RevokeBlock, StopHandle, WriteBlock};
@@ -13,7 +13,7 @@ ghost use Rattle.journal_world.specs.Journal.Event.{FrontStep, ReadBlock, Seal};
 ghost use Rattle.log_epochs.specs.EngineWorld.Phase.{Running, Shut};
 ghost use Rattle.log_epochs.specs.JournalPromise.{IsClosed};
 ghost use Rattle.log_epochs.specs.JournalWorld.{Begins};
-ghost use Rattle.log_engine.specs.Call.{IsOneMoment};
+ghost use Rattle.log_engine.specs.Call.{MakesOneCall, OnlyReads};
 ghost use Rattle.log_engine.specs.Close.{IsAllReleased};
 ghost use Rattle.log_engine.specs.Left.{commit_calls};
 ghost use Rattle.journal_steps.specs.Journal.{Agrees, CheckTurnDid, CheckTurnRefused, Does, FitsQuarter, HasRoomFor, IsDuringCheckTurn, IsDuringTurn, LeavesFewerRounds, NotesRead, OpensNow, OpensOver, ReadRefused, Requests, SealIsDue, TurnDid, TurnRefused};
@@ -245,11 +245,10 @@ impl<D: Device, R: Record> Journal<D, R> {
         ensures noted { OnOk result (NotesRead D.state self.old handle.old block into.new self.new) }
         ensures err { IfErr result (ReadRefused D.state self.old handle.old block self.new) }
         ensures untouched { IfErr result (λ e. into.new ≡ into.old) }
-        ensures stays { Stays (D.state self.old.device) (D.state self.new.device) }
+        ensures device { OnlyReads D.state D.honest self.old.device self.new.device }
         ensures opens { D.honest self.old.device → OpensNow self.new.journal (D.state self.new.device).disk }
         ensures calls { MakesAtMostOneCall (D.state self.old.device) (D.state self.new.device) }
         ensures no_fault { OnOk result ((D.state self.new.device).faults ≡ (D.state self.old.device).faults) }
-        ensures honest { D.honest self.new.device → D.honest self.old.device }
         ensures length { length into.new ≡ length into.old }
         ensures handle { handle.new ≡ handle.old }
     {
@@ -360,12 +359,7 @@ impl<D: Device, R: Record> Journal<D, R> {
         ensures ok { IfOk result (λ turn. TurnDid D.state turn self.old self.new) }
         ensures err { IfErr result (λ e. TurnRefused D.state self.old self.new e) }
         ensures no_fault { OnOk result ((D.state self.new.device).faults ≡ (D.state self.old.device).faults) }
-        ensures shape { (D.state self.new.device).shape ≡ (D.state self.old.device).shape }
-        ensures moments { D.honest self.old.device →
-            EachMoment (IsDuringTurn self.old.journal (D.state self.old.device).disk) (D.state self.old.device) (D.state self.new.device) }
-        ensures one { IsOneMoment (D.state self.old.device) (D.state self.new.device) }
-        ensures calls { MakesAtMostOneCall (D.state self.old.device) (D.state self.new.device) }
-        ensures honest { D.honest self.new.device → D.honest self.old.device }
+        ensures device { MakesOneCall D.state D.honest (IsDuringTurn self.old.journal (D.state self.old.device).disk) self.old.device self.new.device }
     {
         steps::commit_turn(&mut self.front, &mut self.engine)
     }
@@ -379,12 +373,7 @@ impl<D: Device, R: Record> Journal<D, R> {
         ensures err { IfErr result (λ e. TurnRefused D.state self.old self.new e) }
         ensures fewer { OnOk result (commit_calls self.new.journal.engine < commit_calls self.old.journal.engine) }
         ensures no_fault { OnOk result ((D.state self.new.device).faults ≡ (D.state self.old.device).faults) }
-        ensures shape { (D.state self.new.device).shape ≡ (D.state self.old.device).shape }
-        ensures moments { D.honest self.old.device →
-            EachMoment (IsDuringTurn self.old.journal (D.state self.old.device).disk) (D.state self.old.device) (D.state self.new.device) }
-        ensures one { IsOneMoment (D.state self.old.device) (D.state self.new.device) }
-        ensures calls { MakesAtMostOneCall (D.state self.old.device) (D.state self.new.device) }
-        ensures honest { D.honest self.new.device → D.honest self.old.device }
+        ensures device { MakesOneCall D.state D.honest (IsDuringTurn self.old.journal (D.state self.old.device).disk) self.old.device self.new.device }
     {
         steps::commit_step(&mut self.front, &mut self.engine)
     }
@@ -413,12 +402,7 @@ impl<D: Device, R: Record> Journal<D, R> {
         ensures err { IfErr result (λ e. CheckTurnRefused D.state self.old self.new e) }
         ensures fewer { IfOk result (λ turn. LeavesFewerRounds turn self.old.journal.engine self.new.journal.engine) }
         ensures no_fault { OnOk result ((D.state self.new.device).faults ≡ (D.state self.old.device).faults) }
-        ensures shape { (D.state self.new.device).shape ≡ (D.state self.old.device).shape }
-        ensures moments { D.honest self.old.device →
-            EachMoment (IsDuringCheckTurn self.old.journal (D.state self.old.device).disk) (D.state self.old.device) (D.state self.new.device) }
-        ensures one { IsOneMoment (D.state self.old.device) (D.state self.new.device) }
-        ensures calls { MakesAtMostOneCall (D.state self.old.device) (D.state self.new.device) }
-        ensures honest { D.honest self.new.device → D.honest self.old.device }
+        ensures device { MakesOneCall D.state D.honest (IsDuringCheckTurn self.old.journal (D.state self.old.device).disk) self.old.device self.new.device }
     {
         steps::checkpoint_turn(&mut self.front, &mut self.engine)
     }

@@ -10,7 +10,6 @@ use Rattle.journal_model.specs.declared.refusal.JournalError.{JournalError}
 use Rattle.journal_model.specs.Disk.{Disk}
 use Rattle.journal_model.specs.Transaction.{History, content_of, effect, last_effect, later}
 use Rattle.block_device.specs.State.{DeviceState, EachMoment}
-use Rattle.block_device.proofs.Moments.{each-stays}
 use Rattle.journal_world.specs.Call.{Call}
 use Rattle.journal_world.specs.Direct.{DirectFaults, DirectSteps, IsLeftToHome}
 use Rattle.journal_world.specs.Engine.{Engine}
@@ -104,14 +103,12 @@ agrees-direct_fault f front old new disk after call agrees told fault =
     (subst (λ (e : Engine). Agrees (record { front = aborting f; engine = e })) (sym fault.engine)
     (agrees-told f old (record old { aborted = true }) agrees (record { shape = refl; layout = refl; accepted = refl; first = refl; ring = refl }) true refl refl))
 
--- where a direct write is refused before its call, what holds now holds at the one moment
-pub each-unwritten : (j : Journal) (b : ℕ) (v : List ℕ) (state : DeviceState) → OpensNow j state.disk → EachMoment (IsDuringDirectWrite j b v state.disk) state state
-each-unwritten j b v state opens =
-    each-stays (IsDuringDirectWrite j b v state.disk) state state (record { shape = refl; disk = refl; past = refl })
-    (record {
-      home = record { adds = λ ts are. record { reads = λ c. inl refl; left = λ c w one. inl one } };
-      opens = opens;
-    })
+-- where a direct write is refused before its call, the disk is as in one
+pub during-unwritten : (j : Journal) (b : ℕ) (v : List ℕ) (disk : Disk) → OpensNow j disk → IsDuringDirectWrite j b v disk disk
+during-unwritten j b v disk opens = record {
+  home = record { adds = λ ts are. record { reads = λ c. inl refl; left = λ c w one. inl one } };
+  opens = opens;
+}
 
 -- a front that is told what it knows is as it was
 told-same : (f : Front) (aborted : Bool) → aborted ≡ f.aborted → record f { aborted = aborted } ≡ f

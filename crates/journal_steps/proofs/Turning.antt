@@ -7,7 +7,6 @@ use Rattle.journal_model.specs.Disk.{Disk, Shape}
 use Rattle.log_model.specs.Room.{IsCapacity}
 use Rattle.journal_model.specs.Transaction.{History}
 use Rattle.block_device.specs.State.{DeviceState, EachMoment}
-use Rattle.block_device.proofs.Moments.{each-stays}
 use Rattle.journal_world.specs.declared.stage.Stage.{Stage}
 use Rattle.journal_world.specs.declared.stage.Stage.TheVariants.{Idle, SuperblockWrite, SuperblockFlush, Blocks, CommitWrite, CommitFlush}
 use Rattle.journal_world.specs.declared.round.Round.{Round}
@@ -20,7 +19,6 @@ use Rattle.journal_world.specs.Front.{Front, fresh_front}
 use Rattle.journal_world.specs.Journal.{IsFresh, Journal, fresh_engine}
 use Rattle.journal_world.specs.Sound.{OpensBetween}
 use Rattle.journal_world.proofs.Batches.{same-length}
-use Rattle.log_engine.specs.Call.{IsOneMoment}
 use Rattle.log_engine.specs.Engine.{IsDuringCommit, IsDuringRound}
 use Rattle.journal_steps.specs.Journal.{Agrees, IsDuringCheckTurn, IsDuringTurn, OpensNow, OpensOver}
 use Rattle.journal_steps.proofs.Audited.{fresh-kept}
@@ -41,15 +39,9 @@ pub opens-now : (j : Journal) (disk : Disk) → Agrees j →
     OpensBetween j.engine.shape j.engine.accepted j.engine.committed (length j.engine.accepted) disk → OpensNow j disk
 opens-now j disk agrees opens = opens-over j.engine.shape j.front.sealed j.engine.accepted j.engine.committed disk agrees.batches opens
 
--- where the device does nothing, that is at most one moment
-pub same-moment : (state : DeviceState) → IsOneMoment state state
-same-moment state = IsOneMoment.Same (record { shape = refl; disk = refl; past = refl })
-
--- and what holds now holds at the one moment
-pub each-stay : (j : Journal) (state : DeviceState) → OpensNow j state.disk → EachMoment (IsDuringTurn j state.disk) state state
-each-stay j state opens =
-    let here : IsDuringTurn j state.disk state.disk = record { home = record { same = λ b. refl }; opens = opens } in
-    each-stays (IsDuringTurn j state.disk) state state (record { shape = refl; disk = refl; past = refl }) here
+-- where the device does nothing, the disk is as in a turn
+pub during-stay : (j : Journal) (disk : Disk) → OpensNow j disk → IsDuringTurn j disk disk
+during-stay j disk opens = record { home = record { same = λ b. refl }; opens = opens }
 
 -- what holds of each disk of a list, where something stronger does
 all-weaker : (P Q : Disk → Type 0) → ((disk : Disk) → P disk → Q disk) → (disks : List Disk) → AllByRecursion P disks → AllByRecursion Q disks

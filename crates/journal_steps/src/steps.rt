@@ -5,11 +5,11 @@ ghost use Rattle.std.specs.Prelude.{◌≡◌, ◌<◌, ◌≢◌, ◌↔◌, fa
 ghost use Rattle.journal_model.specs.declared.entry.Entry.TheVariants.{Copy};
 ghost use Rattle.journal_model.specs.declared.refusal.JournalError.TheVariants.{Memory};
 ghost use Rattle.journal_model.specs.Transaction.{last_effect};
-ghost use Rattle.block_device.specs.State.{EachMoment, MakesAtMostOneCall, Stays};
+ghost use Rattle.block_device.specs.State.{MakesAtMostOneCall};
 ghost use Rattle.journal_world.specs.declared.stage.Stage.TheVariants.{Idle};
 ghost use Rattle.journal_world.specs.Front.{IsOpen, reading_block, unfinished};
 ghost use Rattle.journal_world.specs.Journal.Event.{DirectSync, DirectWrite, ReadBlock};
-ghost use Rattle.log_engine.specs.Call.{IsOneMoment};
+ghost use Rattle.log_engine.specs.Call.{MakesOneCall, OnlyReads};
 ghost use Rattle.log_engine.specs.Left.{commit_calls};
 ghost use Rattle.journal_steps.specs.Journal.{Agrees, CheckTurnDid, CheckTurnRefused, Does, FitsQuarter, HasRoomFor, IsDuringCheckTurn, IsDuringTurn, LeavesFewerRounds, NoCopy, NotesRead, OpensNow, ReadRefused, SealIsDue, TurnDid, TurnRefused, need_of};
 ghost use Rattle.journal_steps.specs.Direct.{DirectSyncRefused, DirectWriteRefused, IsDuringDirectSync, IsDuringDirectWrite, MayWriteDirectly};
@@ -85,11 +85,10 @@ pub fn read<D: Device, R: Record>(
     ensures noted { OnOk result (NotesRead D.state (together front.old engine.old) handle.now block into.new (together front.new engine.new)) }
     ensures err { IfErr result (ReadRefused D.state (together front.old engine.old) handle.now block (together front.new engine.new)) }
     ensures untouched { IfErr result (λ e. into.new ≡ into.old) }
-    ensures stays { Stays (D.state engine.old.device) (D.state engine.new.device) }
+    ensures device { OnlyReads D.state D.honest engine.old.device engine.new.device }
     ensures opens { D.honest engine.old.device → OpensNow (together front.new engine.new).journal (D.state engine.new.device).disk }
     ensures calls { MakesAtMostOneCall (D.state engine.old.device) (D.state engine.new.device) }
     ensures no_fault { OnOk result ((D.state engine.new.device).faults ≡ (D.state engine.old.device).faults) }
-    ensures honest { D.honest engine.new.device → D.honest engine.old.device }
     ensures length { length into.new ≡ length into.old }
 {
     engine.recall_invariant();
@@ -122,12 +121,7 @@ pub fn commit_turn<D: Device, R: Record>(
     ensures ok { IfOk result (λ turn. TurnDid D.state turn (together front.old engine.old) (together front.new engine.new)) }
     ensures err { IfErr result (λ e. TurnRefused D.state (together front.old engine.old) (together front.new engine.new) e) }
     ensures no_fault { OnOk result ((D.state engine.new.device).faults ≡ (D.state engine.old.device).faults) }
-    ensures shape { (D.state engine.new.device).shape ≡ (D.state engine.old.device).shape }
-    ensures moments { D.honest engine.old.device →
-        EachMoment (IsDuringTurn (together front.old engine.old).journal (D.state engine.old.device).disk) (D.state engine.old.device) (D.state engine.new.device) }
-    ensures one { IsOneMoment (D.state engine.old.device) (D.state engine.new.device) }
-    ensures calls { MakesAtMostOneCall (D.state engine.old.device) (D.state engine.new.device) }
-    ensures honest { D.honest engine.new.device → D.honest engine.old.device }
+    ensures device { MakesOneCall D.state D.honest (IsDuringTurn (together front.old engine.old).journal (D.state engine.old.device).disk) engine.old.device engine.new.device }
 {
     engine.recall_invariant();
     if engine.is_aborted() {
@@ -162,12 +156,7 @@ pub fn commit_step<D: Device, R: Record>(
     ensures err { IfErr result (λ e. TurnRefused D.state (together front.old engine.old) (together front.new engine.new) e) }
     ensures fewer { OnOk result (commit_calls engine.new.engine < commit_calls engine.old.engine) }
     ensures no_fault { OnOk result ((D.state engine.new.device).faults ≡ (D.state engine.old.device).faults) }
-    ensures shape { (D.state engine.new.device).shape ≡ (D.state engine.old.device).shape }
-    ensures moments { D.honest engine.old.device →
-        EachMoment (IsDuringTurn (together front.old engine.old).journal (D.state engine.old.device).disk) (D.state engine.old.device) (D.state engine.new.device) }
-    ensures one { IsOneMoment (D.state engine.old.device) (D.state engine.new.device) }
-    ensures calls { MakesAtMostOneCall (D.state engine.old.device) (D.state engine.new.device) }
-    ensures honest { D.honest engine.new.device → D.honest engine.old.device }
+    ensures device { MakesOneCall D.state D.honest (IsDuringTurn (together front.old engine.old).journal (D.state engine.old.device).disk) engine.old.device engine.new.device }
 {
     engine.recall_invariant();
     let progress = match engine.commit_step() {
@@ -254,12 +243,7 @@ pub fn checkpoint_turn<D: Device, R: Record>(
     ensures err { IfErr result (λ e. CheckTurnRefused D.state (together front.old engine.old) (together front.new engine.new) e) }
     ensures fewer { IfOk result (λ turn. LeavesFewerRounds turn engine.old.engine engine.new.engine) }
     ensures no_fault { OnOk result ((D.state engine.new.device).faults ≡ (D.state engine.old.device).faults) }
-    ensures shape { (D.state engine.new.device).shape ≡ (D.state engine.old.device).shape }
-    ensures moments { D.honest engine.old.device →
-        EachMoment (IsDuringCheckTurn (together front.old engine.old).journal (D.state engine.old.device).disk) (D.state engine.old.device) (D.state engine.new.device) }
-    ensures one { IsOneMoment (D.state engine.old.device) (D.state engine.new.device) }
-    ensures calls { MakesAtMostOneCall (D.state engine.old.device) (D.state engine.new.device) }
-    ensures honest { D.honest engine.new.device → D.honest engine.old.device }
+    ensures device { MakesOneCall D.state D.honest (IsDuringCheckTurn (together front.old engine.old).journal (D.state engine.old.device).disk) engine.old.device engine.new.device }
 {
     let progress = match engine.checkpoint_step() {
         Ok(progress) => progress,
@@ -296,12 +280,7 @@ pub fn write_direct<D: Device, R: Record>(
     ensures ok { OnOk result (Does D.state (together front.old engine.old) (DirectWrite block bytes.now) (together front.new engine.new)) }
     ensures err { IfErr result (λ e. DirectWriteRefused D.state (together front.old engine.old) block bytes.now (together front.new engine.new) e) }
     ensures no_fault { OnOk result ((D.state engine.new.device).faults ≡ (D.state engine.old.device).faults) }
-    ensures shape { (D.state engine.new.device).shape ≡ (D.state engine.old.device).shape }
-    ensures moments { D.honest engine.old.device →
-        EachMoment (IsDuringDirectWrite (together front.old engine.old).journal block bytes.now (D.state engine.old.device).disk) (D.state engine.old.device) (D.state engine.new.device) }
-    ensures one { IsOneMoment (D.state engine.old.device) (D.state engine.new.device) }
-    ensures calls { MakesAtMostOneCall (D.state engine.old.device) (D.state engine.new.device) }
-    ensures honest { D.honest engine.new.device → D.honest engine.old.device }
+    ensures device { MakesOneCall D.state D.honest (IsDuringDirectWrite (together front.old engine.old).journal block bytes.now (D.state engine.old.device).disk) engine.old.device engine.new.device }
 {
     engine.recall_invariant();
     if engine.is_aborted() {
@@ -338,12 +317,7 @@ pub fn sync_direct<D: Device, R: Record>(
     ensures ok { OnOk result (Does D.state (together front.old engine.old) DirectSync (together front.new engine.new)) }
     ensures err { IfErr result (λ e. DirectSyncRefused D.state (together front.old engine.old) (together front.new engine.new) e) }
     ensures no_fault { OnOk result ((D.state engine.new.device).faults ≡ (D.state engine.old.device).faults) }
-    ensures shape { (D.state engine.new.device).shape ≡ (D.state engine.old.device).shape }
-    ensures moments { D.honest engine.old.device →
-        EachMoment (IsDuringDirectSync (together front.old engine.old).journal (D.state engine.old.device).disk) (D.state engine.old.device) (D.state engine.new.device) }
-    ensures one { IsOneMoment (D.state engine.old.device) (D.state engine.new.device) }
-    ensures calls { MakesAtMostOneCall (D.state engine.old.device) (D.state engine.new.device) }
-    ensures honest { D.honest engine.new.device → D.honest engine.old.device }
+    ensures device { MakesOneCall D.state D.honest (IsDuringDirectSync (together front.old engine.old).journal (D.state engine.old.device).disk) engine.old.device engine.new.device }
 {
     match engine.sync_direct() {
         Ok(()) => Ok(()),

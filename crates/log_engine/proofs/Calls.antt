@@ -3,10 +3,9 @@ use Rattle.std.proofs.Common.{sym, ap, subst, ◌∙◌}
 use Rattle.std.specs.Prelude.{◌≡◌, ℕ, List, Some, Result, Ok, Err, OnOk, OnErr}
 use Rattle.std.proofs.lemmas.Option.{same_Some}
 use Rattle.journal_model.specs.declared.number.Area.{Area}
-use Rattle.journal_model.specs.Disk.{Disk, flushed, written}
-use Rattle.block_device.specs.State.{DeviceState, EachMoment, Moves, Stays, Writes}
+use Rattle.journal_model.specs.Disk.{flushed, written}
+use Rattle.block_device.specs.State.{DeviceState, Moves, Stays, Writes}
 use Rattle.block_device.specs.State.Writes.{Undone, Whole, HandedOver}
-use Rattle.block_device.proofs.Moments.{each-moves, each-stays}
 use Rattle.journal_world.specs.Call.{Call, IsAfterFault, after_success}
 use Rattle.journal_world.specs.Call.Call.{Write, Flush}
 use Rattle.journal_world.specs.Call.IsAfterFault.{Undone as NotDone, Whole as AllDone, HandedOver as Given}
@@ -82,8 +81,3 @@ pub moment-flush : {T E : Type 0} (r : Result T E) (area : Area) (old new : Devi
     OnErr r (Stays old new) → IsOneMoment old new
 moment-flush (Ok x) area old new moves stays = Another _ moves
 moment-flush (Err e) area old new moves stays = Same stays
-
--- what holds of the disk before and of the one behind holds at each moment
-pub each-one : (P : Disk → Type 0) (old new : DeviceState) → IsOneMoment old new → P old.disk → P new.disk → EachMoment P old new
-each-one P old new (Same stays) before after = each-stays P old new stays before
-each-one P old new (Another disk moves) before after = each-moves P old new disk moves before (subst P moves.now after)

@@ -17,12 +17,11 @@ use Rattle.journal_world.proofs.DirectRights.{direct-fault-home, direct-home}
 use Rattle.journal_world.proofs.HomeCopies.{adds-none}
 use Rattle.journal_world.proofs.Images.{images-open}
 use Rattle.log_engine.specs.Call.{IsOneMoment}
-use Rattle.log_engine.specs.Call.IsOneMoment.{Same}
 use Rattle.log_engine.specs.Direct.{DirectSyncRefused, DirectWriteRefused, IsDuringDirectSync, IsDuringDirectWrite, NoAddition}
 use Rattle.log_engine.specs.Direct.DirectSyncRefused.{SyncFailed}
 use Rattle.log_engine.specs.Direct.DirectWriteRefused.{WriteFailed}
 use Rattle.log_engine.specs.Engine.{EngineValue}
-use Rattle.log_engine.proofs.Calls.{each-one}
+use Rattle.log_engine.proofs.OneCall.{each-one}
 
 -- the engine, on a device whose shape stays, where the call succeeds
 pub directs-here : (e : Engine) (shape : Shape) (call : Call) (disk after : Disk) → shape ≡ e.shape → e.aborted ≡ false → DirectCall e call →
@@ -58,14 +57,8 @@ fault-opens old new disk after call sound fault =
 
 module _ (e : Engine) (b : ℕ) (v : List ℕ) where
   -- a sound engine between two calls
-  during-write : (disk : Disk) → Sound e disk → IsDuringDirectWrite e b v disk disk
+  pub during-write : (disk : Disk) → Sound e disk → IsDuringDirectWrite e b v disk disk
   during-write disk sound = record { home = record { adds = λ ts are. adds-none _ disk disk (λ c. refl) }; opens = images-open e disk sound }
-
-  -- where nothing changed, it holds at the one moment
-  pub each-unwritten : (state : DeviceState) → Sound e state.disk → EachMoment (IsDuringDirectWrite e b v state.disk) state state
-  each-unwritten state sound =
-      each-one (IsDuringDirectWrite e b v state.disk) state state (Same (record { shape = refl; disk = refl; past = refl })) (during-write state.disk sound)
-      (during-write state.disk sound)
 
   -- at each moment of a direct write, whether it succeeds or fails
   pub each-write : {T E : Type 0} (r : Result T E) (new : Engine) (before after : DeviceState) → IsOneMoment before after → Sound e before.disk →
@@ -89,15 +82,10 @@ flush-none : (b : ℕ) (v : List ℕ) → Flush Home ≡ Write Home b v → ⊥
 flush-none b v same = cc
 
 module _ (e : Engine) where
-  during-sync : (disk : Disk) → Sound e disk → IsDuringDirectSync e disk disk
+  pub during-sync : (disk : Disk) → Sound e disk → IsDuringDirectSync e disk disk
   during-sync disk sound = record { home = adds-none NoAddition disk disk (λ b. refl); opens = images-open e disk sound }
 
   -- the same of the flush of home
-  pub each-unsynced : (state : DeviceState) → Sound e state.disk → EachMoment (IsDuringDirectSync e state.disk) state state
-  each-unsynced state sound =
-      each-one (IsDuringDirectSync e state.disk) state state (Same (record { shape = refl; disk = refl; past = refl })) (during-sync state.disk sound)
-      (during-sync state.disk sound)
-
   pub each-sync : {T E : Type 0} (r : Result T E) (new : Engine) (before after : DeviceState) → IsOneMoment before after → Sound e before.disk →
       OnOk r (DirectSteps e before.disk (Flush Home) new after.disk) → OnErr r (DirectFaults e before.disk (Flush Home) new after.disk) →
       EachMoment (IsDuringDirectSync e before.disk) before after

@@ -26,19 +26,12 @@ use Rattle.log_ledger.proofs.Pendings.{aborted-keeps}
 use Rattle.log_ledger.proofs.Rounds.{KeepsCommit, call-keeps, one-call}
 use Rattle.log_ledger.proofs.Running.{fault-runs}
 use Rattle.log_engine.specs.Call.{IsOneMoment}
-use Rattle.log_engine.specs.Call.IsOneMoment.{Same}
 use Rattle.log_engine.specs.Engine.{IsDuringRound, RoundDid}
-use Rattle.log_engine.proofs.Calls.{each-one}
+use Rattle.log_engine.proofs.OneCall.{each-one}
 
 -- a sound engine between two steps
-during-round : (e : Engine) (disk : Disk) → Sound e disk → IsDuringRound e disk disk
+pub during-round : (e : Engine) (disk : Disk) → Sound e disk → IsDuringRound e disk disk
 during-round e disk sound = record { home = keeps-copies e disk disk (record { same = λ b. refl }); opens = images-open e disk sound }
-
--- where the disk stays, it holds at the one moment
-pub each-still : (e : Engine) (state : DeviceState) → Sound e state.disk → EachMoment (IsDuringRound e state.disk) state state
-each-still e state sound =
-    each-one (IsDuringRound e state.disk) state state (Same (record { shape = refl; disk = refl; past = refl })) (during-round e state.disk sound)
-    (during-round e state.disk sound)
 
 -- the beginning of a round changes nothing but the round
 pub begun-commit : (e : Engine) (round : Round) → KeepsCommit e (begun_from e round)

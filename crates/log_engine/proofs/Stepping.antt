@@ -22,7 +22,7 @@ use Rattle.log_ledger.specs.Due.{call_of}
 use Rattle.log_ledger.specs.Steps.{IsProgress}
 use Rattle.log_engine.specs.Call.{IsOneMoment}
 use Rattle.log_engine.specs.Engine.{IsDuringCommit, StepDid}
-use Rattle.log_engine.proofs.Calls.{each-one}
+use Rattle.log_engine.proofs.OneCall.{each-one}
 
 -- a step that is to do something makes a call
 pub call-there : (due : Due) (bytes : List ℕ) → (due ≡ Nothing → ⊥) → (call : Call) × (call_of due bytes ≡ Some call)
@@ -46,12 +46,6 @@ idle-at e CommitFlush none = absurd (none-some _ (sym none))
 -- a sound engine between two steps
 pub during-now : (e : Engine) (disk : Disk) → Sound e disk → IsDuringCommit e disk disk
 during-now e disk sound = record { home = record { same = λ b. refl }; opens = images-open e disk sound }
-
--- where nothing changed, it holds at the one moment
-pub each-now : (e : Engine) (state : DeviceState) → Sound e state.disk → EachMoment (IsDuringCommit e state.disk) state state
-each-now e state sound =
-    each-one (IsDuringCommit e state.disk) state state (IsOneMoment.Same (record { shape = refl; disk = refl; past = refl })) (during-now e state.disk sound)
-    (during-now e state.disk sound)
 
 -- bounds that are further apart
 opens-wider : (shape : Shape) (accepted : List Batch) (low lower high : ℕ) (disk : Disk) → lower ≤ low → OpensBetween shape accepted low high disk →

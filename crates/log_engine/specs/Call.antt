@@ -1,8 +1,23 @@
--- The moments of one device call.
+-- What a function does to a device, in the calls that it makes of it. This project's own.
+use Rattle.std.specs.Prelude.{◌≡◌}
 use Rattle.journal_model.specs.Disk.{Disk}
-use Rattle.block_device.specs.State.{DeviceState, Stays, Moves}
+use Rattle.block_device.specs.State.{DeviceState, EachMoment, MakesAtMostOneCall, Moves, Stays}
 
 -- at most one moment: the disk stays, or it is another one
 pub data IsOneMoment (old new : DeviceState) : Type 0 where
   Same : Stays old new → IsOneMoment old new
   Another : (disk : Disk) → Moves old new disk → IsOneMoment old new
+
+-- a device is called once or not at all, and keeps its shape; where its reads were honest before, each moment since is as
+-- `During` says
+pub record MakesOneCall {A : Type 0} (state : A → DeviceState) (Honest : A → Type 0) (During : Disk → Type 0) (old new : A) : Type 0 where
+  pub shape : (state new).shape ≡ (state old).shape
+  pub moments : Honest old → EachMoment During (state old) (state new)
+  pub one : IsOneMoment (state old) (state new)
+  pub calls : MakesAtMostOneCall (state old) (state new)
+  pub honest : Honest new → Honest old
+
+-- a device is read, however often: nothing on it changes
+pub record OnlyReads {A : Type 0} (state : A → DeviceState) (Honest : A → Type 0) (old new : A) : Type 0 where
+  pub stays : Stays (state old) (state new)
+  pub honest : Honest new → Honest old

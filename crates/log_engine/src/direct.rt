@@ -5,12 +5,12 @@
 ghost use Rattle.std.specs.Prelude.{◌≡◌, false, length, IfErr, OnErr, OnOk, Some};
 ghost use Rattle.journal_model.specs.declared.number.Area.TheVariants.{Home};
 ghost use Rattle.journal_model.specs.declared.refusal.JournalError.TheVariants.{Device as DeviceFailed};
-ghost use Rattle.block_device.specs.State.{CountsFaults, EachMoment, MakesAtMostOneCall};
+ghost use Rattle.block_device.specs.State.{CountsFaults, MakesAtMostOneCall};
 ghost use Rattle.journal_world.specs.Call.{Call};
 ghost use Rattle.journal_world.specs.Call.Call.{Flush, Write};
 ghost use Rattle.journal_world.specs.Direct.{DirectCall, DirectFaults, DirectSteps, IsLeftToHome};
 ghost use Rattle.log_ledger.specs.Due.{Fits, call_of};
-ghost use Rattle.log_engine.specs.Call.{IsOneMoment};
+ghost use Rattle.log_engine.specs.Call.{IsOneMoment, MakesOneCall};
 ghost use Rattle.log_engine.specs.Direct.{DirectSyncRefused, DirectWriteRefused, IsDuringDirectSync, IsDuringDirectWrite};
 ghost use Rattle.log_engine.specs.Engine.{MayTouch};
 
@@ -38,12 +38,7 @@ impl<D: Device> Engine<D> {
         ensures ok { OnOk result (DirectSteps self.old.engine (D.state self.old.device).disk (Write Home block bytes.now) self.new.engine (D.state self.new.device).disk) }
         ensures err { IfErr result (λ e. DirectWriteRefused D.state self.old block bytes.now self.new e) }
         ensures no_fault { OnOk result ((D.state self.new.device).faults ≡ (D.state self.old.device).faults) }
-        ensures shape { (D.state self.new.device).shape ≡ (D.state self.old.device).shape }
-        ensures moments { D.honest self.old.device →
-            EachMoment (IsDuringDirectWrite self.old.engine block bytes.now (D.state self.old.device).disk) (D.state self.old.device) (D.state self.new.device) }
-        ensures one { IsOneMoment (D.state self.old.device) (D.state self.new.device) }
-        ensures calls { MakesAtMostOneCall (D.state self.old.device) (D.state self.new.device) }
-        ensures honest { D.honest self.new.device → D.honest self.old.device }
+        ensures device { MakesOneCall D.state D.honest (IsDuringDirectWrite self.old.engine block bytes.now (D.state self.old.device).disk) self.old.device self.new.device }
     {
         if self.ledger.aborted {
             return Err(JournalError::Aborted);
@@ -70,12 +65,7 @@ impl<D: Device> Engine<D> {
         ensures ok { OnOk result (DirectSteps self.old.engine (D.state self.old.device).disk (Flush Home) self.new.engine (D.state self.new.device).disk) }
         ensures err { IfErr result (λ e. DirectSyncRefused D.state self.old self.new e) }
         ensures no_fault { OnOk result ((D.state self.new.device).faults ≡ (D.state self.old.device).faults) }
-        ensures shape { (D.state self.new.device).shape ≡ (D.state self.old.device).shape }
-        ensures moments { D.honest self.old.device →
-            EachMoment (IsDuringDirectSync self.old.engine (D.state self.old.device).disk) (D.state self.old.device) (D.state self.new.device) }
-        ensures one { IsOneMoment (D.state self.old.device) (D.state self.new.device) }
-        ensures calls { MakesAtMostOneCall (D.state self.old.device) (D.state self.new.device) }
-        ensures honest { D.honest self.new.device → D.honest self.old.device }
+        ensures device { MakesOneCall D.state D.honest (IsDuringDirectSync self.old.engine (D.state self.old.device).disk) self.old.device self.new.device }
     {
         if self.ledger.aborted {
             Err(JournalError::Aborted)
@@ -93,7 +83,7 @@ impl<D: Device> Engine<D> {
             OnOk result (DirectSteps self.old.engine (D.state self.old.device).disk call self.new.engine (D.state self.new.device).disk) }
         ensures err { (call : Call) → call_of due bytes.now ≡ Some call →
             OnErr result (DirectFaults self.old.engine (D.state self.old.device).disk call self.new.engine (D.state self.new.device).disk) }
-        ensures device { IfErr result (λ e. e ≡ DeviceFailed) }
+        ensures failed { IfErr result (λ e. e ≡ DeviceFailed) }
         ensures faults { CountsFaults result (D.state self.old.device) (D.state self.new.device) }
         ensures shape { (D.state self.new.device).shape ≡ (D.state self.old.device).shape }
         ensures one { IsOneMoment (D.state self.old.device) (D.state self.new.device) }

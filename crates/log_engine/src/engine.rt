@@ -6,7 +6,7 @@ ghost use Rattle.journal_model.specs.Transaction.{copied, revoked};
 ghost use Rattle.log_model.specs.Opening.{ring_of};
 ghost use Rattle.log_model.specs.Room.{need};
 ghost use Rattle.log_model.specs.Superblock.{super_in};
-ghost use Rattle.block_device.specs.State.{EachMoment, MakesAtMostOneCall, Stays};
+ghost use Rattle.block_device.specs.State.{EachMoment, MakesAtMostOneCall};
 ghost use Rattle.journal_world.specs.declared.stage.Stage.TheVariants.{Idle};
 ghost use Rattle.journal_world.specs.Checkpoint.{IsPending, IsRead};
 ghost use Rattle.journal_world.specs.Engine.{Accepts, HasRoom};
@@ -14,7 +14,7 @@ ghost use Rattle.journal_world.specs.Journal.{fresh_engine};
 ghost use Rattle.journal_world.specs.Opening.{IsOpenedLog};
 ghost use Rattle.journal_world.specs.Sound.{IsPlain, OpensBetween};
 ghost use Rattle.log_ledger.specs.Steps.{MayHandOver};
-ghost use Rattle.log_engine.specs.Call.{IsOneMoment};
+ghost use Rattle.log_engine.specs.Call.{MakesOneCall, OnlyReads};
 ghost use Rattle.log_engine.specs.Close.{CloseDid, CloseRefused, IsAllReleased, IsClosedLog, IsDuringClose};
 ghost use Rattle.log_engine.specs.Engine.{AcceptRefused, IsDuringCommit, IsDuringRound, MayTouch, ReadRefused, RoundDid, RoundRefused, StepDid, StepRefused};
 ghost use Rattle.log_engine.specs.Left.{LeavesFewer, commit_calls, round_calls};
@@ -206,13 +206,8 @@ impl<D: Device> Engine<D> {
         ensures ok { IfOk result (λ p. StepDid p self.old.engine (D.state self.old.device).disk self.new.engine (D.state self.new.device).disk) }
         ensures err { IfErr result (λ e. StepRefused self.old.engine (D.state self.old.device) self.new.engine (D.state self.new.device) e) }
         ensures no_fault { OnOk result ((D.state self.new.device).faults ≡ (D.state self.old.device).faults) }
-        ensures shape { (D.state self.new.device).shape ≡ (D.state self.old.device).shape }
-        ensures moments { D.honest self.old.device →
-            EachMoment (IsDuringCommit self.old.engine (D.state self.old.device).disk) (D.state self.old.device) (D.state self.new.device) }
         ensures fewer { IfOk result (λ p. LeavesFewer commit_calls p self.old.engine self.new.engine) }
-        ensures one { IsOneMoment (D.state self.old.device) (D.state self.new.device) }
-        ensures calls { MakesAtMostOneCall (D.state self.old.device) (D.state self.new.device) }
-        ensures honest { D.honest self.new.device → D.honest self.old.device }
+        ensures device { MakesOneCall D.state D.honest (IsDuringCommit self.old.engine (D.state self.old.device).disk) self.old.device self.new.device }
     {
         if self.ledger.aborted {
             return Err(JournalError::Aborted);
@@ -239,13 +234,8 @@ impl<D: Device> Engine<D> {
         ensures ok { IfOk result (λ p. RoundDid p self.old.engine (D.state self.old.device).disk self.new.engine (D.state self.new.device).disk) }
         ensures err { IfErr result (λ e. RoundRefused self.old.engine (D.state self.old.device) self.new.engine (D.state self.new.device) e) }
         ensures no_fault { OnOk result ((D.state self.new.device).faults ≡ (D.state self.old.device).faults) }
-        ensures shape { (D.state self.new.device).shape ≡ (D.state self.old.device).shape }
-        ensures moments { D.honest self.old.device →
-            EachMoment (IsDuringRound self.old.engine (D.state self.old.device).disk) (D.state self.old.device) (D.state self.new.device) }
         ensures fewer { IfOk result (λ p. LeavesFewer round_calls p self.old.engine self.new.engine) }
-        ensures one { IsOneMoment (D.state self.old.device) (D.state self.new.device) }
-        ensures calls { MakesAtMostOneCall (D.state self.old.device) (D.state self.new.device) }
-        ensures honest { D.honest self.new.device → D.honest self.old.device }
+        ensures device { MakesOneCall D.state D.honest (IsDuringRound self.old.engine (D.state self.old.device).disk) self.old.device self.new.device }
     {
         if self.ledger.aborted {
             return Err(JournalError::Aborted);
@@ -276,10 +266,9 @@ impl<D: Device> Engine<D> {
         ensures pending { OnOk result ((i : ℕ) (v : List ℕ) → IsPending self.old.engine i block v → (into.new ≡ v) × (self.new ≡ self.old)) }
         ensures err { IfErr result (λ e. ReadRefused D.state self.old block self.new e) }
         ensures untouched { IfErr result (λ e. e ≢ DeviceFailed → into.new ≡ into.old) }
-        ensures stays { Stays (D.state self.old.device) (D.state self.new.device) }
+        ensures device { OnlyReads D.state D.honest self.old.device self.new.device }
         ensures calls { MakesAtMostOneCall (D.state self.old.device) (D.state self.new.device) }
         ensures no_fault { OnOk result ((D.state self.new.device).faults ≡ (D.state self.old.device).faults) }
-        ensures honest { D.honest self.new.device → D.honest self.old.device }
         ensures length { length into.new ≡ length into.old }
     {
         if self.ledger.aborted {

@@ -2,11 +2,11 @@
 ghost use Rattle.std.specs.Prelude.{◌≡◌, ◌+◌, ◌-◌, ◌≤◌, length, true, false, IfErr, IfOk, OnOk};
 ghost use Rattle.journal_model.specs.declared.refusal.JournalError.TheVariants.{Aborted};
 ghost use Rattle.journal_model.specs.Transaction.{entries};
-ghost use Rattle.block_device.specs.State.{EachMoment, MakesAtMostOneCall, Stays};
+ghost use Rattle.block_device.specs.State.{MakesAtMostOneCall};
 ghost use Rattle.journal_world.specs.Front.{next_handle, reserving};
 ghost use Rattle.journal_world.specs.Front.FrontEvent.{RevokeBlock, StopHandle, WriteBlock};
 ghost use Rattle.journal_world.specs.Journal.Event.{DirectSync, DirectWrite, FrontStep, ReadBlock};
-ghost use Rattle.log_engine.specs.Call.{IsOneMoment};
+ghost use Rattle.log_engine.specs.Call.{MakesOneCall, OnlyReads};
 ghost use Rattle.handle.specs.Values.{fresh_ticket, loading_credits};
 ghost use Rattle.journal_steps.specs.Direct.{DirectSyncRefused, DirectWriteRefused, IsDuringDirectSync, IsDuringDirectWrite, MayWriteDirectly};
 ghost use Rattle.group_commit.specs.Extension.{Extends, Starts};
@@ -185,11 +185,10 @@ impl<J: JournalName, D: Device, R: Record> Locked<J, D, R> {
         ensures noted { OnOk result (NotesRead D.state self.old handle.old block into.new self.new) }
         ensures err { IfErr result (ReadRefused D.state self.old handle.old block self.new) }
         ensures untouched { IfErr result (λ e. into.new ≡ into.old) }
-        ensures stays { Stays (D.state self.old.device) (D.state self.new.device) }
+        ensures device { OnlyReads D.state D.honest self.old.device self.new.device }
         ensures opens { D.honest self.old.device → OpensNow self.new.journal (D.state self.new.device).disk }
         ensures calls { MakesAtMostOneCall (D.state self.old.device) (D.state self.new.device) }
         ensures no_fault { OnOk result ((D.state self.new.device).faults ≡ (D.state self.old.device).faults) }
-        ensures honest { D.honest self.new.device → D.honest self.old.device }
         ensures length { length into.new ≡ length into.old }
         ensures handle { handle.new ≡ handle.old }
     {
@@ -208,12 +207,7 @@ impl<J: JournalName, D: Device, R: Record> Locked<J, D, R> {
         ensures ok { OnOk result (Does D.state self.old (DirectWrite block bytes.now) self.new) }
         ensures err { IfErr result (λ e. DirectWriteRefused D.state self.old block bytes.now self.new e) }
         ensures no_fault { OnOk result ((D.state self.new.device).faults ≡ (D.state self.old.device).faults) }
-        ensures shape { (D.state self.new.device).shape ≡ (D.state self.old.device).shape }
-        ensures moments { D.honest self.old.device →
-            EachMoment (IsDuringDirectWrite self.old.journal block bytes.now (D.state self.old.device).disk) (D.state self.old.device) (D.state self.new.device) }
-        ensures one { IsOneMoment (D.state self.old.device) (D.state self.new.device) }
-        ensures calls { MakesAtMostOneCall (D.state self.old.device) (D.state self.new.device) }
-        ensures honest { D.honest self.new.device → D.honest self.old.device }
+        ensures device { MakesOneCall D.state D.honest (IsDuringDirectWrite self.old.journal block bytes.now (D.state self.old.device).disk) self.old.device self.new.device }
     {
         self.journal.write_direct(block, bytes)
     }
@@ -228,12 +222,7 @@ impl<J: JournalName, D: Device, R: Record> Locked<J, D, R> {
         ensures ok { OnOk result (Does D.state self.old DirectSync self.new) }
         ensures err { IfErr result (λ e. DirectSyncRefused D.state self.old self.new e) }
         ensures no_fault { OnOk result ((D.state self.new.device).faults ≡ (D.state self.old.device).faults) }
-        ensures shape { (D.state self.new.device).shape ≡ (D.state self.old.device).shape }
-        ensures moments { D.honest self.old.device →
-            EachMoment (IsDuringDirectSync self.old.journal (D.state self.old.device).disk) (D.state self.old.device) (D.state self.new.device) }
-        ensures one { IsOneMoment (D.state self.old.device) (D.state self.new.device) }
-        ensures calls { MakesAtMostOneCall (D.state self.old.device) (D.state self.new.device) }
-        ensures honest { D.honest self.new.device → D.honest self.old.device }
+        ensures device { MakesOneCall D.state D.honest (IsDuringDirectSync self.old.journal (D.state self.old.device).disk) self.old.device self.new.device }
     {
         self.journal.sync_direct()
     }
@@ -277,12 +266,7 @@ impl<J: JournalName, D: Device, R: Record> Locked<J, D, R> {
         ensures ok { IfOk result (λ turn. TurnDid D.state turn self.old self.new) }
         ensures err { IfErr result (λ e. TurnRefused D.state self.old self.new e) }
         ensures no_fault { OnOk result ((D.state self.new.device).faults ≡ (D.state self.old.device).faults) }
-        ensures shape { (D.state self.new.device).shape ≡ (D.state self.old.device).shape }
-        ensures moments { D.honest self.old.device →
-            EachMoment (IsDuringTurn self.old.journal (D.state self.old.device).disk) (D.state self.old.device) (D.state self.new.device) }
-        ensures one { IsOneMoment (D.state self.old.device) (D.state self.new.device) }
-        ensures calls { MakesAtMostOneCall (D.state self.old.device) (D.state self.new.device) }
-        ensures honest { D.honest self.new.device → D.honest self.old.device }
+        ensures device { MakesOneCall D.state D.honest (IsDuringTurn self.old.journal (D.state self.old.device).disk) self.old.device self.new.device }
     {
         let turn = self.journal.commit_turn()?;
         match turn {
@@ -303,12 +287,7 @@ impl<J: JournalName, D: Device, R: Record> Locked<J, D, R> {
         ensures ok { IfOk result (λ turn. CheckTurnDid D.state turn self.old self.new) }
         ensures err { IfErr result (λ e. CheckTurnRefused D.state self.old self.new e) }
         ensures no_fault { OnOk result ((D.state self.new.device).faults ≡ (D.state self.old.device).faults) }
-        ensures shape { (D.state self.new.device).shape ≡ (D.state self.old.device).shape }
-        ensures moments { D.honest self.old.device →
-            EachMoment (IsDuringCheckTurn self.old.journal (D.state self.old.device).disk) (D.state self.old.device) (D.state self.new.device) }
-        ensures one { IsOneMoment (D.state self.old.device) (D.state self.new.device) }
-        ensures calls { MakesAtMostOneCall (D.state self.old.device) (D.state self.new.device) }
-        ensures honest { D.honest self.new.device → D.honest self.old.device }
+        ensures device { MakesOneCall D.state D.honest (IsDuringCheckTurn self.old.journal (D.state self.old.device).disk) self.old.device self.new.device }
     {
         self.journal.checkpoint_turn()
     }

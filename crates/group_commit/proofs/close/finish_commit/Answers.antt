@@ -9,7 +9,7 @@ use Rattle.group_commit.proofs.close.finish_commit.Goals as goal
 pub returns-in_err-commit_step-clause-err : goal.returns-in_err-commit_step-clause-err
 returns-in_err-commit_step-clause-err g c =
     let busy = λ (idle : c.loop-journal.journal.journal.engine.stage ≡ Idle). true≢false (sym (c.is_idle.ensures.1 idle) ∙ c.loop-journal-test.true) in
-    let wrong = commit-wrong g.D.Device.state _ _ _ c.loop-journal.invariant.went.running busy c.in_err-commit_step.ensures.err c.commit_step.ensures.shape in
+    let wrong = commit-wrong g.D.Device.state _ _ _ c.loop-journal.invariant.went.running busy c.in_err-commit_step.ensures.err c.commit_step.ensures.device.shape in
     let p = err_from_is_err_and c.from_residual.result c.from_residual.ensures.1 in
     rw (p.1, p.2) (wrong.0, went-wrong g.D.Device.state _ _ _ c.loop-journal.invariant.went wrong.1)
 
@@ -19,8 +19,8 @@ loop-journal-preserved g c =
     let before = c.loop-journal.invariant in
     let busy = λ (idle : c.loop-journal.journal.journal.engine.stage ≡ Idle). true≢false (sym (c.is_idle.ensures.1 idle) ∙ c.loop-journal-test.true) in
     let step =
-    commit-went g.D.Device.state _ _ _ before.went.running busy c.in_ok-commit_step.ensures.ok c.commit_step.ensures.shape c.in_ok-commit_step.ensures.no_fault in
+    commit-went g.D.Device.state _ _ _ before.went.running busy c.in_ok-commit_step.ensures.ok c.commit_step.ensures.device.shape c.in_ok-commit_step.ensures.no_fault in
     record {
       went = went-went g.D.Device.state _ _ _ before.went step;
-      honest = λ honest. before.honest (c.commit_step.ensures.honest honest);
+      honest = λ honest. before.honest (c.commit_step.ensures.device.honest honest);
     }

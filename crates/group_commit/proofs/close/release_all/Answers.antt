@@ -6,14 +6,14 @@ use Rattle.group_commit.proofs.close.release_all.Goals as goal
 -- the step that was refused has failed
 pub returns-in_err-checkpoint_turn-clause-err : goal.returns-in_err-checkpoint_turn-clause-err
 returns-in_err-checkpoint_turn-clause-err g c =
-    let wrong = check-wrong g.D.Device.state _ _ _ c.loop-journal.invariant.went.running c.in_err-checkpoint_turn.ensures.err c.checkpoint_turn.ensures.shape in
+    let wrong = check-wrong g.D.Device.state _ _ _ c.loop-journal.invariant.went.running c.in_err-checkpoint_turn.ensures.err c.checkpoint_turn.ensures.device.shape in
     let p = err_from_is_err_and c.from_residual.result c.from_residual.ensures.1 in
     rw (p.1, p.2) (wrong.0, went-wrong g.D.Device.state _ _ _ c.loop-journal.invariant.went wrong.1)
 
 -- and has left the commit
 pub returns-in_err-checkpoint_turn-clause-stage : goal.returns-in_err-checkpoint_turn-clause-stage
 returns-in_err-checkpoint_turn-clause-stage g c =
-    let wrong = check-wrong g.D.Device.state _ _ _ c.loop-journal.invariant.went.running c.in_err-checkpoint_turn.ensures.err c.checkpoint_turn.ensures.shape in
+    let wrong = check-wrong g.D.Device.state _ _ _ c.loop-journal.invariant.went.running c.in_err-checkpoint_turn.ensures.err c.checkpoint_turn.ensures.device.shape in
     wrong.2 ∙ c.loop-journal.invariant.stage
 
 -- a step that was made keeps it
@@ -21,9 +21,9 @@ pub loop-journal-preserved : goal.loop-journal-preserved
 loop-journal-preserved g c =
     let before = c.loop-journal.invariant in
     let step =
-    check-went g.D.Device.state _ _ _ before.went.running c.in_ok-checkpoint_turn.ensures.ok c.checkpoint_turn.ensures.shape c.in_ok-checkpoint_turn.ensures.no_fault in
+    check-went g.D.Device.state _ _ _ before.went.running c.in_ok-checkpoint_turn.ensures.ok c.checkpoint_turn.ensures.device.shape c.in_ok-checkpoint_turn.ensures.no_fault in
     record {
       went = went-went g.D.Device.state _ _ _ before.went step.0;
       stage = step.1 ∙ before.stage;
-      honest = λ honest. before.honest (c.checkpoint_turn.ensures.honest honest);
+      honest = λ honest. before.honest (c.checkpoint_turn.ensures.device.honest honest);
     }

@@ -1,6 +1,7 @@
 use Rattle.std.proofs.Common.{subst}
 use Rattle.log_ledger.specs.declared.progress.Progress.{Progress}
 use Rattle.log_engine.specs.Engine.{RoundDid}
+use Rattle.log_engine.proofs.OneCall.{call-as}
 use Rattle.journal_steps.proofs.Rounding.{agrees-round, agrees-round_refused, done-check, idle-check, refused-check, step-check}
 use Rattle.journal_steps.proofs.Turning.{each-check}
 use Rattle.journal_steps.proofs.steps.checkpoint_turn.Goals as goal
@@ -25,30 +26,17 @@ pub returns-in-Done-clause-agrees : goal.returns-in-Done-clause-agrees
 returns-in-Done-clause-agrees g c = agrees-round _ _ _ _ _ _ c.requires.agrees c.in-Ok.ensures.ok
 
 -- each of its moments is one of the turn
-pub returns-in-Err-clause-moments : goal.returns-in-Err-clause-moments
-returns-in-Err-clause-moments g c = (λ honest. each-check _ _ _ c.requires.agrees (c.checkpoint_step.ensures.moments honest))
+pub returns-in-Err-clause-device : goal.returns-in-Err-clause-device
+returns-in-Err-clause-device g c = call-as (each-check _ _ _ c.requires.agrees) c.checkpoint_step.ensures.device
 
-pub returns-in-Idle-clause-moments : goal.returns-in-Idle-clause-moments
-returns-in-Idle-clause-moments g c = (λ honest. each-check _ _ _ c.requires.agrees (c.checkpoint_step.ensures.moments honest))
+pub returns-in-Idle-clause-device : goal.returns-in-Idle-clause-device
+returns-in-Idle-clause-device g c = call-as (each-check _ _ _ c.requires.agrees) c.checkpoint_step.ensures.device
 
-pub returns-in-Step-clause-moments : goal.returns-in-Step-clause-moments
-returns-in-Step-clause-moments g c = (λ honest. each-check _ _ _ c.requires.agrees (c.checkpoint_step.ensures.moments honest))
+pub returns-in-Step-clause-device : goal.returns-in-Step-clause-device
+returns-in-Step-clause-device g c = call-as (each-check _ _ _ c.requires.agrees) c.checkpoint_step.ensures.device
 
-pub returns-in-Done-clause-moments : goal.returns-in-Done-clause-moments
-returns-in-Done-clause-moments g c = (λ honest. each-check _ _ _ c.requires.agrees (c.checkpoint_step.ensures.moments honest))
-
--- and there is one at most
-pub returns-in-Err-clause-one : goal.returns-in-Err-clause-one
-returns-in-Err-clause-one g c = c.checkpoint_step.ensures.one
-
-pub returns-in-Idle-clause-one : goal.returns-in-Idle-clause-one
-returns-in-Idle-clause-one g c = c.checkpoint_step.ensures.one
-
-pub returns-in-Step-clause-one : goal.returns-in-Step-clause-one
-returns-in-Step-clause-one g c = c.checkpoint_step.ensures.one
-
-pub returns-in-Done-clause-one : goal.returns-in-Done-clause-one
-returns-in-Done-clause-one g c = c.checkpoint_step.ensures.one
+pub returns-in-Done-clause-device : goal.returns-in-Done-clause-device
+returns-in-Done-clause-device g c = call-as (each-check _ _ _ c.requires.agrees) c.checkpoint_step.ensures.device
 
 -- the turn did what the step did
 pub returns-in-Idle-clause-ok : goal.returns-in-Idle-clause-ok

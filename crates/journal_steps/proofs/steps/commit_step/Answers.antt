@@ -1,6 +1,7 @@
 use Rattle.std.proofs.Common.{subst}
 use Rattle.log_ledger.specs.declared.progress.Progress.{Progress}
 use Rattle.log_engine.specs.Engine.{StepDid}
+use Rattle.log_engine.proofs.OneCall.{call-as}
 use Rattle.journal_steps.proofs.Sealing.{agrees-last, agrees-refused, finishes-commit, may-raise, refused-turn}
 use Rattle.journal_steps.proofs.Turning.{each-turn}
 use Rattle.journal_steps.proofs.steps.commit_step.Goals as goal
@@ -16,14 +17,12 @@ returns-in-Err-clause-err g c =
     (refused-turn g.D.Device.state _ _ _ _ _ _ _ running c.abort.ensures c.in-Err.ensures.err)
 
 -- each of its moments is one of the turn
-pub returns-in-Err-clause-moments : goal.returns-in-Err-clause-moments
-returns-in-Err-clause-moments g c =
-    (λ honest. each-turn _ _ _ c.requires.agrees (c.commit_step.ensures.moments honest))
+pub returns-in-Err-clause-device : goal.returns-in-Err-clause-device
+returns-in-Err-clause-device g c = call-as (each-turn _ _ _ c.requires.agrees) c.commit_step.ensures.device
 
 -- so it is of a step that is not the last
-pub returns-in-Step-clause-moments : goal.returns-in-Step-clause-moments
-returns-in-Step-clause-moments g c =
-    (λ honest. each-turn _ _ _ c.requires.agrees (c.commit_step.ensures.moments honest))
+pub returns-in-Step-clause-device : goal.returns-in-Step-clause-device
+returns-in-Step-clause-device g c = call-as (each-turn _ _ _ c.requires.agrees) c.commit_step.ensures.device
 
 -- what is finished may be told
 pub raise-requires : goal.raise-requires
@@ -53,16 +52,5 @@ returns-in-Done-clause-ok g c =
     (finishes-commit g.D.Device.state _ _ _ _ _ _ _ _ c.requires.agrees did.0 did.1 did.2 c.finish.ensures c.raise.ensures)
 
 -- each of its moments is one of the turn
-pub returns-in-Done-clause-moments : goal.returns-in-Done-clause-moments
-returns-in-Done-clause-moments g c =
-    (λ honest. each-turn _ _ _ c.requires.agrees (c.commit_step.ensures.moments honest))
-
--- there is one moment at most
-pub returns-in-Err-clause-one : goal.returns-in-Err-clause-one
-returns-in-Err-clause-one g c = c.commit_step.ensures.one
-
-pub returns-in-Step-clause-one : goal.returns-in-Step-clause-one
-returns-in-Step-clause-one g c = c.commit_step.ensures.one
-
-pub returns-in-Done-clause-one : goal.returns-in-Done-clause-one
-returns-in-Done-clause-one g c = c.commit_step.ensures.one
+pub returns-in-Done-clause-device : goal.returns-in-Done-clause-device
+returns-in-Done-clause-device g c = call-as (each-turn _ _ _ c.requires.agrees) c.commit_step.ensures.device

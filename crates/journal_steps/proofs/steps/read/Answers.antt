@@ -95,7 +95,7 @@ returns-in-Some-clause-opens g c =
 pub returns-in_err-new-clause-opens : goal.returns-in_err-new-clause-opens
 returns-in_err-new-clause-opens g c = λ honest.
     opens-read c.args.front.now c.room_for_read.new.self c.args.engine.now.engine c.read.new.self.engine _ _
-    (ap (λ (f : Front). f.sealed) c.room_for_read.ensures.same) c.in_default-read.ensures.ok.1 c.read.ensures.stays.disk
+    (ap (λ (f : Front). f.sealed) c.room_for_read.ensures.same) c.in_default-read.ensures.ok.1 c.read.ensures.device.stays.disk
     (opens-now _ _ c.requires.agrees (c.recall_invariant.ensures.opens honest))
 
 -- after a read that failed front and engine agree, once the front is told
@@ -113,14 +113,14 @@ returns-in-Err-clause-err g c =
     let told = c.abort.ensures ∙ ap (λ (f : Front). aborting f) c.room_for_read.ensures.same in
     let none = rw c.in_default.is at c.in_ok-copy.ensures.ok in
     refused-read g.D.Device.state c.args.front.now c.abort.new.self c.args.engine.now c.read.new.self c.args.handle.now c.args.block c.in-Err.e c.requires.agrees c.in_ok-admit.ensures.ok none
-    c.read.ensures.stays told c.in-Err.ensures.err
+    c.read.ensures.device.stays told c.in-Err.ensures.err
 
 -- what a stop leaves opens as before
 pub returns-in-Err-clause-opens : goal.returns-in-Err-clause-opens
 returns-in-Err-clause-opens g c =
     let told = c.abort.ensures ∙ ap (λ (f : Front). aborting f) c.room_for_read.ensures.same in
     λ honest. opens-unread g.D.Device.state c.args.front.now c.abort.new.self c.args.engine.now c.read.new.self c.args.block c.in-Err.e
-    (opens-now _ _ c.requires.agrees (c.recall_invariant.ensures.opens honest)) told c.read.ensures.stays c.in-Err.ensures.err
+    (opens-now _ _ c.requires.agrees (c.recall_invariant.ensures.opens honest)) told c.read.ensures.device.stays c.in-Err.ensures.err
 
 -- front and engine agree once what the engine read is noted
 pub returns-clause-agrees : goal.returns-clause-agrees
@@ -153,7 +153,7 @@ returns-clause-ok g c =
     noted-does g.D.Device.state g.D.Device.honest c.args.front.now c.note-2.new.front c.args.engine.now c.read.new.self c.args.handle.now c.args.block seen
     c.note-2.new.into c.args.into.now c.note-2.result c.in_ok-admit.ensures.ok c.requires.agrees whole c.in_default-read.ensures.ok.1 noted unnoted
     is_open (λ honest. seen-read j c.requires.agrees plain (g.D.Device.state c.args.engine.now.device).disk c.args.block seen none (c.in_default-read.ensures.ok.0 honest))
-    c.read.ensures.stays
+    c.read.ensures.device.stays
 
 -- of these bytes; a pending copy is read without a device call
 pub returns-clause-noted : goal.returns-clause-noted
@@ -184,5 +184,5 @@ returns-clause-opens g c =
     let unnoted = rw c.room_for_read.ensures.same at c.note-2.ensures.err in
     let sealed = noted-sealed g.D.Device.state g.D.Device.honest c.args.front.now c.note-2.new.front c.args.engine.now c.read.new.self c.args.handle.now c.args.block seen
     c.note-2.new.into c.args.into.now c.note-2.result c.in_ok-admit.ensures.ok c.requires.agrees whole c.in_default-read.ensures.ok.1 noted unnoted in
-    λ honest. opens-read c.args.front.now c.note-2.new.front c.args.engine.now.engine c.read.new.self.engine _ _ sealed c.in_default-read.ensures.ok.1 c.read.ensures.stays.disk
+    λ honest. opens-read c.args.front.now c.note-2.new.front c.args.engine.now.engine c.read.new.self.engine _ _ sealed c.in_default-read.ensures.ok.1 c.read.ensures.device.stays.disk
     (opens-now _ _ c.requires.agrees (c.recall_invariant.ensures.opens honest))

@@ -1,3 +1,4 @@
+use Rattle.log_engine.proofs.OneCall.{call-as}
 use Rattle.journal_steps.proofs.Directs.{agrees-direct, agrees-unsynced, each-sync, refused-sync}
 use Rattle.journal_steps.proofs.steps.sync_direct.Goals as goal
 
@@ -10,18 +11,11 @@ pub returns-in-Err-clause-agrees : goal.returns-in-Err-clause-agrees
 returns-in-Err-clause-agrees g c = agrees-unsynced g.D.Device.state _ _ _ _ _ c.requires.agrees c.abort.ensures c.in-Err.ensures.err
 
 -- each moment of the engine's flush is one of the journal's
-pub returns-in-Ok-clause-moments : goal.returns-in-Ok-clause-moments
-returns-in-Ok-clause-moments g c = (λ honest. each-sync _ _ _ c.requires.agrees (c.sync_direct.ensures.moments honest))
+pub returns-in-Ok-clause-device : goal.returns-in-Ok-clause-device
+returns-in-Ok-clause-device g c = call-as (each-sync _ _ _ c.requires.agrees) c.sync_direct.ensures.device
 
-pub returns-in-Err-clause-moments : goal.returns-in-Err-clause-moments
-returns-in-Err-clause-moments g c = (λ honest. each-sync _ _ _ c.requires.agrees (c.sync_direct.ensures.moments honest))
-
--- and there is one at most
-pub returns-in-Ok-clause-one : goal.returns-in-Ok-clause-one
-returns-in-Ok-clause-one g c = c.sync_direct.ensures.one
-
-pub returns-in-Err-clause-one : goal.returns-in-Err-clause-one
-returns-in-Err-clause-one g c = c.sync_direct.ensures.one
+pub returns-in-Err-clause-device : goal.returns-in-Err-clause-device
+returns-in-Err-clause-device g c = call-as (each-sync _ _ _ c.requires.agrees) c.sync_direct.ensures.device
 
 -- why the engine refuses it is why the journal does
 pub returns-in-Err-clause-err : goal.returns-in-Err-clause-err

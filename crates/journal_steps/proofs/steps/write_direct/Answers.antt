@@ -1,9 +1,10 @@
 use Rattle.std.proofs.Common.{Bool, refl, sym, ap, ◌∙◌}
 use Rattle.std.proofs.lemmas.Bool.{true≢false}
 use Rattle.journal_world.specs.Journal.{Journal}
+use Rattle.log_engine.proofs.OneCall.{call-as, no-call}
 use Rattle.journal_steps.specs.Direct.{DirectWriteRefused, MayWriteDirectly}
 use Rattle.journal_front.specs.Front.{MayTouch}
-use Rattle.journal_steps.proofs.Directs.{agrees-direct, agrees-unwritten, each-direct, each-unwritten, refused-direct, right-from, right-gives}
+use Rattle.journal_steps.proofs.Directs.{agrees-direct, agrees-unwritten, during-unwritten, each-direct, refused-direct, right-from, right-gives}
 use Rattle.journal_steps.proofs.Turning.{opens-now}
 use Rattle.journal_steps.proofs.steps.write_direct.Goals as goal
 
@@ -13,17 +14,17 @@ returns-then-is_aborted-clause-err g c =
     (DirectWriteRefused.WriteAborted (sym c.is_aborted.ensures ∙ c.if-is_aborted.true) refl)
 
 -- where no call is made, what holds now holds at the one moment
-pub returns-then-is_aborted-clause-moments : goal.returns-then-is_aborted-clause-moments
-returns-then-is_aborted-clause-moments g c =
-    (λ honest. each-unwritten _ _ _ _ (opens-now _ _ c.requires.agrees (c.recall_invariant.ensures.opens honest)))
+pub returns-then-is_aborted-clause-device : goal.returns-then-is_aborted-clause-device
+returns-then-is_aborted-clause-device g c =
+    no-call (λ honest. during-unwritten _ _ _ _ (opens-now _ _ c.requires.agrees (c.recall_invariant.ensures.opens honest)))
 
-pub returns-then-not-may_touch-clause-moments : goal.returns-then-not-may_touch-clause-moments
-returns-then-not-may_touch-clause-moments g c =
-    (λ honest. each-unwritten _ _ _ _ (opens-now _ _ c.requires.agrees (c.recall_invariant.ensures.opens honest)))
+pub returns-then-not-may_touch-clause-device : goal.returns-then-not-may_touch-clause-device
+returns-then-not-may_touch-clause-device g c =
+    no-call (λ honest. during-unwritten _ _ _ _ (opens-now _ _ c.requires.agrees (c.recall_invariant.ensures.opens honest)))
 
-pub returns-then-not-is_untouched-clause-moments : goal.returns-then-not-is_untouched-clause-moments
-returns-then-not-is_untouched-clause-moments g c =
-    (λ honest. each-unwritten _ _ _ _ (opens-now _ _ c.requires.agrees (c.recall_invariant.ensures.opens honest)))
+pub returns-then-not-is_untouched-clause-device : goal.returns-then-not-is_untouched-clause-device
+returns-then-not-is_untouched-clause-device g c =
+    no-call (λ honest. during-unwritten _ _ _ _ (opens-now _ _ c.requires.agrees (c.recall_invariant.ensures.opens honest)))
 
 -- home has no such block
 pub returns-then-not-may_touch-clause-err : goal.returns-then-not-may_touch-clause-err
@@ -60,18 +61,11 @@ returns-in-Ok-clause-right g c =
     (right-from j c.requires.agrees c.recall_invariant.ensures.plain c.args.block (c.is_untouched.ensures.0 c.if-not-is_untouched.false) c.in-Ok.ensures.may.2)
 
 -- each moment of the engine's write is one of the journal's
-pub returns-in-Ok-clause-moments : goal.returns-in-Ok-clause-moments
-returns-in-Ok-clause-moments g c = (λ honest. each-direct _ _ _ _ _ c.requires.agrees (c.write_direct.ensures.moments honest))
+pub returns-in-Ok-clause-device : goal.returns-in-Ok-clause-device
+returns-in-Ok-clause-device g c = call-as (each-direct _ _ _ _ _ c.requires.agrees) c.write_direct.ensures.device
 
-pub returns-in-Err-clause-moments : goal.returns-in-Err-clause-moments
-returns-in-Err-clause-moments g c = (λ honest. each-direct _ _ _ _ _ c.requires.agrees (c.write_direct.ensures.moments honest))
-
--- and there is one at most
-pub returns-in-Ok-clause-one : goal.returns-in-Ok-clause-one
-returns-in-Ok-clause-one g c = c.write_direct.ensures.one
-
-pub returns-in-Err-clause-one : goal.returns-in-Err-clause-one
-returns-in-Err-clause-one g c = c.write_direct.ensures.one
+pub returns-in-Err-clause-device : goal.returns-in-Err-clause-device
+returns-in-Err-clause-device g c = call-as (each-direct _ _ _ _ _ c.requires.agrees) c.write_direct.ensures.device
 
 -- the engine refused it
 pub returns-in-Err-clause-err : goal.returns-in-Err-clause-err

@@ -7,11 +7,12 @@ use Rattle.log_ledger.specs.Due.{call_of}
 use Rattle.log_ledger.specs.Ledger.{Runs, engine_of}
 use Rattle.log_ledger.proofs.Outcomes.{at-err, at-ok, count-err, count-ok}
 use Rattle.log_engine.specs.Engine.{RoundRefused}
+use Rattle.log_engine.proofs.OneCall.{no-call}
 use Rattle.log_engine.proofs.Effects.{round-fault-noted, round-noted}
 use Rattle.log_engine.proofs.FewerCalls.{round-fewer}
 use Rattle.log_engine.proofs.KeptClean.{round-clean, round-fault-clean}
 use Rattle.log_engine.proofs.Plans.{round-fault-planned, round-planned}
-use Rattle.log_engine.proofs.Rounding.{aborted-runs, each-round, each-round-fault, each-still, round-did, round-faults, round-steps}
+use Rattle.log_engine.proofs.Rounding.{aborted-runs, during-round, each-round, each-round-fault, round-did, round-faults, round-steps}
 use Rattle.log_engine.proofs.engine.Engine.checkpoint_step.Goals as goal
 
 -- an aborted journal refuses, and nothing changes
@@ -20,12 +21,12 @@ returns-then-self-clause-err g c =
     rw (← c.self.view_is) (RoundRefused.RoundAborted c.if-self.true refl (record { shape = refl; disk = refl; past = refl }) refl)
 
 -- so what holds now holds at the one moment
-pub returns-then-self-clause-moments : goal.returns-then-self-clause-moments
-returns-then-self-clause-moments g c = rw (← c.self.view_is) (λ honest. each-still _ _ (c.self.invariant.2 honest))
+pub returns-then-self-clause-device : goal.returns-then-self-clause-device
+returns-then-self-clause-device g c = rw (← c.self.view_is) (no-call (λ honest. during-round _ _ (c.self.invariant.2 honest)))
 
 -- nor where nothing is to be released
-pub returns-then-not-begin_round-clause-moments : goal.returns-then-not-begin_round-clause-moments
-returns-then-not-begin_round-clause-moments g c = rw (← c.self.view_is) (λ honest. each-still _ _ (c.self.invariant.2 honest))
+pub returns-then-not-begin_round-clause-device : goal.returns-then-not-begin_round-clause-device
+returns-then-not-begin_round-clause-device g c = rw (← c.self.view_is) (no-call (λ honest. during-round _ _ (c.self.invariant.2 honest)))
 
 -- where the device fails the engine is aborted, and can still be asked
 pub invariant_of-self-then-is_err : goal.invariant_of-self-then-is_err
@@ -70,11 +71,13 @@ returns-then-is_err g c =
       err = RoundRefused.RoundFailed fault (count-err _ _ c.make_call.result failed c.make_call.ensures.faults);
       fewer = tt;
       no_fault = tt;
-      shape = c.make_call.ensures.shape;
-      moments = λ honest. each-round-fault e _ before after c.make_call.ensures.moment (c.self.invariant.2 honest) fault;
-      one = c.make_call.ensures.moment;
-      calls = c.make_call.ensures.calls;
-      honest = c.make_call.ensures.honest;
+      device = record {
+        shape = c.make_call.ensures.shape;
+        moments = λ honest. each-round-fault e _ before after c.make_call.ensures.moment (c.self.invariant.2 honest) fault;
+        one = c.make_call.ensures.moment;
+        calls = c.make_call.ensures.calls;
+        honest = c.make_call.ensures.honest;
+      };
     })
 
 -- where the call succeeds the round is one step further
@@ -124,9 +127,11 @@ returns g c =
       err = tt;
       fewer = round-fewer c.advance_round.result e _ before.disk after.disk c.self.invariant.0.plain (round-did c.advance_round.result e _ before.disk after.disk (c.advance_round.ensures.progress after.shape) steps);
       no_fault = count-ok _ _ c.make_call.result worked c.make_call.ensures.faults;
-      shape = c.make_call.ensures.shape;
-      moments = λ honest. each-round e _ before after c.make_call.ensures.moment (c.self.invariant.2 honest) steps;
-      one = c.make_call.ensures.moment;
-      calls = c.make_call.ensures.calls;
-      honest = c.make_call.ensures.honest;
+      device = record {
+        shape = c.make_call.ensures.shape;
+        moments = λ honest. each-round e _ before after c.make_call.ensures.moment (c.self.invariant.2 honest) steps;
+        one = c.make_call.ensures.moment;
+        calls = c.make_call.ensures.calls;
+        honest = c.make_call.ensures.honest;
+      };
     })

@@ -10,11 +10,12 @@ use Rattle.log_ledger.proofs.Advancing.{faults-on}
 use Rattle.log_ledger.proofs.Running.{superblock-of}
 use Rattle.log_ledger.proofs.Outcomes.{at-err, at-ok, count-err, count-ok}
 use Rattle.log_engine.specs.Engine.{StepRefused}
+use Rattle.log_engine.proofs.OneCall.{no-call}
 use Rattle.log_engine.proofs.Effects.{step-noted}
 use Rattle.log_engine.proofs.FewerCalls.{step-fewer}
 use Rattle.log_engine.proofs.KeptClean.{fault-clean, step-clean}
 use Rattle.log_engine.proofs.Plans.{step-planned}
-use Rattle.log_engine.proofs.Stepping.{busy, call-there, each-fault, each-now, each-step, faults-here, idle-at, step-did, steps-here}
+use Rattle.log_engine.proofs.Stepping.{busy, call-there, during-now, each-fault, each-step, faults-here, idle-at, step-did, steps-here}
 use Rattle.log_engine.proofs.engine.Engine.commit_step.Goals as goal
 
 -- an aborted journal refuses, and nothing changes
@@ -23,8 +24,8 @@ returns-then-self-clause-err g c =
     rw (← c.self.view_is) (StepRefused.WasAborted c.if-self.true refl (record { shape = refl; disk = refl; past = refl }) refl)
 
 -- so what holds now holds at the one moment
-pub returns-then-self-clause-moments : goal.returns-then-self-clause-moments
-returns-then-self-clause-moments g c = rw (← c.self.view_is) (λ honest. each-now _ _ (c.self.invariant.2 honest))
+pub returns-then-self-clause-device : goal.returns-then-self-clause-device
+returns-then-self-clause-device g c = rw (← c.self.view_is) (no-call (λ honest. during-now _ _ (c.self.invariant.2 honest)))
 
 -- nor where no call is due
 pub returns-in-Nothing-clause-ok : goal.returns-in-Nothing-clause-ok
@@ -34,8 +35,8 @@ returns-in-Nothing-clause-ok g c =
     rw (← c.self.view_is) (idle-at (engine_of shape c.self.inside.ledger) c.self.inside.ledger.stage none, c.if-self.false, refl, refl)
 
 -- then it holds at the one moment too
-pub returns-in-Nothing-clause-moments : goal.returns-in-Nothing-clause-moments
-returns-in-Nothing-clause-moments g c = rw (← c.self.view_is) (λ honest. each-now _ _ (c.self.invariant.2 honest))
+pub returns-in-Nothing-clause-device : goal.returns-in-Nothing-clause-device
+returns-in-Nothing-clause-device g c = rw (← c.self.view_is) (no-call (λ honest. during-now _ _ (c.self.invariant.2 honest)))
 
 -- where the device fails the engine is aborted, and can still be asked
 pub invariant_of-self-then-is_err : goal.invariant_of-self-then-is_err
@@ -76,11 +77,13 @@ returns-then-is_err g c =
       err = StepRefused.DeviceFailed fault (count-err _ _ c.make_call.result failed c.make_call.ensures.faults);
       fewer = tt;
       no_fault = tt;
-      shape = c.make_call.ensures.shape;
-      moments = λ honest. each-fault e _ before after c.make_call.ensures.moment (c.self.invariant.2 honest) fault;
-      one = c.make_call.ensures.moment;
-      calls = c.make_call.ensures.calls;
-      honest = c.make_call.ensures.honest;
+      device = record {
+        shape = c.make_call.ensures.shape;
+        moments = λ honest. each-fault e _ before after c.make_call.ensures.moment (c.self.invariant.2 honest) fault;
+        one = c.make_call.ensures.moment;
+        calls = c.make_call.ensures.calls;
+        honest = c.make_call.ensures.honest;
+      };
     })
 
 -- where the call succeeds the engine is one step further
@@ -131,9 +134,11 @@ returns g c =
       err = tt;
       fewer = step-fewer c.advance.result e new before.disk after.disk c.self.invariant.0.plain (step-did c.advance.result e new before.disk after.disk progress step);
       no_fault = count-ok _ _ c.make_call.result worked c.make_call.ensures.faults;
-      shape = c.make_call.ensures.shape;
-      moments = λ honest. each-step e new before after c.make_call.ensures.moment (c.self.invariant.2 honest) step;
-      one = c.make_call.ensures.moment;
-      calls = c.make_call.ensures.calls;
-      honest = c.make_call.ensures.honest;
+      device = record {
+        shape = c.make_call.ensures.shape;
+        moments = λ honest. each-step e new before after c.make_call.ensures.moment (c.self.invariant.2 honest) step;
+        one = c.make_call.ensures.moment;
+        calls = c.make_call.ensures.calls;
+        honest = c.make_call.ensures.honest;
+      };
     })

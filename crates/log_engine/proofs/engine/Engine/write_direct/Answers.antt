@@ -8,8 +8,9 @@ use Rattle.journal_world.specs.Sound.{Sound}
 use Rattle.log_ledger.specs.Ledger.{engine_of}
 use Rattle.log_engine.specs.Direct.{DirectWriteRefused}
 use Rattle.log_engine.specs.Engine.{EngineValue}
+use Rattle.log_engine.proofs.OneCall.{no-call}
 use Rattle.log_engine.proofs.Calls.{on-ok}
-use Rattle.log_engine.proofs.Directs.{each-unwritten, each-write, write-lost}
+use Rattle.log_engine.proofs.Directs.{during-write, each-write, write-lost}
 use Rattle.log_engine.proofs.LeftBlocks.{table-told}
 use Rattle.log_engine.proofs.engine.Engine.write_direct.Goals as goal
 
@@ -21,8 +22,8 @@ pub returns-then-self-clause-err : goal.returns-then-self-clause-err
 returns-then-self-clause-err g c = rw (← c.self.view_is) (DirectWriteRefused.WriteAborted c.if-self.true refl)
 
 -- so what holds now holds at the one moment
-pub returns-then-self-clause-moments : goal.returns-then-self-clause-moments
-returns-then-self-clause-moments g c = rw (← c.self.view_is) (λ honest. each-unwritten _ _ _ _ (c.self.invariant.2 honest))
+pub returns-then-self-clause-device : goal.returns-then-self-clause-device
+returns-then-self-clause-device g c = rw (← c.self.view_is) (no-call (λ honest. during-write _ _ _ _ (c.self.invariant.2 honest)))
 
 -- a block that may not be touched is refused
 pub returns-then-not-is_allowed-clause-err : goal.returns-then-not-is_allowed-clause-err
@@ -34,8 +35,8 @@ returns-then-not-is_allowed-clause-err g c =
     c.if-not-is_allowed.true in
     rw (← c.self.view_is) (DirectWriteRefused.WriteOutside c.if-self.false refused refl)
 
-pub returns-then-not-is_allowed-clause-moments : goal.returns-then-not-is_allowed-clause-moments
-returns-then-not-is_allowed-clause-moments g c = rw (← c.self.view_is) (λ honest. each-unwritten _ _ _ _ (c.self.invariant.2 honest))
+pub returns-then-not-is_allowed-clause-device : goal.returns-then-not-is_allowed-clause-device
+returns-then-not-is_allowed-clause-device g c = rw (← c.self.view_is) (no-call (λ honest. during-write _ _ _ _ (c.self.invariant.2 honest)))
 
 -- so is one that is not left to home
 pub returns-then-not-is_left_to_home-clause-err : goal.returns-then-not-is_left_to_home-clause-err
@@ -49,8 +50,8 @@ returns-then-not-is_left_to_home-clause-err g c =
     λ left. not-both c.is_left_to_home.result (c.is_left_to_home.ensures.1 (told.1 left)) c.if-not-is_left_to_home.true in
     rw (← c.self.view_is) (DirectWriteRefused.WriteNotDirect c.if-self.false may refused refl)
 
-pub returns-then-not-is_left_to_home-clause-moments : goal.returns-then-not-is_left_to_home-clause-moments
-returns-then-not-is_left_to_home-clause-moments g c = rw (← c.self.view_is) (λ honest. each-unwritten _ _ _ _ (c.self.invariant.2 honest))
+pub returns-then-not-is_left_to_home-clause-device : goal.returns-then-not-is_left_to_home-clause-device
+returns-then-not-is_left_to_home-clause-device g c = rw (← c.self.view_is) (no-call (λ honest. during-write _ _ _ _ (c.self.invariant.2 honest)))
 
 -- the write of one that is left is a direct call
 pub call_directly-requires-clause-direct : goal.call_directly-requires-clause-direct
@@ -84,15 +85,22 @@ returns-clause-err g c =
     let made = c.call_directly.ensures in
     let v = c.args.bytes.now in
     write-lost g.D.Device.state c.args.self.now c.call_directly.new.self c.call_directly.result c.args.block v
-    (made.err (Write Home c.args.block v) (ap (λ (n : ℕ). Some (Write Home n v)) c.block.view_is)) made.device made.faults
+    (made.err (Write Home c.args.block v) (ap (λ (n : ℕ). Some (Write Home n v)) c.block.view_is)) made.failed made.faults
 
 -- at each of its moments a stop opens
-pub returns-clause-moments : goal.returns-clause-moments
-returns-clause-moments g c =
+pub returns-clause-device : goal.returns-clause-device
+returns-clause-device g c =
     let made = c.call_directly.ensures in
     let v = c.args.bytes.now in
     let sound : g.D.Device.honest c.args.self.now.device → Sound c.args.self.now.engine (g.D.Device.state c.args.self.now.device).disk =
     rw (← c.self.view_is) c.self.invariant.2 in
-    let named = ap (λ (n : ℕ). Some (Write Home n v)) c.block.view_is in λ honest.
-    each-write c.args.self.now.engine c.args.block v c.call_directly.result c.call_directly.new.self.engine _ _ made.one (sound honest)
-    (made.ok (Write Home c.args.block v) named) (made.err (Write Home c.args.block v) named)
+    let named = ap (λ (n : ℕ). Some (Write Home n v)) c.block.view_is in
+    record {
+      shape = made.shape;
+      moments = λ honest.
+          each-write c.args.self.now.engine c.args.block v c.call_directly.result c.call_directly.new.self.engine _ _ made.one (sound honest)
+          (made.ok (Write Home c.args.block v) named) (made.err (Write Home c.args.block v) named);
+      one = made.one;
+      calls = made.calls;
+      honest = made.honest;
+    }

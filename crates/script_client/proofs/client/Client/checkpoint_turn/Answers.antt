@@ -5,4 +5,4 @@ use Rattle.script_client.proofs.client.Client.checkpoint_turn.Goals as goal
 pub invariant_of-self : goal.invariant_of-self
 invariant_of-self g c = λ honest.
     checkpoint_turn-comes g.H.HomeFact.holds c.self.inside.operations.now g.D.Device.state c.self.inside.journal c.checkpoint_turn.new.self c.self.inside.acknowledged c.checkpoint_turn.result
-    c.checkpoint_turn.ensures.ok c.checkpoint_turn.ensures.err c.checkpoint_turn.ensures.shape (c.self.invariant (c.checkpoint_turn.ensures.honest honest))
+    c.checkpoint_turn.ensures.ok c.checkpoint_turn.ensures.err c.checkpoint_turn.ensures.device.shape (c.self.invariant (c.checkpoint_turn.ensures.device.honest honest))

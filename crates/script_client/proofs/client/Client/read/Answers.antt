@@ -5,4 +5,4 @@ use Rattle.script_client.proofs.client.Client.read.Goals as goal
 pub invariant_of-self : goal.invariant_of-self
 invariant_of-self g c = λ honest.
     read-comes g.H.HomeFact.holds c.self.inside.operations.now g.D.Device.state c.self.inside.journal c.read.new.self c.self.inside.acknowledged _ c.args.handle.now c.args.block
-    c.read.new.into c.read.result honest c.read.ensures.ok c.read.ensures.err c.read.ensures.stays (c.self.invariant (c.read.ensures.honest honest))
+    c.read.new.into c.read.result honest c.read.ensures.ok c.read.ensures.err c.read.ensures.device.stays (c.self.invariant (c.read.ensures.device.honest honest))
