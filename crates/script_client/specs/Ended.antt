@@ -1,5 +1,7 @@
 -- What is left of a journal that its client has ended.
-use Rattle.std.specs.Prelude.{◌≡◌, ℕ, List, [], Option, Some, None}
+use Rattle.std.specs.Prelude.{◌≡◌, ℕ, ◌<◌, List, [], Option, Some, None, length}
+use Rattle.journal_model.specs.declared.refusal.JournalError.{JournalError}
+use Rattle.journal_model.specs.declared.refusal.JournalError.TheVariants.{NotRunning}
 use Rattle.journal_model.specs.Disk.{Disk, Image, Leaves, Shape}
 use Rattle.journal_model.specs.Transaction.{History}
 use Rattle.block_device.specs.State.{DeviceState}
@@ -7,6 +9,10 @@ use Rattle.journal_world.specs.Journal.{Journal}
 use Rattle.log_epochs.specs.EngineWorld.{Phase}
 use Rattle.log_epochs.specs.JournalPromise.{IsClosed}
 use Rattle.log_epochs.specs.JournalWorld.{Begins, JournalWorld, Leads, Move}
+use Rattle.journal_front.specs.Values.{HandleValue}
+use Rattle.journal_steps.specs.Values.{JournalValue}
+use Rattle.group_commit.specs.Close.{CloseRefused}
+use Rattle.group_commit.specs.Extension.{EndsHandle}
 use Rattle.journal_script.specs.declared.script.Operation.{Operation}
 use Rattle.script_client.specs.Told.{AreDirectsOf, greatest_of}
 
@@ -46,3 +52,21 @@ pub record IsEnded (Fact : Shape → Disk → Type 0) (operations : List Operati
 -- each image that a stop may leave of the device has a clean log, and opens to all of these transactions
 pub record IsLeftClosed (state : DeviceState) (sealed : History) : Type 0 where
   pub each : (image : Image) → Leaves state.disk image → IsClosed state.shape sealed image
+
+-- handles were stopped, one after the other
+pub data StopsHandles {D : Type 0} (state : D → DeviceState) : JournalValue D → JournalValue D → Type 0 where
+  NoneStops : (j : JournalValue D) → StopsHandles state j j
+  OneStops : (h : HandleValue) (old mid new : JournalValue D) → StopsHandles state old mid → EndsHandle state h mid new → StopsHandles state old new
+
+-- why a journal is not closed: a handle is open, and nothing was done; or for the causes of a close
+pub data WhyUnclosed {D : Type 0} (state : D → DeviceState) (old : JournalValue D) (device : D) (sealed : History) (committed : ℕ) (e : JournalError) : Type 0 where
+  HandleIsOpen : 0 < length old.journal.front.open_handles → device ≡ old.device → sealed ≡ old.journal.front.sealed → committed ≡ old.journal.engine.committed →
+      e ≡ NotRunning → WhyUnclosed state old device sealed committed e
+  IsRefused : CloseRefused state old device sealed committed e → WhyUnclosed state old device sealed committed e
+
+-- handles of it were stopped, and then it was not closed, for this cause
+pub record IsUnclosed {D : Type 0} (state : D → DeviceState) (old : JournalValue D) (device : D) (sealed : History) (e : JournalError) : Type 0 where
+  pub stopped : JournalValue D
+  pub stops : StopsHandles state old stopped
+  pub committed : ℕ
+  pub why : WhyUnclosed state stopped device sealed committed e

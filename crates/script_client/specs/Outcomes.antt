@@ -1,12 +1,13 @@
 -- What a list of operations came to, one after the other.
-use Rattle.std.specs.Prelude.{◌≡◌, ◌⊎◌, ⊤, ℕ, ◌++◌, List, [], ◌∷◌, Option, Result, Err, IsOk, MatchResult, length, take}
+use Rattle.std.specs.Prelude.{◌≡◌, ◌⊎◌, ⊤, ℕ, ◌++◌, List, [], ◌∷◌, Option, Result, Err, IfErr, IsOk, MatchResult, length, take}
 use Rattle.std.specs.Io.KnownBytes.{Appends}
 use Rattle.std.specs.List.{AllByRecursion}
 use Rattle.journal_model.specs.declared.refusal.JournalError.{JournalError}
-use Rattle.journal_model.specs.declared.refusal.JournalError.TheVariants.{Device}
+use Rattle.journal_model.specs.declared.refusal.JournalError.TheVariants.{Device, Memory}
 use Rattle.journal_model.specs.Transaction.{History}
 use Rattle.block_device.specs.State.{DeviceState}
 use Rattle.group_commit.specs.Close.{IsSealedInClose, closing}
+use Rattle.journal_steps.specs.Values.{JournalValue}
 use Rattle.recovery.specs.Values.{OpenedValue}
 use Rattle.journal_script.specs.declared.script.Operation.{Operation}
 use Rattle.script_client.specs.declared.fault.Fault.{Fault}
@@ -19,6 +20,7 @@ use Rattle.script_client.specs.declared.performing.AfterRefusal.{AfterRefusal}
 use Rattle.script_client.specs.declared.performing.AfterRefusal.TheVariants.{End as EndThere}
 use Rattle.script_client.specs.declared.performing.Ending.{Ending}
 use Rattle.script_client.specs.declared.performing.Ending.TheVariants.{Close, Stay}
+use Rattle.script_client.specs.Ended.{IsUnclosed}
 use Rattle.script_client.specs.Lines.{line_of}
 use Rattle.script_client.specs.Performed.{HasDone, IsBegun, Table}
 use Rattle.script_client.specs.Shown.{IsLeftOf}
@@ -106,21 +108,26 @@ abbrev pub Applies : {D : Type 0} → (D → DeviceState) → (honest : D → Ty
 Applies state honest Last operations old new before written applied =
     MatchResult applied (λ _. AppliesAll state honest Last operations old new before written) (EndsFor state honest Last operations old new before written)
 
+-- why a close that ended so was not done
+abbrev pub IsUnclosedFor : {D : Type 0} → (D → DeviceState) → JournalValue D → (device : D) → History → Fault → Type 0
+IsUnclosedFor state old device sealed fault = (e : JournalError) × (fault ≡ RefusedAll e) × IsUnclosed state old device sealed e
+
 -- what is left of a journal that was closed, or whose close was refused: at its end all that the operations had sealed was sealed, and the
 -- running transaction where a handle had joined it; a refused close may not have come to that one
-pub record IsClosedAs {D : Type 0} (last : ClientValue D) (sealed : History) (shown : Option ℕ) (end : Result (Unit {0}) Fault) : Type 0 where
+pub record IsClosedAs {D : Type 0} (state : D → DeviceState) (last : ClientValue D) (device : D) (sealed : History) (shown : Option ℕ) (end : Result (Unit {0}) Fault) : Type 0 where
   pub sealed_is : MatchResult end (λ _. sealed ≡ closing last.journal.journal.front) (λ _. IsSealedInClose last.journal.journal.front sealed)
   pub shown_is : shown ≡ last.shown
+  pub why : IfErr end (IsUnclosedFor state last.journal device sealed)
 
 -- what is left behind the last operation, where all were performed
-abbrev pub EndsAs : {D : Type 0} → Ending → ClientValue D → (device : D) → History → (shown : Option ℕ) → Result (Unit {0}) Fault → Type 0
-EndsAs Stay last device sealed shown end = IsOk end × IsLeftOf last device sealed shown
-EndsAs Close last device sealed shown end = IsClosedAs last sealed shown end
+abbrev pub EndsAs : {D : Type 0} → (D → DeviceState) → Ending → ClientValue D → (device : D) → History → (shown : Option ℕ) → Result (Unit {0}) Fault → Type 0
+EndsAs state Stay last device sealed shown end = IsOk end × IsLeftOf last device sealed shown
+EndsAs state Close last device sealed shown end = IsClosedAs state last device sealed shown end
 
 -- what is left of operations that were applied so: where they ended before the last one, that was why, and the journal is as they left it
-abbrev pub IsAppliedAs : {D : Type 0} → (applied : Result (Unit {0}) Fault) → Ending → ClientValue D → (device : D) → History → (shown : Option ℕ) → Result (Unit {0}) Fault → Type 0
-IsAppliedAs applied ending last device sealed shown end =
-    MatchResult applied (λ _. EndsAs ending last device sealed shown end) (λ fault. (end ≡ Err fault) × IsLeftOf last device sealed shown)
+abbrev pub IsAppliedAs : {D : Type 0} → (D → DeviceState) → (applied : Result (Unit {0}) Fault) → Ending → ClientValue D → (device : D) → History → (shown : Option ℕ) → Result (Unit {0}) Fault → Type 0
+IsAppliedAs state applied ending last device sealed shown end =
+    MatchResult applied (λ _. EndsAs state ending last device sealed shown end) (λ fault. (end ≡ Err fault) × IsLeftOf last device sealed shown)
 
 -- so operations were applied to a journal that was just made on an opened log
 pub record HasApplied {D : Type 0} (state : D → DeviceState) (honest : D → Type 0) (opened : OpenedValue D) (operations : List Operation) (after : AfterRefusal) (ending : Ending)
@@ -130,4 +137,9 @@ pub record HasApplied {D : Type 0} (state : D → DeviceState) (honest : D → T
   pub last : Table D
   pub applied : Result (Unit {0}) Fault
   pub applies : Applies state honest (IsLastApplied after) operations start last before written applied
-  pub ends : IsAppliedAs applied ending last.client device sealed shown end
+  pub ends : IsAppliedAs state applied ending last.client device sealed shown end
+
+-- why operations were not performed: there was no memory for the journal, or a line could not be written
+abbrev pub IsUnperformed : Fault → Type 0
+IsUnperformed (RefusedAll e) = e ≡ Memory
+IsUnperformed (Output e) = ⊤

@@ -1,12 +1,11 @@
 -- What each operation of a script does to a journal, and to what the script's names stand for.
-use Rattle.std.specs.Prelude.{◌≡◌, ◌⊎◌, ⊤, ℕ, ◌-◌, ◌<◌, ◌≤◌, ◌+◌, ◌++◌, true, List, length, replicate, set, take}
+use Rattle.std.specs.Prelude.{◌≡◌, ◌≢◌, ◌⊎◌, ⊤, ℕ, ◌-◌, ◌<◌, ◌≤◌, ◌+◌, ◌++◌, true, false, List, length, replicate, set, take}
 use Rattle.journal_model.specs.declared.refusal.JournalError.{JournalError}
 use Rattle.journal_model.specs.declared.refusal.JournalError.TheVariants.{Aborted, Memory}
 use Rattle.block_device.specs.State.{DeviceState}
 use Rattle.journal_script.specs.declared.script.Operation.{Operation}
 use Rattle.journal_script.specs.declared.script.Operation.TheVariants.{Start, Write, Revoke, Read, Extend, Restart, Stop, Request, Turn, Commit, CheckpointTurn, Check, Status, Wait, WriteDirect, SyncDirect}
 use Rattle.journal_world.specs.Front.FrontEvent.{RevokeBlock, WriteBlock}
-use Rattle.journal_world.specs.Journal.{Journal}
 use Rattle.journal_world.specs.Journal.Event.{DirectSync, DirectWrite, FrontStep, ReadBlock}
 use Rattle.journal_front.specs.Front.{Spends, TouchRefused}
 use Rattle.journal_front.specs.Values.{HandleValue}
@@ -27,7 +26,7 @@ use Rattle.script_client.specs.declared.slots.Slot.{Slot}
 use Rattle.script_client.specs.declared.slots.Slot.TheVariants.{Empty, Open, Stopped, Waited}
 use Rattle.script_client.specs.Names.{stands_for}
 use Rattle.recovery.specs.Values.{OpenedValue}
-use Rattle.script_client.specs.Shown.{IsNewClient, IsNextHandle, IsRefusedAborted, IsSameButJournal, ticket_of}
+use Rattle.script_client.specs.Shown.{IsNewClient, IsNextHandle, IsReceiptTaken, IsRefusedAborted, IsSameButJournal, ticket_of}
 use Rattle.script_client.specs.Steps.{Steps}
 use Rattle.script_client.specs.Told.{ClientValue, with_told}
 
@@ -160,27 +159,16 @@ HasStopped state name Empty outcome old new = Skips outcome old new
 HasStopped state name (Stopped ticket) outcome old new = Skips outcome old new
 HasStopped state name (Waited receipt) outcome old new = Skips outcome old new
 
--- a failure of the device is known
-abbrev pub IsAborted : Journal → Type 0
-IsAborted j = (j.front.aborted ≡ true) ⊎ (j.engine.aborted ≡ true)
-
--- the commit of the transaction is asked for; that of a receipt is committed already
+-- the commit of the transaction is asked for; that of a receipt is committed already; and once the device has failed both are refused
 abbrev pub HasRequested : {D : Type 0} → (D → DeviceState) → Slot → Outcome → Table D → Table D → Type 0
 HasRequested state (Stopped ticket) outcome old new = (new.names ≡ old.names) × OrRefused outcome
     ((outcome ≡ Done) × Requests state ticket.tid old.client.journal new.client.journal)
     (λ e. IsRefusedAborted old.client e × (new.client.journal ≡ old.client.journal))
 HasRequested state (Waited receipt) outcome old new = (new.names ≡ old.names) × (new.client ≡ old.client) × OrRefused outcome
-    (outcome ≡ Done)
-    (λ e. (e ≡ Aborted) × IsAborted old.client.journal.journal)
+    ((outcome ≡ Done) × (old.client.journal.journal.engine.aborted ≡ false))
+    (λ e. (e ≡ Aborted) × (old.client.journal.journal.engine.aborted ≡ true))
 HasRequested state Empty outcome old new = Skips outcome old new
 HasRequested state (Open h) outcome old new = Skips outcome old new
-
--- one turn of a journal
-abbrev pub TakesTurn : {D : Type 0} → (D → DeviceState) → JournalValue D → JournalValue D → Type 0
-TakesTurn state old new = (turn : CommitTurn) × TurnDid state turn old new
-
-abbrev pub TakesCheckTurn : {D : Type 0} → (D → DeviceState) → JournalValue D → JournalValue D → Type 0
-TakesCheckTurn state old new = (turn : CheckTurn) × CheckTurnDid state turn old new
 
 -- the most turns that are taken in a row
 abbrev pub most_turns : ℕ
@@ -193,7 +181,14 @@ IsIdle turn = (turn ≡ IdleTurn) ⊎ (turn ≡ WaitingTurn)
 abbrev pub WasIdle : {D : Type 0} → (D → DeviceState) → JournalValue D → JournalValue D → Type 0
 WasIdle state old new = (turn : CommitTurn) × IsIdle turn × TurnDid state turn old new
 
--- turns were taken up to one that had nothing to do, or was refused
+-- one turn of a journal that had something to do
+abbrev pub TakesTurn : {D : Type 0} → (D → DeviceState) → JournalValue D → JournalValue D → Type 0
+TakesTurn state old new = (turn : CommitTurn) × (IsIdle turn → ⊥) × TurnDid state turn old new
+
+abbrev pub TakesCheckTurn : {D : Type 0} → (D → DeviceState) → JournalValue D → JournalValue D → Type 0
+TakesCheckTurn state old new = (turn : CheckTurn) × (turn ≢ IdleCheck) × CheckTurnDid state turn old new
+
+-- turns were taken up to the first that had nothing to do, or was refused
 pub record TakesTurns {D : Type 0} (state : D → DeviceState) (outcome : Outcome) (old new : JournalValue D) : Type 0 where
   pub count : ℕ
   pub before : JournalValue D
@@ -229,16 +224,18 @@ HasStatus Empty outcome old new = Skips outcome old new
 HasStatus (Open h) outcome old new = Skips outcome old new
 
 -- a receipt is taken where the transaction is committed, and the name stands for it from now on; of any other nothing is awaited; and
--- behind a failure of the device a wait is refused
+-- behind a failure of the device the wait for a committed one is refused
 abbrev pub WaitsFor : {D : Type 0} → TicketValue → Outcome → Slot → ClientValue D → ClientValue D → Type 0
 WaitsFor ticket outcome behind old new =
-    ((outcome ≡ Transaction ticket.tid) × (ticket.tid ≤ old.journal.journal.front.mark) × (new ≡ record old { shown = with_told ticket.tid old.shown }) × (behind ≡ Waited ticket))
+    ((outcome ≡ Transaction ticket.tid) × IsReceiptTaken ticket old new × (behind ≡ Waited ticket))
     ⊎ (((outcome ≡ StillOpen) × (old.journal.journal.front.mark < ticket.tid) × (new ≡ old) × (behind ≡ Stopped ticket))
-    ⊎ ((outcome ≡ Refused Aborted) × IsAborted old.journal.journal × (new ≡ old) × (behind ≡ Stopped ticket)))
+    ⊎ ((e : JournalError) × (outcome ≡ Refused e) × (ticket.tid ≤ old.journal.journal.front.mark) × IsRefusedAborted old e × (new ≡ old) × (behind ≡ Stopped ticket)))
 
--- a receipt that was taken before is told again
+-- a receipt that was taken before is told again, where the device has not failed
 abbrev pub TellsAgain : {D : Type 0} → ℕ → Outcome → ClientValue D → ClientValue D → Type 0
-TellsAgain tid outcome old new = Tells (Transaction tid) tid outcome old new ⊎ ((outcome ≡ Refused Aborted) × IsAborted old.journal.journal × (new ≡ old))
+TellsAgain tid outcome old new =
+    (Tells (Transaction tid) tid outcome old new × (old.journal.journal.engine.aborted ≡ false))
+    ⊎ ((outcome ≡ Refused Aborted) × (old.journal.journal.engine.aborted ≡ true) × (new ≡ old))
 
 -- a wait by what the name stands for, and what it stands for then
 abbrev pub HasWaited : {D : Type 0} → (name : ℕ) → Slot → Outcome → Table D → Table D → Type 0

@@ -1,5 +1,5 @@
 -- What a client's calls leave of it, and what it notes of an answer.
-use Rattle.std.specs.Prelude.{◌≡◌, ◌<◌, ◌≤◌, ℕ, true, List, Option, None}
+use Rattle.std.specs.Prelude.{◌≡◌, ◌<◌, ◌≤◌, ℕ, true, false, List, Option, None}
 use Rattle.journal_model.specs.declared.refusal.JournalError.{JournalError}
 use Rattle.journal_model.specs.declared.refusal.JournalError.TheVariants.{Aborted}
 use Rattle.journal_model.specs.Transaction.{History}
@@ -50,10 +50,14 @@ abbrev pub IsShown : {D : Type 0} → Status → (tid : ℕ) → ClientValue D �
 IsShown IsCommitted tid old new = new ≡ record old { shown = with_told tid old.shown }
 IsShown IsOpen tid old new = new ≡ old
 
--- so is one whose receipt is taken; where it is not committed, or the device has failed before, the ticket comes back
+-- so is a committed one whose receipt is taken, where no failure of the device is told
+abbrev pub IsReceiptTaken : {D : Type 0} → TicketValue → ClientValue D → ClientValue D → Type 0
+IsReceiptTaken ticket old new =
+    (ticket.tid ≤ old.journal.journal.front.mark) × (old.journal.journal.front.aborted ≡ false) × (new ≡ record old { shown = with_told ticket.tid old.shown })
+
+-- where it is not committed, or the device has failed before, the ticket comes back
 abbrev pub IsWaited : {D : Type 0} → Waited → TicketValue → ClientValue D → ClientValue D → Type 0
-IsWaited (Committed receipt) ticket old new =
-    (receipt ≡ ticket) × (ticket.tid ≤ old.journal.journal.front.mark) × (new ≡ record old { shown = with_told ticket.tid old.shown })
+IsWaited (Committed receipt) ticket old new = (receipt ≡ ticket) × IsReceiptTaken ticket old new
 IsWaited (Open same) ticket old new = (same ≡ ticket) × (old.journal.journal.front.mark < ticket.tid) × (new ≡ old)
 IsWaited (Refused same e) ticket old new =
     (same ≡ ticket) × (ticket.tid ≤ old.journal.journal.front.mark) × IsRefusedAborted old e × (new ≡ old)

@@ -94,7 +94,7 @@ pub enum Waited {
 
 impl<'a, D: Device + Drop, H: HomeFact> Client<'a, D, H> {
     ghost use Rattle.group_commit.specs.Close.{IsSealedInClose, closing};
-    ghost use Rattle.script_client.specs.Ended.{IsEnded, IsLeftClosed};
+    ghost use Rattle.script_client.specs.Ended.{IsEnded, IsLeftClosed, WhyUnclosed};
     ghost use Rattle.script_client.specs.Shown.{IsWaited, IsNewClient, IsNextHandle, IsLeftOf, IsRefusedAborted, IsSameButJournal, IsShown, ticket_of};
     ghost use Rattle.script_client.specs.Told.{IsLedTo, with_told};
 
@@ -402,6 +402,7 @@ impl<'a, D: Device + Drop, H: HomeFact> Client<'a, D, H> {
         ensures sealed { MatchResult result.closed
             (λ _. result.parts.sealed.items ≡ closing self.entry.journal.journal.front)
             (λ _. IsSealedInClose self.entry.journal.journal.front result.parts.sealed.items) }
+        ensures refused { IfErr result.closed (WhyUnclosed D.state self.entry.journal result.parts.device result.parts.sealed.items result.parts.committed) }
         ensures shown { result.acknowledged ≡ self.entry.shown }
     {
         let Client {

@@ -1,5 +1,6 @@
 //! Runs the operations of a script on a journal.
-ghost use Rattle.std.specs.Prelude.{◌≡◌, ◌++◌, Contains, IfOk, IsTrue, MatchResult, drop, length, min, replicate, take};
+ghost use Rattle.std.specs.Prelude.{◌≡◌, ◌↔◌, ◌++◌, Contains, IfErr, IfOk, IsTrue, MatchResult, drop, length, min, replicate, take};
+ghost use Rattle.journal_model.specs.declared.refusal.JournalError.TheVariants.{Memory};
 ghost use Rattle.script_client.specs.declared.outcome.Outcome.TheVariants.{Done, Refused};
 ghost use Rattle.script_client.specs.Performed.{IsIdle, block_from, told_of};
 
@@ -63,9 +64,16 @@ fn done_or_refused(answer: Result<(), JournalError>) -> Outcome
 
 /// Whether a commit turn had nothing to do, or waits for a handle to stop.
 fn is_idle(turn: Turn) -> bool
-    ensures { IsTrue result → IsIdle turn }
+    ensures { IsTrue result ↔ IsIdle turn }
 {
     matches!(turn, Turn::Idle | Turn::Waiting)
+}
+
+/// Whether a checkpoint turn had nothing to do.
+fn is_idle_check(turn: CheckTurn) -> bool
+    ensures { IsTrue result ↔ (turn ≡ CheckTurn.Idle) }
+{
+    matches!(turn, CheckTurn::Idle)
 }
 
 /// What a status of this transaction is, as an operation tells it.
@@ -82,7 +90,7 @@ impl<'a, D: Device + Drop, H: HomeFact> Interpreter<'a, D, H> {
     ghost use Rattle.std.specs.Prelude.{OnOk};
     ghost use Rattle.journal_script.specs.Named.{IsDirectOf};
     ghost use Rattle.group_commit.specs.Close.{IsSealedInClose, closing};
-    ghost use Rattle.script_client.specs.Ended.{IsEnded, IsLeftClosed};
+    ghost use Rattle.script_client.specs.Ended.{IsEnded, IsLeftClosed, IsUnclosed, StopsHandles};
     ghost use Rattle.script_client.specs.Names.{stands_for};
     ghost use Rattle.script_client.specs.Performed.{HasDone, HasRequested, HasRestarted, HasStatus, HasStopped, HasTouched, HasWaited, IsBegun, IsTouch, OrRefused, ReadsBlock, StartsNamed, StartsNone, SyncsDirectly, TakesCheckTurns, TakesOneCheckTurn, TakesOneTurn, TakesTurns, TellsAgain, Touches, WaitsFor, WritesBlock, WritesDirectly};
     ghost use Rattle.script_client.specs.Shown.{IsLeftOf, IsSameButJournal};
@@ -92,14 +100,15 @@ impl<'a, D: Device + Drop, H: HomeFact> Interpreter<'a, D, H> {
     ///
     /// # Errors
     ///
-    /// Memory runs out.
+    /// `Memory`.
     pub fn new(
         alloc: Global,
         opened: Opened<D>,
         operations: &'a [Operation],
     ) -> Result<Self, JournalError>
         requires { D.honest opened.device → H.holds (D.state opened.device).shape (D.state opened.device).disk }
-        ensures { IfOk result (λ interpreter. IsBegun D.state opened operations.now (record { client = interpreter.client; names = interpreter.slots })) }
+        ensures begun { IfOk result (λ interpreter. IsBegun D.state opened operations.now (record { client = interpreter.client; names = interpreter.slots })) }
+        ensures err { IfErr result (λ e. e ≡ Memory) }
     {
         let slots = Slots::new(alloc)?;
         match Client::new(alloc, opened, operations) {
@@ -143,8 +152,8 @@ impl<'a, D: Device + Drop, H: HomeFact> Interpreter<'a, D, H> {
         self.client.is_aborted()
     }
 
-    /// Stops all open handles and ends the journal: its device with its record, and the greatest transaction that was shown
-    /// committed.
+    /// Stops the open handles that names stand for and ends the journal: its device with its record, and the greatest transaction
+    /// that was shown committed.
     pub fn finish(self) -> (Parts<D, Vec<Sealed>>, Option<Tid>)
         ensures led { D.honest result.0.device → IsLedTo H.holds self.entry.client.operations (D.state result.0.device) result.0.sealed.items result.1 }
         ensures left { IsLeftOf self.entry.client result.0.device result.0.sealed.items result.1 }
@@ -152,23 +161,25 @@ impl<'a, D: Device + Drop, H: HomeFact> Interpreter<'a, D, H> {
         self.into_stopped().finish()
     }
 
-    /// Stops all open handles and ends the journal by its close.
+    /// Stops the open handles that names stand for and ends the journal by its close.
     pub fn close(self) -> Ended<D>
         ensures ended { D.honest result.parts.device → IsEnded H.holds self.entry.client.operations (D.state result.parts.device) result.parts.sealed.items result.acknowledged }
         ensures closed { OnOk result.closed (D.honest result.parts.device → IsLeftClosed (D.state result.parts.device) result.parts.sealed.items) }
         ensures sealed { MatchResult result.closed
             (λ _. result.parts.sealed.items ≡ closing self.entry.client.journal.journal.front)
             (λ _. IsSealedInClose self.entry.client.journal.journal.front result.parts.sealed.items) }
+        ensures refused { IfErr result.closed (IsUnclosed D.state self.entry.client.journal result.parts.device result.parts.sealed.items) }
         ensures shown { result.acknowledged ≡ self.entry.client.shown }
     {
         self.into_stopped().close()
     }
 
-    /// The client, who has stopped all open handles.
+    /// The client, who has stopped the open handles that names stand for.
     fn into_stopped(self) -> Client<'a, D, H>
         ensures operations { result.operations ≡ self.entry.client.operations }
         ensures left { IsLeftOf self.entry.client result.journal.device result.journal.journal.front.sealed result.shown }
         ensures running { result.journal.journal.front.running ≡ self.entry.client.journal.journal.front.running }
+        ensures stops { StopsHandles D.state self.entry.client.journal result.journal }
     {
         let Interpreter {
             alloc: _,
@@ -348,7 +359,7 @@ impl<'a, D: Device + Drop, H: HomeFact> Interpreter<'a, D, H> {
         }
     }
 
-    /// Takes checkpoint turns until one has nothing to do.
+    /// Takes checkpoint turns up to the first that has nothing to do.
     fn check(&mut self) -> Outcome
         ensures rest { IsSameButJournal self.old.client self.new.client }
         ensures done { TakesCheckTurns D.state result self.old.client.journal self.new.client.journal }
@@ -356,15 +367,18 @@ impl<'a, D: Device + Drop, H: HomeFact> Interpreter<'a, D, H> {
     {
         for _ in 0..MOST_TURNS {
             match self.client.checkpoint_turn() {
-                Ok(CheckTurn::Idle) => return Outcome::CheckTurn(CheckTurn::Idle),
-                Ok(CheckTurn::Step | CheckTurn::Released(_)) => {}
+                Ok(turn) => {
+                    if is_idle_check(turn) {
+                        return Outcome::CheckTurn(CheckTurn::Idle);
+                    }
+                }
                 Err(e) => return Outcome::Refused(e),
             }
         }
         Outcome::CheckTurn(CheckTurn::Idle)
     }
 
-    /// Takes commit turns until one has nothing to do.
+    /// Takes commit turns up to the first that has nothing to do.
     fn commit(&mut self) -> Outcome
         ensures rest { IsSameButJournal self.old.client self.new.client }
         ensures done { TakesTurns D.state result self.old.client.journal self.new.client.journal }

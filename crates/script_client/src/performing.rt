@@ -1,11 +1,12 @@
 //! The operations of a script, one after the other.
-ghost use Rattle.std.specs.Prelude.{◌≡◌, ◌↔◌, IfNone, IfOk, IfSome, IsTrue, OnOk};
+ghost use Rattle.std.specs.Prelude.{◌≡◌, ◌↔◌, IfErr, IfNone, IfOk, IfSome, IsTrue, OnOk};
 ghost use Rattle.std.specs.Io.KnownBytes.{Appends};
+ghost use Rattle.journal_model.specs.declared.refusal.JournalError.TheVariants.{Memory};
 ghost use Rattle.script_client.specs.declared.outcome.Outcome.TheVariants.{Refused};
 ghost use Rattle.script_client.specs.declared.performing.Ending.TheVariants.{Close, Stay};
 ghost use Rattle.script_client.specs.Ended.{IsEnded, IsLeftClosed};
 ghost use Rattle.script_client.specs.Lines.{line_of};
-ghost use Rattle.script_client.specs.Outcomes.{Applies, EndsApply, EndsAs, HasApplied, HasPerformed, IsAppliedAs, IsClosedAs, IsLast, IsLastApplied, PerformsAll, PerformsTo, Writes};
+ghost use Rattle.script_client.specs.Outcomes.{Applies, EndsApply, EndsAs, HasApplied, HasPerformed, IsAppliedAs, IsClosedAs, IsLast, IsLastApplied, IsUnperformed, PerformsAll, PerformsTo, Writes};
 ghost use Rattle.script_client.specs.Shown.{IsLeftOf};
 ghost use Rattle.script_client.specs.Told.{IsLedTo};
 
@@ -69,8 +70,8 @@ pub struct Applied<D> {
     pub end: Result<(), Fault>,
 }
 
-/// Performs operations on a new journal on an opened log, of whose disk `H` is known, and prints a line for each. All open handles
-/// are stopped at the end.
+/// Performs operations on a new journal on an opened log, of whose disk `H` is known, and prints a line for each. The open handles
+/// that names stand for are stopped at the end.
 ///
 /// # Errors
 ///
@@ -88,6 +89,7 @@ pub fn perform<D: Device + Drop, H: HomeFact, W: Write>(
         IsLedTo H.holds operations.now (D.state performed.device) performed.sealed.items performed.acknowledged) }
     ensures outcomes { IfOk result (λ performed. Writes (W.contents out.old) (W.contents out.new)
         (HasPerformed D.state D.honest opened operations.now after performed.device performed.sealed.items performed.acknowledged)) }
+    ensures err { IfErr result IsUnperformed }
 {
     match Interpreter::<D, H>::new(alloc, opened, operations) {
         Ok(interpreter) => perform_by(interpreter, operations, after, out),
@@ -107,6 +109,7 @@ fn perform_by<D: Device + Drop, H: HomeFact, W: Write>(
         IsLedTo H.holds operations.now (D.state performed.device) performed.sealed.items performed.acknowledged) }
     ensures outcomes { IfOk result (λ performed. Writes (W.contents out.old) (W.contents out.new)
         (PerformsTo D.state D.honest (record { client = interpreter.entry.client; names = interpreter.entry.slots }) operations.now after performed.device performed.sealed.items performed.acknowledged)) }
+    ensures err { IfErr result IsUnperformed }
 {
     let mut interpreter = interpreter;
     match perform_all(&mut interpreter, operations, after, out) {
@@ -115,12 +118,12 @@ fn perform_by<D: Device + Drop, H: HomeFact, W: Write>(
     }
 }
 
-/// Performs operations on a new journal on an opened log, of whose disk `H` is known, and prints a line for each. `after` tells which
-/// refused one is the last; one that is refused because the device failed always is. All open handles are stopped behind the last, and
-/// then the journal is closed, where `ending` tells so. What is left comes back however the work ended: `Fault::Output` where a line
-/// could not be written, the refusal of the operation that was the last one, and the refusal of the close. The journal is closed in none
-/// of these cases, nor where `ending` tells that it stays; what was committed by then is in the log or at home, and of a transaction
-/// that was not, nothing is.
+/// Performs operations on a new journal on an opened log, of whose disk `H` is known, and prints a line for each. `after` tells
+/// which refused one is the last; one that is refused because the device failed always is. The open handles that names stand for
+/// are stopped behind the last, and then the journal is closed, where `ending` tells so. What is left comes back however the work
+/// ended: `Fault::Output` where a line could not be written, the refusal of the operation that was the last one, and the refusal of
+/// the close. The journal is closed in none of these cases, nor where `ending` tells that it stays; what was committed by then is
+/// in the log or at home, and of a transaction that was not, nothing is.
 ///
 /// # Errors
 ///
@@ -143,6 +146,7 @@ pub fn apply<D: Device + Drop, H: HomeFact, W: Write>(
     ensures outcomes { IfOk result (λ applied.
         HasApplied D.state D.honest opened operations.now after ending applied.left.device applied.left.sealed.items applied.left.acknowledged applied.end (W.contents out.old) (W.contents out.new)) }
     ensures honest { IfOk result (λ applied. D.honest applied.left.device → D.honest opened.device) }
+    ensures err { IfErr result (λ e. e ≡ Memory) }
 {
     apply_known::<D, Brand, W>(alloc, opened, operations, after, ending, out)
 }
@@ -165,6 +169,7 @@ fn apply_known<D: Device + Drop, H: HomeFact, W: Write>(
         IsLedTo H.holds operations.now (D.state applied.left.device) applied.left.sealed.items applied.left.acknowledged) }
     ensures outcomes { IfOk result (λ applied.
         HasApplied D.state D.honest opened operations.now after ending applied.left.device applied.left.sealed.items applied.left.acknowledged applied.end (W.contents out.old) (W.contents out.new)) }
+    ensures err { IfErr result (λ e. e ≡ Memory) }
 {
     let mut interpreter = Interpreter::<D, H>::new(alloc, opened, operations)?;
     let applied = apply_all(&mut interpreter, operations, after, out);
@@ -228,7 +233,7 @@ fn end_of<D: Device + Drop, H: HomeFact>(
     ensures ended { D.honest result.left.device → IsEnded H.holds interpreter.entry.client.operations (D.state result.left.device) result.left.sealed.items result.left.acknowledged }
     ensures closed { ending ≡ Close → OnOk result.end (D.honest result.left.device → IsLeftClosed (D.state result.left.device) result.left.sealed.items) }
     ensures stays { ending ≡ Stay → D.honest result.left.device → IsLedTo H.holds interpreter.entry.client.operations (D.state result.left.device) result.left.sealed.items result.left.acknowledged }
-    ensures applied { IsAppliedAs applied ending interpreter.entry.client result.left.device result.left.sealed.items result.left.acknowledged result.end }
+    ensures applied { IsAppliedAs D.state applied ending interpreter.entry.client result.left.device result.left.sealed.items result.left.acknowledged result.end }
 {
     match applied {
         Ok(()) => end_as(interpreter, ending),
@@ -244,7 +249,7 @@ fn end_as<D: Device + Drop, H: HomeFact>(
     ensures ended { D.honest result.left.device → IsEnded H.holds interpreter.entry.client.operations (D.state result.left.device) result.left.sealed.items result.left.acknowledged }
     ensures closed { ending ≡ Close → OnOk result.end (D.honest result.left.device → IsLeftClosed (D.state result.left.device) result.left.sealed.items) }
     ensures stays { ending ≡ Stay → D.honest result.left.device → IsLedTo H.holds interpreter.entry.client.operations (D.state result.left.device) result.left.sealed.items result.left.acknowledged }
-    ensures ends { EndsAs ending interpreter.entry.client result.left.device result.left.sealed.items result.left.acknowledged result.end }
+    ensures ends { EndsAs D.state ending interpreter.entry.client result.left.device result.left.sealed.items result.left.acknowledged result.end }
 {
     match ending {
         Ending::Close => close(interpreter),
@@ -272,7 +277,7 @@ fn stay<D: Device + Drop, H: HomeFact>(
 fn close<D: Device + Drop, H: HomeFact>(interpreter: Interpreter<'_, D, H>) -> Applied<D>
     ensures ended { D.honest result.left.device → IsEnded H.holds interpreter.entry.client.operations (D.state result.left.device) result.left.sealed.items result.left.acknowledged }
     ensures closed { OnOk result.end (D.honest result.left.device → IsLeftClosed (D.state result.left.device) result.left.sealed.items) }
-    ensures closed_as { IsClosedAs interpreter.entry.client result.left.sealed.items result.left.acknowledged result.end }
+    ensures closed_as { IsClosedAs D.state interpreter.entry.client result.left.device result.left.sealed.items result.left.acknowledged result.end }
 {
     let Ended {
         parts,

@@ -7,5 +7,5 @@ pub returns-in-Ok-clause-outcomes : goal.returns-in-Ok-clause-outcomes
 returns-in-Ok-clause-outcomes g c =
     let start : Table _ = record { client = c.in-Ok.interpreter.client; names = c.in-Ok.interpreter.slots } in
     IfOk-weaker c.perform_by.result _ _
-    (λ performed writes. record { lines = writes.lines; said = writes.said; are = record { start = start; begun = c.in-Ok.ensures; performs = writes.are } })
+    (λ performed writes. record { lines = writes.lines; said = writes.said; are = record { start = start; begun = c.in-Ok.ensures.begun; performs = writes.are } })
     c.perform_by.ensures.outcomes

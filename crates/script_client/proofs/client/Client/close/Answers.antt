@@ -1,7 +1,9 @@
-use Rattle.std.proofs.Common.{◌≡◌, inl, sym, subst}
+use Rattle.std.proofs.Common.{◌≡◌, inl, refl, sym, subst}
 use Rattle.group_commit.specs.Close.{IsSealedInClose, closing}
 use Rattle.log_epochs.specs.EngineWorld.Phase.{Shut}
-use Rattle.script_client.specs.Ended.{IsEnded}
+use Rattle.journal_model.specs.declared.refusal.JournalError.TheVariants.{NotRunning}
+use Rattle.script_client.specs.Ended.{IsEnded, WhyUnclosed}
+use Rattle.script_client.specs.Ended.WhyUnclosed.{HandleIsOpen, IsRefused}
 use Rattle.script_client.specs.Told.{ClientValue}
 use Rattle.script_client.proofs.Closing.{close-ended, ends-ended, led-ended, left-closed, refused-sealed}
 use Rattle.script_client.proofs.client.Client.close.Goals as goal
@@ -42,6 +44,17 @@ returns-in-Err-clause-ended g c = λ honest.
     subst (λ (v : ClientValue _). IsEnded g.H.HomeFact.holds v.operations (g.D.Device.state parts.device) parts.sealed.items c.self.inside.acknowledged) c.self.view_is
     (ends-ended g.H.HomeFact.holds c.self.inside.operations.now old.journal (g.D.Device.state old.device) (g.D.Device.state parts.device) parts.sealed.items parts.committed c.self.inside.acknowledged Shut
     (c.self.invariant (c.in-Err.ensures.honest honest)) c.in-Err.ensures.moves c.in-Err.ensures.shape)
+
+-- why it is not closed
+pub returns-then-has_open_handles-clause-refused : goal.returns-then-has_open_handles-clause-refused
+returns-then-has_open_handles-clause-refused g c =
+    subst (λ (v : ClientValue _). WhyUnclosed g.D.Device.state v.journal c.into_parts.result.device c.into_parts.result.sealed.items c.into_parts.result.committed NotRunning) c.self.view_is
+    (HandleIsOpen (c.if-has_open_handles.ensures.some.0 refl) c.into_parts.ensures.device c.into_parts.ensures.sealed c.into_parts.ensures.committed refl)
+
+pub returns-in-Err-clause-refused : goal.returns-in-Err-clause-refused
+returns-in-Err-clause-refused g c =
+    subst (λ (v : ClientValue _). WhyUnclosed g.D.Device.state v.journal c.in-Err.parts.device c.in-Err.parts.sealed.items c.in-Err.parts.committed c.in-Err.e) c.self.view_is
+    (IsRefused c.in-Err.ensures.err)
 
 -- what was sealed is so still
 pub returns-then-has_open_handles-clause-sealed : goal.returns-then-has_open_handles-clause-sealed

@@ -1,4 +1,7 @@
-use Rattle.std.proofs.Common.{◌≡◌, arith, inl, inr, refl}
+use Rattle.std.proofs.Common.{◌≡◌, arith, inl, inr, refl, subst}
+use Rattle.std.proofs.lemmas.Bool.{false≢true}
+use Rattle.journal_steps.specs.declared.turn.CheckTurn.{CheckTurn}
+use Rattle.journal_steps.specs.Journal.{CheckTurnDid}
 use Rattle.script_client.specs.Performed.{most_turns}
 use Rattle.script_client.specs.Steps.Steps.{NoStep, OneMore}
 use Rattle.script_client.proofs.Turning.{still-same}
@@ -8,23 +11,29 @@ use Rattle.script_client.proofs.interpreter.Interpreter.check.Goals as goal
 pub loop-init : goal.loop-init
 loop-init g c = record { turns = NoStep c.args.self.now.client.journal; rest = refl; slots = refl }
 
--- and one more
+-- and one more, which had something to do
 pub loop-preserved : goal.loop-preserved
 loop-preserved g c = record {
   turns =
       OneMore c.loop.counter c.args.self.now.client.journal c.loop.self.client.journal c.checkpoint_turn.new.self.journal c.loop.invariant.turns
-      (c.in-Ok-Step.field-0, c.in-Ok-Step.ensures.ok);
+      (c.in-Ok.turn, (λ idle. false≢true (c.if-is_idle_check.ensures.1 idle)), c.in-Ok.ensures.ok);
   rest = still-same c.args.self.now.client c.loop.self.client c.checkpoint_turn.new.self c.loop.invariant.rest c.checkpoint_turn.ensures.rest;
   slots = c.loop.invariant.slots;
 }
 
 -- one that had nothing to do
-pub returns-in-Ok-Idle-clause-done : goal.returns-in-Ok-Idle-clause-done
-returns-in-Ok-Idle-clause-done g c = record {
+pub returns-then-is_idle_check-clause-done : goal.returns-then-is_idle_check-clause-done
+returns-then-is_idle_check-clause-done g c = record {
   count = c.loop.counter;
   before = c.loop.self.client.journal;
   turns = c.loop.invariant.turns;
-  last = inl (refl, inl (rw c.in-Ok-Idle.field-0-is at c.in-Ok-Idle.ensures.ok));
+  last =
+      inl (
+        refl,
+        inl
+            (subst (λ (t : CheckTurn). CheckTurnDid g.D.Device.state t c.loop.self.client.journal c.checkpoint_turn.new.self.journal) (c.if-is_idle_check.ensures.0 refl)
+            c.in-Ok.ensures.ok),
+      );
 }
 
 -- one that was refused

@@ -1,5 +1,6 @@
 use Rattle.std.proofs.Common.{◌≡◌, ◌⊎◌, ◌∙◌, List, subst}
 use Rattle.std.specs.Prelude.{MatchResult}
+use Rattle.std.proofs.lemmas.Result.{IfErr-weaker}
 use Rattle.journal_model.specs.Transaction.{History, Transaction}
 use Rattle.group_commit.specs.Close.{with_running}
 use Rattle.journal_script.specs.declared.script.Operation.{Operation}
@@ -22,6 +23,18 @@ returns-clause-sealed g c =
     (subst (λ (t : Transaction). MatchResult c.close.result.closed (λ _. c.close.result.parts.sealed.items ≡ with_running front.sealed t t.handles)
     (λ _. (c.close.result.parts.sealed.items ≡ front.sealed) ⊎ (c.close.result.parts.sealed.items ≡ with_running front.sealed t t.handles)))
     c.into_stopped.ensures.running c.close.ensures.sealed)
+
+-- why it is not closed, behind their stops
+pub returns-clause-refused : goal.returns-clause-refused
+returns-clause-refused g c =
+    IfErr-weaker c.close.result.closed _ _
+    (λ e why. record {
+      stopped = c.into_stopped.result.journal;
+      stops = c.into_stopped.ensures.stops;
+      committed = c.close.result.parts.committed;
+      why = why;
+    })
+    c.close.ensures.refused
 
 -- nor shown anything
 pub returns-clause-shown : goal.returns-clause-shown

@@ -1,4 +1,5 @@
 use Rattle.std.proofs.Common.{◌≡◌, ap, arith, inl, inr, refl}
+use Rattle.std.proofs.lemmas.Bool.{false≢true}
 use Rattle.script_client.specs.declared.outcome.Outcome.TheVariants.{Transaction}
 use Rattle.script_client.specs.Performed.{most_turns}
 use Rattle.script_client.specs.Steps.Steps.{NoStep, OneMore}
@@ -9,12 +10,12 @@ use Rattle.script_client.proofs.interpreter.Interpreter.commit.Goals as goal
 pub loop-init : goal.loop-init
 loop-init g c = record { turns = NoStep c.args.self.now.client.journal; rest = refl; slots = refl }
 
--- and one more
+-- and one more, which had something to do
 pub loop-preserved : goal.loop-preserved
 loop-preserved g c = record {
   turns =
       OneMore c.loop.counter c.args.self.now.client.journal c.loop.self.client.journal c.commit_turn.new.self.journal c.loop.invariant.turns
-      (c.in-Ok.turn, c.in-Ok.ensures.ok);
+      (c.in-Ok.turn, (λ idle. false≢true (c.if-is_idle.ensures.1 idle)), c.in-Ok.ensures.ok);
   rest = still-same c.args.self.now.client c.loop.self.client c.commit_turn.new.self c.loop.invariant.rest c.commit_turn.ensures.rest;
   slots = c.loop.invariant.slots;
 }
@@ -25,7 +26,7 @@ returns-then-is_idle-clause-done g c = record {
   count = c.loop.counter;
   before = c.loop.self.client.journal;
   turns = c.loop.invariant.turns;
-  last = inl (ap Transaction c.mark.ensures, inl (c.in-Ok.turn, c.if-is_idle.ensures refl, c.in-Ok.ensures.ok));
+  last = inl (ap Transaction c.mark.ensures, inl (c.in-Ok.turn, c.if-is_idle.ensures.0 refl, c.in-Ok.ensures.ok));
 }
 
 -- one that was refused

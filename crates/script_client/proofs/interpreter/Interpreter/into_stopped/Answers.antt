@@ -1,7 +1,17 @@
-use Rattle.std.proofs.Common.{◌∙◌, ap}
+use Rattle.std.proofs.Common.{◌∙◌, ap, refl}
+use Rattle.script_client.specs.Ended.StopsHandles.{NoneStops, OneStops}
 use Rattle.script_client.specs.Told.{ClientValue}
 use Rattle.script_client.proofs.InOrder.{ends-running, ends-sealed}
 use Rattle.script_client.proofs.interpreter.Interpreter.into_stopped.Goals as goal
+
+-- none was stopped yet
+pub loop-slot-init : goal.loop-slot-init
+loop-slot-init g c = record {
+  operations = refl;
+  left = record { device_is = refl; sealed_is = refl; shown_is = refl };
+  stops = NoneStops c.args.self.client.journal;
+  running = refl;
+}
 
 -- the end of a handle changes none of them
 pub loop-slot-preserved-in-Open : goal.loop-slot-preserved-in-Open
@@ -16,5 +26,6 @@ loop-slot-preserved-in-Open g c =
         sealed_is = ends-sealed g.D.Device.state c.in-Open.handle c.loop-slot.client.journal c.stop.new.self.journal ends ∙ left.sealed_is;
         shown_is = ap (λ (v : ClientValue _). v.shown) rest ∙ left.shown_is;
       };
+      stops = OneStops c.in-Open.handle c.args.self.client.journal c.loop-slot.client.journal c.stop.new.self.journal c.loop-slot.invariant.stops ends;
       running = ends-running g.D.Device.state c.in-Open.handle c.loop-slot.client.journal c.stop.new.self.journal ends ∙ c.loop-slot.invariant.running;
     }

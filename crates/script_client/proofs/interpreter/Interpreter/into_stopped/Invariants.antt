@@ -1,11 +1,13 @@
 use Rattle.std.proofs.Common.{◌≡◌}
+use Rattle.script_client.specs.Ended.{StopsHandles}
 use Rattle.script_client.specs.Shown.{IsLeftOf}
 use Rattle.script_client.proofs.interpreter.Interpreter.into_stopped.Given as goal
 
--- the operations are the same, and so are the device, what is sealed and what runs, and what was shown
+-- the operations are the same, and so are the device, what is sealed and what runs, and what was shown; handles were stopped
 abbrev pub invariant-loop-slot : goal.invariant-loop-slot
 invariant-loop-slot g l = record {
   operations : l.client.operations ≡ l.fn.self.client.operations;
   left : IsLeftOf l.fn.self.client l.client.journal.device l.client.journal.journal.front.sealed l.client.shown;
+  stops : StopsHandles g.D.Device.state l.fn.self.client.journal l.client.journal;
   running : l.client.journal.journal.front.running ≡ l.fn.self.client.journal.journal.front.running;
 }
