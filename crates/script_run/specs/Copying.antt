@@ -1,14 +1,16 @@
 -- An image that is written to another device.
-use Rattle.std.specs.Prelude.{◌≡◌, ◌≢◌, ◌⊎◌, ℕ, ◌<◌, Bool, false, []}
+use Rattle.std.specs.Prelude.{◌≡◌, ◌≢◌, ◌⊎◌, ℕ, ◌<◌, Bool, false, [], Option}
 use Rattle.journal_model.specs.declared.number.Area.{Area}
 use Rattle.journal_model.specs.declared.refusal.JournalError.{JournalError}
 use Rattle.journal_model.specs.declared.refusal.JournalError.TheVariants.{Device}
 use Rattle.journal_model.specs.Disk.{Disk, same_area}
 use Rattle.block_device.specs.Memory.{MemState, state_of}
 use Rattle.block_device.specs.State.{DeviceState, IsFailure, Stays, blocks_in}
+use Rattle.journal_model.specs.Transaction.{History}
+use Rattle.journal_script.specs.declared.script.NamedBlocks.{NamedBlocks}
 use Rattle.journal_script.specs.declared.script.Script.{Script}
 use Rattle.script_run.specs.declared.stops.Stops.{Stops}
-use Rattle.script_run.specs.Left.{IsRunTo}
+use Rattle.script_run.specs.Left.{IsEndOf, IsRunTo}
 
 -- the device is of the image's shape, and each of its blocks reads as the image's, durably
 pub record IsCopy (image : MemState) (to : DeviceState) : Type 0 where
@@ -38,3 +40,12 @@ pub record IsCopiedRun (script : Script) (stops : Stops) (to : DeviceState) (rig
   pub image : MemState
   pub run : IsRunTo script stops image right
   pub copy : IsCopy image to
+
+-- the run of a script came to its end, and left an image, which was copied, or its copy was refused
+pub record IsTriedRun (script : Script) (stops : Stops) (old new : DeviceState) : Type 0 where
+  pub image : MemState
+  pub sealed : History
+  pub shown : Option ℕ
+  pub named : NamedBlocks
+  pub end : IsEndOf script stops.run stops.failing_call image sealed shown named
+  pub tried : IsCopyTried image old new

@@ -1,10 +1,10 @@
 //! Writing what a stop left to another device, so that other programs can judge it.
-ghost use Rattle.std.specs.Prelude.{◌≡◌, ◌<◌, ◌↔◌, length, IfErr, IfOk, IsTrue, OnOk, true};
+ghost use Rattle.std.specs.Prelude.{◌≡◌, ◌<◌, ◌↔◌, ◌⊎◌, length, IfErr, IfOk, IsTrue, OnOk, true};
 ghost use Rattle.std.specs.BTreeSet.{keys};
 ghost use Rattle.journal_model.specs.Disk.{written};
 ghost use Rattle.block_device.specs.Memory.{state_of};
 ghost use Rattle.block_device.specs.State.{CountsFaults, blocks_in};
-ghost use Rattle.script_run.specs.Copying.{CopyRefused, HasCopied, IsCopiedRun, IsCopy, IsCopyTried, IsOnlyRead};
+ghost use Rattle.script_run.specs.Copying.{CopyRefused, HasCopied, IsCopiedRun, IsCopy, IsCopyTried, IsOnlyRead, IsTriedRun};
 ghost use Rattle.script_run.specs.Left.{IsLeftVerdict};
 
 use crate::running::{Left, end_of_run, judge_left};
@@ -22,7 +22,7 @@ use std::io::Write;
 /// # Errors
 ///
 /// Those of `run`; `Fault::Refused` with `Device` where `to` is of another shape, or fails: then the lines of the operations were
-/// written and no others.
+/// written and no others. Where the run comes to no end, `to` stays as it is.
 pub fn run_copied<D: Device>(
     alloc: Global,
     script: &Script,
@@ -32,6 +32,7 @@ pub fn run_copied<D: Device>(
 ) -> Result<bool, Fault>
     ensures run { IfOk result (IsCopiedRun script.now stops.now (D.state to.new)) }
     ensures right { IfOk result (λ right. right ≡ true) }
+    ensures tried { (D.state to.new ≡ D.state to.old) ⊎ IsTriedRun script.now stops.now (D.state to.old) (D.state to.new) }
 {
     let ended = end_of_run(alloc, script, stops.run, stops.failing_call, out)?;
     judge_copied(alloc, ended.left, to, stops.opening, &ended.named, out)

@@ -1,12 +1,12 @@
 //! Openings of what a stop left, and the verdict on what they give back.
-ghost use Rattle.std.specs.Prelude.{◌↔◌, ◌<◌, All, IfOk, IsTrue, OnOk};
+ghost use Rattle.std.specs.Prelude.{◌↔◌, ◌<◌, All, IfErr, IfOk, IsTrue, OnOk};
 ghost use Rattle.std.specs.BTreeSet.{keys};
 ghost use Rattle.journal_model.specs.declared.number.Area.TheVariants.{Home};
 ghost use Rattle.journal_model.specs.Disk.{reading};
 ghost use Rattle.log_model.specs.Opening.{numbered_below};
 ghost use Rattle.block_device.specs.Memory.{state_of};
 ghost use Rattle.block_device.specs.State.{Stays};
-ghost use Rattle.script_run.specs.OpenedImages.{IsOpenedImage};
+ghost use Rattle.script_run.specs.OpenedImages.{IsOpenedImage, IsUnopened};
 ghost use Rattle.script_run.specs.Verdict.{IsImageVerdict, IsRight};
 
 use crate::blocks::read_block;
@@ -91,9 +91,10 @@ pub(crate) fn judge_home<D: Device>(
 ///
 /// # Errors
 ///
-/// Those of an opening.
+/// Those of an opening: `Memory` and `Device`, or what stands in the image is refused.
 pub fn open_image(alloc: Global, image: MemDevice) -> Result<OpenedImage, JournalError>
-    ensures { IfOk result (IsOpenedImage image.shape (state_of image).disk) }
+    ensures opened { IfOk result (IsOpenedImage image.shape (state_of image).disk) }
+    ensures err { IfErr result (IsUnopened image.shape (reading (state_of image).disk)) }
 {
     match open(alloc, image) {
         Ok(opened) => Ok(OpenedImage {

@@ -77,8 +77,8 @@ impl Stopped {
 ///
 /// # Errors
 ///
-/// `Fault::Refused` where memory runs out, or what a stop left is refused; `Fault::Output` where the output can't be
-/// written. Some of the lines may have been written.
+/// `Fault::Refused` where memory runs out; `Fault::Output` where the output can't be written. Some of the lines may have been
+/// written.
 pub fn run(
     alloc: Global,
     script: &Script,

@@ -73,7 +73,7 @@ module _ (keeps : Type 0) (holds : keeps) (stopped : Stopped) (named : NamedBloc
       → IsJudged keeps stopped named image old found new → old.wrong ≡ 0 → new.wrong ≡ 0
   first-keeps keep image old found new crash (IsOpened opened after is judged) none =
       right-counts old after judged.right (first-right stopped keep image opened named judged.right run crash (is holds) judged.verdict.0 judged.verdict.1) judged.after none
-  first-keeps keep image old found new crash (IsRefused e after is) none = ap (λ (n : NotRight). n.wrong) is ∙ none
+  first-keeps keep image old found new crash (IsRefused e after why is) none = ap (λ (n : NotRight). n.wrong) is ∙ none
 
   -- nor is one on what a stop within its opening left
   again-keeps : (keep : List ℕ) (image : MemState) (first : Report) (j : ℕ) (device : MemState) (choice : ℕ) (old new : Counts) → IsCrashOf stopped.device keep image → IsFirst image first
@@ -86,7 +86,7 @@ module _ (keeps : Type 0) (holds : keeps) (stopped : Stopped) (named : NamedBloc
           right-counts from after judged.right
           (again-right stopped keep image first j device (kept_of j choice) again.image opened named judged.right run crash tells (stop holds) again.crash (is holds) judged.verdict.0 judged.verdict.1)
           judged.after so_far
-      judged-again from to (IsRefusedAgain e after is) so_far = ap (λ (n : NotRight). n.wrong) is ∙ so_far
+      judged-again from to (IsRefusedAgain e after why is) so_far = ap (λ (n : NotRight). n.wrong) is ∙ so_far
 
   opening-keeps : (keep : List ℕ) (image : MemState) (first : Report) (j : ℕ) (old new : Counts) → IsCrashOf stopped.device keep image → IsFirst image first
       → SweepsOpening keeps stopped named image first j old new → old.not_right.wrong ≡ 0 → new.not_right.wrong ≡ 0
@@ -101,7 +101,7 @@ module _ (keeps : Type 0) (holds : keeps) (stopped : Stopped) (named : NamedBloc
   openings-keep keep image from found judged old new crash (IsOpened opened after is by) openings none =
       steps-keep (λ i. SweepsOpening keeps stopped named image opened.report (i + 1)) (λ c. c.not_right.wrong ≡ 0)
       (λ i s t step so_far. opening-keeps keep image opened.report (i + 1) s t crash (is holds).tells step so_far) (writes_of opened.device.calls) old new openings none
-  openings-keep keep image from found judged old new crash (IsRefused e after is) openings none = ap (λ (c : Counts). c.not_right.wrong) openings ∙ none
+  openings-keep keep image from found judged old new crash (IsRefused e after why is) openings none = ap (λ (c : Counts). c.not_right.wrong) openings ∙ none
 
   choice-keeps : (k choice : ℕ) (old new : Counts) → SweepsChoice keeps stopped named k choice old new → old.not_right.wrong ≡ 0 → new.not_right.wrong ≡ 0
   choice-keeps k choice old new one none =

@@ -14,7 +14,7 @@ use Rattle.script_sweep.specs.Steps.{Steps}
 use Rattle.script_run.specs.declared.opening.OpenedImage.{OpenedImage}
 use Rattle.script_run.specs.declared.running.Stopped.{Stopped}
 use Rattle.script_run.specs.Left.{IsCrashOf}
-use Rattle.script_run.specs.OpenedImages.{IsOpenedImage}
+use Rattle.script_run.specs.OpenedImages.{IsOpenedImage, IsUnopened}
 use Rattle.script_run.specs.Reopening.{FollowsOn, IsBefore, IsStoppedAt}
 use Rattle.script_run.specs.Verdict.{IsRight}
 use Rattle.script_sweep.specs.declared.counts.Counts.{Counts}
@@ -70,11 +70,12 @@ pub record JudgesFirst (stopped : Stopped) (named : NamedBlocks) (opened : Opene
   pub verdict : IsFirstVerdict stopped named opened right
   pub after : new ≡ counted right old
 
--- an image of what a run left was opened and judged, or it was refused, and nothing was found: either is counted
+-- an image of what a run left was opened and judged, or it was refused, for what stands in it, and nothing was found: either is counted
 pub data IsJudged (keeps : Type 0) (stopped : Stopped) (named : NamedBlocks) (image : MemState) (old : NotRight) : Option Found → NotRight → Type 0 where
   IsOpened : (opened : OpenedImage) (new : NotRight) → (keeps → IsOpenedImage image.shape (state_of image).disk opened) → JudgesFirst stopped named opened old new →
       IsJudged keeps stopped named image old (Some (found_by opened)) new
-  IsRefused : (e : JournalError) (new : NotRight) → new ≡ with_refusal old → IsJudged keeps stopped named image old None new
+  IsRefused : (e : JournalError) (new : NotRight) → (keeps → IsUnopened image.shape (reading (state_of image).disk) e) → new ≡ with_refusal old →
+      IsJudged keeps stopped named image old None new
 
 pub record JudgesAgain (stopped : Stopped) (named : NamedBlocks) (first : Report) (opened : OpenedImage) (old new : NotRight) : Type 0 where
   pub right : Bool
@@ -85,7 +86,8 @@ pub record JudgesAgain (stopped : Stopped) (named : NamedBlocks) (first : Report
 pub data IsJudgedAgain (keeps : Type 0) (stopped : Stopped) (named : NamedBlocks) (first : Report) (image : MemState) (old : NotRight) : NotRight → Type 0 where
   IsOpenedAgain : (opened : OpenedImage) (new : NotRight) → (keeps → IsOpenedImage image.shape (state_of image).disk opened) → JudgesAgain stopped named first opened old new →
       IsJudgedAgain keeps stopped named first image old new
-  IsRefusedAgain : (e : JournalError) (new : NotRight) → new ≡ with_refusal old → IsJudgedAgain keeps stopped named first image old new
+  IsRefusedAgain : (e : JournalError) (new : NotRight) → (keeps → IsUnopened image.shape (reading (state_of image).disk) e) → new ≡ with_refusal old →
+      IsJudgedAgain keeps stopped named first image old new
 
 -- what a device kept by this choice of its last writes, which stopped at write j of an opening, was opened and judged
 pub record SweepsAgain (keeps : Type 0) (stopped : Stopped) (named : NamedBlocks) (first : Report) (j : ℕ) (device : MemState) (choice : ℕ) (old new : Counts) : Type 0 where

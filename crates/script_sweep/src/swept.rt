@@ -1,7 +1,8 @@
 //! The journal that is swept.
-ghost use Rattle.std.specs.Prelude.{IfOk};
+ghost use Rattle.std.specs.Prelude.{IfErr, IfOk};
+ghost use Rattle.journal_model.specs.Disk.{reading};
 ghost use Rattle.block_device.specs.Memory.{state_of};
-ghost use Rattle.script_run.specs.OpenedImages.{IsOpenedImage};
+ghost use Rattle.script_run.specs.OpenedImages.{IsOpenedImage, IsUnopened};
 ghost use Rattle.script_run.specs.Reopening.{IsAttempt};
 ghost use Rattle.script_sweep.specs.Swept.{HasRun, MakesCalls};
 
@@ -45,9 +46,10 @@ pub trait Swept {
     ///
     /// # Errors
     ///
-    /// Those of an opening.
+    /// Those of an opening: `Memory` and `Device`, or what stands in the image is refused.
     fn open(&self, alloc: Global, image: MemDevice) -> Result<OpenedImage, JournalError>
-        ensures { IfOk result (λ opened. keeps → IsOpenedImage image.shape (state_of image).disk opened) };
+        ensures opened { IfOk result (λ opened. keeps → IsOpenedImage image.shape (state_of image).disk opened) }
+        ensures err { IfErr result (λ e. keeps → IsUnopened image.shape (reading (state_of image).disk) e) };
 
     /// Opens what a crash left over a device that stops at write `k` of the opening, counted from 1.
     ///

@@ -1,4 +1,4 @@
-use Rattle.std.proofs.Common.{◌≡◌, true}
+use Rattle.std.proofs.Common.{◌≡◌, inr, true}
 use Rattle.std.specs.Prelude.{Result, Ok, Err, IfOk}
 use Rattle.std.specs.BTreeSet.{keys}
 use Rattle.std.proofs.lemmas.Result.{IfOk-weaker}
@@ -32,3 +32,16 @@ pub returns-clause-right : goal.returns-clause-right
 returns-clause-right g c =
     IfOk-weaker c.judge_copied.result (IsCopiedRun c.args.script.now c.args.stops.now (g.D.Device.state c.judge_copied.new.to)) (λ right. right ≡ true)
     (λ right is. run-right c.args.script.now c.args.stops.now is.image right is.run) (returns-clause-run g c)
+
+-- and the copy was tried
+pub returns-clause-tried : goal.returns-clause-tried
+returns-clause-tried g c =
+    let left = c.in_ok-ended.ended.left in
+    inr (record {
+      image = left.image;
+      sealed = left.recorded.sealed.items;
+      shown = left.recorded.acknowledged;
+      named = c.in_ok-ended.ended.named;
+      end = c.in_ok-ended.ensures;
+      tried = c.judge_copied.ensures.tried;
+    })

@@ -18,5 +18,5 @@ returns g c =
     (λ right. All (λ b. b < opened.device.shape.home_blocks) (keys named.blocks)
     × (IsTrue right ↔ IsRight recorded.sealed.items recorded.acknowledged named (numbered_below opened.report.ends_at recorded.sealed.items) opened.device.shape.block_size (reading (state_of opened.device).disk Home)))
     (IsImageVerdict c.args.image.shape (reading (state_of c.args.image).disk) recorded.sealed.items recorded.acknowledged named)
-    (λ right is. image-verdict recorded.sealed.items recorded.acknowledged named right c.args.image opened c.in_ok-opened.ensures is.0 is.1)
+    (λ right is. image-verdict recorded.sealed.items recorded.acknowledged named right c.args.image opened c.in_ok-opened.ensures.opened is.0 is.1)
     c.judge_opened.ensures

@@ -20,5 +20,5 @@ returns g c =
     (λ right. All (λ b. b < opened.device.shape.home_blocks) (keys named.blocks) × (IsTrue right ↔ FollowsOn first.clean first.ends_at opened.report.clean opened.report.ends_at
     × IsRight recorded.sealed.items recorded.acknowledged named (numbered_below first.ends_at recorded.sealed.items) opened.device.shape.block_size (reading (state_of opened.device).disk Home)))
     (IsSecondVerdict c.args.left.shape (reading (state_of c.args.left).disk) first.clean first.ends_at recorded.sealed.items recorded.acknowledged named)
-    (λ right is. second-verdict recorded.sealed.items recorded.acknowledged named right c.args.left opened first c.in_ok-opened.ensures is.0 is.1)
+    (λ right is. second-verdict recorded.sealed.items recorded.acknowledged named right c.args.left opened first c.in_ok-opened.ensures.opened is.0 is.1)
     c.judge_reopened.ensures

@@ -1,7 +1,8 @@
 use Rattle.std.proofs.Common.{ℕ, subst, sym}
 use Rattle.std.specs.Prelude.{Some}
 use Rattle.block_device.specs.Memory.{MemState, state_of}
-use Rattle.script_run.specs.OpenedImages.{IsOpenedImage}
+use Rattle.journal_model.specs.Disk.{reading}
+use Rattle.script_run.specs.OpenedImages.{IsOpenedImage, IsUnopened}
 use Rattle.script_sweep.specs.Sweeping.{IsJudged}
 use Rattle.script_sweep.specs.Sweeping.IsJudged.{IsOpened, IsRefused}
 use Rattle.script_sweep.proofs.judging.Ran.judge_image.Goals as goal
@@ -13,9 +14,12 @@ returns-in_ok-judge_first-in-Ok g c =
     let of : ℕ → _ = λ writes. record { report = c.in-Ok.opened.report; writes = writes } in
     subst (λ (writes : ℕ). IsJudged g.J.Swept.keeps c.args.self.now.stopped.now c.args.self.now.named.now c.args.image.now c.args.not_right.now (Some (of writes)) new) (sym c.writes.ensures)
     (IsOpened c.in-Ok.opened new
-    (λ keeps. subst (λ (m : MemState). IsOpenedImage m.shape (state_of m).disk c.in-Ok.opened) c.in_ok-copy_of.ensures (c.in-Ok.ensures keeps))
+    (λ keeps. subst (λ (m : MemState). IsOpenedImage m.shape (state_of m).disk c.in-Ok.opened) c.in_ok-copy_of.ensures (c.in-Ok.ensures.opened keeps))
     c.in_ok-judge_first-in-Ok.ensures)
 
 -- or it is refused, and that is counted
 pub returns-in_ok-note_refusal-in-Err : goal.returns-in_ok-note_refusal-in-Err
-returns-in_ok-note_refusal-in-Err g c = IsRefused c.in-Err.e c.note_refusal.new.not_right c.in_ok-note_refusal-in-Err.ensures
+returns-in_ok-note_refusal-in-Err g c =
+    IsRefused c.in-Err.e c.note_refusal.new.not_right
+    (λ keeps. subst (λ (m : MemState). IsUnopened m.shape (reading (state_of m).disk) c.in-Err.e) c.in_ok-copy_of.ensures (c.in-Err.ensures.err keeps))
+    c.in_ok-note_refusal-in-Err.ensures

@@ -12,7 +12,7 @@ returns-in-Ok g c =
       image = c.in_ok-left.left;
       crash = c.in_ok-left.ensures;
       judged = c.judge_again.new.not_right;
-      is_judged = IsOpenedAgain c.in-Ok.opened c.judge_again.new.not_right c.in-Ok.ensures judged;
+      is_judged = IsOpenedAgain c.in-Ok.opened c.judge_again.new.not_right c.in-Ok.ensures.opened judged;
       after = ap (λ (n : ℕ). let counts : Counts = record c.args.counts.now { again = n; not_right = c.judge_again.new.not_right } in counts) c.saturating_add-counts.ensures;
     })
     c.judge_again.ensures
@@ -25,7 +25,7 @@ returns g c =
       image = c.in_ok-left.left;
       crash = c.in_ok-left.ensures;
       judged = c.note_refusal.new.not_right;
-      is_judged = IsRefusedAgain c.in-Err.e c.note_refusal.new.not_right is;
+      is_judged = IsRefusedAgain c.in-Err.e c.note_refusal.new.not_right c.in-Err.ensures.err is;
       after = ap (λ (n : ℕ). let counts : Counts = record c.args.counts.now { again = n; not_right = c.note_refusal.new.not_right } in counts) c.saturating_add-counts.ensures;
     })
     c.note_refusal.ensures
