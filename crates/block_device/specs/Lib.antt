@@ -5,3 +5,4 @@ pub mod Memory
 pub mod MemInvariant
 pub mod Stop
 pub mod Fail
+pub mod Call

@@ -1,7 +1,8 @@
 //! Reading one block of a device into a block of its own.
 ghost use Rattle.std.specs.Prelude.{◌≡◌, ◌<◌, IfOk, MatchResult, length};
 ghost use Rattle.journal_model.specs.Disk.{reading};
-ghost use Rattle.block_device.specs.State.{IsFailure, Stays, blocks_in};
+ghost use Rattle.block_device.specs.Call.{OnlyReads};
+ghost use Rattle.block_device.specs.State.{IsFailure, blocks_in};
 
 use crate::Device;
 use journal_model::{Area, Block, JournalError};
@@ -22,8 +23,7 @@ pub fn read_block<D: Device>(
     ensures bytes { IfOk result (λ block. D.honest device.new → block ≡ reading (D.state device.old).disk area n) }
     ensures size { IfOk result (λ block. length block ≡ (D.state device.old).shape.block_size) }
     ensures faults { MatchResult result (λ _. (D.state device.new).faults ≡ (D.state device.old).faults) (IsFailure (D.state device.old) (D.state device.new)) }
-    ensures stays { Stays (D.state device.old) (D.state device.new) }
-    ensures honest { D.honest device.new → D.honest device.old }
+    ensures device { OnlyReads D.state D.honest device.old device.new }
 {
     let mut bytes = vec![in alloc; 0; device.block_size()]?;
     device.read(area, n, &mut bytes)?;

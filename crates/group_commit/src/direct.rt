@@ -4,7 +4,7 @@
 //! place).
 ghost use Rattle.std.specs.Prelude.{◌≡◌, length, IfErr, OnOk};
 ghost use Rattle.journal_world.specs.Journal.Event.{DirectSync, DirectWrite};
-ghost use Rattle.log_engine.specs.Call.{MakesOneCall};
+ghost use Rattle.block_device.specs.Call.{MakesOneCall};
 ghost use Rattle.journal_steps.specs.Direct.{DirectSyncRefused, DirectWriteRefused, IsDuringDirectSync, IsDuringDirectWrite, MayWriteDirectly};
 ghost use Rattle.journal_steps.specs.Journal.{Does};
 

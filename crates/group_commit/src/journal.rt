@@ -13,7 +13,7 @@ ghost use Rattle.journal_world.specs.Journal.Event.{FrontStep, ReadBlock, Seal};
 ghost use Rattle.log_epochs.specs.EngineWorld.Phase.{Running, Shut};
 ghost use Rattle.log_epochs.specs.JournalPromise.{IsClosed};
 ghost use Rattle.log_epochs.specs.JournalWorld.{Begins};
-ghost use Rattle.log_engine.specs.Call.{MakesOneCall, OnlyReads};
+ghost use Rattle.block_device.specs.Call.{MakesOneCall, OnlyReads};
 ghost use Rattle.log_engine.specs.Close.{IsAllReleased};
 ghost use Rattle.log_engine.specs.Left.{commit_calls};
 ghost use Rattle.journal_steps.specs.Journal.{Agrees, CheckTurnDid, CheckTurnRefused, Does, FitsQuarter, HasRoomFor, IsDuringCheckTurn, IsDuringTurn, LeavesFewerRounds, NotesRead, OpensNow, OpensOver, ReadRefused, Requests, SealIsDue, TurnDid, TurnRefused};

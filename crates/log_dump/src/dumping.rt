@@ -5,7 +5,7 @@ ghost use Rattle.log_model.specs.declared.log.Text.{Text};
 ghost use Rattle.journal_model.specs.Disk.{reading};
 ghost use Rattle.log_model.specs.Dump.{dump_text};
 ghost use Rattle.log_model.specs.Opening.{layout_of, ring_of};
-ghost use Rattle.block_device.specs.State.{Stays};
+ghost use Rattle.block_device.specs.Call.{OnlyReads};
 ghost use Rattle.log_format.specs.Accepted.{IsAccepted};
 ghost use Rattle.log_scan.specs.Finding.{every_block, most_bytes};
 ghost use Rattle.log_scan.specs.Scanning.{AreTextsOf};
@@ -44,8 +44,7 @@ pub fn dump<D: Device, W: Write>(alloc: Global, device: &mut D, out: &mut W) -> 
     ensures refused { IfErr result (IsDumpFault (D.honest device.new) (out.new ≡ out.old) (D.state device.old) (D.state device.new)) }
     ensures tested { OnErr result ((out.new ≡ out.old) ⊎ (D.honest device.new → HasDump (shape_of (D.state device.old)) (reading (D.state device.old).disk))) }
     ensures no_fault { OnOk result ((D.state device.new).faults ≡ (D.state device.old).faults) }
-    ensures stays { Stays (D.state device.old) (D.state device.new) }
-    ensures honest { D.honest device.new → D.honest device.old }
+    ensures device { OnlyReads D.state D.honest device.old device.new }
 {
     let log = read_log(alloc, device)?;
     if log.is_clean() {
@@ -62,8 +61,7 @@ fn read_log<D: Device>(alloc: Global, device: &mut D) -> Result<Log, JournalErro
     ensures accepted { IfOk result (λ log. IsAccepted (D.state device.old).shape.block_size (D.state device.old).shape.log_blocks log) }
     ensures read { IfOk result (λ log. D.honest device.new → IsReadLog (shape_of (D.state device.old)) (reading (D.state device.old).disk) log) }
     ensures faults { MatchResult result (λ _. (D.state device.new).faults ≡ (D.state device.old).faults) (IsLogRefused (D.honest device.new) (D.state device.old) (D.state device.new)) }
-    ensures stays { Stays (D.state device.old) (D.state device.new) }
-    ensures honest { D.honest device.new → D.honest device.old }
+    ensures device { OnlyReads D.state D.honest device.old device.new }
 {
     let log_blocks = device.blocks(Area::Log);
     if log_blocks == 0 {
@@ -83,8 +81,7 @@ fn refusal_of_large<D: Device>(alloc: Global, device: &mut D) -> JournalError
     requires some { 0 < (D.state device.old).shape.log_blocks }
     requires large { most_bytes < (D.state device.old).shape.block_size }
     ensures refused { IsLogRefused (D.honest device.new) (D.state device.old) (D.state device.new) result }
-    ensures stays { Stays (D.state device.old) (D.state device.new) }
-    ensures honest { D.honest device.new → D.honest device.old }
+    ensures device { OnlyReads D.state D.honest device.old device.new }
 {
     let block = match read_block(alloc, device, Area::Log, 0) {
         Ok(block) => block,
@@ -119,8 +116,7 @@ fn write_log<D: Device, W: Write>(
     ensures printed { OnOk result (D.honest device.new → (texts : List Text) → log.now.s_start ≢ 0 → AreTextsOf log.now (every_block log.now) (reading (D.state device.old).disk) texts → transactions ≡ length texts → Appends (W.contents out.old) (W.contents out.new) (dump_text log.now texts)) }
     ensures refused { IfErr result (IsPrintRefused (D.honest device.new) ((texts : List Text) → AreTextsOf log.now (every_block log.now) (reading (D.state device.old).disk) texts → transactions ≡ length texts → ⊥) log.now (D.state device.old) (D.state device.new)) }
     ensures faults { OnOk result ((D.state device.new).faults ≡ (D.state device.old).faults) }
-    ensures stays { Stays (D.state device.old) (D.state device.new) }
-    ensures honest { D.honest device.new → D.honest device.old }
+    ensures device { OnlyReads D.state D.honest device.old device.new }
 {
     write_super(out, log.fields())?;
     write_transactions(device, log, finder, transactions, out)?;

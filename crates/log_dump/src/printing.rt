@@ -7,7 +7,7 @@ ghost use Rattle.log_model.specs.Dump.{texts_captions};
 ghost use Rattle.log_model.specs.Opening.{layout_of, ring_of};
 ghost use Rattle.log_model.specs.ReadingLog.{NoTextBegins};
 ghost use Rattle.log_model.specs.Superblock.{greatest_length};
-ghost use Rattle.block_device.specs.State.{Stays};
+ghost use Rattle.block_device.specs.Call.{OnlyReads};
 ghost use Rattle.log_format.specs.Accepted.{IsAccepted};
 ghost use Rattle.log_scan.specs.Finding.{blocks_from, every_block};
 ghost use Rattle.log_scan.specs.Scanning.{AreTextsOf};
@@ -37,8 +37,7 @@ pub(crate) fn write_transactions<D: Device, W: Write>(
     ensures printed { OnOk result (D.honest device.new → (texts : List Text) → AreTextsOf log.now (every_block log.now) (reading (D.state device.old).disk) texts → transactions ≡ length texts → Appends (W.contents out.old) (W.contents out.new) (placed_lines log.now 0 (texts_captions log.now.s_sequence texts))) }
     ensures refused { IfErr result (IsPrintRefused (D.honest device.new) ((texts : List Text) → AreTextsOf log.now (every_block log.now) (reading (D.state device.old).disk) texts → transactions ≡ length texts → ⊥) log.now (D.state device.old) (D.state device.new)) }
     ensures faults { OnOk result ((D.state device.new).faults ≡ (D.state device.old).faults) }
-    ensures stays { Stays (D.state device.old) (D.state device.new) }
-    ensures honest { D.honest device.new → D.honest device.old }
+    ensures device { OnlyReads D.state D.honest device.old device.new }
 {
     let mut position = 0;
     for k in 0..transactions {
@@ -64,8 +63,7 @@ fn write_text<D: Device, W: Write>(
     ensures printed { IfOk result (λ end. D.honest device.new → IsPrinted log.now (reading (D.state device.old).disk) sequence (W.contents out.old) (W.contents out.new) start end) }
     ensures refused { IfErr result (IsPrintRefused (D.honest device.new) (NoTextBegins (layout_of log.now) (every_block log.now) sequence (blocks_from log.now (reading (D.state device.old).disk) start)) log.now (D.state device.old) (D.state device.new)) }
     ensures faults { OnOk result ((D.state device.new).faults ≡ (D.state device.old).faults) }
-    ensures stays { Stays (D.state device.old) (D.state device.new) }
-    ensures honest { D.honest device.new → D.honest device.old }
+    ensures device { OnlyReads D.state D.honest device.old device.new }
 {
     let mut position = start;
     loop {

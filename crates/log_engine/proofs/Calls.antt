@@ -12,8 +12,8 @@ use Rattle.journal_world.specs.Call.IsAfterFault.{Undone as NotDone, Whole as Al
 use Rattle.log_ledger.specs.declared.due.Due.{Due}
 use Rattle.log_ledger.specs.declared.due.Due.TheVariants.{Write as WriteDue, Flush as FlushDue}
 use Rattle.log_ledger.specs.Due.{call_of}
-use Rattle.log_engine.specs.Call.{IsOneMoment}
-use Rattle.log_engine.specs.Call.IsOneMoment.{Same, Another}
+use Rattle.block_device.specs.Call.{IsOneMoment}
+use Rattle.block_device.specs.Call.IsOneMoment.{Same, Another}
 
 -- what holds in any case holds where it is asked of a failure
 pub on-err : {T E P : Type 0} (r : Result T E) → P → OnErr r P

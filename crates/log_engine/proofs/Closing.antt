@@ -29,7 +29,7 @@ use Rattle.log_epochs.proofs.Keeping.{flushed-leaves}
 use Rattle.log_epochs.proofs.Running.{IsRunning}
 use Rattle.log_engine.specs.Close.{ClosesBy, IsAllReleased, IsClosedLog, IsDuringClose, IsWritingFirst, KeepsClean, world_with}
 use Rattle.log_engine.specs.Close.IsWritingFirst.{Handed, Durable}
-use Rattle.log_engine.proofs.OneCall.{each-one}
+use Rattle.block_device.proofs.OneCall.{each-one}
 use Rattle.log_engine.proofs.Calls.{fault-write, moment-write}
 
 -- a log that is not clean may be closed once all is released

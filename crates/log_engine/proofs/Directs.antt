@@ -16,12 +16,12 @@ use Rattle.journal_world.proofs.DirectCalls.{direct-adds, direct-fault-adds, dir
 use Rattle.journal_world.proofs.DirectRights.{direct-fault-home, direct-home}
 use Rattle.journal_world.proofs.HomeCopies.{adds-none}
 use Rattle.journal_world.proofs.Images.{images-open}
-use Rattle.log_engine.specs.Call.{IsOneMoment}
+use Rattle.block_device.specs.Call.{IsOneMoment}
 use Rattle.log_engine.specs.Direct.{DirectSyncRefused, DirectWriteRefused, IsDuringDirectSync, IsDuringDirectWrite, NoAddition}
 use Rattle.log_engine.specs.Direct.DirectSyncRefused.{SyncFailed}
 use Rattle.log_engine.specs.Direct.DirectWriteRefused.{WriteFailed}
 use Rattle.log_engine.specs.Engine.{EngineValue}
-use Rattle.log_engine.proofs.OneCall.{each-one}
+use Rattle.block_device.proofs.OneCall.{each-one}
 
 -- the engine, on a device whose shape stays, where the call succeeds
 pub directs-here : (e : Engine) (shape : Shape) (call : Call) (disk after : Disk) → shape ≡ e.shape → e.aborted ≡ false → DirectCall e call →

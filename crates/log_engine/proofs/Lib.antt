@@ -1,6 +1,3 @@
--- The lemmas of this crate that crates above it cite.
-pub mod OneCall
--- The others.
 mod Calls
 mod Closing
 mod Directs

@@ -25,9 +25,9 @@ use Rattle.log_ledger.proofs.Ledgers.{fault-taken}
 use Rattle.log_ledger.proofs.Pendings.{aborted-keeps}
 use Rattle.log_ledger.proofs.Rounds.{KeepsCommit, call-keeps, one-call}
 use Rattle.log_ledger.proofs.Running.{fault-runs}
-use Rattle.log_engine.specs.Call.{IsOneMoment}
+use Rattle.block_device.specs.Call.{IsOneMoment}
 use Rattle.log_engine.specs.Engine.{IsDuringRound, RoundDid}
-use Rattle.log_engine.proofs.OneCall.{each-one}
+use Rattle.block_device.proofs.OneCall.{each-one}
 
 -- a sound engine between two steps
 pub during-round : (e : Engine) (disk : Disk) → Sound e disk → IsDuringRound e disk disk

@@ -20,9 +20,9 @@ use Rattle.log_ledger.specs.declared.progress.Progress.{Progress}
 use Rattle.log_ledger.specs.declared.progress.Progress.TheVariants.{Idle as NoProgress, Step, Done}
 use Rattle.log_ledger.specs.Due.{call_of}
 use Rattle.log_ledger.specs.Steps.{IsProgress}
-use Rattle.log_engine.specs.Call.{IsOneMoment}
+use Rattle.block_device.specs.Call.{IsOneMoment}
 use Rattle.log_engine.specs.Engine.{IsDuringCommit, StepDid}
-use Rattle.log_engine.proofs.OneCall.{each-one}
+use Rattle.block_device.proofs.OneCall.{each-one}
 
 -- a step that is to do something makes a call
 pub call-there : (due : Due) (bytes : List ℕ) → (due ≡ Nothing → ⊥) → (call : Call) × (call_of due bytes ≡ Some call)

@@ -1,4 +1,3 @@
-pub mod Call
 pub mod Close
 pub mod Direct
 pub mod Engine

@@ -3,7 +3,7 @@ ghost use Rattle.std.specs.Prelude.{◌≡◌, Some, OnOk, OnErr};
 ghost use Rattle.block_device.specs.State.{CountsFaults, MakesAtMostOneCall};
 ghost use Rattle.journal_world.specs.Call.{Call, IsAfterFault, after_success};
 ghost use Rattle.log_ledger.specs.Due.{Fits, call_of};
-ghost use Rattle.log_engine.specs.Call.{IsOneMoment};
+ghost use Rattle.block_device.specs.Call.{IsOneMoment};
 
 use block_device::{Device, DeviceFault};
 use log_ledger::Due;

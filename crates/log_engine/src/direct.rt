@@ -10,7 +10,7 @@ ghost use Rattle.journal_world.specs.Call.{Call};
 ghost use Rattle.journal_world.specs.Call.Call.{Flush, Write};
 ghost use Rattle.journal_world.specs.Direct.{DirectCall, DirectFaults, DirectSteps, IsLeftToHome};
 ghost use Rattle.log_ledger.specs.Due.{Fits, call_of};
-ghost use Rattle.log_engine.specs.Call.{IsOneMoment, MakesOneCall};
+ghost use Rattle.block_device.specs.Call.{IsOneMoment, MakesOneCall};
 ghost use Rattle.log_engine.specs.Direct.{DirectSyncRefused, DirectWriteRefused, IsDuringDirectSync, IsDuringDirectWrite};
 ghost use Rattle.log_engine.specs.Engine.{MayTouch};
 

@@ -22,14 +22,6 @@ use Rattle.log_scan.specs.Passing.{CommitPassed, CopiesPassed, IsPassed, LeadsTo
 use Rattle.log_scan.proofs.Laps.{from-at}
 use Rattle.log_scan.proofs.SoFar.{so-far-chain, so-far-damaged, so-far-none, so-far-piece, so-far-stopped, so-far-text, so-far-undamaged}
 
--- two calls that changed nothing, one after the other
-pub stays-joins : (s t u : DeviceState) → Stays s t → Stays t u → Stays s u
-stays-joins s t u first second = record {
-  shape = second.shape ∙ first.shape;
-  disk = second.disk ∙ first.disk;
-  past = second.past ∙ first.past;
-}
-
 -- a log that was accepted on a device is so while that stays
 pub accepted-stays : (log : Super) (old new : DeviceState) → Stays old new → IsAccepted old.shape.block_size old.shape.log_blocks log →
     IsAccepted new.shape.block_size new.shape.log_blocks log

@@ -3,7 +3,8 @@ ghost use Rattle.std.specs.Prelude.{◌≡◌, ◌<◌, ◌≤◌, length, OnOk}
 ghost use Rattle.journal_model.specs.Disk.{reading};
 ghost use Rattle.log_model.specs.Escape.{unescaped};
 ghost use Rattle.log_model.specs.Superblock.{widened};
-ghost use Rattle.block_device.specs.State.{CountsCall, CountsFaults, Stays, blocks_in};
+ghost use Rattle.block_device.specs.Call.{OnlyReads};
+ghost use Rattle.block_device.specs.State.{CountsCall, CountsFaults, blocks_in};
 ghost use Rattle.log_format.specs.Size.{IsBlockSize};
 ghost use Rattle.log_scan.specs.Finding.{most_bytes};
 
@@ -62,10 +63,9 @@ impl BlockBuffer {
         requires there { n < blocks_in (D.state device.old).shape area }
         ensures size { length self.new ≡ length self.old }
         ensures bytes { OnOk result (D.honest device.new → self.new ≡ reading (D.state device.old).disk area n) }
-        ensures stays { Stays (D.state device.old) (D.state device.new) }
+        ensures device { OnlyReads D.state D.honest device.old device.new }
         ensures faults { CountsFaults result (D.state device.old) (D.state device.new) }
         ensures calls { CountsCall (D.state device.old) (D.state device.new) }
-        ensures honest { D.honest device.new → D.honest device.old }
     {
         device.read(area, n, &mut self.bytes[..self.size])
     }

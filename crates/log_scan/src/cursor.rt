@@ -4,7 +4,8 @@ ghost use Rattle.log_model.specs.declared.log.Piece.{Piece};
 ghost use Rattle.log_model.specs.declared.log.Text.{Text};
 ghost use Rattle.journal_model.specs.Disk.{reading};
 ghost use Rattle.log_model.specs.Opening.{layout_of, ring_of};
-ghost use Rattle.block_device.specs.State.{IsDeviceFailure, Stays};
+ghost use Rattle.block_device.specs.Call.{OnlyReads};
+ghost use Rattle.block_device.specs.State.{IsDeviceFailure};
 ghost use Rattle.log_format.specs.Accepted.{IsAccepted};
 ghost use Rattle.log_scan.specs.Finding.{Fits, MakesCalls, limit_of, reads_of};
 ghost use Rattle.log_scan.specs.Passing.{IsPassed, LeadsTo, cursor_behind};
@@ -64,8 +65,7 @@ impl Cursor {
             LeadsTo log.now (limit_of log.now home_blocks) (reading (D.state device.old).disk) texts pieces finder.new self.old self.new found) }
         ensures faults { MatchResult result (λ _. (D.state device.new).faults ≡ (D.state device.old).faults) (IsDeviceFailure (D.state device.old) (D.state device.new)) }
         ensures calls { IfOk result (λ found. MakesCalls (reads_of found) (D.state device.old) (D.state device.new)) }
-        ensures stays { Stays (D.state device.old) (D.state device.new) }
-        ensures honest { D.honest device.new → D.honest device.old }
+        ensures device { OnlyReads D.state D.honest device.old device.new }
     {
         let sequence = log.first_number() + self.transactions;
         let found = finder.look(device, log, home_blocks, self.position, sequence)?;

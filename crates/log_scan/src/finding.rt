@@ -5,7 +5,8 @@ ghost use Rattle.journal_model.specs.Disk.{reading};
 ghost use Rattle.log_model.specs.Escape.{unescaped};
 ghost use Rattle.journal_model.specs.Layout.{HasHeader, IsLayout, descriptor_type, revoke_type, sequence_in};
 ghost use Rattle.log_model.specs.Opening.{layout_of, ring_of};
-ghost use Rattle.block_device.specs.State.{CountsCall, IsDeviceFailure, Stays};
+ghost use Rattle.block_device.specs.Call.{OnlyReads};
+ghost use Rattle.block_device.specs.State.{CountsCall, IsDeviceFailure};
 ghost use Rattle.log_format.specs.Accepted.{IsAccepted};
 ghost use Rattle.log_format.specs.Size.{count_of};
 ghost use Rattle.log_scan.specs.Finding.{Fits, IsFound, IsSequenceOf, MakesCalls, Says, blocks_from, limit_of, log_block, reads_of};
@@ -135,8 +136,7 @@ impl Finder {
         ensures numbers { self.new.numbers ≡ self.old.numbers }
         ensures faults { MatchResult result (λ _. (D.state device.new).faults ≡ (D.state device.old).faults) (IsDeviceFailure (D.state device.old) (D.state device.new)) }
         ensures calls { CountsCall (D.state device.old) (D.state device.new) }
-        ensures stays { Stays (D.state device.old) (D.state device.new) }
-        ensures honest { D.honest device.new → D.honest device.old }
+        ensures device { OnlyReads D.state D.honest device.old device.new }
     {
         self.block.read(device, Area::Log, log.place(position))?;
         self.block.unescape(escaped);
@@ -161,8 +161,7 @@ impl Finder {
         ensures tags { self.new.tags ≡ self.old.tags }
         ensures numbers { self.new.numbers ≡ self.old.numbers }
         ensures faults { MatchResult result (λ _. (D.state device.new).faults ≡ (D.state device.old).faults) (IsDeviceFailure (D.state device.old) (D.state device.new)) }
-        ensures stays { Stays (D.state device.old) (D.state device.new) }
-        ensures honest { D.honest device.new → D.honest device.old }
+        ensures device { OnlyReads D.state D.honest device.old device.new }
     {
         self.block.read(device, Area::Log, place)?;
         Ok(Header::read(self.block.bytes()).map(|header| header.sequence))
@@ -189,8 +188,7 @@ impl Finder {
         ensures found { IfOk result (λ found. D.honest device.new → IsFound (layout_of log.now) (limit_of log.now home_blocks) sequence (blocks_from log.now (reading (D.state device.old).disk) position) self.new found) }
         ensures faults { MatchResult result (λ _. (D.state device.new).faults ≡ (D.state device.old).faults) (IsDeviceFailure (D.state device.old) (D.state device.new)) }
         ensures calls { IfOk result (λ found. MakesCalls (reads_of found) (D.state device.old) (D.state device.new)) }
-        ensures stays { Stays (D.state device.old) (D.state device.new) }
-        ensures honest { D.honest device.new → D.honest device.old }
+        ensures device { OnlyReads D.state D.honest device.old device.new }
     {
         if position >= log.blocks() {
             return Ok(Found::Nothing);

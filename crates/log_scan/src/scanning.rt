@@ -2,7 +2,8 @@
 ghost use Rattle.std.specs.Prelude.{◌≡◌, ◌≤◌, length, IfOk, IfErr, MatchResult, OnOk};
 ghost use Rattle.journal_model.specs.Disk.{reading};
 ghost use Rattle.log_model.specs.Opening.{layout_of, ring_of};
-ghost use Rattle.block_device.specs.State.{IsDeviceFailure, Stays};
+ghost use Rattle.block_device.specs.Call.{OnlyReads};
+ghost use Rattle.block_device.specs.State.{IsDeviceFailure};
 ghost use Rattle.log_format.specs.Accepted.{IsAccepted};
 ghost use Rattle.log_scan.specs.Finding.{limit_of};
 ghost use Rattle.log_scan.specs.Scanning.{IsDamageOf, IsEndOf, IsScanned, IsScanRefused, IsWithinRing};
@@ -46,8 +47,7 @@ pub fn find_end<D: Device>(
     ensures within { IfOk result (λ end. IsWithinRing log.now end.damaged) }
     ensures ends { IfOk result (λ end. D.honest device.new → IsEndOf log.now (limit_of log.now home_blocks) (reading (D.state device.old).disk) end) }
     ensures faults { MatchResult result (λ _. (D.state device.new).faults ≡ (D.state device.old).faults) (IsDeviceFailure (D.state device.old) (D.state device.new)) }
-    ensures stays { Stays (D.state device.old) (D.state device.new) }
-    ensures honest { D.honest device.new → D.honest device.old }
+    ensures device { OnlyReads D.state D.honest device.old device.new }
 {
     let mut cursor = Cursor::new();
     loop {
@@ -93,8 +93,7 @@ pub fn scan<D: Device>(
     ensures scanned { IfOk result (λ count. D.honest device.new → IsScanned log.now (limit_of log.now home_blocks) (reading (D.state device.old).disk) count) }
     ensures refused { IfErr result (IsScanRefused (D.honest device.new) log.now (limit_of log.now home_blocks) (D.state device.old) (D.state device.new)) }
     ensures faults { OnOk result ((D.state device.new).faults ≡ (D.state device.old).faults) }
-    ensures stays { Stays (D.state device.old) (D.state device.new) }
-    ensures honest { D.honest device.new → D.honest device.old }
+    ensures device { OnlyReads D.state D.honest device.old device.new }
 {
     let end = find_end(device, log, home_blocks, finder)?;
     match end.damaged {

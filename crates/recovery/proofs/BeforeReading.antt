@@ -13,6 +13,7 @@ use Rattle.log_model.specs.Opening.{IsRefused, greatest_number, ring_of, super_o
 use Rattle.log_model.specs.Opening.IsRefused.{ByAhead, ByDamage, ByNumber, BySuperblock as RefusedBySuperblock}
 use Rattle.log_model.specs.Superblock.{Super, super_in}
 use Rattle.block_device.specs.State.{DeviceState, IsDeviceFailure, Stays}
+use Rattle.block_device.proofs.OneCall.{stays-joins}
 use Rattle.log_scan.specs.Finding.{most_bytes}
 use Rattle.log_scan.proofs.Listed.{damage-around}
 use Rattle.log_epochs.proofs.Keeping.{one-limit}
@@ -22,7 +23,7 @@ use Rattle.recovery.specs.Before.BeforeRefused.{ByDevice, ByMemory, ByNumber as 
 use Rattle.recovery.specs.BeforeSteps.{HoldsTexts, IsReadBeforeOn, IsSurveyed}
 use Rattle.recovery.specs.Gather.{IsGatherRefused, TablesValue, tables_of}
 use Rattle.recovery.specs.Opening.{IsReadingRefused, IsRefusedLog, IsTested, IsWellRead}
-use Rattle.recovery.proofs.Examining.{IsLayout, later-failure, limit-image, on-stays, refused-image, stays-joined, taken}
+use Rattle.recovery.proofs.Examining.{IsLayout, later-failure, limit-image, on-stays, refused-image, taken}
 use Rattle.log_scan.specs.Scanning.{IsChainOf}
 
 -- an image that passes the tests is refused for its numbers alone
@@ -111,7 +112,7 @@ pub numbers-before : (honest : Type 0) (s t u : DeviceState) (superblock : List 
     IsWellRead s.shape superblock fields → (honest → superblock ≡ reading s.disk Log 0) → Stays s t → Stays t u → u.faults ≡ s.faults → greatest_number ≤ greatest →
     (honest → IsSurveyed fields t.shape.home_blocks (reading t.disk) transactions greatest stopped) → BeforeRefused honest s u SequenceEnd
 numbers-before honest s t u superblock fields transactions greatest stopped well read first second same great found =
-    RefusedByNumber (stays-joined s t u first second) same
+    RefusedByNumber (stays-joins s t u first second) same
     (λ trust. (
       greatest,
       greatest-on s.shape s.disk fields transactions greatest stopped
@@ -124,7 +125,7 @@ pub want-before : (honest : Type 0) (s t u : DeviceState) (superblock : List ℕ
     IsWellRead s.shape superblock fields → (honest → superblock ≡ reading s.disk Log 0) → Stays s t → Stays t u → u.faults ≡ s.faults → greatest < greatest_number →
     (honest → IsSurveyed fields t.shape.home_blocks (reading t.disk) transactions greatest stopped) → e ≡ Memory → BeforeRefused honest s u e
 want-before honest s t u superblock fields transactions greatest stopped e well read first second same small found memory =
-    memory-before honest s u e memory (stays-joined s t u first second) same
+    memory-before honest s u e memory (stays-joins s t u first second) same
     (λ trust fits. (
       greatest,
       greatest-on s.shape s.disk fields transactions greatest stopped
@@ -145,17 +146,17 @@ pub gather-before : (honest : Type 0) (s t u v : DeviceState) (superblock : List
 gather-before honest s t u v superblock fields transactions greatest stopped e well read first second third same small found (inl (inl failure)) =
     before-later honest s u v e same failure
 gather-before honest s t u v superblock fields transactions greatest stopped e well read first second third same small found (inl (inr (memory, kept))) =
-    want-before honest s t v superblock fields transactions greatest stopped e well read first (stays-joined t u v second third) (kept ∙ same) small found memory
+    want-before honest s t v superblock fields transactions greatest stopped e well read first (stays-joins t u v second third) (kept ∙ same) small found memory
 gather-before honest s t u v superblock fields transactions greatest stopped e well read first second third same small found (inr otherwise) =
     let behind = well.accepted.behind in
     ByReading e
     (λ trust.
     let is = taken-on s t superblock fields transactions greatest stopped well (read trust) first (found trust) in
     on-stays (λ (m : Shape) (d : Disk). (texts : List Text) → IsChainOf fields m.home_blocks (reading d) texts → transactions ≡ length texts → ⊥) s u
-    (stays-joined s t u first second) (otherwise.never trust) is.texts
+    (stays-joins s t u first second) (otherwise.never trust) is.texts
     (chain-held fields s.shape.home_blocks (reading s.disk) is.texts transactions is.holds is.count otherwise.some) is.count)
     (otherwise.no_fault ∙ same) (damage-around fields.s_first fields.s_maxlen 1 s.shape.log_blocks e (omega arith) well.accepted.within otherwise.names)
-    (inl (stays-joined s u v (stays-joined s t u first second) third))
+    (inl (stays-joins s u v (stays-joins s t u first second) third))
 
 -- the log area has no block
 pub no-log-before : (honest : Type 0) (s : DeviceState) → s.shape.log_blocks ≡ 0 → BeforeRefused honest s s BadLength
@@ -180,6 +181,6 @@ read-on s t u superblock block fields transactions tables greatest stopped well 
         holds = is.holds;
         tables_are = λ started.
             on-stays (λ (m : Shape) (d : Disk). (texts : List Text) → IsChainOf fields m.home_blocks (reading d) texts → transactions ≡ length texts → tables ≡ tables_of fields.s_sequence texts)
-            s u (stays-joined s t u first second) gathered is.texts (is.holds.started started) is.count;
+            s u (stays-joins s t u first second) gathered is.texts (is.holds.started started) is.count;
       },
     )

@@ -14,6 +14,7 @@ use Rattle.log_model.specs.Opening.HasLimit.{OfChain, OfClean}
 use Rattle.log_model.specs.Opening.IsRefused.{ByAhead, ByDamage, ByNumber, BySuperblock}
 use Rattle.log_model.specs.Superblock.{Super, super_in, super_refusal}
 use Rattle.block_device.specs.State.{DeviceState, IsDeviceFailure, Stays, one_more_fault}
+use Rattle.block_device.proofs.OneCall.{stays-joins}
 use Rattle.log_model.proofs.ReadingTexts.{one_chain_of}
 use Rattle.log_scan.specs.Finding.{most_bytes}
 use Rattle.log_scan.specs.Scanning.{AreTextsOf, IsChainOf}
@@ -161,11 +162,6 @@ examined-on shape disk superblock fields transactions tables well read tested sm
 pub on-stays : (P : Shape → Disk → Type 0) (s t : DeviceState) → Stays s t → P t.shape t.disk → P s.shape s.disk
 on-stays P s t stays known = subst (P s.shape) stays.disk (subst (λ (m : Shape). P m t.disk) stays.shape known)
 
--- nothing changed, and then again nothing did
-pub stays-joined : (s t u : DeviceState) → Stays s t → Stays t u → Stays s u
-stays-joined s t u first second =
-    record { shape = second.shape ∙ first.shape; disk = second.disk ∙ first.disk; past = second.past ∙ first.past }
-
 -- a failure of the device is a refusal
 pub failure-refused : (honest : Type 0) (s t : DeviceState) (e : JournalError) → Stays s t → IsDeviceFailure s t e → OpeningRefused honest s t e
 failure-refused honest s t e stays (is, counted) = record {
@@ -243,9 +239,9 @@ later-failure s t u e same (is, counted) = (is, counted ∙ ap one_more_fault sa
 pub test-refused : (honest : Type 0) (s t u : DeviceState) (superblock : List ℕ) (fields : Super) (e : JournalError) → IsWellRead s.shape superblock fields →
     (honest → superblock ≡ reading s.disk Log 0) → Stays s t → Stays t u → t.faults ≡ s.faults → IsTestRefused honest fields t u e → OpeningRefused honest s u e
 test-refused honest s t u superblock fields e well read first second same (inl failure) =
-    failure-refused honest s u e (stays-joined s t u first second) (later-failure s t u e same failure)
+    failure-refused honest s u e (stays-joins s t u first second) (later-failure s t u e same failure)
 test-refused honest s t u superblock fields e well read first second same (inr (names, kept, refused)) =
-    content-refused honest s u e (stays-joined s t u first second) (kept ∙ same) (ring-device fields.s_first fields.s_maxlen e names)
+    content-refused honest s u e (stays-joins s t u first second) (kept ∙ same) (ring-device fields.s_first fields.s_maxlen e names)
     (ring-memory fields.s_first fields.s_maxlen e names) (ring-content s.shape superblock fields e well names)
     (λ trust.
     let is : fields ≡ super_of (reading s.disk) = well.fields_are ∙ ap super_in (read trust) in
@@ -310,12 +306,12 @@ pub gather-refused : (honest : Type 0) (s t u v : DeviceState) (superblock : Lis
     (honest → IsTested fields t.shape.home_blocks (reading t.disk) transactions) → (honest → IsNotRefused s.shape (reading s.disk)) →
     IsGatherRefused honest fields transactions u v e → OpeningRefused honest s v e
 gather-refused honest s t u v superblock fields transactions e well first second third same tested sound (inl (inl failure)) =
-    failure-refused honest s v e (stays-joined s u v (stays-joined s t u first second) third) (later-failure s u v e same failure)
+    failure-refused honest s v e (stays-joins s u v (stays-joins s t u first second) third) (later-failure s u v e same failure)
 gather-refused honest s t u v superblock fields transactions e well first second third same tested sound (inl (inr (memory, kept))) =
-    memory-refused honest s v e (stays-joined s u v (stays-joined s t u first second) third) (kept ∙ same) memory (λ trust small. sound trust)
+    memory-refused honest s v e (stays-joins s u v (stays-joins s t u first second) third) (kept ∙ same) memory (λ trust small. sound trust)
 gather-refused honest s t u v superblock fields transactions e well first second third same tested sound (inr otherwise) =
     let named : IsRingRefusal fields.s_first fields.s_maxlen e = NamesDamaged e otherwise.names in
-    content-refused honest s v e (stays-joined s u v (stays-joined s t u first second) third) (otherwise.no_fault ∙ same)
+    content-refused honest s v e (stays-joins s u v (stays-joins s t u first second) third) (otherwise.no_fault ∙ same)
     (ring-device fields.s_first fields.s_maxlen e named) (ring-memory fields.s_first fields.s_maxlen e named)
     (ring-content s.shape superblock fields e well named)
     (λ trust.

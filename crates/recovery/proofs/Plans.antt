@@ -7,6 +7,7 @@ use Rattle.journal_model.specs.Disk.{Disk, Shape, reading}
 use Rattle.log_model.specs.declared.log.Text.{Text}
 use Rattle.log_model.specs.Superblock.{Super}
 use Rattle.block_device.specs.State.{DeviceState, Stays}
+use Rattle.block_device.proofs.OneCall.{stays-joins}
 use Rattle.log_scan.specs.Scanning.{IsChainOf}
 use Rattle.log_scan.proofs.Listed.{damage-around}
 use Rattle.log_epochs.specs.OpeningSteps.{Found}
@@ -20,7 +21,7 @@ use Rattle.recovery.specs.Opening.IsRingRefusal.{NamesDamaged}
 use Rattle.recovery.specs.Planned.{IsPlanned, IsPlannedBefore}
 use Rattle.recovery.proofs.BeforeReading.{before-later, chain-held}
 use Rattle.recovery.proofs.BeforeRecovering.{read-tells}
-use Rattle.recovery.proofs.Examining.{content-refused, failure-refused, later-failure, on-stays, ring-content, ring-device, ring-memory, stays-joined}
+use Rattle.recovery.proofs.Examining.{content-refused, failure-refused, later-failure, on-stays, ring-content, ring-device, ring-memory}
 use Rattle.recovery.proofs.Recovering.{examined-next, examined-tells}
 
 -- where there are no texts, no copy goes home
@@ -82,10 +83,10 @@ pub plan-refused : (honest : Type 0) (s t u : DeviceState) (superblock : List �
     (honest → (found : Found) × IsExaminedOn s.shape s.disk superblock fields transactions tables found) → (fields.s_start ≡ 0 → transactions ≡ 0) →
     IsReplayRefused honest fields transactions t u e → OpeningRefused honest s u e
 plan-refused honest s t u superblock fields transactions tables e well first second same on clean (inl failure) =
-    failure-refused honest s u e (stays-joined s t u first second) (later-failure s t u e same failure)
+    failure-refused honest s u e (stays-joins s t u first second) (later-failure s t u e same failure)
 plan-refused honest s t u superblock fields transactions tables e well first second same on clean (inr otherwise) =
     let named : IsRingRefusal fields.s_first fields.s_maxlen e = NamesDamaged e otherwise.names in
-    content-refused honest s u e (stays-joined s t u first second) (otherwise.no_fault ∙ same) (ring-device fields.s_first fields.s_maxlen e named)
+    content-refused honest s u e (stays-joins s t u first second) (otherwise.no_fault ∙ same) (ring-device fields.s_first fields.s_maxlen e named)
     (ring-memory fields.s_first fields.s_maxlen e named) (ring-content s.shape superblock fields e well named)
     (λ trust.
     let examined = on trust in
@@ -106,4 +107,4 @@ plan-refused-before honest s t u superblock fields transactions greatest stopped
     on-stays (λ (m : Shape) (d : Disk). (texts : List Text) → IsChainOf fields m.home_blocks (reading d) texts → transactions ≡ length texts → ⊥) s t first
     (otherwise.never trust) read.0 (chain-held fields s.shape.home_blocks (reading s.disk) read.0 transactions read.1.holds read.1.count otherwise.some) read.1.count)
     (otherwise.no_fault ∙ same) (damage-around fields.s_first fields.s_maxlen 1 s.shape.log_blocks e (omega arith) well.accepted.within otherwise.names)
-    (inl (stays-joined s t u first second))
+    (inl (stays-joins s t u first second))

@@ -6,7 +6,8 @@ ghost use Rattle.journal_model.specs.Disk.{reading};
 ghost use Rattle.log_model.specs.declared.log.Text.{Text};
 ghost use Rattle.log_model.specs.Opening.{greatest_number, layout_of};
 ghost use Rattle.log_model.specs.Superblock.{with_tail};
-ghost use Rattle.block_device.specs.State.{EachMoment, Stays};
+ghost use Rattle.block_device.specs.Call.{OnlyReads};
+ghost use Rattle.block_device.specs.State.{EachMoment};
 ghost use Rattle.log_format.specs.Accepted.{IsAccepted};
 ghost use Rattle.log_format.specs.Size.{IsBlockSize};
 ghost use Rattle.recovery.specs.Before.{BeforeRefused, IsMomentBefore, IsOpeningBefore, TellsBefore};
@@ -141,8 +142,7 @@ pub(crate) fn read_log<D: Device>(alloc: Global, device: &mut D) -> Result<ReadL
     ensures on { IfOk result (λ r. D.honest device.new → (texts : List Text) × IsReadBeforeOn (D.state device.old).shape (D.state device.old).disk r.examined.superblock.items r.examined.log r.examined.transactions r.examined.tables r.greatest r.stopped_by texts) }
     ensures faults { OnOk result ((D.state device.new).faults ≡ (D.state device.old).faults) }
     ensures refused { IfErr result (BeforeRefused (D.honest device.new) (D.state device.old) (D.state device.new)) }
-    ensures stays { Stays (D.state device.old) (D.state device.new) }
-    ensures honest { D.honest device.new → D.honest device.old }
+    ensures device { OnlyReads D.state D.honest device.old device.new }
 {
     let (block, log) = read_super(alloc, device)?;
     let mut finder = Finder::new(log.layout());

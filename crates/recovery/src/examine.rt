@@ -3,7 +3,8 @@ ghost use Rattle.std.specs.Prelude.{◌≡◌, ◌↔◌, ◌+◌, ◌<◌, ◌�
 ghost use Rattle.journal_model.specs.declared.number.Area.TheVariants.{Log as LogArea};
 ghost use Rattle.journal_model.specs.Disk.{reading};
 ghost use Rattle.log_model.specs.Opening.{greatest_number, layout_of, ring_of};
-ghost use Rattle.block_device.specs.State.{IsDeviceFailure, Stays};
+ghost use Rattle.block_device.specs.Call.{OnlyReads};
+ghost use Rattle.block_device.specs.State.{IsDeviceFailure};
 ghost use Rattle.log_format.specs.Accepted.{IsAccepted};
 ghost use Rattle.log_scan.specs.Finding.{most_bytes};
 ghost use Rattle.log_scan.specs.Scanning.{IsWithinRing};
@@ -38,8 +39,7 @@ pub(crate) fn examine<D: Device>(alloc: Global, device: &mut D) -> Result<Examin
     ensures on { IfOk result (λ e. D.honest device.new → (found : Found) × IsExaminedOn (D.state device.old).shape (D.state device.old).disk e.superblock.items e.log e.transactions e.tables found) }
     ensures faults { OnOk result ((D.state device.new).faults ≡ (D.state device.old).faults) }
     ensures refused { IfErr result (OpeningRefused (D.honest device.new) (D.state device.old) (D.state device.new)) }
-    ensures stays { Stays (D.state device.old) (D.state device.new) }
-    ensures honest { D.honest device.new → D.honest device.old }
+    ensures device { OnlyReads D.state D.honest device.old device.new }
 {
     let (block, log) = read_super(alloc, device)?;
     let mut finder = Finder::new(log.layout());
@@ -64,8 +64,7 @@ pub(crate) fn read_super<D: Device>(
     ensures well { IfOk result (λ r. IsWellRead (D.state device.old).shape r.0 r.1) }
     ensures read { IfOk result (λ r. D.honest device.new → r.0 ≡ reading (D.state device.old).disk LogArea 0) }
     ensures faults { MatchResult result (λ _. (D.state device.new).faults ≡ (D.state device.old).faults) (IsReadingRefused (D.honest device.new) (D.state device.old) (D.state device.new)) }
-    ensures stays { Stays (D.state device.old) (D.state device.new) }
-    ensures honest { D.honest device.new → D.honest device.old }
+    ensures device { OnlyReads D.state D.honest device.old device.new }
 {
     if device.block_size() > BlockBuffer::MOST_BYTES {
         return Err(refusal_of_large(alloc, device));
@@ -81,8 +80,7 @@ fn refusal_of_large<D: Device>(alloc: Global, device: &mut D) -> JournalError
     requires some { 0 < (D.state device.old).shape.log_blocks }
     requires large { most_bytes < (D.state device.old).shape.block_size }
     ensures refused { IsReadingRefused (D.honest device.new) (D.state device.old) (D.state device.new) result }
-    ensures stays { Stays (D.state device.old) (D.state device.new) }
-    ensures honest { D.honest device.new → D.honest device.old }
+    ensures device { OnlyReads D.state D.honest device.old device.new }
 {
     let block = match read_block(alloc, device, Area::Log, 0) {
         Ok(block) => block,
@@ -105,8 +103,7 @@ fn test_log<D: Device>(device: &mut D, log: &Log, finder: &mut Finder) -> Result
     ensures tested { IfOk result (λ transactions. D.honest device.new → IsTested log.now (D.state device.old).shape.home_blocks (reading (D.state device.old).disk) transactions) }
     ensures refused { IfErr result (IsTestRefused (D.honest device.new) log.now (D.state device.old) (D.state device.new)) }
     ensures faults { OnOk result ((D.state device.new).faults ≡ (D.state device.old).faults) }
-    ensures stays { Stays (D.state device.old) (D.state device.new) }
-    ensures honest { D.honest device.new → D.honest device.old }
+    ensures device { OnlyReads D.state D.honest device.old device.new }
 {
     let transactions = count_transactions(device, log, finder)?;
     let limit = log.first_number() + transactions;
@@ -133,8 +130,7 @@ fn count_transactions<D: Device>(
     ensures has { IfOk result (λ transactions. D.honest device.new → HasTransactions log.now (D.state device.old).shape.home_blocks (reading (D.state device.old).disk) transactions) }
     ensures refused { IfErr result (IsTestRefused (D.honest device.new) log.now (D.state device.old) (D.state device.new)) }
     ensures faults { OnOk result ((D.state device.new).faults ≡ (D.state device.old).faults) }
-    ensures stays { Stays (D.state device.old) (D.state device.new) }
-    ensures honest { D.honest device.new → D.honest device.old }
+    ensures device { OnlyReads D.state D.honest device.old device.new }
 {
     if log.is_clean() {
         return Ok(0);
@@ -156,8 +152,7 @@ pub(crate) fn lowest_ahead<D: Device>(
     ensures within { IfOk result (IsWithinRing log.now) }
     ensures ahead { IfOk result (λ found. D.honest device.new → MatchOption found (NoneAhead log.now (reading (D.state device.old).disk) limit) (IsLowestAhead log.now (reading (D.state device.old).disk) limit)) }
     ensures faults { MatchResult result (λ _. (D.state device.new).faults ≡ (D.state device.old).faults) (IsDeviceFailure (D.state device.old) (D.state device.new)) }
-    ensures stays { Stays (D.state device.old) (D.state device.new) }
-    ensures honest { D.honest device.new → D.honest device.old }
+    ensures device { OnlyReads D.state D.honest device.old device.new }
 {
     let first = u64::from(log.fields().s_first);
     let end = u64::from(log.fields().s_maxlen);

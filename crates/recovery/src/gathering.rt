@@ -4,7 +4,7 @@ ghost use Rattle.log_model.specs.declared.log.Text.{Text};
 ghost use Rattle.journal_model.specs.declared.refusal.JournalError.TheVariants.{Memory};
 ghost use Rattle.journal_model.specs.Disk.{reading};
 ghost use Rattle.log_model.specs.Opening.{greatest_number, layout_of};
-ghost use Rattle.block_device.specs.State.{Stays};
+ghost use Rattle.block_device.specs.Call.{OnlyReads};
 ghost use Rattle.log_format.specs.Accepted.{IsAccepted};
 ghost use Rattle.log_scan.specs.Scanning.{IsChainOf};
 ghost use Rattle.block_tables.specs.Revokes.{noted_all, notes_of};
@@ -113,8 +113,7 @@ pub fn gather<D: Device>(
         transactions ≡ length texts → tables ≡ tables_of log.now.s_sequence texts) }
     ensures refused { IfErr result (IsGatherRefused (D.honest device.new) log.now transactions (D.state device.old) (D.state device.new)) }
     ensures faults { OnOk result ((D.state device.new).faults ≡ (D.state device.old).faults) }
-    ensures stays { Stays (D.state device.old) (D.state device.new) }
-    ensures honest { D.honest device.new → D.honest device.old }
+    ensures device { OnlyReads D.state D.honest device.old device.new }
 {
     let home_blocks = Some(device.blocks(Area::Home));
     let mut tables = Tables::new(alloc);

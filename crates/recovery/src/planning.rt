@@ -3,7 +3,7 @@ ghost use Rattle.std.specs.Prelude.{◌≡◌, ◌+◌, ◌<◌, ◌≤◌, ◌=
 ghost use Rattle.journal_model.specs.Disk.{reading};
 ghost use Rattle.log_model.specs.declared.log.Text.{Text};
 ghost use Rattle.log_model.specs.Opening.{greatest_number, layout_of};
-ghost use Rattle.block_device.specs.State.{Stays};
+ghost use Rattle.block_device.specs.Call.{OnlyReads};
 ghost use Rattle.log_format.specs.Accepted.{IsAccepted};
 ghost use Rattle.log_scan.specs.Scanning.{IsChainOf};
 ghost use Rattle.recovery.specs.Before.{BeforeRefused};
@@ -43,8 +43,7 @@ pub fn plan_opening<D: Device>(alloc: Global, device: &mut D) -> Result<Plan, Jo
     ensures planned { IfOk result (λ p. D.honest device.new → IsPlanned (D.state device.old).shape (D.state device.old).disk p.report.clean p.report.ends_at p.report.transactions p.blocks p.next) }
     ensures refused { IfErr result (OpeningRefused (D.honest device.new) (D.state device.old) (D.state device.new)) }
     ensures no_fault { OnOk result ((D.state device.new).faults ≡ (D.state device.old).faults) }
-    ensures stays { Stays (D.state device.old) (D.state device.new) }
-    ensures honest { D.honest device.new → D.honest device.old }
+    ensures device { OnlyReads D.state D.honest device.old device.new }
 {
     if device.blocks(Area::Log) == 0 {
         return Err(JournalError::BadLength);
@@ -72,8 +71,7 @@ pub fn plan_before_damage<D: Device>(
     ensures planned { IfOk result (λ r. D.honest device.new → IsPlannedBefore (D.state device.old).shape (D.state device.old).disk r.1 r.0.report.clean r.0.report.ends_at r.0.report.transactions r.0.blocks r.0.next) }
     ensures refused { IfErr result (BeforeRefused (D.honest device.new) (D.state device.old) (D.state device.new)) }
     ensures no_fault { OnOk result ((D.state device.new).faults ≡ (D.state device.old).faults) }
-    ensures stays { Stays (D.state device.old) (D.state device.new) }
-    ensures honest { D.honest device.new → D.honest device.old }
+    ensures device { OnlyReads D.state D.honest device.old device.new }
 {
     if device.blocks(Area::Log) == 0 {
         return Err(JournalError::BadLength);
@@ -117,8 +115,7 @@ fn count_home<D: Device>(device: &mut D, examined: Examined) -> Result<u64, Jour
     ensures none { IfOk result (λ count. examined.transactions ≡ 0 → count ≡ 0) }
     ensures refused { IfErr result (IsReplayRefused (D.honest device.new) examined.log examined.transactions (D.state device.old) (D.state device.new)) }
     ensures faults { OnOk result ((D.state device.new).faults ≡ (D.state device.old).faults) }
-    ensures stays { Stays (D.state device.old) (D.state device.new) }
-    ensures honest { D.honest device.new → D.honest device.old }
+    ensures device { OnlyReads D.state D.honest device.old device.new }
 {
     let Examined {
         superblock: _,
@@ -147,8 +144,7 @@ fn count_copies<D: Device>(
     ensures none { IfOk result (λ count. transactions ≡ 0 → count ≡ 0) }
     ensures refused { IfErr result (IsReplayRefused (D.honest device.new) log.now transactions (D.state device.old) (D.state device.new)) }
     ensures faults { OnOk result ((D.state device.new).faults ≡ (D.state device.old).faults) }
-    ensures stays { Stays (D.state device.old) (D.state device.new) }
-    ensures honest { D.honest device.new → D.honest device.old }
+    ensures device { OnlyReads D.state D.honest device.old device.new }
 {
     let home_blocks = Some(device.blocks(Area::Home));
     let mut cursor = Cursor::new();

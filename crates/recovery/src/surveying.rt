@@ -2,7 +2,8 @@
 ghost use Rattle.std.specs.Prelude.{◌≡◌, ◌⊎◌, ◌+◌, ◌≤◌, None, IfOk, MatchOption, MatchResult};
 ghost use Rattle.journal_model.specs.Disk.{reading};
 ghost use Rattle.log_model.specs.Opening.{layout_of, ring_of};
-ghost use Rattle.block_device.specs.State.{IsDeviceFailure, Stays};
+ghost use Rattle.block_device.specs.Call.{OnlyReads};
+ghost use Rattle.block_device.specs.State.{IsDeviceFailure};
 ghost use Rattle.log_format.specs.Accepted.{IsAccepted};
 ghost use Rattle.log_scan.specs.Scanning.{IsWithinRing};
 ghost use Rattle.recovery.specs.Before.{IsGreatest};
@@ -38,8 +39,7 @@ pub(crate) fn survey_ring<D: Device>(
     ensures alone { IfOk result (λ s. s.stopped_by ≡ None → s.greatest ≡ log.now.s_sequence + s.transactions) }
     ensures surveyed { IfOk result (λ s. D.honest device.new → IsSurveyed log.now (D.state device.old).shape.home_blocks (reading (D.state device.old).disk) s.transactions s.greatest s.stopped_by) }
     ensures faults { MatchResult result (λ _. (D.state device.new).faults ≡ (D.state device.old).faults) (IsDeviceFailure (D.state device.old) (D.state device.new)) }
-    ensures stays { Stays (D.state device.old) (D.state device.new) }
-    ensures honest { D.honest device.new → D.honest device.old }
+    ensures device { OnlyReads D.state D.honest device.old device.new }
 {
     let end = chain_end(device, log, finder)?;
     let limit = log.first_number() + end.transactions;
@@ -68,8 +68,7 @@ fn chain_end<D: Device>(
     ensures clean { IfOk result (λ end. log.now.s_start ≡ 0 → end.transactions ≡ 0) }
     ensures ends { IfOk result (λ end. D.honest device.new → HasEnd log.now (D.state device.old).shape.home_blocks (reading (D.state device.old).disk) end) }
     ensures faults { MatchResult result (λ _. (D.state device.new).faults ≡ (D.state device.old).faults) (IsDeviceFailure (D.state device.old) (D.state device.new)) }
-    ensures stays { Stays (D.state device.old) (D.state device.new) }
-    ensures honest { D.honest device.new → D.honest device.old }
+    ensures device { OnlyReads D.state D.honest device.old device.new }
 {
     if log.is_clean() {
         return Ok(ChainEnd {
@@ -107,8 +106,7 @@ fn greatest_in_ring<D: Device>(
     ensures least { IfOk result (λ greatest. limit ≤ greatest) }
     ensures greatest { IfOk result (λ greatest. D.honest device.new → IsGreatest log.now (reading (D.state device.old).disk) limit greatest) }
     ensures faults { MatchResult result (λ _. (D.state device.new).faults ≡ (D.state device.old).faults) (IsDeviceFailure (D.state device.old) (D.state device.new)) }
-    ensures stays { Stays (D.state device.old) (D.state device.new) }
-    ensures honest { D.honest device.new → D.honest device.old }
+    ensures device { OnlyReads D.state D.honest device.old device.new }
 {
     let first = u64::from(log.fields().s_first);
     let end = u64::from(log.fields().s_maxlen);

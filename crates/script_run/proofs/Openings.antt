@@ -14,7 +14,7 @@ use Rattle.block_device.specs.Stop.{inner_of, stopping}
 use Rattle.journal_world.specs.Call.{Call}
 use Rattle.log_epochs.specs.OpeningRun.{IsFoundOn, IsMoment}
 use Rattle.log_epochs.specs.OpeningSteps.{Found}
-use Rattle.log_scan.proofs.ScanSteps.{stays-joins}
+use Rattle.block_device.proofs.OneCall.{stays-joins}
 use Rattle.recovery.specs.declared.opening.Report.{Report}
 use Rattle.recovery.specs.Calls.{HasMade, IsInterrupted, disk_after, opening_calls, past_after}
 use Rattle.recovery.specs.Calls.IsInterrupted.{Before, Within}

@@ -6,7 +6,7 @@ ghost use Rattle.block_device.specs.State.{MakesAtMostOneCall};
 ghost use Rattle.journal_world.specs.Front.{next_handle, reserving};
 ghost use Rattle.journal_world.specs.Front.FrontEvent.{RevokeBlock, StopHandle, WriteBlock};
 ghost use Rattle.journal_world.specs.Journal.Event.{DirectSync, DirectWrite, FrontStep, ReadBlock};
-ghost use Rattle.log_engine.specs.Call.{MakesOneCall, OnlyReads};
+ghost use Rattle.block_device.specs.Call.{MakesOneCall, OnlyReads};
 ghost use Rattle.handle.specs.Values.{fresh_ticket, loading_credits};
 ghost use Rattle.journal_steps.specs.Direct.{DirectSyncRefused, DirectWriteRefused, IsDuringDirectSync, IsDuringDirectWrite, MayWriteDirectly};
 ghost use Rattle.group_commit.specs.Extension.{Extends, Starts};

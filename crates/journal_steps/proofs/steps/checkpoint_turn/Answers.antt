@@ -1,7 +1,7 @@
 use Rattle.std.proofs.Common.{subst}
 use Rattle.log_ledger.specs.declared.progress.Progress.{Progress}
 use Rattle.log_engine.specs.Engine.{RoundDid}
-use Rattle.log_engine.proofs.OneCall.{call-as}
+use Rattle.block_device.proofs.OneCall.{call-as}
 use Rattle.journal_steps.proofs.Rounding.{agrees-round, agrees-round_refused, done-check, idle-check, refused-check, step-check}
 use Rattle.journal_steps.proofs.Turning.{each-check}
 use Rattle.journal_steps.proofs.steps.checkpoint_turn.Goals as goal

@@ -1,7 +1,7 @@
 use Rattle.std.proofs.Common.{subst}
 use Rattle.log_ledger.specs.declared.progress.Progress.{Progress}
 use Rattle.log_engine.specs.Engine.{StepDid}
-use Rattle.log_engine.proofs.OneCall.{call-as}
+use Rattle.block_device.proofs.OneCall.{call-as}
 use Rattle.journal_steps.proofs.Sealing.{agrees-last, agrees-refused, finishes-commit, may-raise, refused-turn}
 use Rattle.journal_steps.proofs.Turning.{each-turn}
 use Rattle.journal_steps.proofs.steps.commit_step.Goals as goal

@@ -1,5 +1,5 @@
 use Rattle.std.proofs.Common.{refl, sym, ◌∙◌}
-use Rattle.log_engine.proofs.OneCall.{no-call, same-device}
+use Rattle.block_device.proofs.OneCall.{no-call, same-device}
 use Rattle.journal_steps.specs.Journal.{TurnRefused}
 use Rattle.journal_steps.proofs.Turning.{during-stay, opens-now}
 use Rattle.journal_steps.proofs.steps.commit_turn.Goals as goal

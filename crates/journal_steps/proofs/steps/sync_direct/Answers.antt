@@ -1,4 +1,4 @@
-use Rattle.log_engine.proofs.OneCall.{call-as}
+use Rattle.block_device.proofs.OneCall.{call-as}
 use Rattle.journal_steps.proofs.Directs.{agrees-direct, agrees-unsynced, each-sync, refused-sync}
 use Rattle.journal_steps.proofs.steps.sync_direct.Goals as goal
 

@@ -1,7 +1,7 @@
 use Rattle.std.proofs.Common.{Bool, refl, sym, ap, ◌∙◌}
 use Rattle.std.proofs.lemmas.Bool.{true≢false}
 use Rattle.journal_world.specs.Journal.{Journal}
-use Rattle.log_engine.proofs.OneCall.{call-as, no-call}
+use Rattle.block_device.proofs.OneCall.{call-as, no-call}
 use Rattle.journal_steps.specs.Direct.{DirectWriteRefused, MayWriteDirectly}
 use Rattle.journal_front.specs.Front.{MayTouch}
 use Rattle.journal_steps.proofs.Directs.{agrees-direct, agrees-unwritten, during-unwritten, each-direct, refused-direct, right-from, right-gives}

@@ -8,7 +8,8 @@ use Rattle.log_model.specs.Superblock.{Super}
 use Rattle.log_scan.specs.Finding.{every_block}
 use Rattle.log_scan.specs.Scanning.{AreTextsOf, IsScanned}
 use Rattle.log_dump.specs.Dumping.{HasDump, IsReadLog, shape_of}
-use Rattle.log_scan.proofs.ScanSteps.{accepted-stays, stays-joins}
+use Rattle.block_device.proofs.OneCall.{reads-on}
+use Rattle.log_scan.proofs.ScanSteps.{accepted-stays}
 use Rattle.log_format.proofs.Layouts.{accepted-taken}
 use Rattle.log_dump.proofs.Dumps.{chain-dump, clean-dump, count-refused, counted-dump, log-refused, on-err, print-refused, test-clean, test-started}
 use Rattle.log_dump.proofs.dumping.dump.Given.{Over}
@@ -61,20 +62,20 @@ returns-in_err-transactions-clause-refused g c =
     rw (p.1, p.2)
     (count-refused (g.D.Device.honest c.scan.new.device) (c.args.out.now ≡ c.args.out.now) c.in_ok-log.log
     (g.D.Device.state c.args.device.now) (g.D.Device.state c.read_log.new.device) (g.D.Device.state c.scan.new.device)
-    c.in_err-transactions.field-0.0 refl (test-started c.in_ok-log.log.s_start c.if-is_clean.ensures) c.in_ok-log.ensures.faults c.read_log.ensures.stays.disk
-    c.in_ok-log.ensures.accepted (λ h. c.in_ok-log.ensures.read (c.scan.ensures.honest h)) c.in_err-transactions.ensures.refused)
+    c.in_err-transactions.field-0.0 refl (test-started c.in_ok-log.log.s_start c.if-is_clean.ensures) c.in_ok-log.ensures.faults c.read_log.ensures.device.stays.disk
+    c.in_ok-log.ensures.accepted (λ h. c.in_ok-log.ensures.read (c.scan.ensures.device.honest h)) c.in_err-transactions.ensures.refused)
 
 -- the texts that were counted
 counted : (g : Over) (c : After-write_log g) → g.D.Device.honest c.write_log.new.device →
     IsScanned c.in_ok-log.log (every_block c.in_ok-log.log) (reading (g.D.Device.state c.args.device.now).disk) c.in_ok-transactions.transactions
 counted g c h =
-    subst (λ (d : Disk). IsScanned c.in_ok-log.log (every_block c.in_ok-log.log) (reading d) c.in_ok-transactions.transactions) c.read_log.ensures.stays.disk
-    (c.in_ok-transactions.ensures.scanned (c.write_log.ensures.honest h))
+    subst (λ (d : Disk). IsScanned c.in_ok-log.log (every_block c.in_ok-log.log) (reading d) c.in_ok-transactions.transactions) c.read_log.ensures.device.stays.disk
+    (c.in_ok-transactions.ensures.scanned (c.write_log.ensures.device.honest h))
 
 -- the superblock that was read
 read : (g : Over) (c : After-write_log g) → g.D.Device.honest c.write_log.new.device →
     IsReadLog (shape_of (g.D.Device.state c.args.device.now)) (reading (g.D.Device.state c.args.device.now).disk) c.in_ok-log.log
-read g c h = c.in_ok-log.ensures.read (c.scan.ensures.honest (c.write_log.ensures.honest h))
+read g c h = c.in_ok-log.ensures.read (c.scan.ensures.device.honest (c.write_log.ensures.device.honest h))
 
 -- the log has a dump
 has-chain : (g : Over) (c : After-write_log g) → g.D.Device.honest c.write_log.new.device →
@@ -85,7 +86,7 @@ has-chain g c h =
 
 -- the disk is as it was when the printing begins
 same : (g : Over) (c : After-write_log g) → (g.D.Device.state c.args.device.now).disk ≡ (g.D.Device.state c.scan.new.device).disk
-same g c = sym (c.scan.ensures.stays.disk ∙ c.read_log.ensures.stays.disk)
+same g c = sym (c.scan.ensures.device.stays.disk ∙ c.read_log.ensures.device.stays.disk)
 
 -- all is printed
 pub returns-clause-printed : goal.returns-clause-printed
@@ -120,12 +121,12 @@ returns-clause-tested g c = on-err c.write_log.result (inr (λ h. has-chain g c 
 -- the device stays, so that the log is accepted on it
 pub scan-requires-clause-accepted : goal.scan-requires-clause-accepted
 scan-requires-clause-accepted g c =
-    accepted-stays c.in_ok-log.log (g.D.Device.state c.args.device.now) (g.D.Device.state c.read_log.new.device) c.read_log.ensures.stays c.in_ok-log.ensures.accepted
+    accepted-stays c.in_ok-log.log (g.D.Device.state c.args.device.now) (g.D.Device.state c.read_log.new.device) c.read_log.ensures.device.stays c.in_ok-log.ensures.accepted
 
 pub write_log-requires-clause-accepted : goal.write_log-requires-clause-accepted
 write_log-requires-clause-accepted g c =
     accepted-stays c.in_ok-log.log (g.D.Device.state c.args.device.now) (g.D.Device.state c.scan.new.device)
-    (stays-joins _ _ _ c.read_log.ensures.stays c.scan.ensures.stays) c.in_ok-log.ensures.accepted
+    (reads-on c.read_log.ensures.device c.scan.ensures.device).stays c.in_ok-log.ensures.accepted
 
 pub new-finder-requires : goal.new-finder-requires
 new-finder-requires g c =
@@ -138,11 +139,8 @@ pub write_log-requires-clause-few : goal.write_log-requires-clause-few
 write_log-requires-clause-few g c = c.in_ok-transactions.ensures.few
 
 -- and nothing that a crash or a read could tell has changed at the end
-pub returns-clause-stays : goal.returns-clause-stays
-returns-clause-stays g c = stays-joins _ _ _ c.read_log.ensures.stays (stays-joins _ _ _ c.scan.ensures.stays c.write_log.ensures.stays)
-
-pub returns-clause-honest : goal.returns-clause-honest
-returns-clause-honest g c = λ h. c.read_log.ensures.honest (c.scan.ensures.honest (c.write_log.ensures.honest h))
+pub returns-clause-device : goal.returns-clause-device
+returns-clause-device g c = reads-on c.read_log.ensures.device (reads-on c.scan.ensures.device c.write_log.ensures.device)
 
 pub returns-clause-no_fault : goal.returns-clause-no_fault
 returns-clause-no_fault g c =

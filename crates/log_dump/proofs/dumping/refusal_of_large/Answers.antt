@@ -17,6 +17,6 @@ returns-clause-refused g c =
       refused-listed (record { block_size = length c.bytes.result.now; log_blocks = c.blocks-2.result; home_blocks = every_block fields }) c.bytes.result.now c.in-Err-read.e (c.in-Err-read.ensures.tests (every_block fields)),
       c.in-Ok.ensures.faults,
       λ honest. tested-for fields shape.block_size shape.log_blocks (length c.bytes.result.now) c.blocks-2.result c.bytes.result.now _ (Some c.in-Err-read.e)
-          (ap length c.bytes.ensures ∙ c.in-Ok.ensures.size) (c.blocks-2.ensures ∙ ap (λ (s : Shape). s.log_blocks) c.read_block.ensures.stays.shape)
+          (ap length c.bytes.ensures ∙ c.in-Ok.ensures.size) (c.blocks-2.ensures ∙ ap (λ (s : Shape). s.log_blocks) c.read_block.ensures.device.stays.shape)
           (c.bytes.ensures ∙ c.in-Ok.ensures.bytes honest) (c.in-Err-read.ensures.tests (every_block fields)),
     ))

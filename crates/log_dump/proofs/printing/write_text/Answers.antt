@@ -7,11 +7,12 @@ use Rattle.std.proofs.lemmas.List.{length-take-le}
 use Rattle.log_model.specs.declared.log.Tag.{Tag}
 use Rattle.log_model.specs.declared.log.Piece.TheVariants.{Revokes}
 use Rattle.journal_model.specs.Disk.{reading}
+use Rattle.block_device.proofs.OneCall.{no-read, reads-on}
 use Rattle.log_model.specs.Dump.{comma, piece_captions}
 use Rattle.log_scan.specs.declared.finding.Found.TheVariants.{CommitBlock, Descriptor, Malformed, Nothing, RevokeBlock}
 use Rattle.log_dump.specs.Lines.{placed_lines, tags_captions}
 use Rattle.log_scan.specs.Finding.{every_block}
-use Rattle.log_scan.proofs.ScanSteps.{accepted-stays, found-there, stays-joins}
+use Rattle.log_scan.proofs.ScanSteps.{accepted-stays, found-there}
 use Rattle.log_dump.proofs.PrintingSteps.{line-placed, printed-none, printed-piece, printed-text, unprinted-malformed, unprinted-nothing}
 use Rattle.log_dump.proofs.printing.write_text.Goals as goal
 
@@ -21,9 +22,8 @@ loop-numbers-init g c = record {
   low = omega arith;
   within = c.requires.within;
   layout = refl;
-  stays = record { shape = refl; disk = refl; past = refl };
+  device = no-read;
   faults = refl;
-  honest = λ h. h;
   printed = λ h. printed-none c.args.log.now (reading (g.D.Device.state c.args.device.now).disk) c.args.sequence (g.W.Write.contents c.args.out.now) c.args.start;
 }
 
@@ -41,14 +41,13 @@ loop-numbers-preserved-in-RevokeBlock g c =
       low = let low = before.low in omega arith;
       within = fits.1;
       layout = c.look.ensures.layout ∙ before.layout;
-      stays = stays-joins _ _ _ before.stays c.look.ensures.stays;
+      device = reads-on before.device c.look.ensures.device;
       faults = c.in_ok-numbers.ensures.faults ∙ before.faults;
-      honest = λ h. before.honest (c.look.ensures.honest h);
       printed =
           λ h. let is = found-there c.args.log.now (every_block c.args.log.now) (g.D.Device.state c.args.device.now) (g.D.Device.state c.loop-numbers.device) c.args.sequence c.args.sequence c.loop-numbers.position c.look.new.self
-          (RevokeBlock c.in-RevokeBlock.numbers) refl before.stays (rw c.in-RevokeBlock.is at (c.in_ok-numbers.ensures.found h)) in
+          (RevokeBlock c.in-RevokeBlock.numbers) refl before.device.stays (rw c.in-RevokeBlock.is at (c.in_ok-numbers.ensures.found h)) in
           printed-piece c.args.log.now (reading (g.D.Device.state c.args.device.now).disk) c.args.sequence (g.W.Write.contents c.args.out.now) (g.W.Write.contents c.loop-numbers.out)
-          c.args.start c.loop-numbers.position (before.printed (c.look.ensures.honest h)) (g.W.Write.contents c.write_revokes.new.out) _ 1 (c.loop-numbers.position + 1) refl is.begins line;
+          c.args.start c.loop-numbers.position (before.printed (c.look.ensures.device.honest h)) (g.W.Write.contents c.write_revokes.new.out) _ 1 (c.loop-numbers.position + 1) refl is.begins line;
     }
 
 -- a descriptor and its copies
@@ -62,14 +61,13 @@ loop-numbers-preserved g c =
       low = let low = before.low in omega arith;
       within = let low = fits.1 in omega arith;
       layout = c.look.ensures.layout ∙ before.layout;
-      stays = stays-joins _ _ _ before.stays c.look.ensures.stays;
+      device = reads-on before.device c.look.ensures.device;
       faults = c.in_ok-numbers.ensures.faults ∙ before.faults;
-      honest = λ h. before.honest (c.look.ensures.honest h);
       printed =
           λ h. let is = found-there c.args.log.now (every_block c.args.log.now) (g.D.Device.state c.args.device.now) (g.D.Device.state c.loop-numbers.device) c.args.sequence c.args.sequence c.loop-numbers.position c.look.new.self
-          (Descriptor c.in-Descriptor.tags) refl before.stays (rw c.in-Descriptor.is at (c.in_ok-numbers.ensures.found h)) in
+          (Descriptor c.in-Descriptor.tags) refl before.device.stays (rw c.in-Descriptor.is at (c.in_ok-numbers.ensures.found h)) in
           printed-piece c.args.log.now (reading (g.D.Device.state c.args.device.now).disk) c.args.sequence (g.W.Write.contents c.args.out.now) (g.W.Write.contents c.loop-numbers.out)
-          c.args.start c.loop-numbers.position (before.printed (c.look.ensures.honest h)) (g.W.Write.contents c.write_copies.new.out) _ (1 + c.in-Descriptor.tags)
+          c.args.start c.loop-numbers.position (before.printed (c.look.ensures.device.honest h)) (g.W.Write.contents c.write_copies.new.out) _ (1 + c.in-Descriptor.tags)
           (c.loop-numbers.position + (1 + c.in-Descriptor.tags)) refl is.begins line;
     }
 
@@ -78,9 +76,9 @@ pub returns-in-CommitBlock-clause-printed : goal.returns-in-CommitBlock-clause-p
 returns-in-CommitBlock-clause-printed g c = λ h.
     let before = c.loop-numbers.invariant in
     printed-text c.args.log.now (reading (g.D.Device.state c.args.device.now).disk) c.args.sequence (g.W.Write.contents c.args.out.now) (g.W.Write.contents c.loop-numbers.out)
-    c.args.start c.loop-numbers.position (before.printed (c.look.ensures.honest h)) (g.W.Write.contents c.write_commit.new.out)
+    c.args.start c.loop-numbers.position (before.printed (c.look.ensures.device.honest h)) (g.W.Write.contents c.write_commit.new.out)
     (found-there c.args.log.now (every_block c.args.log.now) (g.D.Device.state c.args.device.now) (g.D.Device.state c.loop-numbers.device) c.args.sequence c.args.sequence c.loop-numbers.position c.look.new.self
-    CommitBlock refl before.stays (rw c.in-CommitBlock.is at (c.in_ok-numbers.ensures.found h)))
+    CommitBlock refl before.device.stays (rw c.in-CommitBlock.is at (c.in_ok-numbers.ensures.found h)))
     (line-placed c.args.log.now c.loop-numbers.position c.place-place.result (codes "commit " ++ decimal c.args.sequence)
     (g.W.Write.contents c.loop-numbers.out) (g.W.Write.contents c.write_commit.new.out) c.place-place.ensures.place c.in_ok-write_commit-in-CommitBlock.ensures)
 
@@ -94,21 +92,21 @@ returns-in-Malformed-clause-refused g c =
       λ h. elim c.in-Malformed.is [
         | inl bad ↦
             unprinted-malformed c.args.log.now (reading (g.D.Device.state c.args.device.now).disk) c.args.sequence (g.W.Write.contents c.args.out.now) (g.W.Write.contents c.loop-numbers.out)
-            c.args.start c.loop-numbers.position (before.printed (c.look.ensures.honest h))
+            c.args.start c.loop-numbers.position (before.printed (c.look.ensures.device.honest h))
             (found-there c.args.log.now (every_block c.args.log.now) (g.D.Device.state c.args.device.now) (g.D.Device.state c.loop-numbers.device) c.args.sequence c.args.sequence c.loop-numbers.position c.look.new.self
-            Malformed refl before.stays (rw bad at (c.in_ok-numbers.ensures.found h)))
+            Malformed refl before.device.stays (rw bad at (c.in_ok-numbers.ensures.found h)))
         | inr nothing ↦
             unprinted-nothing c.args.log.now (reading (g.D.Device.state c.args.device.now).disk) c.args.sequence (g.W.Write.contents c.args.out.now) (g.W.Write.contents c.loop-numbers.out)
-            c.args.start c.loop-numbers.position (before.printed (c.look.ensures.honest h))
+            c.args.start c.loop-numbers.position (before.printed (c.look.ensures.device.honest h))
             (found-there c.args.log.now (every_block c.args.log.now) (g.D.Device.state c.args.device.now) (g.D.Device.state c.loop-numbers.device) c.args.sequence c.args.sequence c.loop-numbers.position c.look.new.self
-            Nothing refl before.stays (rw nothing at (c.in_ok-numbers.ensures.found h)))
+            Nothing refl before.device.stays (rw nothing at (c.in_ok-numbers.ensures.found h)))
       ],
     )
 
 -- the device stays, so that the log is accepted on it
 pub look-requires-clause-accepted : goal.look-requires-clause-accepted
 look-requires-clause-accepted g c =
-    accepted-stays c.args.log.now (g.D.Device.state c.args.device.now) (g.D.Device.state c.loop-numbers.device) c.loop-numbers.invariant.stays c.requires.accepted
+    accepted-stays c.args.log.now (g.D.Device.state c.args.device.now) (g.D.Device.state c.loop-numbers.device) c.loop-numbers.invariant.device.stays c.requires.accepted
 
 -- each step stands within the ring
 pub loop-numbers-smaller : goal.loop-numbers-smaller
@@ -138,23 +136,23 @@ returns-in-CommitBlock-clause-within g c =
     let fits = rw c.in-CommitBlock.is at c.in_ok-numbers.ensures.fits in let low = c.loop-numbers.invariant.low in (omega arith, fits)
 
 -- the device stays, however the printing ends
-pub returns-in_err-numbers-clause-stays : goal.returns-in_err-numbers-clause-stays
-returns-in_err-numbers-clause-stays g c = stays-joins _ _ _ c.loop-numbers.invariant.stays c.look.ensures.stays
+pub returns-in_err-numbers-clause-device : goal.returns-in_err-numbers-clause-device
+returns-in_err-numbers-clause-device g c = reads-on c.loop-numbers.invariant.device c.look.ensures.device
 
-pub returns-in_err-write_revokes-in-RevokeBlock-clause-stays : goal.returns-in_err-write_revokes-in-RevokeBlock-clause-stays
-returns-in_err-write_revokes-in-RevokeBlock-clause-stays g c = stays-joins _ _ _ c.loop-numbers.invariant.stays c.look.ensures.stays
+pub returns-in_err-write_revokes-in-RevokeBlock-clause-device : goal.returns-in_err-write_revokes-in-RevokeBlock-clause-device
+returns-in_err-write_revokes-in-RevokeBlock-clause-device g c = reads-on c.loop-numbers.invariant.device c.look.ensures.device
 
-pub returns-in_err-write_copies-in-Descriptor-clause-stays : goal.returns-in_err-write_copies-in-Descriptor-clause-stays
-returns-in_err-write_copies-in-Descriptor-clause-stays g c = stays-joins _ _ _ c.loop-numbers.invariant.stays c.look.ensures.stays
+pub returns-in_err-write_copies-in-Descriptor-clause-device : goal.returns-in_err-write_copies-in-Descriptor-clause-device
+returns-in_err-write_copies-in-Descriptor-clause-device g c = reads-on c.loop-numbers.invariant.device c.look.ensures.device
 
-pub returns-in_err-write_commit-in-CommitBlock-clause-stays : goal.returns-in_err-write_commit-in-CommitBlock-clause-stays
-returns-in_err-write_commit-in-CommitBlock-clause-stays g c = stays-joins _ _ _ c.loop-numbers.invariant.stays c.look.ensures.stays
+pub returns-in_err-write_commit-in-CommitBlock-clause-device : goal.returns-in_err-write_commit-in-CommitBlock-clause-device
+returns-in_err-write_commit-in-CommitBlock-clause-device g c = reads-on c.loop-numbers.invariant.device c.look.ensures.device
 
-pub returns-in-CommitBlock-clause-stays : goal.returns-in-CommitBlock-clause-stays
-returns-in-CommitBlock-clause-stays g c = stays-joins _ _ _ c.loop-numbers.invariant.stays c.look.ensures.stays
+pub returns-in-CommitBlock-clause-device : goal.returns-in-CommitBlock-clause-device
+returns-in-CommitBlock-clause-device g c = reads-on c.loop-numbers.invariant.device c.look.ensures.device
 
-pub returns-in-Malformed-clause-stays : goal.returns-in-Malformed-clause-stays
-returns-in-Malformed-clause-stays g c = stays-joins _ _ _ c.loop-numbers.invariant.stays c.look.ensures.stays
+pub returns-in-Malformed-clause-device : goal.returns-in-Malformed-clause-device
+returns-in-Malformed-clause-device g c = reads-on c.loop-numbers.invariant.device c.look.ensures.device
 
 -- the finder keeps its size
 pub returns-in_err-numbers-clause-layout : goal.returns-in_err-numbers-clause-layout
@@ -174,25 +172,6 @@ returns-in-CommitBlock-clause-layout g c = c.look.ensures.layout ∙ c.loop-numb
 
 pub returns-in-Malformed-clause-layout : goal.returns-in-Malformed-clause-layout
 returns-in-Malformed-clause-layout g c = c.look.ensures.layout ∙ c.loop-numbers.invariant.layout
-
--- and reads that told the truth did so before
-pub returns-in_err-numbers-clause-honest : goal.returns-in_err-numbers-clause-honest
-returns-in_err-numbers-clause-honest g c = λ h. c.loop-numbers.invariant.honest (c.look.ensures.honest h)
-
-pub returns-in_err-write_revokes-in-RevokeBlock-clause-honest : goal.returns-in_err-write_revokes-in-RevokeBlock-clause-honest
-returns-in_err-write_revokes-in-RevokeBlock-clause-honest g c = λ h. c.loop-numbers.invariant.honest (c.look.ensures.honest h)
-
-pub returns-in_err-write_copies-in-Descriptor-clause-honest : goal.returns-in_err-write_copies-in-Descriptor-clause-honest
-returns-in_err-write_copies-in-Descriptor-clause-honest g c = λ h. c.loop-numbers.invariant.honest (c.look.ensures.honest h)
-
-pub returns-in_err-write_commit-in-CommitBlock-clause-honest : goal.returns-in_err-write_commit-in-CommitBlock-clause-honest
-returns-in_err-write_commit-in-CommitBlock-clause-honest g c = λ h. c.loop-numbers.invariant.honest (c.look.ensures.honest h)
-
-pub returns-in-CommitBlock-clause-honest : goal.returns-in-CommitBlock-clause-honest
-returns-in-CommitBlock-clause-honest g c = λ h. c.loop-numbers.invariant.honest (c.look.ensures.honest h)
-
-pub returns-in-Malformed-clause-honest : goal.returns-in-Malformed-clause-honest
-returns-in-Malformed-clause-honest g c = λ h. c.loop-numbers.invariant.honest (c.look.ensures.honest h)
 
 -- it has not failed
 pub returns-in-CommitBlock-clause-faults : goal.returns-in-CommitBlock-clause-faults

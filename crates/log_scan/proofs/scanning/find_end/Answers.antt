@@ -1,7 +1,8 @@
 use Rattle.std.proofs.Common.{[], refl, subst, ◌∙◌, arith}
 use Rattle.journal_model.specs.Disk.{reading}
+use Rattle.block_device.proofs.OneCall.{no-read, reads-on}
 use Rattle.log_scan.specs.Finding.{limit_of}
-use Rattle.log_scan.proofs.ScanSteps.{HasLed, farther, goes-on, led-damage, led-end, led-there, passed-none, stays-joins}
+use Rattle.log_scan.proofs.ScanSteps.{HasLed, farther, goes-on, led-damage, led-end, led-there, passed-none}
 use Rattle.log_scan.proofs.scanning.find_end.Goals as goal
 
 -- nothing is read yet
@@ -10,9 +11,8 @@ loop-init g c = rw c.new-cursor.ensures (record {
   within = omega arith;
   few = omega arith;
   layout = refl;
-  stays = record { shape = refl; disk = refl; past = refl };
+  device = no-read;
   faults = refl;
-  honest = λ h. h;
   passed = λ h. record {
     texts = [];
     pieces = [];
@@ -26,14 +26,13 @@ loop-preserved g c = let before = c.loop.invariant in record {
   within = c.advance.ensures.within;
   few = c.advance.ensures.few;
   layout = c.advance.ensures.layout ∙ before.layout;
-  stays = stays-joins _ _ _ before.stays c.advance.ensures.stays;
+  device = reads-on before.device c.advance.ensures.device;
   faults = c.in_ok-advance.ensures.faults ∙ before.faults;
-  honest = λ h. before.honest (c.advance.ensures.honest h);
   passed =
       λ h. goes-on c.args.log.now (limit_of c.args.log.now c.args.home_blocks) (reading (g.D.Device.state c.args.device.now).disk) c.advance.new.finder c.loop.cursor c.advance.new.self
       c.in_ok-advance.field-0 c.in-RevokeBlock.is
       (led-there c.args.log.now (limit_of c.args.log.now c.args.home_blocks) (g.D.Device.state c.args.device.now) (g.D.Device.state c.loop.device) c.advance.new.finder c.loop.cursor
-      c.advance.new.self c.in_ok-advance.field-0 before.stays (before.passed (c.advance.ensures.honest h)) (c.in_ok-advance.ensures.leads h));
+      c.advance.new.self c.in_ok-advance.field-0 before.device.stays (before.passed (c.advance.ensures.device.honest h)) (c.in_ok-advance.ensures.leads h));
 }
 
 -- it leads farther on
@@ -53,7 +52,7 @@ returns-in-Malformed-clause-ends g c = λ h.
     c.place.result (rw stayed at c.place.ensures.place)
     (subst (HasLed c.args.log.now (limit_of c.args.log.now c.args.home_blocks) (reading (g.D.Device.state c.args.device.now).disk) c.advance.new.finder c.loop.cursor c.advance.new.self) c.in-Malformed.is
     (led-there c.args.log.now (limit_of c.args.log.now c.args.home_blocks) (g.D.Device.state c.args.device.now) (g.D.Device.state c.loop.device) c.advance.new.finder c.loop.cursor
-    c.advance.new.self c.in_ok-advance.field-0 before.stays (before.passed (c.advance.ensures.honest h)) (c.in_ok-advance.ensures.leads h))))
+    c.advance.new.self c.in_ok-advance.field-0 before.device.stays (before.passed (c.advance.ensures.device.honest h)) (c.in_ok-advance.ensures.leads h))))
 
 -- nothing more stands there
 pub returns-in-Nothing-clause-ends : goal.returns-in-Nothing-clause-ends
@@ -63,4 +62,4 @@ returns-in-Nothing-clause-ends g c = λ h.
     (led-end c.args.log.now (limit_of c.args.log.now c.args.home_blocks) (reading (g.D.Device.state c.args.device.now).disk) c.advance.new.finder c.loop.cursor c.advance.new.self
     (subst (HasLed c.args.log.now (limit_of c.args.log.now c.args.home_blocks) (reading (g.D.Device.state c.args.device.now).disk) c.advance.new.finder c.loop.cursor c.advance.new.self) c.in-Nothing.is
     (led-there c.args.log.now (limit_of c.args.log.now c.args.home_blocks) (g.D.Device.state c.args.device.now) (g.D.Device.state c.loop.device) c.advance.new.finder c.loop.cursor
-    c.advance.new.self c.in_ok-advance.field-0 before.stays (before.passed (c.advance.ensures.honest h)) (c.in_ok-advance.ensures.leads h))))
+    c.advance.new.self c.in_ok-advance.field-0 before.device.stays (before.passed (c.advance.ensures.device.honest h)) (c.in_ok-advance.ensures.leads h))))

@@ -27,7 +27,7 @@ returns-then-is_none-clause-named g c =
     let u : DeviceState = g.D.Device.state c.flush.new.self in
     let items : List ℕ = c.in_ok-examined.field-0.examined.superblock.items in
     let next : ℕ = c.number_from-next.result in
-    let shape : u.shape ≡ s.shape = c.in_ok-flush.ensures.ok.shape ∙ c.read_log.ensures.stays.shape in
+    let shape : u.shape ≡ s.shape = c.in_ok-flush.ensures.ok.shape ∙ c.read_log.ensures.device.stays.shape in
     subst (λ (m : Shape). IsNextNamed m items next) (sym shape)
     (left-named s.shape items c.in_ok-examined.field-0.examined.log c.in_ok-examined.field-0.examined.transactions c.in_ok-examined.field-0.greatest
     c.in_ok-examined.field-0.stopped_by next c.in_ok-examined.ensures.read
@@ -44,7 +44,7 @@ returns-in_err-superblock-clause-broken g c =
     begun-broken (g.D.Device.state c.args.device.now) c.in_ok-examined.field-0.examined.superblock.items c.in_ok-examined.field-0.examined.log
     c.in_ok-examined.field-0.examined.transactions c.in_ok-examined.field-0.greatest c.in_ok-examined.field-0.stopped_by c.in_ok-examined.ensures.read
     c.in_ok-examined.field-0.examined.tables on.0 on.1 (g.D.Device.state c.read_log.new.device) (g.D.Device.state c.flush.new.self)
-    (g.D.Device.state c.leave_clean.new.device) c.number_from-next.result c.number_from-next.ensures c.read_log.ensures.stays c.in_ok-flush.ensures.ok
+    (g.D.Device.state c.leave_clean.new.device) c.number_from-next.result c.number_from-next.ensures c.read_log.ensures.device.stays c.in_ok-flush.ensures.ok
     (c.in_err-superblock.ensures.begun honest))
 
 -- or the log read otherwise
@@ -55,7 +55,7 @@ returns-in_err-superblock-clause-refused g c =
     (replay-before (g.D.Device.honest c.leave_clean.new.device) (g.D.Device.state c.args.device.now) (g.D.Device.state c.read_log.new.device)
     (g.D.Device.state c.flush.new.self) (g.D.Device.state c.leave_clean.new.device) c.in_ok-examined.field-0.examined.superblock.items
     c.in_ok-examined.field-0.examined.log c.in_ok-examined.field-0.examined.transactions c.in_ok-examined.field-0.greatest c.in_ok-examined.field-0.stopped_by
-    c.in_ok-examined.field-0.examined.tables c.in_err-superblock.field-0.0 c.in_ok-examined.ensures.read.well c.read_log.ensures.stays c.in_ok-flush.ensures.ok
+    c.in_ok-examined.field-0.examined.tables c.in_err-superblock.field-0.0 c.in_ok-examined.ensures.read.well c.read_log.ensures.device.stays c.in_ok-flush.ensures.ok
     (c.in_ok-flush.ensures.faults ∙ c.in_ok-examined.ensures.faults) c.in_err-superblock.ensures.unmarked
     (λ honest. c.in_ok-examined.ensures.on (c.flush.ensures.honest (c.leave_clean.ensures.honest honest))) c.in_err-superblock.ensures.refused)
 
@@ -65,7 +65,7 @@ returns-clause-named g c =
     let s : DeviceState = g.D.Device.state c.args.device.now in
     let x : DeviceState = g.D.Device.state c.leave_clean.new.device in
     let next : ℕ = c.number_from-next.result in
-    let shape : x.shape ≡ s.shape = c.leave_clean.ensures.shape ∙ c.in_ok-flush.ensures.ok.shape ∙ c.read_log.ensures.stays.shape in
+    let shape : x.shape ≡ s.shape = c.leave_clean.ensures.shape ∙ c.in_ok-flush.ensures.ok.shape ∙ c.read_log.ensures.device.stays.shape in
     subst (λ (b : List ℕ). IsNextNamed x.shape b next) (sym c.in_ok-superblock.ensures.superblock)
     (subst (λ (m : Shape). IsNextNamed m (with_tail c.in_ok-examined.field-0.examined.superblock.items next 0) next) (sym shape)
     (made-named s.shape c.in_ok-examined.field-0.examined.superblock.items c.in_ok-examined.field-0.examined.log c.in_ok-examined.field-0.examined.transactions
@@ -89,7 +89,7 @@ returns-clause-done g c = λ honest.
       subst (λ (b : List ℕ). IsDoneBefore s x stopped b next on.0 c.in_ok-examined.field-0.greatest) (sym c.in_ok-superblock.ensures.superblock)
           (made-done s c.in_ok-examined.field-0.examined.superblock.items c.in_ok-examined.field-0.examined.log c.in_ok-examined.field-0.examined.transactions
           c.in_ok-examined.field-0.greatest stopped c.in_ok-examined.ensures.read c.in_ok-examined.field-0.examined.tables on.0 on.1
-          (g.D.Device.state c.read_log.new.device) (g.D.Device.state c.flush.new.self) x next c.number_from-next.ensures c.read_log.ensures.stays
+          (g.D.Device.state c.read_log.new.device) (g.D.Device.state c.flush.new.self) x next c.number_from-next.ensures c.read_log.ensures.device.stays
           c.in_ok-flush.ensures.ok due (c.in_ok-superblock.ensures.made honest)),
       read-tells s c.in_ok-examined.field-0.examined.superblock.items c.in_ok-examined.field-0.examined.log c.in_ok-examined.field-0.examined.transactions
           c.in_ok-examined.field-0.greatest stopped c.in_ok-examined.ensures.read c.in_ok-examined.field-0.examined.tables on.0 on.1 c.is_clean.result

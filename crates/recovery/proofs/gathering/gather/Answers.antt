@@ -5,10 +5,10 @@ use Rattle.log_model.specs.declared.log.Tag.{Tag}
 use Rattle.journal_model.specs.Disk.{reading}
 use Rattle.log_model.specs.Superblock.{Super}
 use Rattle.block_device.specs.State.{DeviceState}
+use Rattle.block_device.proofs.OneCall.{no-read, reads-on}
 use Rattle.log_scan.specs.declared.cursor.Cursor.{Cursor}
 use Rattle.log_scan.specs.Passing.{LeadsTo}
 use Rattle.log_scan.specs.Scanning.{IsChainOf}
-use Rattle.log_scan.proofs.ScanSteps.{stays-joins}
 use Rattle.recovery.specs.Gather.{TablesValue, with_copies, with_revokes}
 use Rattle.recovery.proofs.GatherRuns.{Gathers, gathers-all, gathers-commit, gathers-copies, gathers-none, gathers-revokes, led-nowhere, led-on}
 use Rattle.recovery.proofs.gathering.gather.Goals as goal
@@ -21,9 +21,8 @@ loop-cursor-init g c = rw (c.new-cursor.ensures, c.new-tables.ensures) (record {
   held = omega arith;
   below = omega arith;
   layout = refl;
-  stays = record { shape = refl; disk = refl; past = refl };
+  device = no-read;
   faults = refl;
-  honest = λ h. h;
   gathers = λ h. gathers-none c.args.log.now c.blocks-2.result (reading (g.D.Device.state c.args.device.now).disk) c.args.transactions;
 })
 
@@ -42,12 +41,11 @@ loop-cursor-preserved-in-Continue-branch-3 g c =
       held = let held = before.held in omega arith;
       below = let below = c.loop-cursor-test.true in omega arith;
       layout = c.advance.ensures.layout ∙ before.layout;
-      stays = stays-joins _ _ _ before.stays c.advance.ensures.stays;
+      device = reads-on before.device c.advance.ensures.device;
       faults = c.in_ok-count.ensures.faults ∙ before.faults;
-      honest = λ h. before.honest (c.advance.ensures.honest h);
       gathers = λ h.
-          let so = before.gathers (c.advance.ensures.honest h) in
-          let leads = led-on s c.blocks-2.result old (g.D.Device.state c.loop-cursor.device) c.advance.new.finder c.loop-cursor.cursor c.advance.new.self c.in_ok-count.field-0 before.stays
+          let so = before.gathers (c.advance.ensures.device.honest h) in
+          let leads = led-on s c.blocks-2.result old (g.D.Device.state c.loop-cursor.device) c.advance.new.finder c.loop-cursor.cursor c.advance.new.self c.in_ok-count.field-0 before.device.stays
           so.texts so.pieces so.passed (c.in_ok-count.ensures.leads h) in
           let noted = c.in_ok-note_revokes-in-RevokeBlock.ensures.ok
           ∙ ap (λ (numbers : List ℕ). with_revokes c.loop-cursor.tables c.number_of-tid.result numbers) c.numbers.ensures in
@@ -73,12 +71,11 @@ loop-cursor-preserved-in-Descriptor g c =
       held = let held = before.held in omega arith;
       below = let below = c.loop-cursor-test.true in omega arith;
       layout = c.advance.ensures.layout ∙ before.layout;
-      stays = stays-joins _ _ _ before.stays c.advance.ensures.stays;
+      device = reads-on before.device c.advance.ensures.device;
       faults = c.in_ok-count.ensures.faults ∙ before.faults;
-      honest = λ h. before.honest (c.advance.ensures.honest h);
       gathers = λ h.
-          let so = before.gathers (c.advance.ensures.honest h) in
-          let leads = led-on s c.blocks-2.result old (g.D.Device.state c.loop-cursor.device) c.advance.new.finder c.loop-cursor.cursor c.advance.new.self c.in_ok-count.field-0 before.stays
+          let so = before.gathers (c.advance.ensures.device.honest h) in
+          let leads = led-on s c.blocks-2.result old (g.D.Device.state c.loop-cursor.device) c.advance.new.finder c.loop-cursor.cursor c.advance.new.self c.in_ok-count.field-0 before.device.stays
           so.texts so.pieces so.passed (c.in_ok-count.ensures.leads h) in
           let noted = c.in_ok-note_copies-in-Descriptor.ensures.ok
           ∙ ap (λ (tags : List Tag). with_copies c.loop-cursor.tables c.loop-cursor.copies tags) c.tags.ensures in
@@ -103,12 +100,11 @@ loop-cursor-preserved g c =
       held = let held = before.held in omega arith;
       below = let below = c.loop-cursor-test.true in omega arith;
       layout = c.advance.ensures.layout ∙ before.layout;
-      stays = stays-joins _ _ _ before.stays c.advance.ensures.stays;
+      device = reads-on before.device c.advance.ensures.device;
       faults = c.in_ok-count.ensures.faults ∙ before.faults;
-      honest = λ h. before.honest (c.advance.ensures.honest h);
       gathers = λ h.
-          let so = before.gathers (c.advance.ensures.honest h) in
-          let leads = led-on s c.blocks-2.result old (g.D.Device.state c.loop-cursor.device) c.advance.new.finder c.loop-cursor.cursor c.advance.new.self c.in_ok-count.field-0 before.stays
+          let so = before.gathers (c.advance.ensures.device.honest h) in
+          let leads = led-on s c.blocks-2.result old (g.D.Device.state c.loop-cursor.device) c.advance.new.finder c.loop-cursor.cursor c.advance.new.self c.in_ok-count.field-0 before.device.stays
           so.texts so.pieces so.passed (c.in_ok-count.ensures.leads h) in
           gathers-commit s c.blocks-2.result (reading old.disk) c.loop-cursor.cursor c.advance.new.self c.args.transactions c.loop-cursor.copies c.loop-cursor.tables so
           (subst (LeadsTo s c.blocks-2.result (reading old.disk) so.texts so.pieces c.advance.new.finder c.loop-cursor.cursor c.advance.new.self) c.in-CommitBlock.is leads);
@@ -125,10 +121,10 @@ returns-in-Malformed-clause-refused g c =
       no_fault = c.in_ok-count.ensures.faults ∙ before.faults;
       some = let below = c.loop-cursor-test.true in omega arith;
       never = λ h texts are all.
-          let so = before.gathers (c.advance.ensures.honest h) in
+          let so = before.gathers (c.advance.ensures.device.honest h) in
           led-nowhere s c.blocks-2.result (reading old.disk) c.advance.new.finder c.loop-cursor.cursor c.advance.new.self c.in_ok-count.field-0 c.args.transactions c.loop-cursor.copies
           c.loop-cursor.tables so c.in-Malformed.is
-          (led-on s c.blocks-2.result old (g.D.Device.state c.loop-cursor.device) c.advance.new.finder c.loop-cursor.cursor c.advance.new.self c.in_ok-count.field-0 before.stays
+          (led-on s c.blocks-2.result old (g.D.Device.state c.loop-cursor.device) c.advance.new.finder c.loop-cursor.cursor c.advance.new.self c.in_ok-count.field-0 before.device.stays
           so.texts so.pieces so.passed (c.in_ok-count.ensures.leads h))
           texts (subst (λ (n : ℕ). IsChainOf s n (reading old.disk) texts) (sym c.blocks-2.ensures) are) all c.loop-cursor-test.true;
     })

@@ -1,7 +1,7 @@
 use Rattle.std.proofs.Common.{◌≡◌, ◌≤◌, ◌-◌}
 use Rattle.journal_model.specs.Disk.{reading}
 use Rattle.log_model.specs.Opening.{ring_of}
-use Rattle.block_device.specs.State.{Stays}
+use Rattle.block_device.specs.Call.{OnlyReads}
 use Rattle.log_scan.specs.Finding.{limit_of}
 use Rattle.recovery.proofs.GatherRuns.{Gathers}
 use Rattle.recovery.proofs.gathering.gather.Given as goal
@@ -14,9 +14,8 @@ invariant-loop-cursor g l = record {
   held : l.copies ≤ l.cursor.position;
   below : l.cursor.transactions ≤ l.transactions;
   layout : l.finder.layout ≡ l.fn.finder.layout;
-  stays : Stays (g.D.Device.state l.fn.device) (g.D.Device.state l.device);
+  device : OnlyReads g.D.Device.state g.D.Device.honest l.fn.device l.device;
   faults : (g.D.Device.state l.device).faults ≡ (g.D.Device.state l.fn.device).faults;
-  honest : g.D.Device.honest l.device → g.D.Device.honest l.fn.device;
   gathers : g.D.Device.honest l.device →
       Gathers l.log (limit_of l.log l.home_blocks) (reading (g.D.Device.state l.fn.device).disk) l.cursor l.transactions l.copies l.tables;
 }

@@ -21,7 +21,7 @@ returns-then-report-clause-done g c = λ honest.
     clean-done (g.D.Device.state c.args.device.now) c.in_ok-superblock.field-0.superblock.items log c.in_ok-superblock.field-0.transactions
     c.in_ok-superblock.field-0.tables on.0 on.1 (g.D.Device.state c.examine.new.device) (g.D.Device.state c.flush.new.self) c.number_from-next.result
     (clean-start log c.is_clean.result c.is_clean.ensures c.if-report.true)
-    (c.number_from-next.ensures ∙ ap (λ (n : ℕ). n + c.in_ok-superblock.field-0.transactions + 1) c.first_number.ensures.value) c.examine.ensures.stays
+    (c.number_from-next.ensures ∙ ap (λ (n : ℕ). n + c.in_ok-superblock.field-0.transactions + 1) c.first_number.ensures.value) c.examine.ensures.device.stays
     c.in_ok-flush.ensures.ok
 
 -- its superblock names the next transaction
@@ -31,7 +31,7 @@ returns-then-report-clause-named g c =
     let u : DeviceState = g.D.Device.state c.flush.new.self in
     let items : List ℕ = c.in_ok-superblock.field-0.superblock.items in
     let next : ℕ = c.number_from-next.result in
-    let shape : u.shape ≡ s.shape = c.in_ok-flush.ensures.ok.shape ∙ c.examine.ensures.stays.shape in
+    let shape : u.shape ≡ s.shape = c.in_ok-flush.ensures.ok.shape ∙ c.examine.ensures.device.stays.shape in
     subst (λ (m : Shape). IsNextNamed m items next) (sym shape)
     (clean-named s.shape items c.in_ok-superblock.field-0.log c.in_ok-superblock.field-0.transactions next c.in_ok-superblock.ensures.examined
     (clean-start c.in_ok-superblock.field-0.log c.is_clean.result c.is_clean.ensures c.if-report.true)
@@ -54,7 +54,7 @@ returns-in_err-replay-clause-refused g c =
     (replay-refused (g.D.Device.honest c.replay.new.device) (g.D.Device.state c.args.device.now) (g.D.Device.state c.examine.new.device)
     (g.D.Device.state c.flush.new.self) (g.D.Device.state c.replay.new.device) c.in_ok-superblock.field-0.superblock.items c.in_ok-superblock.field-0.log
     c.in_ok-superblock.field-0.transactions c.in_ok-superblock.field-0.tables c.in_err-replay.field-0.0 c.in_ok-superblock.ensures.examined.well
-    c.examine.ensures.stays c.in_ok-flush.ensures.ok (c.in_ok-flush.ensures.faults ∙ c.in_ok-superblock.ensures.faults) c.replay.ensures.log
+    c.examine.ensures.device.stays c.in_ok-flush.ensures.ok (c.in_ok-flush.ensures.faults ∙ c.in_ok-superblock.ensures.faults) c.replay.ensures.log
     (λ honest. c.in_ok-superblock.ensures.on (c.flush.ensures.honest (c.replay.ensures.honest honest)))
     (other-start c.in_ok-superblock.field-0.log c.is_clean.result c.is_clean.ensures c.if-report.false) c.in_err-replay.ensures.refused)
 
@@ -76,9 +76,9 @@ returns-in_err-replay-clause-broken g c =
     let started : log.s_start ≢ 0 = other-start log c.is_clean.result c.is_clean.ensures c.if-report.false in
     copies-broken s block log count tables on.0 on.1 t u w c.number_from-next.result started
     (c.number_from-next.ensures ∙ ap (λ (n : ℕ). n + c.in_ok-superblock.field-0.transactions + 1) c.first_number.ensures.value)
-    c.examine.ensures.stays c.in_ok-flush.ensures.ok
+    c.examine.ensures.device.stays c.in_ok-flush.ensures.ok
     (of-found s block log count tables on.0 on.1 (λ (texts : List Text). HasBegun (writes_home (home_copies texts)) u w) t u started
-    c.examine.ensures.stays c.in_ok-flush.ensures.ok (c.in_err-replay.ensures.begun honest)))
+    c.examine.ensures.device.stays c.in_ok-flush.ensures.ok (c.in_err-replay.ensures.begun honest)))
 
 -- it failed where the log was to be marked clean
 pub returns-in_err-clean_log-clause-refused : goal.returns-in_err-clean_log-clause-refused
@@ -110,9 +110,9 @@ returns-in_err-clean_log-clause-broken g c =
     let started : log.s_start ≢ 0 = other-start log c.is_clean.result c.is_clean.ensures c.if-report.false in
     cleaning-broken s block log count tables on.0 on.1 t u w x next started
     (c.number_from-next.ensures ∙ ap (λ (n : ℕ). n + c.in_ok-superblock.field-0.transactions + 1) c.first_number.ensures.value)
-    c.examine.ensures.stays c.in_ok-flush.ensures.ok
+    c.examine.ensures.device.stays c.in_ok-flush.ensures.ok
     (of-found s block log count tables on.0 on.1 (λ (texts : List Text). HasMade (writes_home (home_copies texts)) u w) t u started
-    c.examine.ensures.stays c.in_ok-flush.ensures.ok (c.in_ok-replay.ensures.made replayed))
+    c.examine.ensures.device.stays c.in_ok-flush.ensures.ok (c.in_ok-replay.ensures.made replayed))
     (subst (λ (b : List ℕ). HasBegun (cleaning_calls (with_tail b next 0)) w x) c.deref_mut.ensures.value c.in_err-clean_log.ensures.begun))
 
 -- the superblock names the next transaction
@@ -129,7 +129,7 @@ returns-clause-named g c =
     let block = with_items_is c.in_ok-superblock.field-0.superblock c.clean_log.new.superblock size ∙ c.in_ok-clean_log.ensures.superblock
     ∙ ap (λ (b : List ℕ). with_tail b next 0) c.deref_mut.ensures.value in
     let shape : x.shape ≡ s.shape =
-    c.clean_log.ensures.shape ∙ c.replay.ensures.shape ∙ c.in_ok-flush.ensures.ok.shape ∙ c.examine.ensures.stays.shape in
+    c.clean_log.ensures.shape ∙ c.replay.ensures.shape ∙ c.in_ok-flush.ensures.ok.shape ∙ c.examine.ensures.device.stays.shape in
     subst (λ (b : List ℕ). IsNextNamed x.shape b next) (sym block)
     (subst (λ (m : Shape). IsNextNamed m (with_tail items next 0) next) (sym shape)
     (tail-named s.shape items c.in_ok-superblock.field-0.log c.in_ok-superblock.field-0.transactions next c.in_ok-superblock.ensures.examined
@@ -160,9 +160,9 @@ returns-clause-done g c = λ honest.
     subst (λ (b : List ℕ). IsDoneWith s x b next) (sym block)
     (started-done s items log count tables on.0 on.1 t u w x next started
     (c.number_from-next.ensures ∙ ap (λ (n : ℕ). n + c.in_ok-superblock.field-0.transactions + 1) c.first_number.ensures.value)
-    c.examine.ensures.stays c.in_ok-flush.ensures.ok
+    c.examine.ensures.device.stays c.in_ok-flush.ensures.ok
     (of-found s items log count tables on.0 on.1 (λ (texts : List Text). HasMade (writes_home (home_copies texts)) u w) t u started
-    c.examine.ensures.stays c.in_ok-flush.ensures.ok (c.in_ok-replay.ensures.made replayed))
+    c.examine.ensures.device.stays c.in_ok-flush.ensures.ok (c.in_ok-replay.ensures.made replayed))
     (subst (λ (b : List ℕ). HasMade (cleaning_calls (with_tail b next 0)) w x) c.deref_mut.ensures.value c.in_ok-clean_log.ensures.made))
 
 -- what that tells

@@ -5,10 +5,10 @@ use Rattle.log_model.specs.declared.log.Tag.{Tag}
 use Rattle.journal_model.specs.Disk.{reading}
 use Rattle.log_model.specs.Superblock.{Super}
 use Rattle.block_device.specs.State.{DeviceState}
+use Rattle.block_device.proofs.OneCall.{no-read, reads-on}
 use Rattle.log_scan.specs.declared.cursor.Cursor.{Cursor}
 use Rattle.log_scan.specs.Passing.{LeadsTo}
 use Rattle.log_scan.specs.Scanning.{IsChainOf}
-use Rattle.log_scan.proofs.ScanSteps.{stays-joins}
 use Rattle.recovery.specs.Gather.{count_chosen}
 use Rattle.recovery.proofs.CountRuns.{counts-all, counts-copies, counts-none, counts-nowhere, counts-on}
 use Rattle.recovery.proofs.GatherRuns.{led-on}
@@ -24,9 +24,8 @@ loop-cursor-init g c = rw c.new-cursor.ensures (record {
   counted = omega arith;
   below = omega arith;
   layout = refl;
-  stays = record { shape = refl; disk = refl; past = refl };
+  device = no-read;
   faults = refl;
-  honest = λ h. h;
   none = λ all. refl;
   counts = λ h. counts-none c.args.log.now c.blocks-2.result (reading (g.D.Device.state c.args.device.now).disk) c.args.transactions c.args.tables.now;
 })
@@ -45,13 +44,12 @@ loop-cursor-preserved-in-RevokeBlock g c =
       counted = before.counted;
       below = on-below c.loop-cursor.cursor c.advance.new.self c.in_ok-advance.field-0 c.args.transactions c.in-RevokeBlock.is c.in_ok-advance.ensures.behind c.loop-cursor-test.true;
       layout = c.advance.ensures.layout ∙ before.layout;
-      stays = stays-joins _ _ _ before.stays c.advance.ensures.stays;
+      device = reads-on before.device c.advance.ensures.device;
       faults = c.in_ok-advance.ensures.faults ∙ before.faults;
-      honest = λ h. before.honest (c.advance.ensures.honest h);
       none = λ all. let some = c.loop-cursor-test.true in absurd (omega arith);
       counts = λ h.
-          let so = before.counts (c.advance.ensures.honest h) in
-          let leads = led-on s c.blocks-2.result old (g.D.Device.state c.loop-cursor.device) c.advance.new.finder c.loop-cursor.cursor c.advance.new.self c.in_ok-advance.field-0 before.stays
+          let so = before.counts (c.advance.ensures.device.honest h) in
+          let leads = led-on s c.blocks-2.result old (g.D.Device.state c.loop-cursor.device) c.advance.new.finder c.loop-cursor.cursor c.advance.new.self c.in_ok-advance.field-0 before.device.stays
           so.texts so.pieces so.passed (c.in_ok-advance.ensures.leads h) in
           counts-on s c.blocks-2.result (reading old.disk) c.loop-cursor.cursor c.advance.new.self c.args.transactions c.loop-cursor.place c.loop-cursor.count c.args.tables.now so
           c.advance.new.finder c.in_ok-advance.field-0 c.in-RevokeBlock.is c.in_ok-advance.ensures.behind c.loop-cursor-test.true leads;
@@ -76,13 +74,12 @@ loop-cursor-preserved g c =
       counted = let counted = before.counted in let few = c.count_tagged-count.ensures.few in omega arith;
       below = let below = c.loop-cursor-test.true in omega arith;
       layout = c.advance.ensures.layout ∙ before.layout;
-      stays = stays-joins _ _ _ before.stays c.advance.ensures.stays;
+      device = reads-on before.device c.advance.ensures.device;
       faults = c.in_ok-advance.ensures.faults ∙ before.faults;
-      honest = λ h. before.honest (c.advance.ensures.honest h);
       none = λ all. let some = c.loop-cursor-test.true in absurd (omega arith);
       counts = λ h.
-          let so = before.counts (c.advance.ensures.honest h) in
-          let leads = led-on s c.blocks-2.result old (g.D.Device.state c.loop-cursor.device) c.advance.new.finder c.loop-cursor.cursor c.advance.new.self c.in_ok-advance.field-0 before.stays
+          let so = before.counts (c.advance.ensures.device.honest h) in
+          let leads = led-on s c.blocks-2.result old (g.D.Device.state c.loop-cursor.device) c.advance.new.finder c.loop-cursor.cursor c.advance.new.self c.in_ok-advance.field-0 before.device.stays
           so.texts so.pieces so.passed (c.in_ok-advance.ensures.leads h) in
           counts-copies s c.blocks-2.result (reading old.disk) c.loop-cursor.cursor c.advance.new.self c.args.transactions c.loop-cursor.place c.loop-cursor.count c.args.tables.now so
           (take c.in-Descriptor.n c.advance.new.finder.tags) c.in-Descriptor.n c.number_of-tid.result c.count_tagged-count.result (sym size) c.number_of-tid.ensures c.loop-cursor-test.true same
@@ -101,11 +98,11 @@ returns-in-Malformed-clause-refused g c =
       no_fault = c.in_ok-advance.ensures.faults ∙ before.faults;
       some = let below = c.loop-cursor-test.true in omega arith;
       never = λ h texts are all.
-          let so = before.counts (c.advance.ensures.honest h) in
+          let so = before.counts (c.advance.ensures.device.honest h) in
           counts-nowhere s c.blocks-2.result (reading old.disk) c.loop-cursor.cursor c.advance.new.self c.args.transactions c.loop-cursor.place c.loop-cursor.count c.args.tables.now so
           texts (subst (λ (n : ℕ). IsChainOf s n (reading old.disk) texts) (sym c.blocks-2.ensures) are) all c.advance.new.finder c.in_ok-advance.field-0 c.loop-cursor-test.true
           c.in-Malformed.is
-          (led-on s c.blocks-2.result old (g.D.Device.state c.loop-cursor.device) c.advance.new.finder c.loop-cursor.cursor c.advance.new.self c.in_ok-advance.field-0 before.stays
+          (led-on s c.blocks-2.result old (g.D.Device.state c.loop-cursor.device) c.advance.new.finder c.loop-cursor.cursor c.advance.new.self c.in_ok-advance.field-0 before.device.stays
           so.texts so.pieces so.passed (c.in_ok-advance.ensures.leads h));
     })
 

@@ -1,7 +1,7 @@
 use Rattle.std.proofs.Common.{◌≡◌, ◌≤◌, ◌-◌}
 use Rattle.journal_model.specs.Disk.{reading}
 use Rattle.log_model.specs.Opening.{ring_of}
-use Rattle.block_device.specs.State.{Stays}
+use Rattle.block_device.specs.Call.{OnlyReads}
 use Rattle.log_scan.specs.Finding.{limit_of}
 use Rattle.recovery.proofs.CountRuns.{Counts}
 use Rattle.recovery.proofs.planning.count_copies.Given as goal
@@ -15,9 +15,8 @@ invariant-loop-cursor g l = record {
   counted : l.count ≤ l.place;
   below : l.cursor.transactions ≤ l.transactions;
   layout : l.finder.layout ≡ l.fn.finder.layout;
-  stays : Stays (g.D.Device.state l.fn.device) (g.D.Device.state l.device);
+  device : OnlyReads g.D.Device.state g.D.Device.honest l.fn.device l.device;
   faults : (g.D.Device.state l.device).faults ≡ (g.D.Device.state l.fn.device).faults;
-  honest : g.D.Device.honest l.device → g.D.Device.honest l.fn.device;
   none : l.transactions ≡ 0 → l.count ≡ 0;
   counts : g.D.Device.honest l.device →
       Counts l.log (limit_of l.log l.home_blocks) (reading (g.D.Device.state l.fn.device).disk) l.cursor l.transactions l.place l.count l.tables;

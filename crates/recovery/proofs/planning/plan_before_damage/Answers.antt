@@ -18,17 +18,17 @@ returns-in_err-blocks-clause-refused g c =
     (plan-refused-before (g.D.Device.honest c.count_home.new.device) (g.D.Device.state c.args.device.now) (g.D.Device.state c.read_log.new.device)
     (g.D.Device.state c.count_home.new.device) c.in_ok-examined.field-0.examined.superblock.items c.in_ok-examined.field-0.examined.log
     c.in_ok-examined.field-0.examined.transactions c.in_ok-examined.field-0.greatest c.in_ok-examined.field-0.stopped_by c.in_ok-examined.field-0.examined.tables
-    c.in_err-blocks.field-0.0 c.in_ok-examined.ensures.read.well c.read_log.ensures.stays c.count_home.ensures.stays c.in_ok-examined.ensures.faults
-    (λ h. c.in_ok-examined.ensures.on (c.count_home.ensures.honest h)) c.in_err-blocks.ensures.refused)
+    c.in_err-blocks.field-0.0 c.in_ok-examined.ensures.read.well c.read_log.ensures.device.stays c.count_home.ensures.device.stays c.in_ok-examined.ensures.faults
+    (λ h. c.in_ok-examined.ensures.on (c.count_home.ensures.device.honest h)) c.in_err-blocks.ensures.refused)
 
 -- what it would do
 pub returns-clause-planned : goal.returns-clause-planned
 returns-clause-planned g c = λ honest.
-    let on = c.in_ok-examined.ensures.on (c.count_home.ensures.honest honest) in
+    let on = c.in_ok-examined.ensures.on (c.count_home.ensures.device.honest honest) in
     subst (λ (n : ℕ). IsPlannedBefore (g.D.Device.state c.args.device.now).shape (g.D.Device.state c.args.device.now).disk c.in_ok-examined.field-0.stopped_by
     c.report_of-report.result.clean c.report_of-report.result.ends_at n c.in_ok-blocks.blocks c.number_from.result) (sym c.report_of-report.ensures.transactions)
     (is-planned-before (g.D.Device.state c.args.device.now) (g.D.Device.state c.read_log.new.device) c.in_ok-examined.field-0.examined.superblock.items
     c.in_ok-examined.field-0.examined.log c.in_ok-examined.field-0.examined.transactions c.in_ok-examined.field-0.greatest c.in_ok-examined.field-0.stopped_by
-    c.in_ok-examined.ensures.read c.in_ok-examined.field-0.examined.tables on.0 on.1 c.read_log.ensures.stays c.report_of-report.result.clean
+    c.in_ok-examined.ensures.read c.in_ok-examined.field-0.examined.tables on.0 on.1 c.read_log.ensures.device.stays c.report_of-report.result.clean
     c.report_of-report.result.ends_at c.in_ok-blocks.blocks c.number_from.result c.report_of-report.ensures.clean c.report_of-report.ensures.ends
     c.number_from.ensures (c.in_ok-blocks.ensures.count honest) c.in_ok-blocks.ensures.none)

@@ -19,7 +19,7 @@ returns-in_err-read_copy-clause-begun g c =
     let p = err_from_is_err_and c.from_residual.result c.from_residual.ensures.1 in
     rw p.1
     (λ honest. begun-stays (copy_calls c.args.log.now (reading (g.D.Device.state c.args.device.now).disk) c.args.position c.args.tag)
-    (g.D.Device.state c.args.device.now) (g.D.Device.state c.read_copy.new.device) c.read_copy.ensures.stays)
+    (g.D.Device.state c.args.device.now) (g.D.Device.state c.read_copy.new.device) c.read_copy.ensures.device.stays)
 
 -- the write failed
 pub returns-in_err-write-clause-begun : goal.returns-in_err-write-clause-begun
@@ -33,7 +33,7 @@ returns-in_err-write-clause-begun g c =
     rw p.1
     (λ honest.
     let bytes = c.block.ensures.block ∙ c.in_ok-read_copy.ensures.copy (c.write.ensures.honest honest) in
-    made-begun [] calls s t u (made-none s t c.read_copy.ensures.stays)
+    made-begun [] calls s t u (made-none s t c.read_copy.ensures.device.stays)
     (begun-interrupted calls t u (write-interrupted Home c.args.tag.block (unescaped c.args.tag.escaped stored) [] t u
     (subst (λ (tag : Tag). Writes t u Home tag.block (unescaped tag.escaped stored)) c.tag.view_is
     (subst (λ (v : List ℕ). Writes t u Home c.tag.inside.0.0.0 v) bytes c.write.ensures.writes)))))

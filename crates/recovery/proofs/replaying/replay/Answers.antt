@@ -45,22 +45,22 @@ loop-cursor-preserved-in-RevokeBlock g c =
       held = let held = before.held in omega arith;
       below = on-below c.loop-cursor.cursor c.advance.new.self c.in_ok-advance.field-0 c.args.transactions c.in-RevokeBlock.is c.in_ok-advance.ensures.behind c.loop-cursor-test.true;
       layout = c.advance.ensures.layout ∙ before.layout;
-      shape = c.advance.ensures.stays.shape ∙ before.shape;
+      shape = c.advance.ensures.device.stays.shape ∙ before.shape;
       faults = c.in_ok-advance.ensures.faults ∙ before.faults;
-      log = ap (λ (d : Disk). d Log) c.advance.ensures.stays.disk ∙ before.log;
+      log = ap (λ (d : Disk). d Log) c.advance.ensures.device.stays.disk ∙ before.log;
       none = λ all. let some = c.loop-cursor-test.true in absurd (omega arith);
       calls =
           calls-fewer c.advance.new.self.transactions (c.loop-cursor.cursor.transactions + reads_of c.in_ok-advance.field-0) old (g.D.Device.state c.advance.new.device)
           (passed-reads c.loop-cursor.cursor c.advance.new.self c.in_ok-advance.field-0 c.in-RevokeBlock.is c.in_ok-advance.ensures.behind)
           (calls-join c.loop-cursor.cursor.transactions (reads_of c.in_ok-advance.field-0) old mid (g.D.Device.state c.advance.new.device) before.calls
           c.in_ok-advance.ensures.calls);
-      honest = λ h. before.honest (c.advance.ensures.honest h);
+      honest = λ h. before.honest (c.advance.ensures.device.honest h);
       replays = λ h.
-          let so = before.replays (c.advance.ensures.honest h) in
+          let so = before.replays (c.advance.ensures.device.honest h) in
           let leads = replay-led s c.blocks-2.result c.loop-cursor.cursor c.advance.new.self c.advance.new.finder c.in_ok-advance.field-0 c.args.transactions c.loop-cursor.place c.args.tables.now
           old mid so (c.in_ok-advance.ensures.leads h) in
           replays-on s c.blocks-2.result (reading old.disk) c.loop-cursor.cursor c.advance.new.self c.advance.new.finder c.in_ok-advance.field-0 c.args.transactions c.loop-cursor.place c.args.tables.now
-          old mid so leads c.in-RevokeBlock.is c.in_ok-advance.ensures.behind c.loop-cursor-test.true (g.D.Device.state c.advance.new.device) c.advance.ensures.stays;
+          old mid so leads c.in-RevokeBlock.is c.in_ok-advance.ensures.behind c.loop-cursor-test.true (g.D.Device.state c.advance.new.device) c.advance.ensures.device.stays;
     }
 
 -- a descriptor and its copies
@@ -81,28 +81,28 @@ loop-cursor-preserved g c =
       held = let held = before.held in omega arith;
       below = let below = c.loop-cursor-test.true in omega arith;
       layout = c.write_copies.ensures.layout ∙ c.advance.ensures.layout ∙ before.layout;
-      shape = c.write_copies.ensures.shape ∙ c.advance.ensures.stays.shape ∙ before.shape;
+      shape = c.write_copies.ensures.shape ∙ c.advance.ensures.device.stays.shape ∙ before.shape;
       faults = c.in_ok-write_copies-in-Descriptor.ensures.faults ∙ c.in_ok-advance.ensures.faults ∙ before.faults;
-      log = c.write_copies.ensures.log ∙ ap (λ (d : Disk). d Log) c.advance.ensures.stays.disk ∙ before.log;
+      log = c.write_copies.ensures.log ∙ ap (λ (d : Disk). d Log) c.advance.ensures.device.stays.disk ∙ before.log;
       none = λ all. let some = c.loop-cursor-test.true in absurd (omega arith);
       calls =
           let reads : ℕ = reads_of c.in_ok-advance.field-0 in
           calls-fewer c.advance.new.self.transactions ((c.loop-cursor.cursor.transactions + reads) + 0) old (g.D.Device.state c.write_copies.new.device) (omega arith)
           (calls-join (c.loop-cursor.cursor.transactions + reads) 0 old next (g.D.Device.state c.write_copies.new.device)
           (calls-join c.loop-cursor.cursor.transactions reads old mid next before.calls c.in_ok-advance.ensures.calls) c.in_ok-write_copies-in-Descriptor.ensures.calls);
-      honest = λ h. before.honest (c.advance.ensures.honest (c.write_copies.ensures.honest h));
+      honest = λ h. before.honest (c.advance.ensures.device.honest (c.write_copies.ensures.honest h));
       replays = λ h.
-          let so = before.replays (c.advance.ensures.honest (c.write_copies.ensures.honest h)) in
+          let so = before.replays (c.advance.ensures.device.honest (c.write_copies.ensures.honest h)) in
           let leads = subst (LeadsTo s c.blocks-2.result (reading old.disk) so.texts so.pieces c.advance.new.finder c.loop-cursor.cursor c.advance.new.self) c.in-Descriptor.is
           (replay-led s c.blocks-2.result c.loop-cursor.cursor c.advance.new.self c.advance.new.finder c.in_ok-advance.field-0 c.args.transactions c.loop-cursor.place c.args.tables.now
           old mid so (c.in_ok-advance.ensures.leads (c.write_copies.ensures.honest h))) in
           replays-copies s c.blocks-2.result (reading old.disk) c.loop-cursor.cursor c.advance.new.self c.args.transactions c.loop-cursor.place c.args.tables.now old mid so
           (take c.in-Descriptor.count c.advance.new.finder.tags) c.in-Descriptor.count c.number_of-tid.result
           (sym (length-take-le c.in-Descriptor.count c.advance.new.finder.tags fits.0)) c.number_of-tid.ensures leads c.loop-cursor-test.true same next
-          (g.D.Device.state c.write_copies.new.device) c.advance.ensures.stays
+          (g.D.Device.state c.write_copies.new.device) c.advance.ensures.device.stays
           (c.in_ok-write_copies-in-Descriptor.ensures.made h leads.copies
           (replay-stand s c.blocks-2.result c.loop-cursor.cursor c.args.transactions c.loop-cursor.place c.args.tables.now old mid next (c.loop-cursor.cursor.position + 1) c.in-Descriptor.count
-          leads.copies so c.advance.ensures.stays leads.stand));
+          leads.copies so c.advance.ensures.device.stays leads.stand));
     }
 
 -- a read of the log failed
@@ -115,9 +115,9 @@ returns-in_err-advance-clause-begun g c =
     rw p.1
     (λ h texts are all tables_are.
     replays-unread s c.blocks-2.result (reading old.disk) c.loop-cursor.cursor c.loop-cursor.cursor c.args.transactions c.loop-cursor.place c.args.tables.now old
-    (g.D.Device.state c.loop-cursor.device) (before.replays (c.advance.ensures.honest h)) texts
+    (g.D.Device.state c.loop-cursor.device) (before.replays (c.advance.ensures.device.honest h)) texts
     (subst (λ (n : ℕ). IsChainOf s n (reading old.disk) texts) (sym c.blocks-2.ensures) are) all tables_are c.loop-cursor-test.true (g.D.Device.state c.advance.new.device)
-    c.advance.ensures.stays)
+    c.advance.ensures.device.stays)
 
 -- a copy could not be read or written
 pub returns-in_err-write_copies-in-Descriptor-clause-begun : goal.returns-in_err-write_copies-in-Descriptor-clause-begun
@@ -133,7 +133,7 @@ returns-in_err-write_copies-in-Descriptor-clause-begun g c =
     let p = err_from_is_err_and c.from_residual-in_err-write_copies-in-Descriptor.result c.from_residual-in_err-write_copies-in-Descriptor.ensures.1 in
     rw p.1
     (λ h texts are all tables_are.
-    let so = before.replays (c.advance.ensures.honest (c.write_copies.ensures.honest h)) in
+    let so = before.replays (c.advance.ensures.device.honest (c.write_copies.ensures.honest h)) in
     let leads = subst (LeadsTo s c.blocks-2.result (reading old.disk) so.texts so.pieces c.advance.new.finder c.loop-cursor.cursor c.advance.new.self) c.in-Descriptor.is
     (replay-led s c.blocks-2.result c.loop-cursor.cursor c.advance.new.self c.advance.new.finder c.in_ok-advance.field-0 c.args.transactions c.loop-cursor.place c.args.tables.now
     old mid so (c.in_ok-advance.ensures.leads (c.write_copies.ensures.honest h))) in
@@ -141,10 +141,10 @@ returns-in_err-write_copies-in-Descriptor-clause-begun g c =
     (take c.in-Descriptor.count c.advance.new.finder.tags) c.in-Descriptor.count c.number_of-tid.result
     (sym (length-take-le c.in-Descriptor.count c.advance.new.finder.tags fits.0)) c.number_of-tid.ensures leads texts
     (subst (λ (n : ℕ). IsChainOf s n (reading old.disk) texts) (sym c.blocks-2.ensures) are) all tables_are c.loop-cursor-test.true same next
-    (g.D.Device.state c.write_copies.new.device) c.advance.ensures.stays
+    (g.D.Device.state c.write_copies.new.device) c.advance.ensures.device.stays
     (c.in_err-write_copies-in-Descriptor.ensures.begun h leads.copies
     (replay-stand s c.blocks-2.result c.loop-cursor.cursor c.args.transactions c.loop-cursor.place c.args.tables.now old mid next (c.loop-cursor.cursor.position + 1) c.in-Descriptor.count
-    leads.copies so c.advance.ensures.stays leads.stand)))
+    leads.copies so c.advance.ensures.device.stays leads.stand)))
 
 -- the log reads otherwise, which an honest device's never does
 pub returns-in-Malformed-clause-refused : goal.returns-in-Malformed-clause-refused
@@ -158,7 +158,7 @@ returns-in-Malformed-clause-refused g c =
       no_fault = c.in_ok-advance.ensures.faults ∙ before.faults;
       some = let below = c.loop-cursor-test.true in omega arith;
       never = λ h texts are all.
-          let so = before.replays (c.advance.ensures.honest h) in
+          let so = before.replays (c.advance.ensures.device.honest h) in
           replays-nowhere s c.blocks-2.result (reading old.disk) c.loop-cursor.cursor c.advance.new.self c.advance.new.finder c.in_ok-advance.field-0 c.args.transactions
           c.loop-cursor.place c.args.tables.now old mid so
           (replay-led s c.blocks-2.result c.loop-cursor.cursor c.advance.new.self c.advance.new.finder c.in_ok-advance.field-0 c.args.transactions c.loop-cursor.place c.args.tables.now
@@ -171,7 +171,7 @@ returns-in-Malformed-clause-begun g c = λ h texts are all tables_are.
     let s : Super = c.args.log.now in
     let old : DeviceState = g.D.Device.state c.args.device.now in
     let mid : DeviceState = g.D.Device.state c.loop-cursor.device in
-    let so = c.loop-cursor.invariant.replays (c.advance.ensures.honest h) in
+    let so = c.loop-cursor.invariant.replays (c.advance.ensures.device.honest h) in
     let none = replays-nowhere s c.blocks-2.result (reading old.disk) c.loop-cursor.cursor c.advance.new.self c.advance.new.finder c.in_ok-advance.field-0 c.args.transactions
     c.loop-cursor.place c.args.tables.now old mid so
     (replay-led s c.blocks-2.result c.loop-cursor.cursor c.advance.new.self c.advance.new.finder c.in_ok-advance.field-0 c.args.transactions c.loop-cursor.place c.args.tables.now

@@ -1,8 +1,8 @@
 use Rattle.std.proofs.Common.{◌∙◌, ap, arith, subst}
 use Rattle.journal_model.specs.Disk.{Disk, reading}
+use Rattle.block_device.proofs.OneCall.{reads-on}
 use Rattle.log_model.specs.Superblock.{Super}
 use Rattle.log_scan.specs.Finding.{IsSequenceOf, log_block}
-use Rattle.log_scan.proofs.ScanSteps.{stays-joins}
 use Rattle.recovery.proofs.Surveys.{up-to-more}
 use Rattle.recovery.proofs.surveying.greatest_in_ring.Goals as goal
 
@@ -16,13 +16,12 @@ loop-place-preserved g c =
     let end = c.from-end.ensures ∙ ap (λ (s : Super). s.s_maxlen) (c.behind-log-2.view_is ∙ c.fields-2.ensures) in
     record {
       layout = c.sequence_at.ensures.layout ∙ before.layout;
-      stays = stays-joins _ _ _ before.stays c.sequence_at.ensures.stays;
+      device = reads-on before.device c.sequence_at.ensures.device;
       faults = c.in_ok-sequence_at.ensures.faults ∙ before.faults;
-      honest = λ h. before.honest (c.sequence_at.ensures.honest h);
       least = omega arith;
       greatest = λ h.
           up-to-more c.args.log.now (reading (g.D.Device.state c.args.device.now).disk) c.args.limit c.loop-place.place c.loop-place.greatest
           c.greater-greatest.result c.in_ok-sequence_at.field-0 (omega arith) (omega arith) before.least c.greater-greatest.ensures.least
-          (subst (λ (d : Disk). IsSequenceOf (log_block (reading d) c.loop-place.place) c.in_ok-sequence_at.field-0) before.stays.disk
-          (c.in_ok-sequence_at.ensures.sequence h)) c.greater-greatest.ensures.above (before.greatest (c.sequence_at.ensures.honest h));
+          (subst (λ (d : Disk). IsSequenceOf (log_block (reading d) c.loop-place.place) c.in_ok-sequence_at.field-0) before.device.stays.disk
+          (c.in_ok-sequence_at.ensures.sequence h)) c.greater-greatest.ensures.above (before.greatest (c.sequence_at.ensures.device.honest h));
     }

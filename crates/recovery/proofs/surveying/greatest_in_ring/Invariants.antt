@@ -1,6 +1,6 @@
 use Rattle.std.proofs.Common.{◌≡◌, ◌≤◌}
 use Rattle.journal_model.specs.Disk.{reading}
-use Rattle.block_device.specs.State.{Stays}
+use Rattle.block_device.specs.Call.{OnlyReads}
 use Rattle.recovery.proofs.Surveys.{IsGreatestUpTo}
 use Rattle.recovery.proofs.surveying.greatest_in_ring.Given as goal
 
@@ -8,9 +8,8 @@ use Rattle.recovery.proofs.surveying.greatest_in_ring.Given as goal
 abbrev pub invariant-loop-place : goal.invariant-loop-place
 invariant-loop-place g l = record {
   layout : l.finder.layout ≡ l.fn.finder.layout;
-  stays : Stays (g.D.Device.state l.fn.device) (g.D.Device.state l.device);
+  device : OnlyReads g.D.Device.state g.D.Device.honest l.fn.device l.device;
   faults : (g.D.Device.state l.device).faults ≡ (g.D.Device.state l.fn.device).faults;
-  honest : g.D.Device.honest l.device → g.D.Device.honest l.fn.device;
   least : l.limit ≤ l.greatest;
   greatest : g.D.Device.honest l.device → IsGreatestUpTo l.log (reading (g.D.Device.state l.fn.device).disk) l.limit l.place l.greatest;
 }

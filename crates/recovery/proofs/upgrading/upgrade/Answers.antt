@@ -20,7 +20,7 @@ returns-in_err-block-clause-refused g c =
     let p = err_from_is_err_and c.from_residual.result c.from_residual.ensures.1 in
     rw (p.1, p.2)
     (reading-refused (g.D.Device.honest c.read_super.new.device) (g.D.Device.state c.args.device.now) (g.D.Device.state c.read_super.new.device)
-    c.in_err-block.field-0.0 c.read_super.ensures.stays c.in_err-block.ensures.faults)
+    c.in_err-block.field-0.0 c.read_super.ensures.device.stays c.in_err-block.ensures.faults)
 
 -- its fields are
 pub returns-in_err-may_be_upgraded-clause-refused : goal.returns-in_err-may_be_upgraded-clause-refused
@@ -29,7 +29,7 @@ returns-in_err-may_be_upgraded-clause-refused g c =
     rw (p.1, p.2)
     (fields-refused (g.D.Device.honest c.read_super.new.device) (g.D.Device.state c.args.device.now) (g.D.Device.state c.read_super.new.device)
     c.in_ok-block.block c.in_ok-block.log c.in_err-may_be_upgraded.field-0.0 c.in_ok-block.ensures.well c.in_ok-block.ensures.read
-    c.read_super.ensures.stays c.in_ok-block.ensures.faults (rw c.fields.ensures at c.in_err-may_be_upgraded.ensures.err))
+    c.read_super.ensures.device.stays c.in_ok-block.ensures.faults (rw c.fields.ensures at c.in_err-may_be_upgraded.ensures.err))
 
 -- one of the calls failed
 pub returns-in_err-write_widened-clause-broken : goal.returns-in_err-write_widened-clause-broken
@@ -42,7 +42,7 @@ returns-in_err-write_widened-clause-broken g c =
     Writing c.in_ok-block.block
     (upgradable-on s c.in_ok-block.block c.in_ok-block.log c.in_ok-block.ensures.well (c.in_ok-block.ensures.read (c.write_widened.ensures.honest honest)) may.0 may.1)
     (begun-behind (upgrade_calls c.in_ok-block.block) s (g.D.Device.state c.read_super.new.device) (g.D.Device.state c.write_widened.new.device)
-    c.read_super.ensures.stays c.in_err-write_widened.ensures.begun))
+    c.read_super.ensures.device.stays c.in_err-write_widened.ensures.begun))
 
 pub returns-in_err-write_widened-clause-moments : goal.returns-in_err-write_widened-clause-moments
 returns-in_err-write_widened-clause-moments g c = λ honest.
@@ -51,7 +51,7 @@ returns-in_err-write_widened-clause-moments g c = λ honest.
     begun-upgrade-moments s.shape c.in_ok-block.block s (g.D.Device.state c.write_widened.new.device)
     (upgradable-on s c.in_ok-block.block c.in_ok-block.log c.in_ok-block.ensures.well (c.in_ok-block.ensures.read (c.write_widened.ensures.honest honest)) may.0 may.1)
     (begun-behind (upgrade_calls c.in_ok-block.block) s (g.D.Device.state c.read_super.new.device) (g.D.Device.state c.write_widened.new.device)
-    c.read_super.ensures.stays c.in_err-write_widened.ensures.begun)
+    c.read_super.ensures.device.stays c.in_err-write_widened.ensures.begun)
 
 -- all of them succeeded
 pub returns-clause-upgraded : goal.returns-clause-upgraded
@@ -63,7 +63,7 @@ returns-clause-upgraded g c = λ honest.
       on = upgradable-on s c.in_ok-block.block c.in_ok-block.log c.in_ok-block.ensures.well (c.in_ok-block.ensures.read (c.write_widened.ensures.honest honest)) may.0 may.1;
       made =
           stays-made (upgrade_calls c.in_ok-block.block) s (g.D.Device.state c.read_super.new.device) (g.D.Device.state c.write_widened.new.device)
-          c.read_super.ensures.stays c.in_ok-write_widened.ensures.made;
+          c.read_super.ensures.device.stays c.in_ok-write_widened.ensures.made;
       sequence_is = ap (λ (f : Super). f.s_sequence) (c.behind-log.view_is ∙ c.fields-2.ensures ∙ c.in_ok-block.ensures.well.fields_are);
     }
 
@@ -74,7 +74,7 @@ returns-clause-run g c = λ honest.
     let may = rw c.fields.ensures at c.in_ok-may_be_upgraded.ensures.ok in
     let made =
     stays-made (upgrade_calls c.in_ok-block.block) s (g.D.Device.state c.read_super.new.device) (g.D.Device.state c.write_widened.new.device)
-    c.read_super.ensures.stays c.in_ok-write_widened.ensures.made in (
+    c.read_super.ensures.device.stays c.in_ok-write_widened.ensures.made in (
       c.in_ok-block.block,
       upgrade-leads s.shape c.in_ok-block.block s.disk (g.D.Device.state c.write_widened.new.device).disk
           (upgradable-on s c.in_ok-block.block c.in_ok-block.log c.in_ok-block.ensures.well (c.in_ok-block.ensures.read (c.write_widened.ensures.honest honest)) may.0 may.1)
@@ -89,4 +89,4 @@ returns-clause-moments g c = λ honest.
     made-upgrade-moments s.shape c.in_ok-block.block s (g.D.Device.state c.write_widened.new.device)
     (upgradable-on s c.in_ok-block.block c.in_ok-block.log c.in_ok-block.ensures.well (c.in_ok-block.ensures.read (c.write_widened.ensures.honest honest)) may.0 may.1)
     (stays-made (upgrade_calls c.in_ok-block.block) s (g.D.Device.state c.read_super.new.device) (g.D.Device.state c.write_widened.new.device)
-    c.read_super.ensures.stays c.in_ok-write_widened.ensures.made)
+    c.read_super.ensures.device.stays c.in_ok-write_widened.ensures.made)

@@ -8,5 +8,5 @@ pub returns-clause-read : goal.returns-clause-read
 returns-clause-read g c = λ honest.
     let old = g.D.Device.state c.args.device.now in
     read-log old.shape (reading old.disk) (length c.bytes.result.now) c.blocks-2.result c.bytes.result.now c.in_ok-fields.fields c.new.result
-    (ap length c.bytes.ensures ∙ c.in_ok-superblock.ensures.size) (c.blocks-2.ensures ∙ ap (λ (s : Shape). s.log_blocks) c.read_block.ensures.stays.shape)
+    (ap length c.bytes.ensures ∙ c.in_ok-superblock.ensures.size) (c.blocks-2.ensures ∙ ap (λ (s : Shape). s.log_blocks) c.read_block.ensures.device.stays.shape)
     (c.bytes.ensures ∙ c.in_ok-superblock.ensures.bytes honest) (c.in_ok-fields.ensures.tests old.shape.home_blocks) c.in_ok-fields.ensures.fields c.new.ensures

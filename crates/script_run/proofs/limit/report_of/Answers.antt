@@ -19,10 +19,10 @@ returns-clause-tells g c = λ honest.
     let mid = g.D.Device.state c.read_log.new.device in
     let log = c.in_ok-log.log in
     let count = c.in_ok-transactions.transactions in
-    let home = c.blocks-home_blocks.ensures ∙ ap (λ (s : Shape). s.home_blocks) c.read_log.ensures.stays.shape in
+    let home = c.blocks-home_blocks.ensures ∙ ap (λ (s : Shape). s.home_blocks) c.read_log.ensures.device.stays.shape in
     let scanned =
     subst (λ (n : ℕ). IsScanned log n (reading old.disk) count) home
-    (subst (λ (d : Disk). IsScanned log c.blocks-home_blocks.result (reading d) count) c.read_log.ensures.stays.disk (c.in_ok-transactions.ensures.scanned honest)) in
+    (subst (λ (d : Disk). IsScanned log c.blocks-home_blocks.result (reading d) count) c.read_log.ensures.device.stays.disk (c.in_ok-transactions.ensures.scanned honest)) in
     subst (λ (n : ℕ). Tells old.shape (reading old.disk) false (n + count) count) (sym c.first_number-2.ensures.value)
-    (tells-chain old.shape (reading old.disk) log (c.in_ok-log.ensures.read (c.scan.ensures.honest honest))
+    (tells-chain old.shape (reading old.disk) log (c.in_ok-log.ensures.read (c.scan.ensures.device.honest honest))
     (test-started log.s_start c.if-is_clean.ensures) count scanned)

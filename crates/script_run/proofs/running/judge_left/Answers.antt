@@ -19,4 +19,4 @@ returns-in-Some g c =
     let named = c.args.named.now in
     IfOk-weaker c.judge_stopped_opening.result (IsOpeningVerdict (state_of mid) c.in-Some.k keep sealed shown named) (IsLeftVerdict left.image c.args.opening sealed shown named)
     (λ right is. subst (λ (at : Option ℕ). IsVerdictBy at keep left.image sealed shown named right) (sym c.in-Some.is)
-    (left-verdict (Some c.in-Some.k) keep left.image mid sealed shown named right c.dump.ensures.stays is)) c.judge_stopped_opening.ensures
+    (left-verdict (Some c.in-Some.k) keep left.image mid sealed shown named right c.dump.ensures.device.stays is)) c.judge_stopped_opening.ensures

@@ -7,7 +7,7 @@ use Rattle.log_ledger.specs.Due.{call_of}
 use Rattle.log_ledger.specs.Ledger.{Runs, engine_of}
 use Rattle.log_ledger.proofs.Outcomes.{at-err, at-ok, count-err, count-ok}
 use Rattle.log_engine.specs.Engine.{RoundRefused}
-use Rattle.log_engine.proofs.OneCall.{no-call}
+use Rattle.block_device.proofs.OneCall.{no-call}
 use Rattle.log_engine.proofs.Effects.{round-fault-noted, round-noted}
 use Rattle.log_engine.proofs.FewerCalls.{round-fewer}
 use Rattle.log_engine.proofs.KeptClean.{round-clean, round-fault-clean}

@@ -10,7 +10,7 @@ use Rattle.log_ledger.proofs.Advancing.{faults-on}
 use Rattle.log_ledger.proofs.Running.{superblock-of}
 use Rattle.log_ledger.proofs.Outcomes.{at-err, at-ok, count-err, count-ok}
 use Rattle.log_engine.specs.Engine.{StepRefused}
-use Rattle.log_engine.proofs.OneCall.{no-call}
+use Rattle.block_device.proofs.OneCall.{no-call}
 use Rattle.log_engine.proofs.Effects.{step-noted}
 use Rattle.log_engine.proofs.FewerCalls.{step-fewer}
 use Rattle.log_engine.proofs.KeptClean.{fault-clean, step-clean}

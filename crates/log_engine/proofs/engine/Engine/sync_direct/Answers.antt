@@ -4,7 +4,7 @@ use Rattle.journal_world.specs.Call.Call.{Flush}
 use Rattle.journal_world.specs.Direct.DirectCall.{SyncDirect}
 use Rattle.journal_world.specs.Sound.{Sound}
 use Rattle.log_engine.specs.Direct.{DirectSyncRefused}
-use Rattle.log_engine.proofs.OneCall.{no-call}
+use Rattle.block_device.proofs.OneCall.{no-call}
 use Rattle.log_engine.proofs.Directs.{during-sync, each-sync, sync-lost}
 use Rattle.log_engine.proofs.engine.Engine.sync_direct.Goals as goal
 

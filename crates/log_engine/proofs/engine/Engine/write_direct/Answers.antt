@@ -8,7 +8,7 @@ use Rattle.journal_world.specs.Sound.{Sound}
 use Rattle.log_ledger.specs.Ledger.{engine_of}
 use Rattle.log_engine.specs.Direct.{DirectWriteRefused}
 use Rattle.log_engine.specs.Engine.{EngineValue}
-use Rattle.log_engine.proofs.OneCall.{no-call}
+use Rattle.block_device.proofs.OneCall.{no-call}
 use Rattle.log_engine.proofs.Calls.{on-ok}
 use Rattle.log_engine.proofs.Directs.{during-write, each-write, write-lost}
 use Rattle.log_engine.proofs.LeftBlocks.{table-told}

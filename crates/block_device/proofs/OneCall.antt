@@ -1,10 +1,18 @@
 -- Functions that make one call of a device, and functions that only read it.
 use Rattle.std.proofs.Common.{arith, refl, sym, subst, ◌∙◌, ◌≡◌}
 use Rattle.journal_model.specs.Disk.{Disk}
-use Rattle.block_device.specs.State.{DeviceState, EachMoment}
+use Rattle.block_device.specs.State.{DeviceState, EachMoment, Stays}
 use Rattle.block_device.proofs.Moments.{each-moves, each-stays}
-use Rattle.log_engine.specs.Call.{IsOneMoment, MakesOneCall, OnlyReads}
-use Rattle.log_engine.specs.Call.IsOneMoment.{Same, Another}
+use Rattle.block_device.specs.Call.{IsOneMoment, MakesOneCall, OnlyReads}
+use Rattle.block_device.specs.Call.IsOneMoment.{Same, Another}
+
+-- two calls that changed nothing, one after the other
+pub stays-joins : (s t u : DeviceState) → Stays s t → Stays t u → Stays s u
+stays-joins s t u first second = record {
+  shape = second.shape ∙ first.shape;
+  disk = second.disk ∙ first.disk;
+  past = second.past ∙ first.past;
+}
 
 -- what holds of the disk before and of the one behind holds at each moment
 pub each-one : (P : Disk → Type 0) (old new : DeviceState) → IsOneMoment old new → P old.disk → P new.disk → EachMoment P old new
@@ -44,10 +52,6 @@ module _ {A : Type 0} {state : A → DeviceState} {Honest : A → Type 0} where
   -- reads behind others
   pub reads-on : {a b c : A} → OnlyReads state Honest a b → OnlyReads state Honest b c → OnlyReads state Honest a c
   reads-on {a} {b} {c} first second = record {
-    stays = record {
-      shape = second.stays.shape ∙ first.stays.shape;
-      disk = second.stays.disk ∙ first.stays.disk;
-      past = second.stays.past ∙ first.stays.past;
-    };
+    stays = stays-joins (state a) (state b) (state c) first.stays second.stays;
     honest = λ honest. first.honest (second.honest honest);
   }
