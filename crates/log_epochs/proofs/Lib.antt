@@ -7,6 +7,7 @@ pub mod Leading
 pub mod Lives
 pub mod Moments
 pub mod OpeningLeads
+pub mod OpeningMoments
 pub mod Replaying
 pub mod Running
 pub mod UpgradeMoments

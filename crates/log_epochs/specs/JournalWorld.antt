@@ -2,15 +2,16 @@
 -- are those which the contracts of the crate that runs it cite.
 -- Source: the GoJournal paper (atomic handles over a disk that may crash at any step), journalling.rst.
 use Rattle.std.specs.Prelude.{◌≡◌, ⊤, ℕ, ◌≤◌, List, [], ◌∷◌, Option, Some, None}
+use Rattle.journal_model.specs.Disk.{Disk, Image}
 use Rattle.journal_world.specs.Front.{Front}
 use Rattle.journal_world.specs.Journal.{Event, Happens, IsFresh, Journal}
 use Rattle.journal_world.specs.Journal.Event.{FrontStep, Seal, CommitStep as Commit, CommitFault as CommitFails, CheckpointStep as Checkpoint, CheckpointFault as CheckpointFails, ReadBlock, ReadFault as ReadFails, DirectWrite as WriteDirect, DirectWriteFault as WriteDirectFails, DirectSync as SyncDirect, DirectSyncFault as SyncDirectFails, Finish, AbortMark}
 use Rattle.log_epochs.specs.EngineSteps.{Event as EngineEvent}
 use Rattle.log_epochs.specs.EngineSteps.Event.{Accept, Read, CommitStep, CommitFault, CheckpointStep, CheckpointFault, ReadFault, DirectWrite, DirectWriteFault, DirectSync, DirectSyncFault}
-use Rattle.log_epochs.specs.EngineWorld.{Begins as BelowBegins, Move as BelowMove, Moves as BelowMoves, World}
+use Rattle.log_epochs.specs.EngineWorld.{Begins as BelowBegins, Move as BelowMove, Moves as BelowMoves, Phase, World}
 use Rattle.log_epochs.specs.EngineWorld.Move.{Step as EngineStep, CloseStep, CloseFault, GiveUp, Stop, Begin, OpeningStep, OpeningFault, AnswerOk, Upgrade}
 use Rattle.log_epochs.specs.EngineWorld.Phase.{Running}
-use Rattle.log_epochs.specs.Epoch.{Epoch}
+use Rattle.log_epochs.specs.Epoch.{Epoch, pinning}
 
 -- the front of an epoch, and the numbers of the transactions that a wait or a status told committed in it
 pub record Told : Type 0 where
@@ -139,3 +140,16 @@ pub record Begins (w : JournalWorld) : Type 0 where
   pub below : BelowBegins w.below
   pub fresh : TellsNothing w.below.epoch w.told
   pub first : w.past ≡ []
+
+-- an epoch as it was, or pinned
+pub data PinsAtMost (old new : Option Epoch) : Type 0 where
+  Unpinned : new ≡ old → PinsAtMost old new
+  PinnedAt : (image : Image) → new ≡ pinning old image → PinsAtMost old new
+
+-- moves of an opening lead from this world to this disk: nothing else changes but who works on it, and the epoch may be pinned
+pub record ComesTo (w : JournalWorld) (disk : Disk) : Type 0 where
+  pub phase : Phase
+  pub epoch : Option Epoch
+  pub pins : PinsAtMost w.below.epoch epoch
+  pub moves : List Move
+  pub leads : Leads w moves (record w { below = record w.below { disk = disk; phase = phase; epoch = epoch } })

@@ -13,7 +13,7 @@ ghost use Rattle.log_epochs.specs.EngineWorld.{World, Move, Begins, ComesToRun, 
 ghost use Rattle.log_epochs.specs.EngineWorld.Phase.{Shut};
 ghost use Rattle.log_epochs.specs.EnginePromise.{KeepsPromise};
 ghost use Rattle.log_epochs.specs.DirectPromise.{IsSynced, KeepsDirect, since_write};
-ghost use Rattle.log_epochs.specs.JournalWorld.{JournalWorld, Move as JournalMove, Begins as JournalBegins, Leads as JournalLeads};
+ghost use Rattle.log_epochs.specs.JournalWorld.{ComesTo, JournalWorld, Move as JournalMove, Begins as JournalBegins, Leads as JournalLeads};
 ghost use Rattle.log_epochs.specs.JournalDirect.{IsSynced as JournalIsSynced, KeepsDirect as JournalKeepsDirect, since_write as journal_since_write};
 ghost use Rattle.log_epochs.specs.JournalPromise.{KeepsPromise as JournalKeepsPromise};
 
@@ -21,6 +21,12 @@ ghost use Rattle.log_epochs.specs.JournalPromise.{KeepsPromise as JournalKeepsPr
 /// opens to what every image opened to at that flush.
 pub fn every_moment_of_an_opening_keeps_n()
     ensures { (shape : Shape) (old disk : Disk) → IsMoment shape old disk → KeepsCount shape old disk }
+{}
+
+/// To each moment of an opening moves of the machine lead, whatever came before: it begins where nobody works on the device, makes
+/// calls, and may fail in one.
+pub fn every_moment_of_an_opening_is_reached()
+    ensures { (w : JournalWorld) (disk : Disk) → w.below.phase ≡ Shut → IsMoment w.below.shape w.below.disk disk → ComesTo w disk }
 {}
 
 /// At each moment of an upgrade nothing is written yet, or the log was flushed, and then each image that a stop may leave opens to
