@@ -1,12 +1,9 @@
-//! Tests that no row can stand for: of devices and commands over real files, of tables and transactions, of threads, and of the
-//! example. There is nothing here but tests, and all call public functions alone: so no other library is proved a second time for
-//! them.
+//! Tests that no row can stand for: of devices over real files, of tables and transactions, of threads, and of the example. There
+//! is nothing here but tests, and all call public functions alone: so no other library is proved a second time for them.
 #![tactic(auto)]
 
 #[cfg(test)]
 mod bytes;
-#[cfg(test)]
-mod commands;
 #[cfg(test)]
 mod credits;
 #[cfg(test)]
