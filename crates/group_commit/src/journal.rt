@@ -101,6 +101,13 @@ impl<D: Device, R: Record> Journal<D, R> {
         Journal { front, engine }
     }
 
+    /// Its front, to be looked at.
+    pub fn front(&self) -> &Front<R>
+        ensures { result.now ≡ self.now.journal.front }
+    {
+        &self.front
+    }
+
     /// How many bytes a block has.
     pub fn block_size(&self) -> usize
         ensures { result ≡ (D.state self.now.device).shape.block_size }

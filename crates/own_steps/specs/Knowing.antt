@@ -1,0 +1,58 @@
+-- What holders still know behind the steps of a journal, and what the one knows whose step it is.
+use Rattle.std.specs.Prelude.{◌≡◌, ◌≢◌, ℕ, Option, Some, None}
+use Rattle.journal_world.specs.Front.{Front, FrontEvent}
+use Rattle.journal_world.specs.Front.FrontEvent.{Reserve, RefuseReserve, TakeBack, GiveBack, LoadCredits, LoadMark, Join, ExtendHandle, WriteBlock, RevokeBlock, StopHandle, Lock, Raise}
+use Rattle.journal_world.specs.Journal.{Event}
+use Rattle.journal_world.specs.Journal.Event.{FrontStep, Seal, CommitStep, CommitFault, CheckpointStep, CheckpointFault, ReadBlock, ReadFault, DirectWrite, DirectWriteFault, DirectSync, DirectSyncFault, Finish, AbortMark}
+use Rattle.parts.specs.Parts.{MayBecome}
+use Rattle.own_steps.specs.declared.own.OwnSteps.{OwnSteps}
+use Rattle.own_steps.specs.Own.{AreApart, IsOwn}
+
+-- the open handle whose step it is
+abbrev pub handle_of : FrontEvent → Option ℕ
+handle_of (Reserve n) = None
+handle_of (RefuseReserve n) = None
+handle_of (TakeBack n) = None
+handle_of (GiveBack n) = None
+handle_of (LoadCredits found) = None
+handle_of (LoadMark found) = None
+handle_of (Join n) = None
+handle_of (ExtendHandle h n) = Some h
+handle_of (WriteBlock h b v) = Some h
+handle_of (RevokeBlock h b) = Some h
+handle_of (StopHandle h) = Some h
+handle_of Lock = None
+handle_of (Raise t) = None
+
+abbrev pub actor : Event → Option ℕ
+actor (FrontStep event) = handle_of event
+actor Seal = None
+actor CommitStep = None
+actor CommitFault = None
+actor CheckpointStep = None
+actor CheckpointFault = None
+actor (ReadBlock h b v) = Some h
+actor ReadFault = None
+actor (DirectWrite b v) = None
+actor (DirectWriteFault b v) = None
+actor DirectSync = None
+actor DirectSyncFault = None
+actor Finish = None
+actor AbortMark = None
+
+-- each holder knows what it knew
+abbrev pub AllStillKnow : Front → Front → Type 0
+AllStillKnow old new = (x : OwnSteps) → IsOwn old x → IsOwn new x
+
+-- each but the one with this handle does
+abbrev pub OthersStillKnow : ℕ → Front → Front → Type 0
+OthersStillKnow n old new = (x : OwnSteps) → n ≢ x.number → IsOwn old x → IsOwn new x
+
+-- one more holder knows this of the new record, and the others what they knew
+abbrev pub MayAdd : Front → Front → OwnSteps → Type 0
+MayAdd old new own = MayBecome IsOwn AreApart old None new (Some own)
+
+-- a holder who knew the one of the old record knows the other of the new one, and the others what they knew
+abbrev pub MayGo : Front → OwnSteps → Front → OwnSteps → Type 0
+MayGo old own new next =
+    (had : Option OwnSteps) → had ≡ Some own → ((h : OwnSteps) → had ≡ Some h → IsOwn old h) → MayBecome IsOwn AreApart old had new (Some next)

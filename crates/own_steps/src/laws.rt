@@ -1,0 +1,53 @@
+//! What becomes of what holders know by each step of a journal. Each function states a law of the words in `specs/`, and has no body to
+//! run.
+ghost use Rattle.std.specs.Prelude.{◌≡◌, ◌≢◌, ◌≤◌, ◌+◌, ◌++◌, [], ◌∷◌, List, None, Some, ℕ};
+ghost use Rattle.journal_model.specs.declared.transaction.Step.{Step};
+ghost use Rattle.journal_model.specs.Disk.{Disk};
+ghost use Rattle.journal_world.specs.Front.FrontEvent.{ExtendHandle, Join, RevokeBlock, StopHandle, WriteBlock};
+ghost use Rattle.journal_world.specs.Front.{Front, FrontHappens, next_handle, read_step, reading_block, revoke_step, transactions, write_step};
+ghost use Rattle.journal_world.specs.Journal.{Event, Happens, Journal};
+ghost use Rattle.journal_front.specs.Front.{IsOpenHandle, Spends};
+ghost use Rattle.journal_front.specs.Values.{HandleValue};
+ghost use Rattle.journal_steps.specs.Handles.{KeepsHandles};
+ghost use Rattle.journal_steps.specs.Journal.{Agrees};
+ghost use Rattle.own_steps.specs.declared.own.OwnSteps.{OwnSteps};
+ghost use Rattle.own_steps.specs.Knowing.{MayAdd, MayGo, actor};
+ghost use Rattle.own_steps.specs.Own.{BearsOut, IsOwn, credits_of, open_own, stopped_own};
+
+/// Whatever step a journal makes, each holder knows what it knew, but the one whose handle it is a step of.
+pub fn a_step_leaves_the_others_what_they_know()
+    ensures { (old new : Journal) (disk after : Disk) (event : Event) (x : OwnSteps) → KeepsHandles old.front → actor event ≢ Some x.number →
+        Happens old disk event new after → IsOwn old.front x → IsOwn new.front x }
+{}
+
+/// Who joins knows that its handle has no steps.
+pub fn a_handle_that_joins_has_no_steps()
+    ensures { (old new : Front) (n : ℕ) → KeepsHandles old → FrontHappens old (Join n) new →
+        MayAdd old new (open_own (record { number = next_handle old; tid = old.running.tid; left = n }) []) }
+{}
+
+/// A handle's steps are those that it made, one by one.
+pub fn a_step_is_noted_for_its_handle()
+    ensures extend { (old new : Front) (h : HandleValue) (n : ℕ) (steps : List Step) → KeepsHandles old → FrontHappens old (ExtendHandle h.number n) new →
+        MayGo old (open_own h steps) new (open_own (record h { left = h.left + n }) steps) }
+    ensures write { (old new : Front) (h after : HandleValue) (b : ℕ) (v : List ℕ) (steps : List Step) → KeepsHandles old →
+        FrontHappens old (WriteBlock h.number b v) new → Spends old b h after →
+        MayGo old (open_own h steps) new (open_own after (steps ++ write_step h.number b v ∷ [])) }
+    ensures revoke { (old new : Front) (h after : HandleValue) (b : ℕ) (steps : List Step) → KeepsHandles old →
+        FrontHappens old (RevokeBlock h.number b) new → Spends old b h after →
+        MayGo old (open_own h steps) new (open_own after (steps ++ revoke_step h.number b ∷ [])) }
+    ensures read { (old : Front) (h : HandleValue) (b : ℕ) (v : List ℕ) (steps : List Step) → KeepsHandles old → IsOpenHandle old h →
+        MayGo old (open_own h steps) (reading_block old h.number b v) (open_own h (steps ++ read_step h.number b v ∷ [])) }
+    ensures stop { (old new : Front) (h : HandleValue) (steps : List Step) → KeepsHandles old → FrontHappens old (StopHandle h.number) new →
+        MayGo old (open_own h steps) new (stopped_own h.number h.tid steps) }
+{}
+
+/// What the holder of an open handle knows makes it an open one.
+pub fn a_handle_that_has_not_stopped_is_open()
+    ensures { (f : Front) (h : HandleValue) (steps : List Step) → IsOwn f (open_own h steps) → IsOpenHandle f h }
+{}
+
+/// The record bears out each receipt.
+pub fn the_record_bears_out_a_receipt()
+    ensures { (j : Journal) (own : OwnSteps) → Agrees j → IsOwn j.front own → own.tid ≤ j.front.mark → BearsOut j.engine.committed (transactions j.front) own }
+{}
