@@ -26,7 +26,7 @@ numbers-least (suc n) =
     (all-weaker (λ h. h ≤ n) (λ h. h ≤ suc n) (λ h low. omega arith) (handle_numbers n) (numbers-least n)) (omega arith, tt)
 
 -- so none of the handles has a number that is still to be given
-has-handles : (f : Front) → KeepsHandles f → HasHandles f.given (f.sealed ++ f.running ∷ [])
+pub has-handles : (f : Front) → KeepsHandles f → HasHandles f.given (f.sealed ++ f.running ∷ [])
 has-handles f kept = record { each = kept.each; all = kept.all; least = subst (AllByRecursion (λ h. h ≤ f.given)) (sym kept.all) (numbers-least f.given) }
 
 -- nor does a handle of the running transaction

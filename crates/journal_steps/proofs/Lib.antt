@@ -1,8 +1,8 @@
 -- The lemmas of this crate that crates above it cite.
+pub mod Audited
 pub mod Kept
 pub mod Turning
 -- The others.
-mod Audited
 mod Directs
 mod Noting
 mod Quarter

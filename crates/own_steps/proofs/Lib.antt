@@ -1,1 +1,8 @@
 -- The lemmas of this crate that crates above it cite.
+pub mod Bearing
+pub mod Becoming
+pub mod Calls
+-- The others.
+mod Keeping
+mod Lists
+mod Standing

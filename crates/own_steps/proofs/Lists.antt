@@ -1,6 +1,6 @@
 -- The steps of one handle among others, what a look-up among open handles finds, and a list with one more element behind it.
 use Rattle.std.proofs.Common.{refl, sym, ◌∙◌, ap, subst, arith, inl, inr, cond, eq-eqb, ne_eqb, append-nil, length-append}
-use Rattle.std.specs.Prelude.{◌≡◌, ◌≢◌, ◌⊎◌, ℕ, nat_eq, Bool, true, false, List, [], ◌∷◌, ◌++◌, length, map, filter, Option, Some, None, All, Contains}
+use Rattle.std.specs.Prelude.{◌≡◌, ◌≢◌, ℕ, ◌+◌, nat_eq, Bool, true, false, List, [], ◌∷◌, ◌++◌, length, map, filter, Option, Some, None, All, Contains}
 use Rattle.std.specs.List.{AllByRecursion, IsDistinct}
 use Rattle.std.specs.Map.{lookup}
 use Rattle.std.proofs.lemmas.Bool.Decides.{nat_tests}
@@ -28,13 +28,13 @@ steps-of_other n ss s differs =
     ∙ (ap (λ (b : Bool). steps_by n ss ++ cond b (s ∷ []) []) (apart n s.handle differs) ∙ append-nil (steps_by n ss))
 
 none-by : (n : ℕ) (hs : List ℕ) (ss : List Step) → AllByRecursion (λ s. Contains hs s.handle) ss → (Contains hs n → ⊥) → steps_by n ss ≡ []
-none-by n hs [] all no = refl
-none-by n hs (s ∷ ss) all no =
-    ap (λ (b : Bool). cond b (s ∷ steps_by n ss) (steps_by n ss)) (apart n s.handle (λ e. no (subst (Contains hs) e all.0))) ∙ none-by n hs ss all.1 no
+none-by n hs [] all outside = refl
+none-by n hs (s ∷ ss) all outside =
+    ap (λ (b : Bool). cond b (s ∷ steps_by n ss) (steps_by n ss)) (apart n s.handle (λ e. outside (subst (Contains hs) e all.0))) ∙ none-by n hs ss all.1 outside
 
 -- where all steps are those of some handles, there is none of another
 pub steps-none : (n : ℕ) (hs : List ℕ) (ss : List Step) → All (λ s. Contains hs s.handle) ss → (Contains hs n → ⊥) → steps_by n ss ≡ []
-steps-none n hs ss all no = none-by n hs ss (recursion_from_All (λ s. Contains hs s.handle) ss all) no
+steps-none n hs ss all outside = none-by n hs ss (recursion_from_All (λ s. Contains hs s.handle) ss all) outside
 
 -- a handle among others does not matter where another number is looked up
 pub lookup-without : (n h left : ℕ) (before behind : List (ℕ × ℕ)) → h ≢ n → lookup (nat_eq n) (before ++ (h, left) ∷ behind) ≡ lookup (nat_eq n) (before ++ behind)
@@ -86,10 +86,13 @@ pub data Split {X : Type 0} (xs : List X) (x : X) (before : List X) (y : X) (beh
   IsBefore : (rest : List X) → xs ≡ before ++ y ∷ rest → behind ≡ rest ++ x ∷ [] → Split xs x before y behind
 
 pub splits : {X : Type 0} (xs : List X) (x : X) (before : List X) (y : X) (behind : List X) → xs ++ x ∷ [] ≡ before ++ y ∷ behind → Split xs x before y behind
-splits [] x [] y behind is = IsLast refl cc cc
+splits [] x [] y behind is =
+    let head : y ≡ x = cc in
+    let tail : behind ≡ [] = cc in
+    IsLast refl head tail
 splits [] x (b ∷ before) y behind is =
     let size : 1 ≡ length (b ∷ before ++ y ∷ behind) = ap length is in
-    let sum : length (before ++ y ∷ behind) ≡ length before + (1 + length behind) = length-append before (y ∷ behind) in
+    let sum = length-append before (y ∷ behind) in
     absurd (omega arith)
 splits (z ∷ xs) x [] y behind is =
     let tail : xs ++ x ∷ [] ≡ behind = cc in
@@ -101,5 +104,5 @@ splits (z ∷ xs) x (b ∷ before) y behind is =
     more head (splits xs x before y behind tail)
   where
     more : z ≡ b → Split xs x before y behind → Split (z ∷ xs) x (b ∷ before) y behind
-    more head (IsLast same one none) = IsLast (cc) one none
-    more head (IsBefore rest same last) = IsBefore rest (cc) last
+    more head (IsLast same one none) = let all : b ∷ before ≡ z ∷ xs = cc in IsLast all one none
+    more head (IsBefore rest same last) = let all : z ∷ xs ≡ b ∷ before ++ y ∷ rest = cc in IsBefore rest all last

@@ -36,7 +36,7 @@ pub fn a_step_is_noted_for_its_handle()
     ensures revoke { (old new : Front) (h after : HandleValue) (b : ℕ) (steps : List Step) → KeepsHandles old →
         FrontHappens old (RevokeBlock h.number b) new → Spends old b h after →
         MayGo old (open_own h steps) new (open_own after (steps ++ revoke_step h.number b ∷ [])) }
-    ensures read { (old : Front) (h : HandleValue) (b : ℕ) (v : List ℕ) (steps : List Step) → KeepsHandles old → IsOpenHandle old h →
+    ensures read { (old : Front) (h : HandleValue) (b : ℕ) (v : List ℕ) (steps : List Step) →
         MayGo old (open_own h steps) (reading_block old h.number b v) (open_own h (steps ++ read_step h.number b v ∷ [])) }
     ensures stop { (old new : Front) (h : HandleValue) (steps : List Step) → KeepsHandles old → FrontHappens old (StopHandle h.number) new →
         MayGo old (open_own h steps) new (stopped_own h.number h.tid steps) }
