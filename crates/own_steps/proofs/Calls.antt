@@ -4,7 +4,7 @@ use Rattle.std.specs.Prelude.{◌≡◌, ◌≢◌, ◌⊎◌, ℕ, ◌+◌, ◌
 use Rattle.std.specs.Map.{lookup}
 use Rattle.std.proofs.lemmas.Bool.{cases_eq}
 use Rattle.std.proofs.lemmas.Bool.Decides.{leb_tells}
-use Rattle.std.proofs.lemmas.Option.{same_Some}
+use Rattle.std.proofs.lemmas.Option.{none-some}
 use Rattle.block_device.specs.State.{DeviceState}
 use Rattle.journal_model.specs.declared.refusal.JournalError.{JournalError}
 use Rattle.journal_model.specs.declared.transaction.Step.{Step}
@@ -30,10 +30,10 @@ use Rattle.journal_steps.specs.Values.{JournalValue}
 use Rattle.group_commit.specs.Extension.{Extends, Starts}
 use Rattle.own_steps.specs.declared.own.HandleStage.{HandleStage}
 use Rattle.own_steps.specs.declared.own.OwnSteps.{OwnSteps}
-use Rattle.own_steps.specs.Knowing.{AllStillKnow, MayAdd, MayGo}
+use Rattle.own_steps.specs.Knowing.{AllStillKnow, MayAdd, MayGo, actor}
 use Rattle.own_steps.specs.Own.{IsOwn, Stands, asked_own, credits_of, open_own, stopped_own}
 use Rattle.own_steps.proofs.Becoming.{extends, joins, may-go, may-look, reads, revokes, stops, writes}
-use Rattle.own_steps.proofs.Keeping.{same-beside, same-plain, seal-own}
+use Rattle.own_steps.proofs.Keeping.{others-know, same-beside, same-plain, seal-own}
 use Rattle.own_steps.proofs.Standing.{InRunning, running-now, stands-running, stands-sealed, still-own}
 
 -- nothing changes
@@ -77,6 +77,20 @@ module _ {D : Type 0} (state : D → DeviceState) (old new : JournalValue D) whe
   abbrev g : Front
   g = new.journal.front
 
+  -- each step, for all but the one whose handle's it is
+  pub others : (event : Event) (x : OwnSteps) → KeepsHandles f → actor event ≢ Some x.number → Does state old event new → IsOwn f x → IsOwn g x
+  others event x kept other did own = others-know old.journal new.journal (state old.device).disk (state new.device).disk event x kept other did own
+
+  -- and for all where it is no handle's
+  pub nobody : (event : Event) → KeepsHandles f → actor event ≡ None → Does state old event new → AllStillKnow f g
+  nobody event kept none did x own = others event x kept (λ e. none-some x.number (sym none ∙ e)) did own
+
+  -- a handle joins with credits that were granted before
+  pub try_join : (n : ℕ) → KeepsHandles f → Does state old (FrontStep (Join n)) new →
+      MayAdd f g (open_own (record { number = next_handle f; tid = f.running.tid; left = n }) [])
+  try_join n kept did = joins f g n kept did.front
+
+  -- or with ones that are granted for it
   pub join : (n : ℕ) → KeepsHandles f → Starts state n old new → MayAdd f g (open_own (record { number = next_handle f; tid = f.running.tid; left = n }) [])
   join n kept starts =
       let mid : starts.granted.journal.front ≡ reserving f n = starts.reserves.front.after in

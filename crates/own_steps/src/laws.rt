@@ -12,7 +12,7 @@ ghost use Rattle.journal_steps.specs.Handles.{KeepsHandles};
 ghost use Rattle.journal_steps.specs.Journal.{Agrees};
 ghost use Rattle.own_steps.specs.declared.own.OwnSteps.{OwnSteps};
 ghost use Rattle.own_steps.specs.Knowing.{MayAdd, MayGo, actor};
-ghost use Rattle.own_steps.specs.Own.{BearsOut, IsOwn, credits_of, open_own, stopped_own};
+ghost use Rattle.own_steps.specs.Own.{BearsOut, IsOwn, open_own, steps_by, stopped_own};
 
 /// Whatever step a journal makes, each holder knows what it knew, but the one whose handle it is a step of.
 pub fn a_step_leaves_the_others_what_they_know()
@@ -42,9 +42,10 @@ pub fn a_step_is_noted_for_its_handle()
         MayGo old (open_own h steps) new (stopped_own h.number h.tid steps) }
 {}
 
-/// What the holder of an open handle knows makes it an open one.
+/// What the holder of an open handle knows makes it an open one of the front, of which the running transaction has just these steps.
 pub fn a_handle_that_has_not_stopped_is_open()
-    ensures { (f : Front) (h : HandleValue) (steps : List Step) → IsOwn f (open_own h steps) → IsOpenHandle f h }
+    ensures open_handle { (f : Front) (h : HandleValue) (steps : List Step) → IsOwn f (open_own h steps) → IsOpenHandle f h }
+    ensures steps { (f : Front) (h : HandleValue) (steps : List Step) → IsOwn f (open_own h steps) → steps_by h.number f.running.steps ≡ steps }
 {}
 
 /// The record bears out each receipt.
