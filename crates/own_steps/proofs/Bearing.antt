@@ -1,7 +1,7 @@
 -- A record bears out a receipt: its handle stands there once, in a committed transaction, and no other has a step of it.
-use Rattle.std.proofs.Common.{refl, sym, ◌∙◌, ap, subst, arith, cond, eq-eqb, ne_eqb, append-nil, length-append, ⊎_elim}
-use Rattle.std.specs.Prelude.{◌≡◌, ◌≢◌, ℕ, ◌+◌, ◌<◌, ◌≤◌, nat_eq, Bool, true, false, List, [], ◌∷◌, ◌++◌, length, filter, count_by, All, Contains}
-use Rattle.std.specs.List.{AllByRecursion, IsDistinct, flat_map}
+use Rattle.std.proofs.Common.{refl, sym, ◌∙◌, ap, subst, arith, cond, eq-eqb, append-nil, length-append, ⊎_elim}
+use Rattle.std.specs.Prelude.{◌≡◌, ℕ, ◌+◌, ◌≤◌, nat_eq, Bool, true, false, List, [], ◌∷◌, ◌++◌, length, count_by, All, Contains}
+use Rattle.std.specs.List.{AllByRecursion, IsDistinct}
 use Rattle.std.proofs.lemmas.Bool.Decides.{nat_tests}
 use Rattle.std.proofs.lemmas.List.Concat.{flat_map-append, flat_map-cons}
 use Rattle.std.proofs.lemmas.List.Elements.{All-contains, All-from_recursion, Contains-append_left, Contains-append_right, filter-append, recursion_from_All}
@@ -11,7 +11,7 @@ use Rattle.journal_model.proofs.ListElements.{contains-cases, contains-none}
 use Rattle.journal_model.specs.declared.transaction.Step.{Step}
 use Rattle.journal_model.specs.Record.{EachHandleOnce, steps_of}
 use Rattle.journal_model.specs.Transaction.{History, Transaction}
-use Rattle.journal_world.specs.Front.{Front, handles_of, transactions}
+use Rattle.journal_world.specs.Front.{handles_of, transactions}
 use Rattle.journal_world.specs.Journal.{Journal}
 use Rattle.journal_world.proofs.Batches.{same-length}
 use Rattle.journal_steps.specs.Journal.{Agrees}

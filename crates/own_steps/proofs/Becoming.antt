@@ -1,6 +1,6 @@
 -- What the holder knows whose handle's step it is.
 use Rattle.std.proofs.Common.{refl, sym, ◌∙◌, ap, subst, arith}
-use Rattle.std.specs.Prelude.{◌≡◌, ◌≢◌, ℕ, ◌+◌, ◌-◌, ◌<◌, ◌≤◌, nat_eq, true, if◌then◌else◌, is_some, List, [], ◌∷◌, ◌++◌, length, map, Option, Some, None, All, Contains}
+use Rattle.std.specs.Prelude.{◌≡◌, ◌≢◌, ℕ, ◌+◌, ◌-◌, ◌≤◌, nat_eq, if◌then◌else◌, is_some, List, [], ◌∷◌, ◌++◌, map, Option, Some, None, All, Contains}
 use Rattle.std.specs.List.{IsDistinct}
 use Rattle.std.specs.Map.{lookup}
 use Rattle.std.proofs.lemmas.List.Elements.{All-contains, All-from_recursion, Contains-push}
@@ -9,17 +9,16 @@ use Rattle.journal_model.specs.declared.entry.Entry.{Entry}
 use Rattle.journal_model.specs.declared.transaction.Op.{Op}
 use Rattle.journal_model.specs.declared.transaction.Op.TheVariants.{Write, Revoke}
 use Rattle.journal_model.specs.declared.transaction.Step.{Step}
-use Rattle.journal_model.specs.Transaction.{History, Transaction, effect}
-use Rattle.journal_world.specs.Front.{Front, FrontEvent, FrontHappens, IsOpen, extending, handles_of, joining, left_after, locking, next_handle, read_step, reading_block, revoke_step, stopping, touching, transactions, write_step}
+use Rattle.journal_model.specs.Transaction.{effect}
+use Rattle.journal_world.specs.Front.{Front, FrontEvent, FrontHappens, IsOpen, extending, handles_of, joining, left_after, next_handle, read_step, reading_block, revoke_step, stopping, touching, transactions, write_step}
 use Rattle.journal_world.specs.Front.FrontEvent.{Join, ExtendHandle, WriteBlock, RevokeBlock, StopHandle}
 use Rattle.journal_front.specs.Front.{IsOpenHandle, Spends}
 use Rattle.journal_front.specs.Values.{HandleValue}
 use Rattle.journal_steps.specs.Handles.{KeepsHandles}
 use Rattle.journal_steps.proofs.Audited.{has-handles, step-kept}
-use Rattle.parts.specs.Parts.{MayBecome}
 use Rattle.own_steps.specs.declared.own.OwnSteps.{OwnSteps}
 use Rattle.own_steps.specs.Knowing.{AllStillKnow, MayAdd, MayGo, OthersStillKnow, handle_of}
-use Rattle.own_steps.specs.Own.{AreApart, IsOwn, Stands, open_own, steps_by, stopped_own}
+use Rattle.own_steps.specs.Own.{IsOwn, open_own, stopped_own}
 use Rattle.own_steps.proofs.Lists.{lookup-gone, lookup-here, steps-none, steps-of_own}
 use Rattle.own_steps.proofs.Keeping.{in-record, next-other, same-read, same-step}
 use Rattle.own_steps.proofs.Standing.{InRunning, running-now, stands-running, still-own}

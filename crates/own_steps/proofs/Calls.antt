@@ -1,17 +1,16 @@
 -- What each call of a journal owes to the holders, from what its contract says.
-use Rattle.std.proofs.Common.{refl, sym, ◌∙◌, ap, subst, arith, inl, inr, ⊎_elim}
-use Rattle.std.specs.Prelude.{◌≡◌, ◌≢◌, ◌⊎◌, ℕ, ◌+◌, ◌<◌, ◌≤◌, nat_eq, true, List, [], ◌∷◌, ◌++◌, length, Some, None}
-use Rattle.std.specs.Map.{lookup}
+use Rattle.std.proofs.Common.{refl, sym, ◌∙◌, ap, subst, arith, ⊎_elim}
+use Rattle.std.specs.Prelude.{◌≡◌, ◌≢◌, ℕ, ◌+◌, ◌<◌, ◌≤◌, true, List, [], ◌∷◌, ◌++◌, length, Some, None}
 use Rattle.std.proofs.lemmas.Bool.{cases_eq}
 use Rattle.std.proofs.lemmas.Bool.Decides.{leb_tells}
 use Rattle.std.proofs.lemmas.Option.{none-some}
 use Rattle.block_device.specs.State.{DeviceState}
 use Rattle.journal_model.specs.declared.refusal.JournalError.{JournalError}
 use Rattle.journal_model.specs.declared.transaction.Step.{Step}
-use Rattle.journal_world.specs.Front.{Front, FrontHappens, aborting, finishing, locking, next_handle, raising, read_step, reading_block, reserving, revoke_step, write_step}
-use Rattle.journal_world.specs.Front.FrontEvent.{ExtendHandle, Join, Lock, RevokeBlock, StopHandle, WriteBlock}
+use Rattle.journal_world.specs.Front.{Front, FrontHappens, aborting, finishing, locking, next_handle, raising, read_step, reserving, revoke_step, write_step}
+use Rattle.journal_world.specs.Front.FrontEvent.{ExtendHandle, Join, RevokeBlock, StopHandle, WriteBlock}
 use Rattle.journal_world.specs.Journal.{Event, Journal}
-use Rattle.journal_world.specs.Journal.Event.{AbortMark, CheckpointFault, CommitFault, DirectSync, DirectWrite, FrontStep}
+use Rattle.journal_world.specs.Journal.Event.{CheckpointFault, CommitFault, DirectSync, DirectWrite, FrontStep}
 use Rattle.journal_front.specs.Front.{IsOpenHandle, Spends}
 use Rattle.journal_front.specs.Values.{HandleValue}
 use Rattle.journal_steps.specs.declared.turn.CheckTurn.{CheckTurn}
@@ -28,13 +27,12 @@ use Rattle.journal_steps.specs.Journal.ReadRefused.{ReadKeptOut, ReadRevoked, Re
 use Rattle.journal_steps.specs.Journal.TurnRefused.{WasAborted, RingIsShort, MemoryIsShort, DeviceFailed}
 use Rattle.journal_steps.specs.Values.{JournalValue}
 use Rattle.group_commit.specs.Extension.{Extends, Starts}
-use Rattle.own_steps.specs.declared.own.HandleStage.{HandleStage}
 use Rattle.own_steps.specs.declared.own.OwnSteps.{OwnSteps}
 use Rattle.own_steps.specs.Knowing.{AllStillKnow, MayAdd, MayGo, actor}
 use Rattle.own_steps.specs.Own.{IsOwn, Stands, asked_own, credits_of, open_own, stopped_own}
 use Rattle.own_steps.proofs.Becoming.{extends, joins, may-go, may-look, reads, revokes, stops, writes}
 use Rattle.own_steps.proofs.Keeping.{others-know, same-beside, same-plain, seal-own}
-use Rattle.own_steps.proofs.Standing.{InRunning, running-now, stands-running, stands-sealed, still-own}
+use Rattle.own_steps.proofs.Standing.{InRunning, running-now, still-own}
 
 -- nothing changes
 same-front : (f g : Front) → g ≡ f → AllStillKnow f g

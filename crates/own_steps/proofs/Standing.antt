@@ -1,10 +1,9 @@
 -- Where a handle stands in a record: in the transaction that runs, or in one that is sealed.
 use Rattle.std.proofs.Common.{refl, sym, ◌∙◌, ap, subst, arith, append_assoc, length-append}
-use Rattle.std.specs.Prelude.{◌≡◌, ◌≢◌, ℕ, suc, ◌+◌, ◌≤◌, nat_eq, true, List, [], ◌∷◌, ◌++◌, length, Option, Some, None, Contains}
+use Rattle.std.specs.Prelude.{◌≡◌, ℕ, suc, ◌+◌, ◌≤◌, nat_eq, true, [], ◌∷◌, ◌++◌, length, Contains}
 use Rattle.std.specs.Map.{lookup}
-use Rattle.journal_model.specs.declared.transaction.Step.{Step}
 use Rattle.journal_model.specs.Transaction.{History, Transaction}
-use Rattle.journal_world.specs.Front.{Front, empty_transaction, handles_of, sealing, transactions}
+use Rattle.journal_world.specs.Front.{Front, empty_transaction, sealing}
 use Rattle.own_steps.specs.declared.own.HandleStage.{HandleStage}
 use Rattle.own_steps.specs.declared.own.HandleStage.TheVariants.{Open, Stopped, Asked}
 use Rattle.own_steps.specs.declared.own.OwnSteps.{OwnSteps}

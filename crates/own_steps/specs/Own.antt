@@ -1,5 +1,5 @@
 -- What the holder of a handle, of its ticket or of its receipt knows of the record of a front.
-use Rattle.std.specs.Prelude.{◌≡◌, ◌≢◌, ⊤, ℕ, ◌+◌, ◌<◌, nat_eq, true, List, [], ◌∷◌, ◌++◌, length, filter, count_by, Option, Some, None, Contains}
+use Rattle.std.specs.Prelude.{◌≡◌, ◌≢◌, ⊤, ℕ, ◌+◌, ◌<◌, nat_eq, true, List, ◌∷◌, ◌++◌, length, filter, count_by, Option, Some, None, Contains}
 use Rattle.std.specs.Map.{lookup}
 use Rattle.journal_model.specs.declared.transaction.Step.{Step}
 use Rattle.journal_model.specs.Record.{steps_of}
