@@ -84,12 +84,15 @@ joins f g n kept step =
     (λ x agrees. still-own f g x (same-step f g (Join n) x.number (λ e. none-some x.number e) (next-other f x kept agrees.stands) step) agrees)
     (λ x agrees. next-other f x kept agrees.stands)
 
--- the credits that an open handle has are those that a look-up finds
-same-left : (f : Front) (h left : ℕ) (handle : IsOpen f h) → KeepsHandles f → lookup (nat_eq h) f.open_handles ≡ Some left → handle.left ≡ left
-same-left f h left handle kept found =
-    same_Some handle.left left
-    (sym (lookup-here h handle.left handle.before handle.behind (subst (λ (hs : List (ℕ × ℕ)). IsDistinct nat_eq (map (λ o. o.0) hs)) handle.stands kept.once))
-    ∙ (ap (λ (hs : List (ℕ × ℕ)). lookup (nat_eq h) hs) (sym handle.stands) ∙ found))
+-- a look-up finds the credits that an open handle has
+pub found-open : (f : Front) (h : ℕ) (handle : IsOpen f h) → KeepsHandles f → lookup (nat_eq h) f.open_handles ≡ Some handle.left
+found-open f h handle kept =
+    ap (λ (hs : List (ℕ × ℕ)). lookup (nat_eq h) hs) handle.stands
+    ∙ lookup-here h handle.left handle.before handle.behind (subst (λ (hs : List (ℕ × ℕ)). IsDistinct nat_eq (map (λ o. o.0) hs)) handle.stands kept.once)
+
+-- so these are those that its holder knows
+pub same-left : (f : Front) (h left : ℕ) (handle : IsOpen f h) → KeepsHandles f → lookup (nat_eq h) f.open_handles ≡ Some left → handle.left ≡ left
+same-left f h left handle kept found = same_Some handle.left left (sym (found-open f h handle kept) ∙ found)
 
 -- the others know what they knew
 pub others-of : (f g : Front) (event : FrontEvent) (n : ℕ) → KeepsHandles f → ((x : ℕ) → n ≢ x → handle_of event ≢ Some x) → FrontHappens f event g → OthersStillKnow n f g
@@ -99,27 +102,27 @@ others-of f g event n kept other step x far agrees =
 apart-some : (h x : ℕ) → h ≢ x → Some h ≢ Some x
 apart-some h x far = λ e. far (same_Some h x e)
 
--- it gets further credits
+-- it has further credits
+pub extend-own : (f : Front) (h : HandleValue) (n : ℕ) (steps : List Step) (handle : IsOpen f h.number) → KeepsHandles f → KeepsHandles (extending f h.number n handle) →
+    IsOwn f (open_own h steps) → IsOwn (extending f h.number n handle) (open_own (record h { left = h.left + n }) steps)
+extend-own f h n steps handle kept after is =
+    let was : InRunning f (open_own h steps) = running-now f (open_own h steps) is.stage is.stands in
+    let left : handle.left ≡ h.left = same-left f h.number h.left handle kept is.credits in
+    record {
+      stands = stands-running (extending f h.number n handle) (open_own (record h { left = h.left + n }) steps)
+          (record { number = was.number; joined = was.joined; steps = was.steps });
+      credits = lookup-here h.number (handle.left + n) handle.before handle.behind after.once ∙ ap (λ (l : ℕ). Some (l + n)) left;
+      stage = is.stage;
+    }
+
+-- it gets them
 pub extends : (f g : Front) (h : HandleValue) (n : ℕ) (steps : List Step) → KeepsHandles f → FrontHappens f (ExtendHandle h.number n) g →
     MayGo f (open_own h steps) g (open_own (record h { left = h.left + n }) steps)
 extends f g h n steps kept step =
     let next : OwnSteps = open_own (record h { left = h.left + n }) steps in
-    may-go f g (open_own h steps) next refl (λ is. subst (λ (x : Front). IsOwn x next) (sym step.after) (by is))
+    let after : KeepsHandles (extending f h.number n step.handle) = subst KeepsHandles step.after (step-kept f g (ExtendHandle h.number n) step kept) in
+    may-go f g (open_own h steps) next refl (λ is. subst (λ (x : Front). IsOwn x next) (sym step.after) (extend-own f h n steps step.handle kept after is))
     (λ is. others-of f g (ExtendHandle h.number n) h.number kept (λ x far. apart-some h.number x far) step)
-  where
-    after : KeepsHandles (extending f h.number n step.handle)
-    after = subst KeepsHandles step.after (step-kept f g (ExtendHandle h.number n) step kept)
-
-    by : IsOwn f (open_own h steps) → IsOwn (extending f h.number n step.handle) (open_own (record h { left = h.left + n }) steps)
-    by is =
-        let was : InRunning f (open_own h steps) = running-now f (open_own h steps) is.stage is.stands in
-        let left : step.handle.left ≡ h.left = same-left f h.number h.left step.handle kept is.credits in
-        record {
-          stands = stands-running (extending f h.number n step.handle) (open_own (record h { left = h.left + n }) steps)
-              (record { number = was.number; joined = was.joined; steps = was.steps });
-          credits = lookup-here h.number (step.handle.left + n) step.handle.before step.handle.behind after.once ∙ ap (λ (l : ℕ). Some (l + n)) left;
-          stage = is.stage;
-        }
 
 -- what a touch leaves of the credits
 spent : (f : Front) (b : ℕ) (old new : HandleValue) → Spends f b old new → new ≡ record old { left = left_after f b old.left }
@@ -129,7 +132,7 @@ spent f b old new spends = by (effect b f.running.steps) refl
     by None is = (spends.first is).1
     by (Some e) is = spends.later (λ none. none-some e (sym none ∙ is))
 
-touch-own : (f : Front) (h : HandleValue) (b : ℕ) (op : Op) (steps : List Step) (handle : IsOpen f h.number) → KeepsHandles f → KeepsHandles (touching f h.number b op handle) →
+pub touch-own : (f : Front) (h : HandleValue) (b : ℕ) (op : Op) (steps : List Step) (handle : IsOpen f h.number) → KeepsHandles f → KeepsHandles (touching f h.number b op handle) →
     IsOwn f (open_own h steps) →
     IsOwn (touching f h.number b op handle) (open_own (record h { left = left_after f b h.left }) (steps ++ record { handle = h.number; block = b; op = op } ∷ []))
 touch-own f h b op steps handle kept after is =
@@ -170,32 +173,34 @@ revokes f g h next b steps kept step spends =
     (λ is. subst (λ (x : Front). IsOwn x made) (sym step.after) (touch-own f h b Revoke steps step.handle kept after is))
     (λ is. others-of f g (RevokeBlock h.number b) h.number kept (λ x far. apart-some h.number x far) step))
 
--- and reads one
+-- it has read one
+pub read-own : (f : Front) (h : HandleValue) (b : ℕ) (v : List ℕ) (steps : List Step) → IsOwn f (open_own h steps) →
+    IsOwn (reading_block f h.number b v) (open_own h (steps ++ read_step h.number b v ∷ []))
+read-own f h b v steps is =
+    let was : InRunning f (open_own h steps) = running-now f (open_own h steps) is.stage is.stands in
+    record {
+      stands = stands-running (reading_block f h.number b v) (open_own h (steps ++ read_step h.number b v ∷ []))
+          (record {
+            number = was.number;
+            joined = was.joined;
+            steps = steps-of_own h.number f.running.steps (read_step h.number b v) refl ∙ ap (λ (l : List Step). l ++ read_step h.number b v ∷ []) was.steps;
+          });
+      credits = is.credits;
+      stage = is.stage;
+    }
+
+-- it reads one
 pub reads : (f : Front) (h : HandleValue) (b : ℕ) (v : List ℕ) (steps : List Step) →
     MayGo f (open_own h steps) (reading_block f h.number b v) (open_own h (steps ++ read_step h.number b v ∷ []))
 reads f h b v steps =
-    may-go f (reading_block f h.number b v) (open_own h steps) (open_own h (steps ++ read_step h.number b v ∷ [])) refl by
+    may-go f (reading_block f h.number b v) (open_own h steps) (open_own h (steps ++ read_step h.number b v ∷ [])) refl (read-own f h b v steps)
     (λ is x far agrees. still-own f (reading_block f h.number b v) x (same-read f x.number h.number b v far) agrees)
-  where
-    by : IsOwn f (open_own h steps) → IsOwn (reading_block f h.number b v) (open_own h (steps ++ read_step h.number b v ∷ []))
-    by is =
-        let was : InRunning f (open_own h steps) = running-now f (open_own h steps) is.stage is.stands in
-        record {
-          stands = stands-running (reading_block f h.number b v) (open_own h (steps ++ read_step h.number b v ∷ []))
-              (record {
-                number = was.number;
-                joined = was.joined;
-                steps = steps-of_own h.number f.running.steps (read_step h.number b v) refl ∙ ap (λ (l : List Step). l ++ read_step h.number b v ∷ []) was.steps;
-              });
-          credits = is.credits;
-          stage = is.stage;
-        }
 
 -- an open handle is one of the front's
 pub is_open : (f : Front) (h : HandleValue) (steps : List Step) → IsOwn f (open_own h steps) → IsOpenHandle f h
 is_open f h steps is = record { left = is.credits; transaction = is.stage }
 
-stop-own : (f : Front) (h : HandleValue) (steps : List Step) (handle : IsOpen f h.number) → KeepsHandles f → IsOwn f (open_own h steps) →
+pub stop-own : (f : Front) (h : HandleValue) (steps : List Step) (handle : IsOpen f h.number) → KeepsHandles f → IsOwn f (open_own h steps) →
     IsOwn (stopping f h.number handle) (stopped_own h.number h.tid steps)
 stop-own f h steps handle kept is =
     let was : InRunning f (open_own h steps) = running-now f (open_own h steps) is.stage is.stands in

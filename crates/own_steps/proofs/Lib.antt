@@ -5,4 +5,5 @@ pub mod Calls
 -- The others.
 mod Keeping
 mod Lists
+mod Running
 mod Standing

@@ -1,11 +1,13 @@
 //! What becomes of what holders know by each step of a journal. Each function states a law of the words in `specs/`, and has no body to
 //! run.
 ghost use Rattle.std.specs.Prelude.{◌≡◌, ◌≢◌, ◌≤◌, ◌+◌, ◌++◌, [], ◌∷◌, List, None, Some, ℕ};
+ghost use Rattle.std.specs.List.{flat_map};
 ghost use Rattle.journal_model.specs.declared.transaction.Step.{Step};
 ghost use Rattle.journal_model.specs.Disk.{Disk};
 ghost use Rattle.journal_world.specs.Front.FrontEvent.{ExtendHandle, Join, RevokeBlock, StopHandle, WriteBlock};
 ghost use Rattle.journal_world.specs.Front.{Front, FrontHappens, next_handle, read_step, reading_block, revoke_step, transactions, write_step};
 ghost use Rattle.journal_world.specs.Journal.{Event, Happens, Journal};
+ghost use Rattle.journal_world.specs.Journal.Event.{FrontStep};
 ghost use Rattle.journal_front.specs.Front.{IsOpenHandle, Spends};
 ghost use Rattle.journal_front.specs.Values.{HandleValue};
 ghost use Rattle.journal_steps.specs.Handles.{KeepsHandles};
@@ -13,6 +15,7 @@ ghost use Rattle.journal_steps.specs.Journal.{Agrees};
 ghost use Rattle.own_steps.specs.declared.own.OwnSteps.{OwnSteps};
 ghost use Rattle.own_steps.specs.Knowing.{MayAdd, MayGo, actor};
 ghost use Rattle.own_steps.specs.Own.{BearsOut, IsOwn, open_own, steps_by, stopped_own};
+ghost use Rattle.own_steps.specs.Run.{HasMade, Runs, block_steps};
 
 /// Whatever step a journal makes, each holder knows what it knew, but the one whose handle it is a step of.
 pub fn a_step_leaves_the_others_what_they_know()
@@ -42,6 +45,13 @@ pub fn a_step_is_noted_for_its_handle()
         MayGo old (open_own h steps) new (stopped_own h.number h.tid steps) }
 {}
 
+/// Over every run of events, whatever they are, a handle has just the steps on blocks that are its own, in order, behind those that its
+/// holder knew, all in the one transaction.
+pub fn over_every_run_a_handle_has_its_own_steps()
+    ensures { (old new : Journal) (disk after : Disk) (events : List Event) (own : OwnSteps) → KeepsHandles old.front → Runs old disk events new after →
+        IsOwn old.front own → HasMade new.front own (steps_by own.number (flat_map block_steps events)) }
+{}
+
 /// What the holder of an open handle knows makes it an open one of the front, of which the running transaction has just these steps.
 pub fn a_handle_that_has_not_stopped_is_open()
     ensures open_handle { (f : Front) (h : HandleValue) (steps : List Step) → IsOwn f (open_own h steps) → IsOpenHandle f h }
@@ -51,4 +61,13 @@ pub fn a_handle_that_has_not_stopped_is_open()
 /// The record bears out each receipt.
 pub fn the_record_bears_out_a_receipt()
     ensures { (j : Journal) (own : OwnSteps) → Agrees j → IsOwn j.front own → own.tid ≤ j.front.mark → BearsOut j.engine.committed (transactions j.front) own }
+{}
+
+/// Whatever events come once a handle has joined: when its transaction is told to be committed the record bears out that the handle has
+/// just the steps that it made.
+pub fn the_record_has_what_a_handle_did()
+    ensures { (old mid new : Journal) (disk between after : Disk) (n : ℕ) (events : List Event) → KeepsHandles old.front →
+        Happens old disk (FrontStep (Join n)) mid between → Runs mid between events new after → Agrees new → old.front.running.tid ≤ new.front.mark →
+        BearsOut new.engine.committed (transactions new.front)
+        (stopped_own (next_handle old.front) old.front.running.tid (steps_by (next_handle old.front) (flat_map block_steps events))) }
 {}
