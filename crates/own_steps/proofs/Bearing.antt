@@ -96,7 +96,8 @@ distinct-right [] ys once = once
 distinct-right (x ∷ xs) ys once = distinct-right xs ys (IsDistinct-tail nat_eq x (xs ++ ys) once)
 
 -- all steps of the record that are a handle's are those in its transaction
-all-here : (ts before : History) (t : Transaction) (behind : History) (n : ℕ) → EachHandleOnce ts → ts ≡ before ++ t ∷ behind → Contains t.handles n →
+all-here : (ts before : History) (t : Transaction) (behind : History) (n : ℕ) → EachHandleOnce ts → ts ≡ before ++ t ∷ behind →
+    Contains t.handles n →
     steps_by n (steps_of ts) ≡ steps_by n t.steps
 all-here ts before t behind n each is joined =
     let own : AllByRecursion Owns (before ++ t ∷ behind) = subst (AllByRecursion Owns) is (recursion_from_All Owns ts each.own) in
@@ -119,7 +120,8 @@ all-here ts before t behind n each is joined =
     ∙ (filter-append (λ s. nat_eq n s.handle) t.steps (steps_of behind)
     ∙ (ap (λ (l : List Step). steps_by n t.steps ++ l) right ∙ append-nil (steps_by n t.steps)))))
 
-pub bears_out : (j : Journal) (own : OwnSteps) → Agrees j → IsOwn j.front own → own.tid ≤ j.front.mark → BearsOut j.engine.committed (transactions j.front) own
+pub bears_out : (j : Journal) (own : OwnSteps) → Agrees j → IsOwn j.front own → own.tid ≤ j.front.mark →
+    BearsOut j.engine.committed (transactions j.front) own
 bears_out j own agrees is told =
     let ts : History = transactions j.front in
     let stands = is.stands in

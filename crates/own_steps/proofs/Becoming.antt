@@ -24,7 +24,8 @@ use Rattle.own_steps.proofs.Keeping.{in-record, next-other, same-read, same-step
 use Rattle.own_steps.proofs.Standing.{InRunning, running-now, stands-running, still-own}
 
 -- one more holder
-pub may-add : (f g : Front) (own : OwnSteps) → IsOwn g own → AllStillKnow f g → ((x : OwnSteps) → IsOwn f x → own.number ≢ x.number) → MayAdd f g own
+pub may-add : (f g : Front) (own : OwnSteps) → IsOwn g own → AllStillKnow f g → ((x : OwnSteps) → IsOwn f x → own.number ≢ x.number) →
+    MayAdd f g own
 may-add f g own is others far = record {
   own = λ h same. subst (IsOwn g) (same_Some own h same) is;
   others = λ x _ agrees. others x agrees;
@@ -34,7 +35,8 @@ may-add f g own is others far = record {
 }
 
 -- one that was there
-pub may-go : (f g : Front) (own next : OwnSteps) → own.number ≡ next.number → (IsOwn f own → IsOwn g next) → (IsOwn f own → OthersStillKnow own.number f g) → MayGo f own g next
+pub may-go : (f g : Front) (own next : OwnSteps) → own.number ≡ next.number → (IsOwn f own → IsOwn g next) →
+    (IsOwn f own → OthersStillKnow own.number f g) → MayGo f own g next
 may-go f g own next number becomes others had is agreed =
     let was = agreed own is in
     record {
@@ -91,11 +93,13 @@ found-open f h handle kept =
     ∙ lookup-here h handle.left handle.before handle.behind (subst (λ (hs : List (ℕ × ℕ)). IsDistinct nat_eq (map (λ o. o.0) hs)) handle.stands kept.once)
 
 -- so these are those that its holder knows
-pub same-left : (f : Front) (h left : ℕ) (handle : IsOpen f h) → KeepsHandles f → lookup (nat_eq h) f.open_handles ≡ Some left → handle.left ≡ left
+pub same-left : (f : Front) (h left : ℕ) (handle : IsOpen f h) → KeepsHandles f → lookup (nat_eq h) f.open_handles ≡ Some left →
+    handle.left ≡ left
 same-left f h left handle kept found = same_Some handle.left left (sym (found-open f h handle kept) ∙ found)
 
 -- the others know what they knew
-pub others-of : (f g : Front) (event : FrontEvent) (n : ℕ) → KeepsHandles f → ((x : ℕ) → n ≢ x → handle_of event ≢ Some x) → FrontHappens f event g → OthersStillKnow n f g
+pub others-of : (f g : Front) (event : FrontEvent) (n : ℕ) → KeepsHandles f → ((x : ℕ) → n ≢ x → handle_of event ≢ Some x) →
+    FrontHappens f event g → OthersStillKnow n f g
 others-of f g event n kept other step x far agrees =
     still-own f g x (same-step f g event x.number (other x.number far) (next-other f x kept agrees.stands) step) agrees
 
@@ -103,7 +107,8 @@ apart-some : (h x : ℕ) → h ≢ x → Some h ≢ Some x
 apart-some h x far = λ e. far (same_Some h x e)
 
 -- it has further credits
-pub extend-own : (f : Front) (h : HandleValue) (n : ℕ) (steps : List Step) (handle : IsOpen f h.number) → KeepsHandles f → KeepsHandles (extending f h.number n handle) →
+pub extend-own : (f : Front) (h : HandleValue) (n : ℕ) (steps : List Step) (handle : IsOpen f h.number) → KeepsHandles f →
+    KeepsHandles (extending f h.number n handle) →
     IsOwn f (open_own h steps) → IsOwn (extending f h.number n handle) (open_own (record h { left = h.left + n }) steps)
 extend-own f h n steps handle kept after is =
     let was : InRunning f (open_own h steps) = running-now f (open_own h steps) is.stage is.stands in
@@ -132,7 +137,8 @@ spent f b old new spends = by (effect b f.running.steps) refl
     by None is = (spends.first is).1
     by (Some e) is = spends.later (λ none. none-some e (sym none ∙ is))
 
-pub touch-own : (f : Front) (h : HandleValue) (b : ℕ) (op : Op) (steps : List Step) (handle : IsOpen f h.number) → KeepsHandles f → KeepsHandles (touching f h.number b op handle) →
+pub touch-own : (f : Front) (h : HandleValue) (b : ℕ) (op : Op) (steps : List Step) (handle : IsOpen f h.number) → KeepsHandles f →
+    KeepsHandles (touching f h.number b op handle) →
     IsOwn f (open_own h steps) →
     IsOwn (touching f h.number b op handle) (open_own (record h { left = left_after f b h.left }) (steps ++ record { handle = h.number; block = b; op = op } ∷ []))
 touch-own f h b op steps handle kept after is =
@@ -152,7 +158,8 @@ touch-own f h b op steps handle kept after is =
     }
 
 -- it writes a block
-pub writes : (f g : Front) (h next : HandleValue) (b : ℕ) (v : List ℕ) (steps : List Step) → KeepsHandles f → FrontHappens f (WriteBlock h.number b v) g → Spends f b h next →
+pub writes : (f g : Front) (h next : HandleValue) (b : ℕ) (v : List ℕ) (steps : List Step) → KeepsHandles f →
+    FrontHappens f (WriteBlock h.number b v) g → Spends f b h next →
     MayGo f (open_own h steps) g (open_own next (steps ++ write_step h.number b v ∷ []))
 writes f g h next b v steps kept step spends =
     let after : KeepsHandles (touching f h.number b (Write v) step.handle) = subst KeepsHandles step.after (step-kept f g (WriteBlock h.number b v) step kept) in
@@ -163,7 +170,8 @@ writes f g h next b v steps kept step spends =
     (λ is. others-of f g (WriteBlock h.number b v) h.number kept (λ x far. apart-some h.number x far) step))
 
 -- and revokes one
-pub revokes : (f g : Front) (h next : HandleValue) (b : ℕ) (steps : List Step) → KeepsHandles f → FrontHappens f (RevokeBlock h.number b) g → Spends f b h next →
+pub revokes : (f g : Front) (h next : HandleValue) (b : ℕ) (steps : List Step) → KeepsHandles f → FrontHappens f (RevokeBlock h.number b) g →
+    Spends f b h next →
     MayGo f (open_own h steps) g (open_own next (steps ++ revoke_step h.number b ∷ []))
 revokes f g h next b steps kept step spends =
     let after : KeepsHandles (touching f h.number b Revoke step.handle) = subst KeepsHandles step.after (step-kept f g (RevokeBlock h.number b) step kept) in

@@ -43,7 +43,8 @@ beside : (f g : Front) → g.sealed ≡ f.sealed → g.running ≡ f.running →
 beside f g sealed running open_handles locked x own = still-own f g x (same-plain f x.number g sealed running open_handles locked) own
 
 -- nor where this is the front
-made-beside : (f made g : Front) → g ≡ made → made.sealed ≡ f.sealed → made.running ≡ f.running → made.open_handles ≡ f.open_handles → made.locked ≡ f.locked → AllStillKnow f g
+made-beside : (f made g : Front) → g ≡ made → made.sealed ≡ f.sealed → made.running ≡ f.running → made.open_handles ≡ f.open_handles →
+    made.locked ≡ f.locked → AllStillKnow f g
 made-beside f made g is sealed running open_handles locked x own =
     subst (λ (h : Front). IsOwn h x) (sym is) (beside f made sealed running open_handles locked x own)
 
@@ -89,7 +90,8 @@ module _ {D : Type 0} (state : D → DeviceState) (old new : JournalValue D) whe
   try_join n kept did = joins f g n kept did.front
 
   -- or with ones that are granted for it
-  pub join : (n : ℕ) → KeepsHandles f → Starts state n old new → MayAdd f g (open_own (record { number = next_handle f; tid = f.running.tid; left = n }) [])
+  pub join : (n : ℕ) → KeepsHandles f → Starts state n old new →
+      MayAdd f g (open_own (record { number = next_handle f; tid = f.running.tid; left = n }) [])
   join n kept starts =
       let mid : starts.granted.journal.front ≡ reserving f n = starts.reserves.front.after in
       let may = joins (reserving f n) g n (reserved-kept f n kept) (subst (λ (h : Front). FrontHappens h (Join n) g) mid starts.joins.front) in
@@ -106,7 +108,8 @@ module _ {D : Type 0} (state : D → DeviceState) (old new : JournalValue D) whe
       reserved-back f n g (open_own h steps) (open_own (record h { left = h.left + n }) steps)
       (extends (reserving f n) g h n steps (reserved-kept f n kept) (subst (λ (k : Front). FrontHappens k (ExtendHandle h.number n) g) mid extended.extends.front))
 
-  pub write : (h next : HandleValue) (b : ℕ) (v : List ℕ) (steps : List Step) → KeepsHandles f → Does state old (FrontStep (WriteBlock h.number b v)) new →
+  pub write : (h next : HandleValue) (b : ℕ) (v : List ℕ) (steps : List Step) → KeepsHandles f →
+      Does state old (FrontStep (WriteBlock h.number b v)) new →
       Spends f b h next → MayGo f (open_own h steps) g (open_own next (steps ++ write_step h.number b v ∷ []))
   write h next b v steps kept did spends = writes f g h next b v steps kept did.front spends
 
@@ -119,7 +122,8 @@ module _ {D : Type 0} (state : D → DeviceState) (old new : JournalValue D) whe
   read h b v steps noted =
       subst (λ (k : Front). MayGo f (open_own h steps) k (open_own h (steps ++ read_step h.number b v ∷ []))) (sym noted.front) (reads f h b v steps)
 
-  pub stop : (h : HandleValue) (steps : List Step) → KeepsHandles f → (IsOpenHandle f h → Does state old (FrontStep (StopHandle h.number)) new) →
+  pub stop : (h : HandleValue) (steps : List Step) → KeepsHandles f →
+      (IsOpenHandle f h → Does state old (FrontStep (StopHandle h.number)) new) →
       MayGo f (open_own h steps) g (stopped_own h.number h.tid steps)
   stop h steps kept stopped = stops f g h steps kept (λ is. (stopped is).front)
 
@@ -137,7 +141,8 @@ module _ {D : Type 0} (state : D → DeviceState) (old new : JournalValue D) whe
       (cases_eq tid f.running.tid)
 
   -- a request for a holder that has stopped
-  pub ask : (own : OwnSteps) → credits_of own.stage ≡ None → Requests state own.tid old new → MayGo f own g (asked_own own.number own.tid own.steps)
+  pub ask : (own : OwnSteps) → credits_of own.stage ≡ None → Requests state own.tid old new →
+      MayGo f own g (asked_own own.number own.tid own.steps)
   ask own stopped asks = may-go f g own (asked_own own.number own.tid own.steps) refl by (λ was x far. requested own.tid asks x)
     where
       next : OwnSteps

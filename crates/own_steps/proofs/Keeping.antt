@@ -24,7 +24,8 @@ use Rattle.own_steps.proofs.Lists.{lookup-changed, lookup-push, lookup-without, 
 use Rattle.own_steps.proofs.Standing.{SameFor, stands-seal, still-own, tid-least}
 
 -- the handle of a transaction of a record is one of the record's
-pub in-record : (ts before : History) (t : Transaction) (behind : History) (n : ℕ) → ts ≡ before ++ t ∷ behind → Contains t.handles n → Contains (handles_of ts) n
+pub in-record : (ts before : History) (t : Transaction) (behind : History) (n : ℕ) → ts ≡ before ++ t ∷ behind → Contains t.handles n →
+    Contains (handles_of ts) n
 in-record ts before t behind n is joined =
     let parts : handles_of ts ≡ handles_of before ++ (t.handles ++ handles_of behind) =
     ap (λ (l : History). handles_of l) is
@@ -44,7 +45,8 @@ next-other f x kept stands = λ same. let low = given-least f x kept stands in a
 
 module _ (f : Front) (n : ℕ) where
   -- where neither handles nor transactions change
-  pub same-beside : (g : Front) → g.sealed ≡ f.sealed → g.running ≡ f.running → g.open_handles ≡ f.open_handles → (f.locked ≡ true → g.locked ≡ true) → SameFor n f g
+  pub same-beside : (g : Front) → g.sealed ≡ f.sealed → g.running ≡ f.running → g.open_handles ≡ f.open_handles →
+      (f.locked ≡ true → g.locked ≡ true) → SameFor n f g
   same-beside g sealed running open_handles locked = record {
     sealed = sealed;
     tid = ap (λ (t : Transaction). t.tid) running;
@@ -107,11 +109,13 @@ module _ (f : Front) (n : ℕ) where
     locked = λ is. is;
   }
 
-  pub same-plain : (g : Front) → g.sealed ≡ f.sealed → g.running ≡ f.running → g.open_handles ≡ f.open_handles → g.locked ≡ f.locked → SameFor n f g
+  pub same-plain : (g : Front) → g.sealed ≡ f.sealed → g.running ≡ f.running → g.open_handles ≡ f.open_handles → g.locked ≡ f.locked →
+      SameFor n f g
   same-plain g sealed running open_handles locked = same-beside g sealed running open_handles (λ is. locked ∙ is)
 
 -- a step of the front alone
-pub same-step : (f g : Front) (event : FrontEvent) (n : ℕ) → handle_of event ≢ Some n → next_handle f ≢ n → FrontHappens f event g → SameFor n f g
+pub same-step : (f g : Front) (event : FrontEvent) (n : ℕ) → handle_of event ≢ Some n → next_handle f ≢ n → FrontHappens f event g →
+    SameFor n f g
 same-step f g event n other fresh step = by event other step
   where
     on : {made : Front} → g ≡ made → SameFor n f made → SameFor n f g
@@ -139,13 +143,15 @@ same-step f g event n other fresh step = by event other step
 pub seal-own : (f : Front) (x : OwnSteps) → MaySeal f → IsOwn f x → IsOwn (sealing f) x
 seal-own f x may own = record { stands = stands-seal f x own.stands; credits = own.credits; stage = by x.stage own.credits own.stage }
   where
-    by : (stage : HandleStage) → lookup (nat_eq x.number) f.open_handles ≡ credits_of stage → StageHolds f x.tid stage → StageHolds (sealing f) x.tid stage
+    by : (stage : HandleStage) → lookup (nat_eq x.number) f.open_handles ≡ credits_of stage → StageHolds f x.tid stage →
+        StageHolds (sealing f) x.tid stage
     by (Open left) found holds = absurd (none-some left (ap (λ (hs : List (ℕ × ℕ)). lookup (nat_eq x.number) hs) (sym may.stopped) ∙ found))
     by Stopped found holds = tt
     by Asked found holds = λ now. let low = tid-least f x own.stands in absurd (omega arith)
 
 -- each step of a journal
-pub others-know : (old new : Journal) (disk after : Disk) (event : Event) (x : OwnSteps) → KeepsHandles old.front → actor event ≢ Some x.number →
+pub others-know : (old new : Journal) (disk after : Disk) (event : Event) (x : OwnSteps) → KeepsHandles old.front →
+    actor event ≢ Some x.number →
     Happens old disk event new after → IsOwn old.front x → IsOwn new.front x
 others-know old new disk after event x kept other step own = by event other step
   where

@@ -37,7 +37,8 @@ pub steps-none : (n : ℕ) (hs : List ℕ) (ss : List Step) → All (λ s. Conta
 steps-none n hs ss all outside = none-by n hs ss (recursion_from_All (λ s. Contains hs s.handle) ss all) outside
 
 -- a handle among others does not matter where another number is looked up
-pub lookup-without : (n h left : ℕ) (before behind : List (ℕ × ℕ)) → h ≢ n → lookup (nat_eq n) (before ++ (h, left) ∷ behind) ≡ lookup (nat_eq n) (before ++ behind)
+pub lookup-without : (n h left : ℕ) (before behind : List (ℕ × ℕ)) → h ≢ n →
+    lookup (nat_eq n) (before ++ (h, left) ∷ behind) ≡ lookup (nat_eq n) (before ++ behind)
 lookup-without n h left [] behind differs = ap (λ (b : Bool). cond b (Some left) (lookup (nat_eq n) behind)) (apart n h differs)
 lookup-without n h left (o ∷ before) behind differs =
     ap (λ (r : Option ℕ). cond (nat_eq n o.0) (Some o.1) r) (lookup-without n h left before behind differs)
@@ -85,7 +86,8 @@ pub data Split {X : Type 0} (xs : List X) (x : X) (before : List X) (y : X) (beh
   IsLast : before ≡ xs → y ≡ x → behind ≡ [] → Split xs x before y behind
   IsBefore : (rest : List X) → xs ≡ before ++ y ∷ rest → behind ≡ rest ++ x ∷ [] → Split xs x before y behind
 
-pub splits : {X : Type 0} (xs : List X) (x : X) (before : List X) (y : X) (behind : List X) → xs ++ x ∷ [] ≡ before ++ y ∷ behind → Split xs x before y behind
+pub splits : {X : Type 0} (xs : List X) (x : X) (before : List X) (y : X) (behind : List X) → xs ++ x ∷ [] ≡ before ++ y ∷ behind →
+    Split xs x before y behind
 splits [] x [] y behind is =
     let head : y ≡ x = cc in
     let tail : behind ≡ [] = cc in

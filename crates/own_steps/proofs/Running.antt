@@ -31,7 +31,8 @@ use Rattle.own_steps.proofs.Becoming.{extend-own, found-open, joins, read-own, s
 use Rattle.own_steps.proofs.Keeping.{others-know}
 
 -- each event keeps what a front keeps of its handles
-handles-kept : (old new : Journal) (disk after : Disk) (event : Event) → Happens old disk event new after → KeepsHandles old.front → KeepsHandles new.front
+handles-kept : (old new : Journal) (disk after : Disk) (event : Event) → Happens old disk event new after → KeepsHandles old.front →
+    KeepsHandles new.front
 handles-kept old new disk after event step kept = by event step
   where
     same : {made : Front} → new.front ≡ made → KeepsHandles made → KeepsHandles new.front
@@ -66,7 +67,8 @@ as-open f own handle kept is = by own.stage is.credits
 abbrev value : (own : OwnSteps) (left : ℕ) → HandleValue
 value own left = record { number = own.number; tid = own.tid; left = left }
 
-opened : (f : Front) (own : OwnSteps) (handle : IsOpen f own.number) → KeepsHandles f → IsOwn f own → IsOwn f (open_own (value own handle.left) own.steps)
+opened : (f : Front) (own : OwnSteps) (handle : IsOpen f own.number) → KeepsHandles f → IsOwn f own →
+    IsOwn f (open_own (value own handle.left) own.steps)
 opened f own handle kept is = subst (λ (s : HandleStage). IsOwn f (record own { stage = s })) (as-open f own handle kept is) is
 
 -- nothing was made
@@ -102,7 +104,8 @@ module _ (f : Front) (own : OwnSteps) (kept : KeepsHandles f) (is : IsOwn f own)
             (read-own f (value mine handle.left) b v own.steps (opened f mine handle kept was)),
       )
 
-  made-extend : (h n : ℕ) (handle : IsOpen f h) → own.number ≡ h → KeepsHandles (extending f h n handle) → HasMade (extending f h n handle) own []
+  made-extend : (h n : ℕ) (handle : IsOpen f h) → own.number ≡ h → KeepsHandles (extending f h n handle) →
+      HasMade (extending f h n handle) own []
   made-extend h n handle same after =
       let mine : OwnSteps = record own { number = h } in
       let was : IsOwn f mine = subst (λ (k : ℕ). IsOwn f (record own { number = k })) same is in
@@ -119,7 +122,8 @@ module _ (f : Front) (own : OwnSteps) (kept : KeepsHandles f) (is : IsOwn f own)
       (stop-own f (value mine handle.left) own.steps handle kept (opened f mine handle kept was)))
 
 -- one event
-made-one : (old new : Journal) (disk after : Disk) (event : Event) (own : OwnSteps) → KeepsHandles old.front → Happens old disk event new after → IsOwn old.front own →
+made-one : (old new : Journal) (disk after : Disk) (event : Event) (own : OwnSteps) → KeepsHandles old.front →
+    Happens old disk event new after → IsOwn old.front own →
     HasMade new.front own (steps_by own.number (block_steps event))
 made-one old new disk after event own kept step is = by event step
   where
@@ -198,7 +202,8 @@ made-one old new disk after event own kept step is = by event step
     by AbortMark step = none AbortMark refl step
 
 -- all of a run
-pub made-all : (old new : Journal) (disk after : Disk) (events : List Event) (own : OwnSteps) → KeepsHandles old.front → Runs old disk events new after → IsOwn old.front own →
+pub made-all : (old new : Journal) (disk after : Disk) (events : List Event) (own : OwnSteps) → KeepsHandles old.front →
+    Runs old disk events new after → IsOwn old.front own →
     HasMade new.front own (steps_by own.number (flat_map block_steps events))
 made-all old new disk after [] own kept runs is =
     subst (λ (j : Journal). HasMade j.front own []) (sym runs.0) (unmade old.front own own.stage is)
@@ -217,7 +222,8 @@ made-all old new disk after (event ∷ events) own kept runs is =
     (all.0, subst (λ (l : List Step). IsOwn new.front (record own { steps = l; stage = all.0 })) list all.1)
 
 -- a receipt is borne out whatever stage its holder knows
-of-any-stage : (committed : ℕ) (ts : History) (own : OwnSteps) (stage : HandleStage) → BearsOut committed ts own → BearsOut committed ts (record own { stage = stage })
+of-any-stage : (committed : ℕ) (ts : History) (own : OwnSteps) (stage : HandleStage) → BearsOut committed ts own →
+    BearsOut committed ts (record own { stage = stage })
 of-any-stage committed ts own stage bears = record {
   before = bears.before;
   transaction = bears.transaction;

@@ -31,7 +31,8 @@ pub fn a_handle_that_joins_has_no_steps()
 
 /// A handle's steps are those that it made, one by one.
 pub fn a_step_is_noted_for_its_handle()
-    ensures extend { (old new : Front) (h : HandleValue) (n : ℕ) (steps : List Step) → KeepsHandles old → FrontHappens old (ExtendHandle h.number n) new →
+    ensures extend { (old new : Front) (h : HandleValue) (n : ℕ) (steps : List Step) → KeepsHandles old →
+        FrontHappens old (ExtendHandle h.number n) new →
         MayGo old (open_own h steps) new (open_own (record h { left = h.left + n }) steps) }
     ensures write { (old new : Front) (h after : HandleValue) (b : ℕ) (v : List ℕ) (steps : List Step) → KeepsHandles old →
         FrontHappens old (WriteBlock h.number b v) new → Spends old b h after →
@@ -48,8 +49,8 @@ pub fn a_step_is_noted_for_its_handle()
 /// Over every run of events, whatever they are, a handle has just the steps on blocks that are its own, in order, behind those that its
 /// holder knew, all in the one transaction.
 pub fn over_every_run_a_handle_has_its_own_steps()
-    ensures { (old new : Journal) (disk after : Disk) (events : List Event) (own : OwnSteps) → KeepsHandles old.front → Runs old disk events new after →
-        IsOwn old.front own → HasMade new.front own (steps_by own.number (flat_map block_steps events)) }
+    ensures { (old new : Journal) (disk after : Disk) (events : List Event) (own : OwnSteps) → KeepsHandles old.front →
+        Runs old disk events new after → IsOwn old.front own → HasMade new.front own (steps_by own.number (flat_map block_steps events)) }
 {}
 
 /// What the holder of an open handle knows makes it an open one of the front, of which the running transaction has just these steps.
@@ -60,14 +61,16 @@ pub fn a_handle_that_has_not_stopped_is_open()
 
 /// The record bears out each receipt.
 pub fn the_record_bears_out_a_receipt()
-    ensures { (j : Journal) (own : OwnSteps) → Agrees j → IsOwn j.front own → own.tid ≤ j.front.mark → BearsOut j.engine.committed (transactions j.front) own }
+    ensures { (j : Journal) (own : OwnSteps) → Agrees j → IsOwn j.front own → own.tid ≤ j.front.mark →
+        BearsOut j.engine.committed (transactions j.front) own }
 {}
 
 /// Whatever events come once a handle has joined: when its transaction is told to be committed the record bears out that the handle has
 /// just the steps that it made.
 pub fn the_record_has_what_a_handle_did()
     ensures { (old mid new : Journal) (disk between after : Disk) (n : ℕ) (events : List Event) → KeepsHandles old.front →
-        Happens old disk (FrontStep (Join n)) mid between → Runs mid between events new after → Agrees new → old.front.running.tid ≤ new.front.mark →
+        Happens old disk (FrontStep (Join n)) mid between → Runs mid between events new after → Agrees new →
+        old.front.running.tid ≤ new.front.mark →
         BearsOut new.engine.committed (transactions new.front)
         (stopped_own (next_handle old.front) old.front.running.tid (steps_by (next_handle old.front) (flat_map block_steps events))) }
 {}
