@@ -1,3 +1,4 @@
 -- The lemmas of this crate: none above it cites them.
 mod Keys
 mod Naming
+mod Texts

@@ -1,3 +1,4 @@
 pub mod Measures
 pub mod Named
 pub mod Line
+pub mod Text

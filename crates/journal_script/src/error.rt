@@ -166,6 +166,9 @@ impl OperationName {
 }
 
 impl Key {
+    ghost use Rattle.std.specs.Prelude.{◌≡◌};
+    ghost use Rattle.journal_script.specs.Text.{key_name};
+
     /// The key of this name.
     pub(crate) fn named(name: &str) -> Option<Key> {
         match name {
@@ -180,7 +183,9 @@ impl Key {
     }
 
     /// Its name.
-    pub(crate) fn name(self) -> &'static str {
+    pub(crate) fn name(self) -> &'static str
+        ensures { result.now ≡ key_name self }
+    {
         match self {
             Key::Operations => "ops",
             Key::Block => "block",

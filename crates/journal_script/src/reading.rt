@@ -1,6 +1,13 @@
 //! Reads a script from the bytes of its file.
-ghost use Rattle.std.specs.Prelude.{◌≡◌, ◌≤◌, IfOk, length};
+ghost use Rattle.std.specs.Prelude.{◌≡◌, ◌≤◌, [], ◌∷◌, IfOk, OnOk, Some, codes, length, map};
+ghost use Rattle.serde_json.specs.Data.{boolean, string};
+ghost use Rattle.serde_json.specs.Find.{as_str, get};
+ghost use Rattle.serde_json.specs.Read.{read as read_text};
+ghost use Rattle.serde_json.specs.View.{view};
+ghost use Rattle.journal_script.specs.Line.{word_of};
 ghost use Rattle.journal_script.specs.Measures.{AreLimited, most_home_blocks};
+ghost use Rattle.journal_script.specs.Text.{AgreesWith, AreArguments, AreOperations, HasOperations, IsAt, IsHexOf, IsOperation, IsTextOf, key_name, list_value, number_value};
+ghost use Rattle.journal_script.specs.declared.error.Key.TheVariants.{Home, Operations, Wide};
 
 use crate::error::{BadOperation, BadScript, Key, OperationFault, OperationName, ScriptError};
 use crate::measures::{DEFAULTS, LENGTHS, Measures, homes, is_block_size, uuid_of};
@@ -33,10 +40,11 @@ enum Unread {
 pub fn read(alloc: Global, text: &[u8]) -> Result<Script, ScriptError>
     ensures operations { IfOk result (λ script. length script.operations.items ≤ 100_000) }
     ensures measures { IfOk result (λ script. AreLimited script.measures) }
+    ensures text { IfOk result (λ script. IsTextOf text.now script.operations.items script.measures) }
 {
     let value = read_value(alloc, text)?;
     match value.as_object() {
-        Some(members) => read_members(alloc, members),
+        Some(members) => read_members(alloc, &value, members),
         None => Err(ScriptError::BadScript(BadScript::NoObject)),
     }
 }
@@ -52,60 +60,69 @@ pub fn read_over(
     text: &[u8],
     device: &Measures,
 ) -> Result<Vec<Operation>, ScriptError>
-    ensures { IfOk result (λ operations. length operations.items ≤ 100_000) }
+    ensures few { IfOk result (λ operations. length operations.items ≤ 100_000) }
+    ensures text { IfOk result (λ operations. IsTextOf text.now operations.items device.now) }
 {
     let value = read_value(alloc, text)?;
     match value.as_object() {
-        Some(members) => read_members_over(alloc, members, device),
+        Some(members) => read_members_over(alloc, &value, members, device),
         None => Err(ScriptError::BadScript(BadScript::NoObject)),
     }
 }
 
-/// The operations of an object that agrees with a device.
+/// The operations of an object with these members, which agrees with a device.
 fn read_members_over(
     alloc: Global,
+    value: &Value,
     members: &Map<String, Value>,
     device: &Measures,
 ) -> Result<Vec<Operation>, ScriptError>
-    ensures { IfOk result (λ operations. length operations.items ≤ 100_000) }
+    ensures few { IfOk result (λ operations. length operations.items ≤ 100_000) }
+    ensures has { IfOk result (λ operations. HasOperations (view value.now) operations.items) }
+    ensures agrees { OnOk result (AgreesWith (view value.now) device.now) }
 {
     require_known_keys(alloc, members)?;
-    require_number(members, Key::Block, device.block_size as u64)?;
-    require_number(members, Key::Length, u64::from(device.log_blocks))?;
-    require_number(members, Key::Home, device.home_blocks)?;
-    require_uuid(alloc, members, &device.uuid)?;
-    require_width(members, device.wide)?;
-    read_ordered(alloc, list_of(members)?, device.block_size)
+    require_number(value, Key::Block, device.block_size as u64)?;
+    require_number(value, Key::Length, u64::from(device.log_blocks))?;
+    require_number(value, Key::Home, device.home_blocks)?;
+    require_uuid(alloc, value, &device.uuid)?;
+    require_width(value, device.wide)?;
+    read_ordered(alloc, list_of(value)?, device.block_size)
 }
 
 /// Fails where a key stands in a script, and not with this number.
-fn require_number(members: &Map<String, Value>, key: Key, number: u64) -> Result<(), ScriptError> {
-    match members.get(key.name()) {
-        Some(value) if value.as_u64() != Some(number) => {
-            Err(ScriptError::BadScript(BadScript::Disagrees(key)))
-        }
-        _ => Ok(()),
+fn require_number(value: &Value, key: Key, number: u64) -> Result<(), ScriptError>
+    ensures { OnOk result (IsAt (get (key_name key) (view value.now)) (number_value number)) }
+{
+    let Some(found) = value.get(key.name()) else {
+        return Ok(());
+    };
+    match found.as_u64() {
+        Some(other) if other == number => Ok(()),
+        _ => Err(ScriptError::BadScript(BadScript::Disagrees(key))),
     }
 }
 
 /// Fails where a UUID stands in a script, and another than this.
-fn require_uuid(
-    alloc: Global,
-    members: &Map<String, Value>,
-    uuid: &[u8; 16],
-) -> Result<(), ScriptError> {
-    if members.get(Key::Uuid.name()).is_some() && read_uuid(alloc, members)? != *uuid {
+fn require_uuid(alloc: Global, value: &Value, uuid: &[u8; 16]) -> Result<(), ScriptError> {
+    if value.get(Key::Uuid.name()).is_some() && read_uuid(alloc, value)? != *uuid {
         return Err(ScriptError::BadScript(BadScript::Disagrees(Key::Uuid)));
     }
     Ok(())
 }
 
 /// Fails where a width of block numbers stands in a script, and another than this.
-fn require_width(members: &Map<String, Value>, wide: bool) -> Result<(), ScriptError> {
-    if members.get(Key::Wide.name()).is_some() && read_width(members)? != wide {
-        return Err(ScriptError::BadScript(BadScript::Disagrees(Key::Wide)));
+fn require_width(value: &Value, wide: bool) -> Result<(), ScriptError>
+    ensures { OnOk result (IsAt (get (key_name Wide) (view value.now)) (boolean wide)) }
+{
+    if value.get(Key::Wide.name()).is_none() {
+        return Ok(());
     }
-    Ok(())
+    if read_width(value)? == wide {
+        Ok(())
+    } else {
+        Err(ScriptError::BadScript(BadScript::Disagrees(Key::Wide)))
+    }
 }
 
 /// Fails where an object has another key than a script.
@@ -124,14 +141,20 @@ fn bad_key(key: Key) -> ScriptError {
     ScriptError::BadScript(BadScript::Key(key))
 }
 
-/// The script of an object.
-fn read_members(alloc: Global, members: &Map<String, Value>) -> Result<Script, ScriptError>
+/// The script of an object with these members.
+fn read_members(
+    alloc: Global,
+    value: &Value,
+    members: &Map<String, Value>,
+) -> Result<Script, ScriptError>
     ensures operations { IfOk result (λ script. length script.operations.items ≤ 100_000) }
     ensures measures { IfOk result (λ script. AreLimited script.measures) }
+    ensures has { IfOk result (λ script. HasOperations (view value.now) script.operations.items) }
+    ensures agrees { IfOk result (λ script. AgreesWith (view value.now) script.measures) }
 {
     require_known_keys(alloc, members)?;
-    let measures = read_measures(alloc, members)?;
-    let operations = read_ordered(alloc, list_of(members)?, measures.block_size)?;
+    let measures = read_measures(alloc, value)?;
+    let operations = read_ordered(alloc, list_of(value)?, measures.block_size)?;
     Ok(Script {
         measures,
         operations,
@@ -144,7 +167,8 @@ fn read_ordered(
     list: &[Value],
     block_size: usize,
 ) -> Result<Vec<Operation>, ScriptError>
-    ensures { IfOk result (λ operations. length operations.items ≡ length list.now) }
+    ensures count { IfOk result (λ operations. length operations.items ≡ length list.now) }
+    ensures are { IfOk result (λ operations. AreOperations operations.items (map view list.now)) }
 {
     let operations = read_operations(alloc, list, block_size)?;
     match order::first_misplaced(alloc, &operations)? {
@@ -188,7 +212,9 @@ fn text_of(alloc: Global, value: Option<&Value>) -> Result<String, AllocError> {
 }
 
 /// The value of a JSON text.
-fn read_value(alloc: Global, text: &[u8]) -> Result<Value, ScriptError> {
+fn read_value(alloc: Global, text: &[u8]) -> Result<Value, ScriptError>
+    ensures { IfOk result (λ value. read_text text.now ≡ Some (view value)) }
+{
     match Value::from_slice(alloc, text) {
         Ok(value) => Ok(value),
         Err(e) if e.is_memory() => Err(ScriptError::Memory),
@@ -197,36 +223,32 @@ fn read_value(alloc: Global, text: &[u8]) -> Result<Value, ScriptError> {
 }
 
 /// The measures of a script's device.
-fn read_measures(alloc: Global, members: &Map<String, Value>) -> Result<Measures, ScriptError>
-    ensures { IfOk result (λ measures. AreLimited measures) }
+fn read_measures(alloc: Global, value: &Value) -> Result<Measures, ScriptError>
+    ensures limited { IfOk result (λ measures. AreLimited measures) }
+    ensures agrees { IfOk result (λ measures. AgreesWith (view value.now) measures) }
 {
-    let block_size = read_number(
-        members,
-        Key::Block,
-        DEFAULTS.block_size as u64,
-        (1024, 4096),
-    )?;
+    let block_size = read_number(value, Key::Block, DEFAULTS.block_size as u64, (1024, 4096))?;
     if !is_block_size(block_size) {
         return Err(bad_key(Key::Block));
     }
-    let wide = read_width(members)?;
+    let wide = read_width(value)?;
     Ok(Measures {
         block_size: block_size as usize,
         log_blocks: read_number(
-            members,
+            value,
             Key::Length,
             u64::from(DEFAULTS.log_blocks),
             (u64::from(LENGTHS.0), u64::from(LENGTHS.1)),
         )? as u32,
-        home_blocks: read_home(members, wide)?,
-        uuid: read_uuid(alloc, members)?,
+        home_blocks: read_home(value, wide)?,
+        uuid: read_uuid(alloc, value)?,
         wide,
     })
 }
 
 /// The number of a key, or where the script has no such key the default. It is not outside these limits.
 fn read_number(
-    members: &Map<String, Value>,
+    value: &Value,
     key: Key,
     default: u64,
     limits: (u64, u64),
@@ -235,22 +257,24 @@ fn read_number(
     requires most { default ≤ limits.1 }
     ensures least { IfOk result (λ number. limits.0 ≤ number) }
     ensures most { IfOk result (λ number. number ≤ limits.1) }
+    ensures is { IfOk result (λ number. IsAt (get (key_name key) (view value.now)) (number_value number)) }
 {
-    let Some(value) = members.get(key.name()) else {
+    let Some(found) = value.get(key.name()) else {
         return Ok(default);
     };
-    match value.as_u64() {
+    match found.as_u64() {
         Some(number) if limits.0 <= number && number <= limits.1 => Ok(number),
         _ => Err(bad_key(key)),
     }
 }
 
 /// The blocks of a script's home area, whose block numbers have 64 bits or 32.
-fn read_home(members: &Map<String, Value>, wide: bool) -> Result<u64, ScriptError>
+fn read_home(value: &Value, wide: bool) -> Result<u64, ScriptError>
     ensures least { IfOk result (λ blocks. 1 ≤ blocks) }
     ensures most { IfOk result (λ blocks. blocks ≤ most_home_blocks wide) }
+    ensures is { IfOk result (λ blocks. IsAt (get (key_name Home) (view value.now)) (number_value blocks)) }
 {
-    match read_number(members, Key::Home, DEFAULTS.home_blocks, homes(wide)) {
+    match read_number(value, Key::Home, DEFAULTS.home_blocks, homes(wide)) {
         Ok(blocks) => Ok(blocks),
         Err(_) if wide => Err(ScriptError::BadScript(BadScript::WideHome)),
         Err(e) => Err(e),
@@ -258,11 +282,11 @@ fn read_home(members: &Map<String, Value>, wide: bool) -> Result<u64, ScriptErro
 }
 
 /// The UUID of a script's journal.
-fn read_uuid(alloc: Global, members: &Map<String, Value>) -> Result<[u8; 16], ScriptError> {
-    let Some(value) = members.get(Key::Uuid.name()) else {
+fn read_uuid(alloc: Global, value: &Value) -> Result<[u8; 16], ScriptError> {
+    let Some(found) = value.get(Key::Uuid.name()) else {
         return Ok(DEFAULTS.uuid);
     };
-    let Some(digits) = value.as_str() else {
+    let Some(digits) = found.as_str() else {
         return Err(bad_key(Key::Uuid));
     };
     match uuid_of(alloc, digits)? {
@@ -272,22 +296,28 @@ fn read_uuid(alloc: Global, members: &Map<String, Value>) -> Result<[u8; 16], Sc
 }
 
 /// Whether the block numbers of a script's log have 64 bits.
-fn read_width(members: &Map<String, Value>) -> Result<bool, ScriptError> {
-    match members.get(Key::Wide.name()) {
-        Some(value) => value.as_bool().ok_or(bad_key(Key::Wide)),
-        None => Ok(DEFAULTS.wide),
+fn read_width(value: &Value) -> Result<bool, ScriptError>
+    ensures { IfOk result (λ wide. IsAt (get (key_name Wide) (view value.now)) (boolean wide)) }
+{
+    let Some(found) = value.get(Key::Wide.name()) else {
+        return Ok(DEFAULTS.wide);
+    };
+    match found.as_bool() {
+        Some(wide) => Ok(wide),
+        None => Err(bad_key(Key::Wide)),
     }
 }
 
 /// The list of operations of a script.
-fn list_of(members: &Map<String, Value>) -> Result<&[Value], ScriptError>
-    ensures { IfOk result (λ list. length list.now ≤ 100_000) }
+fn list_of(value: &Value) -> Result<&[Value], ScriptError>
+    ensures few { IfOk result (λ list. length list.now ≤ 100_000) }
+    ensures listed { IfOk result (λ list. get (key_name Operations) (view value.now) ≡ Some (list_value (map view list.now))) }
 {
-    let list = members
-        .get(Key::Operations.name())
-        .and_then(Value::as_array);
-    match list {
-        Some(operations) if operations.len() <= MOST_OPERATIONS => Ok(operations.as_slice()),
+    let Some(operations) = value.get(Key::Operations.name()) else {
+        return Err(bad_key(Key::Operations));
+    };
+    match operations.as_array() {
+        Some(list) if list.len() <= MOST_OPERATIONS => Ok(list.as_slice()),
         _ => Err(bad_key(Key::Operations)),
     }
 }
@@ -298,7 +328,8 @@ fn read_operations(
     list: &[Value],
     block_size: usize,
 ) -> Result<Vec<Operation>, ScriptError>
-    ensures { IfOk result (λ operations. length operations.items ≡ length list.now) }
+    ensures count { IfOk result (λ operations. length operations.items ≡ length list.now) }
+    ensures are { IfOk result (λ operations. AreOperations operations.items (map view list.now)) }
 {
     let mut operations = Vec::with_capacity(alloc, list.len())?;
     for value in list {
@@ -314,7 +345,9 @@ fn read_operations(
 }
 
 /// An operation: a list of its name and what it is about.
-fn read_operation(alloc: Global, value: &Value, block_size: usize) -> Result<Operation, Unread> {
+fn read_operation(alloc: Global, value: &Value, block_size: usize) -> Result<Operation, Unread>
+    ensures { IfOk result (λ operation. IsOperation operation (view value.now)) }
+{
     let Some(words) = value.as_array() else {
         return Err(Unread::Bad(OperationFault::NoName));
     };
@@ -340,7 +373,10 @@ fn wrong_form(name: &Value) -> Unread {
 }
 
 /// An operation that is a name alone.
-fn plain_operation(name: &Value) -> Result<Operation, Unread> {
+fn plain_operation(name: &Value) -> Result<Operation, Unread>
+    ensures named { IfOk result (λ operation. as_str (view name.now) ≡ Some (word_of operation)) }
+    ensures arguments { IfOk result (λ operation. AreArguments operation []) }
+{
     match name.as_str() {
         Some("turn") => Ok(Operation::Turn),
         Some("commit") => Ok(Operation::Commit),
@@ -352,7 +388,10 @@ fn plain_operation(name: &Value) -> Result<Operation, Unread> {
 }
 
 /// An operation of a handle.
-fn handle_operation(name: &Value, handle: &Value) -> Result<Operation, Unread> {
+fn handle_operation(name: &Value, handle: &Value) -> Result<Operation, Unread>
+    ensures named { IfOk result (λ operation. as_str (view name.now) ≡ Some (word_of operation)) }
+    ensures arguments { IfOk result (λ operation. AreArguments operation (view handle.now ∷ [])) }
+{
     match name.as_str() {
         Some("stop") => Ok(Operation::Stop(handle_of(handle)?)),
         Some("request") => Ok(Operation::Request(handle_of(handle)?)),
@@ -369,7 +408,10 @@ fn pair_operation(
     first: &Value,
     second: &Value,
     block_size: usize,
-) -> Result<Operation, Unread> {
+) -> Result<Operation, Unread>
+    ensures named { IfOk result (λ operation. as_str (view name.now) ≡ Some (word_of operation)) }
+    ensures arguments { IfOk result (λ operation. AreArguments operation (view first.now ∷ view second.now ∷ [])) }
+{
     match name.as_str() {
         Some("direct") => direct_operation(alloc, first, second, block_size),
         _ => number_operation(name, first, second),
@@ -382,14 +424,20 @@ fn direct_operation(
     block: &Value,
     hex: &Value,
     block_size: usize,
-) -> Result<Operation, Unread> {
+) -> Result<Operation, Unread>
+    ensures word { IfOk result (λ operation. word_of operation ≡ codes "direct") }
+    ensures arguments { IfOk result (λ operation. AreArguments operation (view block.now ∷ view hex.now ∷ [])) }
+{
     let block = BlockNo(number_of(block)?);
     let bytes = bytes_of(alloc, hex, block_size)?;
     Ok(Operation::WriteDirect(block, bytes))
 }
 
 /// An operation of a handle and a number: credits, or a block.
-fn number_operation(name: &Value, handle: &Value, number: &Value) -> Result<Operation, Unread> {
+fn number_operation(name: &Value, handle: &Value, number: &Value) -> Result<Operation, Unread>
+    ensures named { IfOk result (λ operation. as_str (view name.now) ≡ Some (word_of operation)) }
+    ensures arguments { IfOk result (λ operation. AreArguments operation (view handle.now ∷ view number.now ∷ [])) }
+{
     match name.as_str() {
         Some("start") => {
             let handle = handle_of(handle)?;
@@ -425,7 +473,10 @@ fn write_operation(
     block: &Value,
     hex: &Value,
     block_size: usize,
-) -> Result<Operation, Unread> {
+) -> Result<Operation, Unread>
+    ensures named { IfOk result (λ operation. as_str (view name.now) ≡ Some (word_of operation)) }
+    ensures arguments { IfOk result (λ operation. AreArguments operation (view handle.now ∷ view block.now ∷ view hex.now ∷ [])) }
+{
     let Some("write") = name.as_str() else {
         return Err(wrong_form(name));
     };
@@ -436,23 +487,44 @@ fn write_operation(
 }
 
 /// A whole number from 0 to 2^64 - 1.
-fn number_of(value: &Value) -> Result<u64, Unread> {
-    value.as_u64().ok_or(Unread::Bad(OperationFault::Number))
+fn number_of(value: &Value) -> Result<u64, Unread>
+    ensures { IfOk result (λ number. view value.now ≡ number_value number) }
+{
+    match value.as_u64() {
+        Some(number) => Ok(number),
+        None => Err(Unread::Bad(OperationFault::Number)),
+    }
 }
 
 /// A name of a handle.
-fn handle_of(value: &Value) -> Result<HandleName, Unread> {
-    value
-        .as_u64()
-        .and_then(HandleName::new)
-        .ok_or(Unread::Bad(OperationFault::Handle))
+fn handle_of(value: &Value) -> Result<HandleName, Unread>
+    ensures { IfOk result (λ name. view value.now ≡ number_value name) }
+{
+    let Some(number) = value.as_u64() else {
+        return Err(Unread::Bad(OperationFault::Handle));
+    };
+    match HandleName::new(number) {
+        Some(name) => Ok(name),
+        None => Err(Unread::Bad(OperationFault::Handle)),
+    }
+}
+
+/// The hex digits of a text.
+fn digits_of(value: &Value) -> Result<&str, Unread>
+    ensures { IfOk result (λ digits. view value.now ≡ string digits.now) }
+{
+    match value.as_str() {
+        Some(digits) => Ok(digits),
+        None => Err(Unread::Bad(OperationFault::Digits)),
+    }
 }
 
 /// The bytes of a hex text, at most so many.
 fn bytes_of(alloc: Global, value: &Value, most: usize) -> Result<Vec<u8>, Unread>
-    ensures { IfOk result (λ bytes. length bytes.items ≤ most) }
+    ensures most { IfOk result (λ bytes. length bytes.items ≤ most) }
+    ensures hex { IfOk result (λ bytes. IsHexOf bytes.items (view value.now)) }
 {
-    let digits = value.as_str().ok_or(Unread::Bad(OperationFault::Digits))?;
+    let digits = digits_of(value)?;
     if digits.len() / 2 > most {
         return Err(Unread::Bad(OperationFault::TooManyBytes));
     }

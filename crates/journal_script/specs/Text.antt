@@ -1,0 +1,90 @@
+-- What the text of a script says: its operations, in their order, and measures.
+use Rattle.std.specs.Prelude.{◌≡◌, ◌++◌, ℕ, List, [], ◌∷◌, Option, Some, Ok, IfSome, codes}
+use Rattle.hex.specs.Hex.{decode_of}
+use Rattle.serde_json.specs.Data.{Data, array, boolean, number, string, unsigned}
+use Rattle.serde_json.specs.Find.{get}
+use Rattle.serde_json.specs.Read.{read}
+use Rattle.serde_json.specs.View.{items_of}
+use Rattle.journal_script.specs.Line.{word_of}
+use Rattle.journal_script.specs.declared.error.Key.{Key}
+use Rattle.journal_script.specs.declared.error.Key.TheVariants.{Operations, Block, Length, Home, Uuid, Wide}
+use Rattle.journal_script.specs.declared.measures.Measures.{Measures}
+use Rattle.journal_script.specs.declared.script.Operation.{Operation}
+use Rattle.journal_script.specs.declared.script.Operation.TheVariants.{Start, Write, Revoke, Read, Extend, Restart, Stop, Request, Turn, Commit, CheckpointTurn, Check, Status, Wait, WriteDirect, SyncDirect}
+
+-- the keys of a script
+abbrev pub key_name : Key → List ℕ
+key_name Operations = codes "ops"
+key_name Block = codes "block"
+key_name Length = codes "length"
+key_name Home = codes "home"
+key_name Uuid = codes "uuid"
+key_name Wide = codes "wide"
+
+-- a list, and a whole number, as values of JSON
+abbrev pub list_value : List Data → Data
+list_value values = array (items_of values)
+
+abbrev pub number_value : ℕ → Data
+number_value n = number (unsigned n)
+
+-- hex digits of these bytes, as a value
+pub record IsHexOf (bytes : List ℕ) (value : Data) : Type 0 where
+  pub digits : List ℕ
+  pub is : value ≡ string digits
+  pub decoded : decode_of digits ≡ Ok bytes
+
+-- what stands behind an operation's name: its handle, its number of credits or of a block, and its bytes in hex digits
+abbrev pub AreArguments : Operation → List Data → Type 0
+AreArguments (Start name credits) values = values ≡ number_value name ∷ number_value credits ∷ []
+AreArguments (Write name block bytes) values = (hex : Data) × IsHexOf bytes.items hex × (values ≡ number_value name ∷ number_value block ∷ hex ∷ [])
+AreArguments (Revoke name block) values = values ≡ number_value name ∷ number_value block ∷ []
+AreArguments (Read name block) values = values ≡ number_value name ∷ number_value block ∷ []
+AreArguments (Extend name credits) values = values ≡ number_value name ∷ number_value credits ∷ []
+AreArguments (Restart name credits) values = values ≡ number_value name ∷ number_value credits ∷ []
+AreArguments (Stop name) values = values ≡ number_value name ∷ []
+AreArguments (Request name) values = values ≡ number_value name ∷ []
+AreArguments Turn values = values ≡ []
+AreArguments Commit values = values ≡ []
+AreArguments CheckpointTurn values = values ≡ []
+AreArguments Check values = values ≡ []
+AreArguments (Status name) values = values ≡ number_value name ∷ []
+AreArguments (Wait name) values = values ≡ number_value name ∷ []
+AreArguments (WriteDirect block bytes) values = (hex : Data) × IsHexOf bytes.items hex × (values ≡ number_value block ∷ hex ∷ [])
+AreArguments SyncDirect values = values ≡ []
+
+-- a value is this operation: a list of its name, and of what stands behind that
+pub record IsOperation (operation : Operation) (value : Data) : Type 0 where
+  pub arguments : List Data
+  pub are : AreArguments operation arguments
+  pub is : value ≡ list_value (string (word_of operation) ∷ arguments)
+
+-- the values are these operations, one for one, in this order
+pub data AreOperations : List Operation → List Data → Type 0 where
+  NoMore : AreOperations [] []
+  OneMore : (operations : List Operation) (values : List Data) (operation : Operation) (value : Data) →
+      AreOperations operations values → IsOperation operation value → AreOperations (operations ++ operation ∷ []) (values ++ value ∷ [])
+
+-- a value has these operations: its key `ops` has the list of them
+pub record HasOperations (script : Data) (operations : List Operation) : Type 0 where
+  pub values : List Data
+  pub listed : get (key_name Operations) script ≡ Some (list_value values)
+  pub are : AreOperations operations values
+
+-- where a key stands it has this value
+abbrev pub IsAt : Option Data → Data → Type 0
+IsAt found value = IfSome found (λ there. there ≡ value)
+
+-- the keys of a value that speak of a device say these measures, where they stand. (Of the UUID it is not said.)
+pub record AgreesWith (script : Data) (m : Measures) : Type 0 where
+  pub block : IsAt (get (key_name Block) script) (number_value m.block_size)
+  pub length : IsAt (get (key_name Length) script) (number_value m.log_blocks)
+  pub home : IsAt (get (key_name Home) script) (number_value m.home_blocks)
+  pub wide : IsAt (get (key_name Wide) script) (boolean m.wide)
+
+-- the text is one of JSON, whose value has these operations, and agrees with these measures
+pub record IsTextOf (text : List ℕ) (operations : List Operation) (measures : Measures) : Type 0 where
+  pub script : Data
+  pub is : read text ≡ Some script
+  pub has : HasOperations script operations
+  pub agrees : AgreesWith script measures
