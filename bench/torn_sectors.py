@@ -25,10 +25,12 @@ from collections import Counter
 from pathlib import Path
 
 from killed_apply import Apply, Left
+from openings import DESCRIPTOR, REVOKE, has_magic, word
 from runs import TOP, Difference, RandomScript
 
 SECTOR = 512
 MOST_WRITES = 40  # of a script
+LONG = 400  # blocks of a log
 REFUSED = ("jbench: refusal 21 Ahead ", "jbench: refusal 22 Damage ")
 
 
@@ -36,6 +38,19 @@ def without_direct_writes(text):
     script = json.loads(text)
     script["ops"] = [operation for operation in script["ops"] if operation[0] not in ("direct", "sync")] or [["turn"]]
     return json.dumps(script)
+
+
+def is_list(block):
+    """Whether it is a descriptor or a revoke block."""
+    return has_magic(block) and word(block, 4) in (DESCRIPTOR, REVOKE)
+
+
+def script_of(draw, is_long):
+    """A random script; a long one has a log for transactions that fill a descriptor, so that one may be torn between its tags."""
+    script = RandomScript(draw)
+    while is_long and script.length < LONG:
+        script = RandomScript(draw)
+    return script
 
 
 def torn(draw, old, new):
@@ -95,7 +110,11 @@ class Tearer:
     def tear_some(self, text):
         apply = Apply(text, self.draw.random() < 0.5)
         writes = range(len(apply.device.made))
-        for write in writes if len(writes) <= MOST_WRITES else sorted(self.draw.sample(writes, MOST_WRITES)):
+        if len(writes) > MOST_WRITES:
+            lists = [i for i, (area, _, block) in enumerate(apply.device.made) if area == "log" and is_list(block)]
+            lists = self.draw.sample(lists, min(len(lists), MOST_WRITES // 2))
+            writes = sorted({*lists, *self.draw.sample(writes, MOST_WRITES // 2)})
+        for write in writes:
             self.tear(apply, write, text)
         self.cases["scripts"] += 1
 
@@ -111,8 +130,8 @@ def main(words):
     with tempfile.TemporaryDirectory() as folder:
         tearer = Tearer(program, Path(folder), draw)
         try:
-            for _ in range(count):
-                tearer.tear_some(without_direct_writes(RandomScript(draw).text()))
+            for i in range(count):
+                tearer.tear_some(without_direct_writes(script_of(draw, i % 4 == 0).text()))
         except Difference as difference:
             print(difference)
             return 1
