@@ -1,5 +1,5 @@
 -- What a command over a log leaves of its device.
-use Rattle.std.specs.Prelude.{◌≡◌, ℕ, Bool, true, false, List, None}
+use Rattle.std.specs.Prelude.{◌≡◌, ◌⊎◌, ℕ, Bool, true, false, List, None}
 use Rattle.journal_model.specs.declared.number.Area.TheVariants.{Home}
 use Rattle.journal_model.specs.declared.refusal.JournalError.{JournalError}
 use Rattle.journal_model.specs.Disk.{Disk, Shape, flushed, reading}
@@ -11,7 +11,7 @@ use Rattle.recovery.specs.Before.{BeforeRefused, IsMomentBefore, IsOpeningBefore
 use Rattle.recovery.specs.BeforeSteps.{HasDoneBefore}
 use Rattle.recovery.specs.Opening.{IsDone, IsFormatted, OpeningRefused}
 use Rattle.recovery.specs.Planned.{IsPlanned, IsPlannedBefore}
-use Rattle.recovery.specs.Upgrade.{IsUpgraded}
+use Rattle.recovery.specs.Upgrade.{IsUpgradeBroken, IsUpgraded}
 use Rattle.jbench_logs.specs.declared.damage.Taken.{Taken}
 use Rattle.jbench_logs.specs.declared.plans.Planned.{Planned}
 
@@ -33,6 +33,10 @@ pub record IsRecovered (old new : DeviceState) : Type 0 where
 pub record HasUpgraded (old new : DeviceState) : Type 0 where
   pub sequence : ℕ
   pub is : IsUpgraded old new sequence
+
+-- what is left where one was begun, whatever it came to: it was done, or it came no farther than to read, or some of its calls were made
+abbrev pub IsUpgradeLeft : DeviceState → DeviceState → Type 0
+IsUpgradeLeft old new = HasUpgraded old new ⊎ IsUpgradeBroken old new
 
 -- what can be taken of the log was taken, in spite of what stops an opening; and this is what is told of it
 pub record IsTakenBefore (old new : DeviceState) (taken : Taken) : Type 0 where

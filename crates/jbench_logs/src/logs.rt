@@ -5,9 +5,10 @@ ghost use Rattle.journal_model.specs.Disk.{reading};
 ghost use Rattle.block_device.specs.State.{EachMoment, Stays};
 ghost use Rattle.log_dump.specs.Dumping.{HasDump, shape_of};
 ghost use Rattle.log_epochs.specs.OpeningRun.{IsMoment};
+ghost use Rattle.log_epochs.specs.UpgradeRun.{IsUpgradeMoment};
 ghost use Rattle.recovery.specs.Opening.{OpeningRefused};
 ghost use Rattle.jbench_words.specs.declared.fault.Status.TheVariants.{Fine, Refused};
-ghost use Rattle.jbench_logs.specs.Done.{HasUpgraded, IsMade, IsRecovered, IsRefusedBy};
+ghost use Rattle.jbench_logs.specs.Done.{HasUpgraded, IsMade, IsRecovered, IsRefusedBy, IsUpgradeLeft};
 ghost use Rattle.jbench_logs.specs.Said.{opened_line};
 
 use crate::reasons::say_why;
@@ -35,7 +36,8 @@ pub fn format<D: Device, W: Write + Drop, E: Write + Drop>(
     out: W,
     err: E,
 ) -> io::Result<Status>
-    ensures { IfOk result (λ status. status ≡ Fine → IsMade measures.now.log_blocks measures.now.uuid measures.now.wide (D.state device.old) (D.state device.new)) }
+    ensures made { IfOk result (λ status. status ≡ Fine → IsMade measures.now.log_blocks measures.now.uuid measures.now.wide (D.state device.old) (D.state device.new)) }
+    ensures other { IfOk result (λ status. status ≢ Fine → status ≡ Refused) }
 {
     match make_log(measures, device) {
         Ok(()) => end(path, say_made(measures, out), err),
@@ -78,6 +80,7 @@ pub fn dump<D: Device, W: Write + Drop, E: Write + Drop>(
     err: E,
 ) -> io::Result<Status>
     ensures dumped { IfOk result (λ status. status ≡ Fine → D.honest device.new → HasDump (shape_of (D.state device.old)) (reading (D.state device.old).disk)) }
+    ensures other { IfOk result (λ status. status ≢ Fine → status ≡ Refused) }
     ensures stays { Stays (D.state device.old) (D.state device.new) }
 {
     end(path, dump_device(alloc, device, out), err)
@@ -172,7 +175,11 @@ pub fn upgrade<D: Device, W: Write + Drop, E: Write + Drop>(
     out: W,
     err: E,
 ) -> io::Result<Status>
-    ensures { IfOk result (λ status. status ≡ Fine → D.honest device.new → HasUpgraded (D.state device.old) (D.state device.new)) }
+    ensures upgraded { IfOk result (λ status. status ≡ Fine → D.honest device.new → HasUpgraded (D.state device.old) (D.state device.new)) }
+    ensures other { IfOk result (λ status. status ≢ Fine → status ≡ Refused) }
+    // Whatever the answer is: nothing else was written, and in this order.
+    ensures left { D.honest device.new → IsUpgradeLeft (D.state device.old) (D.state device.new) }
+    ensures moments { D.honest device.new → EachMoment (IsUpgradeMoment (D.state device.old).shape (D.state device.old).disk) (D.state device.old) (D.state device.new) }
 {
     end(path, upgrade_device(alloc, device, out), err)
 }
@@ -183,7 +190,9 @@ fn upgrade_device<D: Device, W: Write + Drop>(
     device: &mut D,
     out: W,
 ) -> Result<(), Fault>
-    ensures { OnOk result (D.honest device.new → HasUpgraded (D.state device.old) (D.state device.new)) }
+    ensures upgraded { OnOk result (D.honest device.new → HasUpgraded (D.state device.old) (D.state device.new)) }
+    ensures left { D.honest device.new → IsUpgradeLeft (D.state device.old) (D.state device.new) }
+    ensures moments { D.honest device.new → EachMoment (IsUpgradeMoment (D.state device.old).shape (D.state device.old).disk) (D.state device.old) (D.state device.new) }
 {
     let mut out = out;
     let sequence = recovery::upgrade(alloc, device)?;
@@ -241,7 +250,8 @@ pub(crate) fn end<E: Write + Drop>(
     done: Result<(), Fault>,
     mut err: E,
 ) -> io::Result<Status>
-    ensures { IfOk result (λ status. status ≡ Fine → IsOk done) }
+    ensures fine { IfOk result (λ status. status ≡ Fine → IsOk done) }
+    ensures other { IfOk result (λ status. status ≢ Fine → status ≡ Refused) }
 {
     match done {
         Ok(()) => Ok(Status::Fine),

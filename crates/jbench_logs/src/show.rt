@@ -1,7 +1,8 @@
 //! The command `show`: every field of a superblock by its name, whatever its value is, with the test that it fails; and below, whether
 //! an opening takes it, and what keeps it from a log of another maker.
-ghost use Rattle.std.specs.Prelude.{◌+◌, ◌≤◌, length};
+ghost use Rattle.std.specs.Prelude.{◌≡◌, ◌≢◌, ◌+◌, ◌≤◌, length, IfOk};
 ghost use Rattle.block_device.specs.State.{Stays};
+ghost use Rattle.jbench_words.specs.declared.fault.Status.TheVariants.{Fine, Refused};
 
 use crate::features::{
     COMPATIBLE, INCOMPATIBLE, READ_ONLY_COMPATIBLE, REVOKE, WIDE_NUMBERS, write_features,
@@ -50,7 +51,8 @@ pub fn show<D: Device, W: Write + Drop, E: Write + Drop>(
     out: W,
     err: E,
 ) -> io::Result<Status>
-    ensures { Stays (D.state device.old) (D.state device.new) }
+    ensures stays { Stays (D.state device.old) (D.state device.new) }
+    ensures other { IfOk result (λ status. status ≢ Fine → status ≡ Refused) }
 {
     let (mut out, mut err) = (out, err);
     match show_device(alloc, device, &mut out) {
