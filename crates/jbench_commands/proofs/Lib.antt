@@ -1,1 +1,3 @@
+mod Ending
+mod Obeyed
 mod Staying

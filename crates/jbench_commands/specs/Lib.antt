@@ -1,3 +1,5 @@
 pub mod Applying
 pub mod Making
+pub mod Obeying
+pub mod Runs
 pub mod Sweeps

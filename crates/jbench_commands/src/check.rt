@@ -1,4 +1,8 @@
 //! The command `check`: says whether a script is good.
+ghost use Rattle.std.specs.Prelude.{◌≡◌, ◌≢◌, IfOk, IsOk};
+ghost use Rattle.jbench_words.specs.declared.fault.Status.TheVariants.{Fine, Refused};
+ghost use Rattle.jbench_commands.specs.Runs.{HasTaken};
+
 use crate::run::read_text;
 use jbench_words::fault::{self, Fault, Status};
 use journal_script::{Script, ScriptError};
@@ -18,10 +22,16 @@ pub fn check<R: Read + Drop, W: Write + Drop, E: Write + Drop>(
     script: R,
     out: W,
     err: E,
-) -> io::Result<Status> {
+) -> io::Result<Status>
+    ensures good { IfOk result (λ status. status ≡ Fine → HasTaken (R.remaining script)) }
+    ensures other { IfOk result (λ status. status ≢ Fine → status ≡ Refused) }
+{
     let mut err = err;
     match read_text(alloc, script) {
-        Ok(text) => tell(journal_script::read(alloc, &text), out, &mut err),
+        Ok(text) => {
+            let read = journal_script::read(alloc, &text);
+            tell(read, out, &mut err)
+        }
         Err(fault) => fault::refuse(&mut err, path, &fault),
     }
 }
@@ -31,7 +41,11 @@ fn tell<W: Write + Drop, E: Write>(
     read: Result<Script, ScriptError>,
     out: W,
     err: &mut E,
-) -> io::Result<Status> {
+) -> io::Result<Status>
+    ensures good { IfOk result (λ status. status ≡ Fine → IsOk read) }
+    ensures taken { IfOk result (λ status. IsOk read → status ≡ Fine) }
+    ensures other { IfOk result (λ status. status ≢ Fine → status ≡ Refused) }
+{
     match read {
         Ok(script) => say_good(&script, out),
         Err(ScriptError::BadScript(bad)) => {
@@ -43,7 +57,9 @@ fn tell<W: Write + Drop, E: Write>(
 }
 
 /// Says that a script is good.
-fn say_good<W: Write + Drop>(script: &Script, out: W) -> io::Result<Status> {
+fn say_good<W: Write + Drop>(script: &Script, out: W) -> io::Result<Status>
+    ensures { IfOk result (λ status. status ≡ Fine) }
+{
     let mut out = out;
     writeln!(out, "good operations={}", script.operations.len())?;
     Ok(Status::Fine)

@@ -1,7 +1,12 @@
 //! Opens the files that the words name, and does what the words tell.
-ghost use Rattle.std.specs.Prelude.{◌≡◌, ◌↔◌, IfOk, IsSome, true};
-ghost use Rattle.jbench_words.specs.declared.fault.Status.TheVariants.{Fine};
+ghost use Rattle.std.specs.Prelude.{◌≡◌, ◌≢◌, ◌↔◌, ℕ, IfOk, IsSome, List, Option, true};
+ghost use Rattle.journal_model.specs.Disk.{reading};
+ghost use Rattle.log_dump.specs.Dumping.{HasDump, shape_of};
+ghost use Rattle.jbench_words.specs.declared.fault.Status.TheVariants.{Fine, Refused, VerdictFalse};
+ghost use Rattle.jbench_logs.specs.Done.{HasUpgraded, IsMade};
 ghost use Rattle.jbench_commands.specs.Making.{KeepsHome};
+ghost use Rattle.jbench_commands.specs.Obeying.{HasObeyed, IsDoneOver, IsOverAny, IsOverTwo, MayFindWrong, Recovers};
+ghost use Rattle.jbench_commands.specs.Runs.{HasTaken};
 
 use crate::image::ImageFiles;
 use crate::progress::Progress;
@@ -26,7 +31,10 @@ pub fn obey<W: Write + Drop, E: Write + Drop>(
     words: &Words<'_>,
     out: W,
     err: E,
-) -> io::Result<Status> {
+) -> io::Result<Status>
+    ensures done { IfOk result (λ status. status ≡ Fine → HasObeyed words.now) }
+    ensures wrong { IfOk result (λ status. status ≡ VerdictFalse → MayFindWrong words.now) }
+{
     match words {
         Words::Run(words) => run_file(rt, words, out, err),
         Words::Sweep(words) => sweep_file(rt, words, out, err),
@@ -104,7 +112,10 @@ fn check_file<W: Write + Drop, E: Write + Drop>(
     path: &str,
     out: W,
     err: E,
-) -> io::Result<Status> {
+) -> io::Result<Status>
+    ensures done { IfOk result (λ status. status ≡ Fine → (text : Option (List ℕ)) × HasTaken text) }
+    ensures other { IfOk result (λ status. status ≢ Fine → status ≡ Refused) }
+{
     let mut err = err;
     match open_to_read(rt, path) {
         Ok(file) => check::check(rt.alloc(), path, file.into_file(), out, err),
@@ -118,7 +129,10 @@ fn format_files<W: Write + Drop, E: Write + Drop>(
     words: &FormatWords<'_>,
     out: W,
     err: E,
-) -> io::Result<Status> {
+) -> io::Result<Status>
+    ensures done { IfOk result (λ status. status ≡ Fine → IsDoneOver IsOverTwo (λ old new. IsMade words.now.measures.log_blocks words.now.measures.uuid words.now.measures.wide old new)) }
+    ensures other { IfOk result (λ status. status ≢ Fine → status ≡ Refused) }
+{
     let mut err = err;
     let files = match open_to_format(rt, words) {
         Ok(files) => files,
@@ -155,7 +169,9 @@ fn make_formatted(
     rt: &HostRuntime,
     words: &FormatWords<'_>,
     files: ToMake,
-) -> Result<LogFiles, Unmade> {
+) -> Result<LogFiles, Unmade>
+    ensures { IfOk result IsOverTwo }
+{
     match files {
         ToMake::Both(files) => make_device(rt.alloc(), &words.measures, files),
         ToMake::LogAlone(files) => make_log_device(rt.alloc(), &words.measures, files),
@@ -168,7 +184,10 @@ fn format_device<W: Write + Drop, E: Write + Drop>(
     device: LogFiles,
     out: W,
     err: E,
-) -> io::Result<Status> {
+) -> io::Result<Status>
+    ensures made { IfOk result (λ status. status ≡ Fine → IsOverTwo device → IsDoneOver IsOverTwo (λ old new. IsMade words.now.measures.log_blocks words.now.measures.uuid words.now.measures.wide old new)) }
+    ensures other { IfOk result (λ status. status ≢ Fine → status ≡ Refused) }
+{
     let mut device = device;
     logs::format(words.paths.log, &words.measures, &mut device, out, err)
 }
@@ -179,7 +198,10 @@ fn recover_files<W: Write + Drop, E: Write + Drop>(
     words: &RecoverWords<'_>,
     out: W,
     err: E,
-) -> io::Result<Status> {
+) -> io::Result<Status>
+    ensures done { IfOk result (λ status. status ≡ Fine → IsDoneOver IsOverTwo (Recovers words.now.dry_run words.now.before_damage)) }
+    ensures other { IfOk result (λ status. status ≢ Fine → status ≡ Refused) }
+{
     if words.dry_run {
         return plan_files(rt, words, out, err);
     }
@@ -201,7 +223,10 @@ fn recover_device<W: Write + Drop, E: Write + Drop>(
     device: LogFiles,
     out: W,
     err: E,
-) -> io::Result<Status> {
+) -> io::Result<Status>
+    ensures done { IfOk result (λ status. status ≡ Fine → IsOverTwo device → IsDoneOver IsOverTwo (Recovers words.now.dry_run words.now.before_damage)) }
+    ensures other { IfOk result (λ status. status ≢ Fine → status ≡ Refused) }
+{
     let progress = Progress::new(rt);
     let (status, _device) = recovering::recover(rt.alloc(), words, device, progress, out, err)?;
     Ok(status)
@@ -213,7 +238,10 @@ fn plan_files<W: Write + Drop, E: Write + Drop>(
     words: &RecoverWords<'_>,
     out: W,
     err: E,
-) -> io::Result<Status> {
+) -> io::Result<Status>
+    ensures done { IfOk result (λ status. status ≡ Fine → IsDoneOver IsOverTwo (Recovers words.now.dry_run words.now.before_damage)) }
+    ensures other { IfOk result (λ status. status ≢ Fine → status ≡ Refused) }
+{
     let mut err = err;
     let files = match open_pair_to_read(rt, words.paths) {
         Ok(files) => files,
@@ -264,7 +292,8 @@ fn apply_opened<W: Write + Drop, E: Write + Drop>(
 
 /// How a command ended that answers what is left where all was done.
 fn status_of<T>(done: &Option<T>) -> Status
-    ensures { result ≡ Fine ↔ IsSome done.now }
+    ensures fine { result ≡ Fine ↔ IsSome done.now }
+    ensures other { result ≢ Fine → result ≡ Refused }
 {
     match done {
         Some(_) => Status::Fine,
@@ -300,7 +329,10 @@ fn dump_file<W: Write + Drop, E: Write + Drop>(
     path: &str,
     out: W,
     err: E,
-) -> io::Result<Status> {
+) -> io::Result<Status>
+    ensures done { IfOk result (λ status. status ≡ Fine → IsDoneOver IsOverAny (λ old new. HasDump (shape_of old) (reading old.disk))) }
+    ensures other { IfOk result (λ status. status ≢ Fine → status ≡ Refused) }
+{
     let mut err = err;
     match open_log(rt.alloc(), rt, path) {
         Ok(mut device) => logs::dump(rt.alloc(), path, &mut device, out, err),
@@ -314,7 +346,10 @@ fn upgrade_file<W: Write + Drop, E: Write + Drop>(
     path: &str,
     out: W,
     err: E,
-) -> io::Result<Status> {
+) -> io::Result<Status>
+    ensures done { IfOk result (λ status. status ≡ Fine → IsDoneOver IsOverAny HasUpgraded) }
+    ensures other { IfOk result (λ status. status ≢ Fine → status ≡ Refused) }
+{
     let mut err = err;
     match open_log_to_write(rt.alloc(), rt, path) {
         Ok(mut device) => logs::upgrade(rt.alloc(), path, &mut device, out, err),
@@ -328,7 +363,9 @@ fn show_file<W: Write + Drop, E: Write + Drop>(
     path: &str,
     out: W,
     err: E,
-) -> io::Result<Status> {
+) -> io::Result<Status>
+    ensures other { IfOk result (λ status. status ≢ Fine → status ≡ Refused) }
+{
     let mut err = err;
     match open_log(rt.alloc(), rt, path) {
         Ok(mut device) => show::show(rt.alloc(), path, &mut device, out, err),

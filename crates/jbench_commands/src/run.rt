@@ -1,6 +1,7 @@
 //! The command `run`: reads a script, and runs it.
 ghost use Rattle.std.specs.Prelude.{◌≡◌, ◌≤◌, IfErr, IfOk};
 ghost use Rattle.jbench_words.specs.Images.{IsUnmade};
+ghost use Rattle.jbench_commands.specs.Runs.{IsTaken, IsWhole};
 
 use crate::faults::of_run;
 use block_device::Device;
@@ -180,13 +181,18 @@ fn run_script<W: Write + Drop>(
 }
 
 /// Reads a script to its end, and tests it.
-pub(crate) fn read_script<R: Read + Drop>(alloc: Global, reader: R) -> Result<Script, Fault> {
+pub(crate) fn read_script<R: Read + Drop>(alloc: Global, reader: R) -> Result<Script, Fault>
+    ensures { IfOk result (IsTaken (R.remaining reader)) }
+{
     let text = read_text(alloc, reader)?;
-    Ok(journal_script::read(alloc, &text)?)
+    let script = journal_script::read(alloc, &text)?;
+    Ok(script)
 }
 
 /// Reads the bytes of a script to their end.
-pub(crate) fn read_text<R: Read + Drop>(alloc: Global, mut reader: R) -> Result<Vec<u8>, Fault> {
+pub(crate) fn read_text<R: Read + Drop>(alloc: Global, mut reader: R) -> Result<Vec<u8>, Fault>
+    ensures { IfOk result (λ text. IsWhole (R.remaining reader) text.items) }
+{
     let mut text = Vec::new(alloc);
     match reader.read_to_end(&mut text) {
         Ok(_) => Ok(text),

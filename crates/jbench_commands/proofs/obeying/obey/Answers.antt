@@ -1,0 +1,65 @@
+use Rattle.jbench_commands.proofs.Ending.{never-wrong, unsaid-done, unsaid-wrong}
+use Rattle.jbench_commands.proofs.obeying.obey.Goals as goal
+
+-- the command that the words name was done
+pub returns-in-Check-clause-done : goal.returns-in-Check-clause-done
+returns-in-Check-clause-done g c = rw c.in-Check.is c.check_file.ensures.done
+
+pub returns-in-Format-clause-done : goal.returns-in-Format-clause-done
+returns-in-Format-clause-done g c = rw c.in-Format.is c.format_files.ensures.done
+
+pub returns-in-Dump-clause-done : goal.returns-in-Dump-clause-done
+returns-in-Dump-clause-done g c = rw c.in-Dump.is c.dump_file.ensures.done
+
+pub returns-in-Recover-clause-done : goal.returns-in-Recover-clause-done
+returns-in-Recover-clause-done g c = rw c.in-Recover.is c.recover_files.ensures.done
+
+pub returns-in-Upgrade-clause-done : goal.returns-in-Upgrade-clause-done
+returns-in-Upgrade-clause-done g c = rw c.in-Upgrade.is c.upgrade_file.ensures.done
+
+-- a sweep alone ends with 2
+pub returns-in-Check-clause-wrong : goal.returns-in-Check-clause-wrong
+returns-in-Check-clause-wrong g c = rw c.in-Check.is (never-wrong c.check_file.result c.check_file.ensures.other)
+
+pub returns-in-Format-clause-wrong : goal.returns-in-Format-clause-wrong
+returns-in-Format-clause-wrong g c = rw c.in-Format.is (never-wrong c.format_files.result c.format_files.ensures.other)
+
+pub returns-in-Dump-clause-wrong : goal.returns-in-Dump-clause-wrong
+returns-in-Dump-clause-wrong g c = rw c.in-Dump.is (never-wrong c.dump_file.result c.dump_file.ensures.other)
+
+pub returns-in-Recover-clause-wrong : goal.returns-in-Recover-clause-wrong
+returns-in-Recover-clause-wrong g c = rw c.in-Recover.is (never-wrong c.recover_files.result c.recover_files.ensures.other)
+
+pub returns-in-Upgrade-clause-wrong : goal.returns-in-Upgrade-clause-wrong
+returns-in-Upgrade-clause-wrong g c = rw c.in-Upgrade.is (never-wrong c.upgrade_file.result c.upgrade_file.ensures.other)
+
+pub returns-in-Show-clause-wrong : goal.returns-in-Show-clause-wrong
+returns-in-Show-clause-wrong g c = rw c.in-Show.is (never-wrong c.show_file.result c.show_file.ensures.other)
+
+-- of these it is said elsewhere
+pub returns-in-Run-clause-done : goal.returns-in-Run-clause-done
+returns-in-Run-clause-done g c = rw c.in-Run.is (unsaid-done c.run_file.result)
+
+pub returns-in-Sweep-clause-done : goal.returns-in-Sweep-clause-done
+returns-in-Sweep-clause-done g c = rw c.in-Sweep.is (unsaid-done c.sweep_file.result)
+
+pub returns-in-Apply-clause-done : goal.returns-in-Apply-clause-done
+returns-in-Apply-clause-done g c = rw c.in-Apply.is (unsaid-done c.apply_files.result)
+
+pub returns-in-Bench-clause-done : goal.returns-in-Bench-clause-done
+returns-in-Bench-clause-done g c = rw c.in-Bench.is (unsaid-done c.bench_files.result)
+
+pub returns-in-Show-clause-done : goal.returns-in-Show-clause-done
+returns-in-Show-clause-done g c = rw c.in-Show.is (unsaid-done c.show_file.result)
+
+pub returns-in-Run-clause-wrong : goal.returns-in-Run-clause-wrong
+returns-in-Run-clause-wrong g c = rw c.in-Run.is (unsaid-wrong c.run_file.result)
+
+pub returns-in-Sweep-clause-wrong : goal.returns-in-Sweep-clause-wrong
+returns-in-Sweep-clause-wrong g c = rw c.in-Sweep.is (unsaid-wrong c.sweep_file.result)
+
+pub returns-in-Apply-clause-wrong : goal.returns-in-Apply-clause-wrong
+returns-in-Apply-clause-wrong g c = rw c.in-Apply.is (unsaid-wrong c.apply_files.result)
+
+pub returns-in-Bench-clause-wrong : goal.returns-in-Bench-clause-wrong
+returns-in-Bench-clause-wrong g c = rw c.in-Bench.is (unsaid-wrong c.bench_files.result)
