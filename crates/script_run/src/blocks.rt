@@ -1,7 +1,8 @@
 //! Reads one block of a device.
 ghost use Rattle.std.specs.Prelude.{◌≡◌, ◌<◌, IfOk, OnOk, length};
 ghost use Rattle.journal_model.specs.Disk.{reading};
-ghost use Rattle.block_device.specs.State.{Stays, blocks_in};
+ghost use Rattle.block_device.specs.Call.{OnlyReads};
+ghost use Rattle.block_device.specs.State.{blocks_in};
 
 use block_device::Device;
 use journal_model::{Area, Block, JournalError};
@@ -21,8 +22,7 @@ pub fn read_block<D: Device>(
     ensures bytes { IfOk result (λ block. D.honest device.new → block ≡ reading (D.state device.old).disk area n) }
     ensures size { IfOk result (λ block. length block ≡ (D.state device.old).shape.block_size) }
     ensures there { OnOk result (n < blocks_in (D.state device.old).shape area) }
-    ensures stays { Stays (D.state device.old) (D.state device.new) }
-    ensures honest { D.honest device.new → D.honest device.old }
+    ensures device { OnlyReads D.state D.honest device.old device.new }
 {
     if n >= device.blocks(area) {
         return Err(JournalError::BadBlock);

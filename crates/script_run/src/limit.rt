@@ -1,7 +1,7 @@
 //! What an opening of a log would find.
 ghost use Rattle.std.specs.Prelude.{◌≡◌, IfOk};
 ghost use Rattle.journal_model.specs.Disk.{reading};
-ghost use Rattle.block_device.specs.State.{Stays};
+ghost use Rattle.block_device.specs.Call.{OnlyReads};
 ghost use Rattle.log_format.specs.Accepted.{IsAccepted};
 ghost use Rattle.recovery.specs.Opening.{Tells};
 ghost use Rattle.script_run.specs.Limit.{IsReadLog};
@@ -24,8 +24,7 @@ use std::alloc::Global;
 pub(crate) fn report_of<D: Device>(alloc: Global, device: &mut D) -> Result<Report, JournalError>
     ensures tells { IfOk result (λ report. D.honest device.new →
         Tells (D.state device.old).shape (reading (D.state device.old).disk) report.clean report.ends_at report.transactions) }
-    ensures stays { Stays (D.state device.old) (D.state device.new) }
-    ensures honest { D.honest device.new → D.honest device.old }
+    ensures device { OnlyReads D.state D.honest device.old device.new }
 {
     let log = read_log(alloc, device)?;
     if log.is_clean() {
@@ -49,8 +48,7 @@ pub(crate) fn report_of<D: Device>(alloc: Global, device: &mut D) -> Result<Repo
 fn read_log<D: Device>(alloc: Global, device: &mut D) -> Result<Log, JournalError>
     ensures accepted { IfOk result (λ log. IsAccepted (D.state device.old).shape.block_size (D.state device.old).shape.log_blocks log) }
     ensures read { IfOk result (λ log. D.honest device.new → IsReadLog (D.state device.old).shape (reading (D.state device.old).disk) log) }
-    ensures stays { Stays (D.state device.old) (D.state device.new) }
-    ensures honest { D.honest device.new → D.honest device.old }
+    ensures device { OnlyReads D.state D.honest device.old device.new }
 {
     let superblock = read_block(alloc, device, Area::Log, 0)?;
     let fields = Super::read(superblock.bytes(), device.blocks(Area::Log))?;

@@ -5,7 +5,7 @@ ghost use Rattle.journal_model.specs.declared.number.Area.TheVariants.{Home};
 ghost use Rattle.journal_model.specs.Disk.{reading};
 ghost use Rattle.log_model.specs.Opening.{numbered_below};
 ghost use Rattle.journal_model.specs.Transaction.{entry_of};
-ghost use Rattle.block_device.specs.State.{Stays};
+ghost use Rattle.block_device.specs.Call.{OnlyReads};
 ghost use Rattle.script_run.specs.LastEntries.{entry_in};
 ghost use Rattle.script_run.specs.Verdict.{IsAsLeft, IsLeft, IsLeftBy, IsRight, owed};
 
@@ -125,8 +125,7 @@ fn is_left<D: Device>(
 ) -> Result<bool, JournalError>
     ensures right { IfOk result (λ right. D.honest device.new → IsTrue right ↔
         IsLeft (entry_in last.now) (keys named.now.directs) (D.state device.old).shape.block_size (reading (D.state device.old).disk Home) block) }
-    ensures stays { Stays (D.state device.old) (D.state device.new) }
-    ensures honest { D.honest device.new → D.honest device.old }
+    ensures device { OnlyReads D.state D.honest device.old device.new }
 {
     let home = read_block(alloc, device, Area::Home, block)?;
     Ok(are_bytes_left(last, named, block, home.bytes()))

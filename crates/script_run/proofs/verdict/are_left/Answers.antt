@@ -24,9 +24,9 @@ loop-block-preserved g c =
       tt,
       tt,
       search rules,
-      λ honest. before.3 (step.honest honest),
+      λ honest. before.3 (step.device.honest honest),
       λ honest rest.
           let right = IsLeft-stays last directs block old mid before.2 ((step.right honest).0 (search rules)) in
-          before.4 (step.honest honest) (rw list (All-cons P block c.next.new.self right rest)),
+          before.4 (step.device.honest honest) (rw list (All-cons P block c.next.new.self right rest)),
       λ all. All-rest P block c.next.new.self _ list (before.5 all),
     )
