@@ -1,11 +1,12 @@
 -- What the command `sweep` did, and how it ends.
-use Rattle.std.specs.Prelude.{◌≡◌, ℕ, ◌+◌, ◌<◌, Bool, true, false}
+use Rattle.std.specs.Prelude.{◌≡◌, ℕ, ◌+◌, ◌<◌, Bool, true, false, List, Option}
 use Rattle.jbench_words.specs.declared.fault.Status.{Status}
 use Rattle.jbench_words.specs.declared.fault.Status.TheVariants.{Fine, VerdictFalse}
 use Rattle.journal_script.specs.declared.script.Script.{Script}
 use Rattle.script_sweep.specs.declared.counts.Counts.{Counts}
 use Rattle.script_sweep.specs.declared.counts.FailureCounts.{FailureCounts}
 use Rattle.script_sweep.specs.Sweeping.{IsFailureSweep, IsSweep, capped, not_right_of}
+use Rattle.jbench_commands.specs.Runs.{IsTaken}
 
 -- a script was swept with a stop at each of its writes, and so many openings were not right
 pub record HasSweptStops (script : Script) (count : ℕ) : Type 0 where
@@ -19,16 +20,17 @@ pub record HasSweptFailures (script : Script) (count : ℕ) : Type 0 where
   pub is : IsFailureSweep (Unit {0}) script counts
   pub counted : count ≡ not_right_of counts.not_right
 
--- a script was swept with a stop at each of its writes, and where it is told so, with each of its calls failing; so many openings were
--- not right in all
-pub record HasSwept (fails : Bool) (count : ℕ) : Type 0 where
+-- a script of a text was swept with a stop at each of its writes, and where it is told so, with each of its calls failing; so many openings
+-- were not right in all
+pub record HasSwept (known : Option (List ℕ)) (fails : Bool) (count : ℕ) : Type 0 where
   pub script : Script
+  pub taken : IsTaken known script
   pub of_stops : ℕ
   pub stops : HasSweptStops script of_stops
   pub alone : fails ≡ false → count ≡ of_stops
   pub more : fails ≡ true → (of_failures : ℕ) × HasSweptFailures script of_failures × (count ≡ capped (of_stops + of_failures))
 
 -- the command did what it was asked where it swept and each opening was right, and tells of a false verdict where one was not
-pub record IsSweptTo (fails : Bool) (status : Status) : Type 0 where
-  pub fine : status ≡ Fine → HasSwept fails 0
-  pub wrong : status ≡ VerdictFalse → (count : ℕ) × HasSwept fails count × (0 < count)
+pub record IsSweptTo (known : Option (List ℕ)) (fails : Bool) (status : Status) : Type 0 where
+  pub fine : status ≡ Fine → HasSwept known fails 0
+  pub wrong : status ≡ VerdictFalse → (count : ℕ) × HasSwept known fails count × (0 < count)

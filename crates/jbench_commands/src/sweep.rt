@@ -29,7 +29,7 @@ pub fn sweep<R: Read + Drop, P: Watch + Drop, W: Write + Drop, E: Write + Drop>(
     out: W,
     err: E,
 ) -> io::Result<Status>
-    ensures { IfOk result (IsSweptTo words.now.fails) }
+    ensures { IfOk result (IsSweptTo (R.remaining script) words.now.fails) }
 {
     let (mut watch, mut out, mut err) = (watch, out, err);
     match sweep_script(alloc, words, script, &mut watch, &mut out, &mut err) {
@@ -49,7 +49,7 @@ fn sweep_script<R: Read + Drop, W: Write>(
     out: &mut W,
     err: &mut impl Write,
 ) -> Result<u64, Fault>
-    ensures { IfOk result (HasSwept words.now.fails) }
+    ensures { IfOk result (HasSwept (R.remaining script) words.now.fails) }
 {
     let script = read_script(alloc, script)?;
     let of_stops = sweep_stops(alloc, &script, watch, out, err)?;

@@ -5,7 +5,8 @@ use Rattle.jbench_commands.proofs.sweep.sweep_script.Goals as goal
 -- the stops alone
 pub returns-then-not-words : goal.returns-then-not-words
 returns-then-not-words g c = record {
-  script = _;
+  script = c.in_ok-script.script;
+  taken = c.in_ok-script.ensures;
   of_stops = c.in_ok-of_stops.of_stops;
   stops = c.in_ok-of_stops.ensures;
   alone = λ told. refl;
@@ -15,7 +16,8 @@ returns-then-not-words g c = record {
 -- and the failing calls
 pub returns : goal.returns
 returns g c = record {
-  script = _;
+  script = c.in_ok-script.script;
+  taken = c.in_ok-script.ensures;
   of_stops = c.in_ok-of_stops.of_stops;
   stops = c.in_ok-of_stops.ensures;
   alone = λ told. absurd (false≢true (rw told at c.if-not-words.false));
