@@ -1,13 +1,30 @@
 -- How commands end.
-use Rattle.std.proofs.Common.{◌∙◌, ◌≡◌, List, Option, subst, sym, ℕ}
+use Rattle.std.proofs.Common.{◌∙◌, ◌≡◌, ◌⊎◌, ⊎_elim, List, Option, subst, sym, ℕ}
 use Rattle.std.proofs.lemmas.Bool.{false≢true}
-use Rattle.std.specs.Prelude.{◌≢◌, ⊤, IfOk, IsOk, Result, Err, Ok}
+use Rattle.std.specs.Prelude.{◌≢◌, ⊤, Bool, true, false, IfOk, IsOk, Result, Err, Ok}
 use Rattle.journal_script.specs.Measures.{AreLimited}
 use Rattle.journal_script.specs.Text.{IsTextOf}
 use Rattle.journal_script.specs.declared.script.Script.{Script}
+use Rattle.jbench_words.specs.declared.fault.Fault.{Fault}
 use Rattle.jbench_words.specs.declared.fault.Status.{Status}
 use Rattle.jbench_words.specs.declared.fault.Status.TheVariants.{Fine, Refused, VerdictFalse}
-use Rattle.jbench_commands.specs.Runs.{HasTaken, IsWhole}
+use Rattle.jbench_commands.specs.Runs.{HasTaken, IsTaken, IsWhole}
+
+-- a run that ends with 0 has a verdict that is ok
+pub ends-fine : {E : Type 0} (P : Bool → Type 0) (end : Result Status E) (verdict : Result Bool Fault) →
+    IfOk end (λ status. status ≡ Fine → verdict ≡ Ok true) → IfOk verdict P → IfOk end (λ status. status ≡ Fine → P true)
+ends-fine P (Err e) verdict fine is = tt
+ends-fine P (Ok status) verdict fine is = λ now. subst (λ (r : Result Bool Fault). IfOk r P) (fine now) is
+
+-- one whose verdict can't be false ends with 1 otherwise
+pub ends-refused : {E : Type 0} (end : Result Status E) (verdict : Result Bool Fault) →
+    IfOk end (λ status. status ≢ Fine → (status ≡ Refused) ⊎ (verdict ≡ Ok false)) → IfOk verdict (λ right. right ≡ true)
+    → IfOk end (λ status. status ≢ Fine → status ≡ Refused)
+ends-refused (Err e) verdict other is = tt
+ends-refused (Ok status) verdict other is = λ not.
+    ⊎_elim (λ (refused : status ≡ Refused). refused)
+    (λ (wrong : verdict ≡ Ok false). absurd (false≢true (subst (λ (r : Result Bool Fault). IfOk r (λ right. right ≡ true)) wrong is)))
+    (other not)
 
 -- no command but a sweep ends with 2
 abbrev IsWrong : Status → Type 0

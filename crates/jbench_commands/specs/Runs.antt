@@ -1,10 +1,18 @@
--- Which script a command took.
-use Rattle.std.specs.Prelude.{◌≡◌, ℕ, List, Option, IfSome}
+-- Which script a command took, and what the command `run` did with it.
+use Rattle.std.specs.Prelude.{◌≡◌, ℕ, ◌≤◌, Bool, List, Option, Some, None, IfSome}
+use Rattle.block_device.specs.State.{DeviceState}
 use Rattle.journal_script.specs.Measures.{AreLimited}
 use Rattle.journal_script.specs.Text.{IsTextOf}
 use Rattle.journal_script.specs.declared.measures.Measures.{Measures}
 use Rattle.journal_script.specs.declared.script.Operation.{Operation}
 use Rattle.journal_script.specs.declared.script.Script.{Script}
+use Rattle.jbench_words.specs.declared.words.RunWords.{RunWords}
+use Rattle.jbench_words.specs.declared.words.StopWords.{StopWords}
+use Rattle.jbench_words.specs.declared.words.LogPaths.{LogPaths}
+use Rattle.script_run.specs.Copying.{IsCopiedRun}
+use Rattle.script_run.specs.Left.{IsRunOf}
+use Rattle.script_run.specs.declared.stops.Stop.{Stop}
+use Rattle.script_run.specs.declared.stops.Stops.{Stops}
 
 -- the text is all that a reader had, where that is known
 abbrev pub IsWhole : (known : Option (List ℕ)) → List ℕ → Type 0
@@ -25,3 +33,37 @@ pub record IsTaken (known : Option (List ℕ)) (script : Script) : Type 0 where
 pub record HasTaken (known : Option (List ℕ)) : Type 0 where
   pub script : Script
   pub taken : IsTaken known script
+
+-- a device is to stop at the write that the words tell, and then keeps those that they tell
+pub record IsStopTold (words : StopWords) (stop : Stop) : Type 0 where
+  pub at_write : stop.at_write ≡ words.at_write
+  pub keep : stop.keep.now ≡ words.keep.items
+
+-- the stop of the run, that of the opening, and the call that fails are those of the words
+pub record AreStopsTold (words : RunWords) (stops : Stops) : Type 0 where
+  pub failing_call : stops.failing_call ≡ words.failing_call
+  pub run : IsStopTold words.run stops.run
+  pub opening : IsStopTold words.opening stops.opening
+
+-- a script was run with the stops that the words tell, and this is the verdict
+pub record IsRunAsTold (Runs : Script → Stops → Bool → Type 0) (words : RunWords) (script : Script) (right : Bool) : Type 0 where
+  pub stops : Stops
+  pub told : AreStopsTold words stops
+  pub run : Runs script stops right
+
+-- a run left a copy of its image on a device, and the home area is not too large for that
+pub record IsRunWithImage (script : Script) (stops : Stops) (right : Bool) : Type 0 where
+  pub device : DeviceState
+  pub run : IsCopiedRun script stops device right
+  pub small : script.measures.home_blocks ≤ 1048576
+
+-- a run leaves a copy where the words name files for it
+abbrev pub runs_told : Option LogPaths → Script → Stops → Bool → Type 0
+runs_told None script stops right = IsRunOf script stops right
+runs_told (Some paths) script stops right = IsRunWithImage script stops right
+
+-- a script was taken, and run so
+pub record HasRun (Runs : Script → Stops → Bool → Type 0) (known : Option (List ℕ)) (words : RunWords) (right : Bool) : Type 0 where
+  pub script : Script
+  pub taken : IsTaken known script
+  pub run : IsRunAsTold Runs words script right

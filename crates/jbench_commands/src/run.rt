@@ -1,7 +1,9 @@
 //! The command `run`: reads a script, and runs it.
-ghost use Rattle.std.specs.Prelude.{◌≡◌, ◌≤◌, IfErr, IfOk};
+ghost use Rattle.std.specs.Prelude.{◌≡◌, ◌≢◌, ◌≤◌, ◌⊎◌, false, true, IfErr, IfOk, Ok};
 ghost use Rattle.jbench_words.specs.Images.{IsUnmade};
-ghost use Rattle.jbench_commands.specs.Runs.{IsTaken, IsWhole};
+ghost use Rattle.jbench_words.specs.declared.fault.Status.TheVariants.{Fine, Refused};
+ghost use Rattle.script_run.specs.Left.{IsRunOf};
+ghost use Rattle.jbench_commands.specs.Runs.{AreStopsTold, HasRun, IsRunAsTold, IsRunWithImage, IsStopTold, IsTaken, IsWhole};
 
 use crate::faults::of_run;
 use block_device::Device;
@@ -25,8 +27,12 @@ pub fn run<R: Read + Drop, W: Write + Drop, E: Write + Drop>(
     script: R,
     out: W,
     err: E,
-) -> io::Result<Status> {
-    end(words, verdict_of(alloc, words, script, out), err)
+) -> io::Result<Status>
+    ensures run { IfOk result (λ status. status ≡ Fine → HasRun IsRunOf (R.remaining script) words.now true) }
+    ensures other { IfOk result (λ status. status ≢ Fine → status ≡ Refused) }
+{
+    let verdict = verdict_of(alloc, words, script, out);
+    end(words, verdict, err)
 }
 
 /// Runs a script as `run` does, and also leaves an image: what the stop left is written to the device that `image` makes, durably,
@@ -42,11 +48,11 @@ pub fn run_with_image<R: Read + Drop, M: MakeImage + Drop, W: Write + Drop, E: W
     image: M,
     out: W,
     err: E,
-) -> io::Result<Status> {
-    let verdict = match read_script(alloc, script) {
-        Ok(script) => run_buffered(alloc, words, &script, image, out),
-        Err(fault) => Err(fault),
-    };
+) -> io::Result<Status>
+    ensures run { IfOk result (λ status. status ≡ Fine → HasRun IsRunWithImage (R.remaining script) words.now true) }
+    ensures other { IfOk result (λ status. status ≢ Fine → status ≡ Refused) }
+{
+    let verdict = image_verdict_of(alloc, words, script, image, out);
     end(words, verdict, err)
 }
 
@@ -68,7 +74,10 @@ fn end<E: Write + Drop>(
     words: &RunWords<'_>,
     verdict: Result<bool, Fault>,
     mut err: E,
-) -> io::Result<Status> {
+) -> io::Result<Status>
+    ensures fine { IfOk result (λ status. status ≡ Fine → verdict ≡ Ok true) }
+    ensures other { IfOk result (λ status. status ≢ Fine → (status ≡ Refused) ⊎ (verdict ≡ Ok false)) }
+{
     match verdict {
         Ok(true) => Ok(Status::Fine),
         Ok(false) => Ok(Status::VerdictFalse),
@@ -86,7 +95,9 @@ fn path_of<'a>(words: &RunWords<'a>, fault: &Fault) -> &'a str {
 }
 
 /// Where a device stops, as words tell.
-fn stop_of(words: &StopWords) -> Stop<'_> {
+fn stop_of(words: &StopWords) -> Stop<'_>
+    ensures { IsStopTold words.now result }
+{
     Stop {
         at_write: words.at_write,
         keep: &words.keep,
@@ -94,7 +105,9 @@ fn stop_of(words: &StopWords) -> Stop<'_> {
 }
 
 /// Where the run and the opening stop, and which call of the run fails.
-fn stops_of<'a>(words: &'a RunWords<'_>) -> Stops<'a> {
+fn stops_of<'a>(words: &'a RunWords<'_>) -> Stops<'a>
+    ensures { AreStopsTold words.now result }
+{
     Stops {
         failing_call: words.failing_call,
         run: stop_of(&words.run),
@@ -109,9 +122,13 @@ fn run_buffered<M: MakeImage + Drop, W: Write + Drop>(
     script: &Script,
     image: M,
     out: W,
-) -> Result<bool, Fault> {
+) -> Result<bool, Fault>
+    ensures run { IfOk result (IsRunAsTold IsRunWithImage words.now script.now) }
+    ensures right { IfOk result (λ right. right ≡ true) }
+{
+    let stops = stops_of(words);
     let mut out = BufWriter::new(alloc, out)?;
-    let verdict = run_on(alloc, script, &stops_of(words), image, &mut out)?;
+    let verdict = run_on(alloc, script, &stops, image, &mut out)?;
     out.flush()?;
     Ok(verdict)
 }
@@ -130,7 +147,8 @@ pub fn run_on<M: MakeImage + Drop, W: Write>(
     out: &mut W,
 ) -> Result<bool, Fault>
     ensures unmade { IfErr result (λ fault. IsUnmade fault → out.new ≡ out.old) }
-    ensures small { IfOk result (λ _. script.now.measures.home_blocks ≤ 1048576) }
+    ensures run { IfOk result (IsRunWithImage script.now stops.now) }
+    ensures right { IfOk result (λ right. right ≡ true) }
 {
     if script.measures.home_blocks > HOMES.1 {
         return Err(too_large());
@@ -154,13 +172,33 @@ fn too_large() -> Fault
     ))
 }
 
+/// Reads a script, and runs it so that it leaves an image. The answer is the verdict.
+fn image_verdict_of<R: Read + Drop, M: MakeImage + Drop, W: Write + Drop>(
+    alloc: Global,
+    words: &RunWords<'_>,
+    script: R,
+    image: M,
+    out: W,
+) -> Result<bool, Fault>
+    ensures run { IfOk result (HasRun IsRunWithImage (R.remaining script) words.now) }
+    ensures right { IfOk result (λ right. right ≡ true) }
+{
+    match read_script(alloc, script) {
+        Ok(script) => run_buffered(alloc, words, &script, image, out),
+        Err(fault) => Err(fault),
+    }
+}
+
 /// Reads a script, and runs it. The answer is the verdict.
 fn verdict_of<R: Read + Drop, W: Write + Drop>(
     alloc: Global,
     words: &RunWords<'_>,
     script: R,
     out: W,
-) -> Result<bool, Fault> {
+) -> Result<bool, Fault>
+    ensures run { IfOk result (HasRun IsRunOf (R.remaining script) words.now) }
+    ensures right { IfOk result (λ right. right ≡ true) }
+{
     match read_script(alloc, script) {
         Ok(script) => run_script(alloc, words, &script, out),
         Err(fault) => Err(fault),
@@ -173,11 +211,31 @@ fn run_script<W: Write + Drop>(
     words: &RunWords<'_>,
     script: &Script,
     out: W,
-) -> Result<bool, Fault> {
+) -> Result<bool, Fault>
+    ensures run { IfOk result (IsRunAsTold IsRunOf words.now script.now) }
+    ensures right { IfOk result (λ right. right ≡ true) }
+{
+    let stops = stops_of(words);
     let mut out = BufWriter::new(alloc, out)?;
-    let verdict = script_run::run(alloc, script, &stops_of(words), &mut out).map_err(of_run)?;
+    let verdict = run_to(alloc, script, &stops, &mut out)?;
     out.flush()?;
     Ok(verdict)
+}
+
+/// Runs a script with these stops. The answer is the verdict.
+fn run_to(
+    alloc: Global,
+    script: &Script,
+    stops: &Stops<'_>,
+    out: &mut impl Write,
+) -> Result<bool, Fault>
+    ensures run { IfOk result (IsRunOf script.now stops.now) }
+    ensures right { IfOk result (λ right. right ≡ true) }
+{
+    match script_run::run(alloc, script, stops, out) {
+        Ok(verdict) => Ok(verdict),
+        Err(fault) => Err(of_run(fault)),
+    }
 }
 
 /// Reads a script to its end, and tests it.

@@ -1,0 +1,7 @@
+use Rattle.std.proofs.lemmas.Result.{IfOk-weaker}
+use Rattle.jbench_commands.proofs.run.image_verdict_of.Goals as goal
+
+-- of the script that was read
+pub returns-in-Ok-clause-run : goal.returns-in-Ok-clause-run
+returns-in-Ok-clause-run g c =
+    IfOk-weaker c.run_buffered.result _ _ (λ right run. record { script = c.in-Ok.script; taken = c.in-Ok.ensures; run = run }) c.run_buffered.ensures.run
