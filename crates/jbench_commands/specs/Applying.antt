@@ -12,6 +12,7 @@ use Rattle.journal_world.specs.Opening.{IsOpening}
 use Rattle.recovery.specs.Values.{OpenedValue}
 use Rattle.journal_script.specs.declared.measures.Measures.{Measures}
 use Rattle.journal_script.specs.declared.script.Operation.{Operation}
+use Rattle.jbench_commands.specs.Runs.{AreOfText}
 use Rattle.jbench_logs.specs.Said.{opened_line}
 use Rattle.script_client.specs.declared.fault.Fault.{Fault}
 use Rattle.script_client.specs.declared.performing.AfterRefusal.{AfterRefusal}
@@ -70,7 +71,8 @@ pub record IsOperated {D : Type 0} (state : D → DeviceState) (honest : D → T
   pub stays : Stays (state device) (state left)
   pub behind : SaysBehind state honest ending device left applied end said written
 
--- the line of an opening was written, all was done behind it, and reads were honest at the opening where they are now
+-- The line of an opening was written, all was done behind it, and reads were honest at the opening where they are now. Where the journal was
+-- closed the last line tells the number that the next opening gives the next transaction.
 pub record IsDoneBehind {D : Type 0} (state : D → DeviceState) (honest : D → Type 0) (opened : OpenedValue D) (operations : List Operation) (after : AfterRefusal) (ending : Ending)
     (left : D) (sealed : History) (shown : Option ℕ) (before : Option (List ℕ)) : Type 0 where
   pub begun : Option (List ℕ)
@@ -79,14 +81,23 @@ pub record IsDoneBehind {D : Type 0} (state : D → DeviceState) (honest : D →
   pub all : IsOk end
   pub written : Option (List ℕ)
   pub operated : IsOperated state honest opened operations after ending left sealed shown end begun written
+  pub ends : ending ≡ Close → honest left → EndsWithNext (state left) written
   pub honest_before : honest left → honest opened.device
 
--- so it was, of operations of a script, behind an opening of this device that was done; the lines went behind what this writer had
-pub record IsDoneTo {D : Type 0} (state : D → DeviceState) (honest : D → Type 0) (device : D) (after : AfterRefusal) (ending : Ending) (left : D) (sealed : History) (shown : Option ℕ)
+-- operations are those of a script's text, which is all that a reader had, where that is known, and which agrees with a device in this state,
+-- where its reads were honest
+pub record AreForDevice (known : Option (List ℕ)) (state : DeviceState) (trust : Type 0) (operations : List Operation) : Type 0 where
+  pub measures : Measures
+  pub of_text : AreOfText known operations measures
+  pub are : trust → AreOf state measures
+
+-- so it was, of operations of a script for this device, behind an opening of it that was done; the lines went behind what this writer had
+pub record IsDoneTo {D : Type 0} (state : D → DeviceState) (honest : D → Type 0) (device : D) (known : Option (List ℕ)) (after : AfterRefusal) (ending : Ending) (left : D) (sealed : History) (shown : Option ℕ)
     (contents : Option (List ℕ)) : Type 0 where
   pub opened : OpenedValue D
   pub opens : honest opened.device → IsOpening (state device).shape (state device).disk (state opened.device).disk opened.superblock opened.next
   pub operations : List Operation
+  pub for_device : AreForDevice known (state device) (honest opened.device) operations
   pub before : Option (List ℕ)
   pub kept : Keeps contents before
   pub done : IsDoneBehind state honest opened operations after ending left sealed shown before

@@ -8,9 +8,10 @@ ghost use Rattle.block_device.specs.State.{Stays};
 ghost use Rattle.script_client.specs.declared.performing.Ending.TheVariants.{Close, Stay};
 ghost use Rattle.script_client.specs.Ended.{IsEnded, IsLeftClosed};
 ghost use Rattle.script_client.specs.Told.{IsLedTo};
-ghost use Rattle.jbench_commands.specs.Applying.{AreOf, EndsWithNext, IsDoneBehind, IsDoneTo, IsOperated, SaysBehind, SaysNext, after_told, closed_line, ending_told};
+ghost use Rattle.jbench_commands.specs.Applying.{AreForDevice, AreOf, EndsWithNext, IsDoneBehind, IsDoneTo, IsOperated, SaysBehind, SaysNext, after_told, closed_line, ending_told};
 
 use crate::faults::of_run;
+use crate::run::read_text;
 use block_device::{Device, read_block};
 use jbench_logs::logs::{refuse, say_opened};
 use jbench_words::fault::{self, Fault};
@@ -51,7 +52,7 @@ pub fn apply<D: Device + Drop, R: Read + Drop, W: Write + Drop, E: Write + Drop>
     ensures closed { words.now.stay ≡ false → IfOk result (λ done. IfSome done (λ left. D.honest left.device →
         IsLeftClosed (D.state left.device) left.sealed.items)) }
     ensures done { IfOk result (λ done. IfSome done (λ left.
-        IsDoneTo D.state D.honest device (after_told words.now.keep_going) (ending_told words.now.stay) left.device left.sealed.items left.acknowledged (W.contents out))) }
+        IsDoneTo D.state D.honest device (R.remaining script) (after_told words.now.keep_going) (ending_told words.now.stay) left.device left.sealed.items left.acknowledged (W.contents out))) }
 {
     let (mut device, mut err) = (device, err);
     let prepared = match prepare(alloc, &mut device, script, out) {
@@ -95,6 +96,7 @@ fn prepare<D: Device, R: Read + Drop, W: Write + Drop>(
     script: R,
     out: W,
 ) -> Result<Prepared<W>, Fault>
+    ensures for_device { IfOk result (λ prepared. AreForDevice (R.remaining script) (D.state device.old) (D.honest device.new) prepared.operations.items) }
     ensures out { IfOk result (λ prepared. Keeps (W.contents out) (line_writer_contents W.contents prepared.out)) }
     ensures stays { Stays (D.state device.old) (D.state device.new) }
 {
@@ -159,14 +161,10 @@ fn read_operations<D: Device, R: Read + Drop>(
     device: &mut D,
     script: R,
 ) -> Result<Vec<Operation>, Fault>
+    ensures for_device { IfOk result (λ operations. AreForDevice (R.remaining script) (D.state device.old) (D.honest device.new) operations.items) }
     ensures stays { Stays (D.state device.old) (D.state device.new) }
 {
-    let mut text = Vec::new(alloc);
-    let mut script = script;
-    match script.read_to_end(&mut text) {
-        Ok(_) => {}
-        Err(e) => return Err(Fault::of_file(e)),
-    }
+    let text = read_text(alloc, script)?;
     let measures = measures_of(alloc, device)?;
     Ok(journal_script::read_over(alloc, &text, &measures)?)
 }
