@@ -1,12 +1,16 @@
 -- What a command did to a device over files.
-use Rattle.std.proofs.Common.{◌≡◌, refl}
-use Rattle.std.specs.Prelude.{Bool, true, false}
+use Rattle.std.proofs.Common.{◌≡◌, List, Option, refl, subst, sym, ℕ}
+use Rattle.std.specs.Prelude.{Bool, true, false, None, Some}
 use Rattle.block_device.specs.State.{DeviceState}
 use Rattle.file_device.specs.Files.{FileState}
 use Rattle.jbench_logs.specs.Done.{IsFoundOut, IsRecovered, IsRecoveredBefore}
 use Rattle.jbench_logs.specs.Over.{IsOver}
 use Rattle.jbench_logs.specs.declared.pairs.LockedPair.{LockedPair}
+use Rattle.jbench_words.specs.declared.words.LogPaths.{LogPaths}
+use Rattle.jbench_words.specs.declared.words.RunWords.{RunWords}
+use Rattle.script_run.specs.Left.{IsRunOf}
 use Rattle.jbench_commands.specs.Obeying.{IsOverTwo, Recovers}
+use Rattle.jbench_commands.specs.Runs.{HasRun, IsRunWithImage, runs_told}
 
 -- a device over a pair is one over two files
 pub over-two : {L : Type 0} (files : LockedPair L) (device : FileState) → IsOver files.log.file.file files.home.file.file device → IsOverTwo device
@@ -18,3 +22,16 @@ pub recovers : (dry_run before_damage : Bool) (old new : DeviceState) → (dry_r
 recovers true before_damage old new plain before dry = dry refl
 recovers false true old new plain before dry = before refl refl
 recovers false false old new plain before dry = plain refl refl
+
+-- a run without an image, or with one, as the words tell
+pub run-alone : {known : Option (List ℕ)} {words : RunWords} (image : Option LogPaths) → ((paths : LogPaths) → image ≡ Some paths → ⊥) →
+    HasRun IsRunOf known words true → HasRun (runs_told image) known words true
+run-alone None none ran =
+    record { script = ran.script; taken = ran.taken; run = record { stops = ran.run.stops; told = ran.run.told; run = ran.run.run } }
+run-alone (Some paths) none ran = absurd (none paths refl)
+
+pub run-with : {known : Option (List ℕ)} {words : RunWords} (image : Option LogPaths) (paths : LogPaths) → image ≡ Some paths →
+    HasRun IsRunWithImage known words true → HasRun (runs_told image) known words true
+run-with {known} {words} image paths is ran =
+    subst (λ (o : Option LogPaths). HasRun (runs_told o) known words true) (sym is)
+    (record { script = ran.script; taken = ran.taken; run = record { stops = ran.run.stops; told = ran.run.told; run = ran.run.run } })

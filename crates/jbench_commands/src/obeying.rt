@@ -1,12 +1,13 @@
 //! Opens the files that the words name, and does what the words tell.
-ghost use Rattle.std.specs.Prelude.{◌≡◌, ◌≢◌, ◌↔◌, ℕ, IfOk, IsSome, List, Option, true};
+ghost use Rattle.std.specs.Prelude.{◌≡◌, ◌≢◌, ◌↔◌, ◌<◌, ℕ, IfOk, IsSome, List, Option, true};
 ghost use Rattle.journal_model.specs.Disk.{reading};
 ghost use Rattle.log_dump.specs.Dumping.{HasDump, shape_of};
 ghost use Rattle.jbench_words.specs.declared.fault.Status.TheVariants.{Fine, Refused, VerdictFalse};
 ghost use Rattle.jbench_logs.specs.Done.{HasUpgraded, IsMade};
 ghost use Rattle.jbench_commands.specs.Making.{KeepsHome};
-ghost use Rattle.jbench_commands.specs.Obeying.{HasObeyed, IsDoneOver, IsOverAny, IsOverTwo, MayFindWrong, Recovers};
-ghost use Rattle.jbench_commands.specs.Runs.{HasTaken};
+ghost use Rattle.jbench_commands.specs.Obeying.{HasFoundWrong, HasObeyed, IsAppliedOver, IsBenchDone, IsDoneOver, IsOverAny, IsOverTwo, Recovers};
+ghost use Rattle.jbench_commands.specs.Runs.{HasRun, HasTaken, runs_told};
+ghost use Rattle.jbench_commands.specs.Sweeps.{HasSwept};
 
 use crate::image::ImageFiles;
 use crate::progress::Progress;
@@ -32,8 +33,8 @@ pub fn obey<W: Write + Drop, E: Write + Drop>(
     out: W,
     err: E,
 ) -> io::Result<Status>
-    ensures done { IfOk result (λ status. status ≡ Fine → HasObeyed words.now) }
-    ensures wrong { IfOk result (λ status. status ≡ VerdictFalse → MayFindWrong words.now) }
+    ensures done { IfOk result (λ status. status ≡ Fine → HasObeyed (W.contents out) words.now) }
+    ensures wrong { IfOk result (λ status. status ≡ VerdictFalse → HasFoundWrong words.now) }
 {
     match words {
         Words::Run(words) => run_file(rt, words, out, err),
@@ -55,7 +56,10 @@ fn run_file<W: Write + Drop, E: Write + Drop>(
     words: &RunWords<'_>,
     out: W,
     err: E,
-) -> io::Result<Status> {
+) -> io::Result<Status>
+    ensures done { IfOk result (λ status. status ≡ Fine → (text : Option (List ℕ)) × HasRun (runs_told words.now.image) text words.now true) }
+    ensures other { IfOk result (λ status. status ≢ Fine → status ≡ Refused) }
+{
     let mut err = err;
     match open_to_read(rt, words.script) {
         Ok(script) => run_opened(rt, words, script, out, err),
@@ -70,7 +74,10 @@ fn run_opened<W: Write + Drop, E: Write + Drop>(
     script: RegularFile,
     out: W,
     err: E,
-) -> io::Result<Status> {
+) -> io::Result<Status>
+    ensures done { IfOk result (λ status. status ≡ Fine → (text : Option (List ℕ)) × HasRun (runs_told words.now.image) text words.now true) }
+    ensures other { IfOk result (λ status. status ≢ Fine → status ≡ Refused) }
+{
     let mut err = err;
     let Some(image) = words.image else {
         return run::run(rt.alloc(), words, script.into_file(), out, err);
@@ -91,7 +98,10 @@ fn sweep_file<W: Write + Drop, E: Write + Drop>(
     words: &SweepWords<'_>,
     out: W,
     err: E,
-) -> io::Result<Status> {
+) -> io::Result<Status>
+    ensures done { IfOk result (λ status. status ≡ Fine → (text : Option (List ℕ)) × HasSwept text words.now.fails 0) }
+    ensures wrong { IfOk result (λ status. status ≡ VerdictFalse → (text : Option (List ℕ)) × (count : ℕ) × HasSwept text words.now.fails count × (0 < count)) }
+{
     let mut err = err;
     match open_to_read(rt, words.script) {
         Ok(file) => sweep::sweep(
@@ -259,7 +269,10 @@ fn apply_files<W: Write + Drop, E: Write + Drop>(
     words: &ApplyWords<'_>,
     out: W,
     err: E,
-) -> io::Result<Status> {
+) -> io::Result<Status>
+    ensures done { IfOk result (λ status. status ≡ Fine → IsAppliedOver words.now (W.contents out)) }
+    ensures other { IfOk result (λ status. status ≢ Fine → status ≡ Refused) }
+{
     let mut err = err;
     let files = match open_pair(rt, words.paths) {
         Ok(files) => files,
@@ -279,7 +292,10 @@ fn apply_opened<W: Write + Drop, E: Write + Drop>(
     script: RegularFile,
     out: W,
     err: E,
-) -> io::Result<Status> {
+) -> io::Result<Status>
+    ensures done { IfOk result (λ status. status ≡ Fine → IsAppliedOver words.now (W.contents out)) }
+    ensures other { IfOk result (λ status. status ≢ Fine → status ≡ Refused) }
+{
     let mut err = err;
     match device_of(rt.alloc(), UnknownContents, files) {
         Ok(device) => {
@@ -307,7 +323,10 @@ fn bench_files<W: Write + Drop, E: Write + Drop>(
     words: &BenchWords<'_>,
     out: W,
     err: E,
-) -> io::Result<Status> {
+) -> io::Result<Status>
+    ensures done { IfOk result (λ status. status ≡ Fine → IsBenchDone) }
+    ensures other { IfOk result (λ status. status ≢ Fine → status ≡ Refused) }
+{
     let mut err = err;
     let files = match open_pair(rt, words.paths) {
         Ok(files) => files,

@@ -1,7 +1,13 @@
-use Rattle.jbench_commands.proofs.Ending.{never-wrong, unsaid-done, unsaid-wrong}
+use Rattle.jbench_commands.proofs.Ending.{never-wrong}
 use Rattle.jbench_commands.proofs.obeying.obey.Goals as goal
 
 -- the command that the words name was done
+pub returns-in-Run-clause-done : goal.returns-in-Run-clause-done
+returns-in-Run-clause-done g c = rw c.in-Run.is c.run_file.ensures.done
+
+pub returns-in-Sweep-clause-done : goal.returns-in-Sweep-clause-done
+returns-in-Sweep-clause-done g c = rw c.in-Sweep.is c.sweep_file.ensures.done
+
 pub returns-in-Check-clause-done : goal.returns-in-Check-clause-done
 returns-in-Check-clause-done g c = rw c.in-Check.is c.check_file.ensures.done
 
@@ -17,7 +23,19 @@ returns-in-Recover-clause-done g c = rw c.in-Recover.is c.recover_files.ensures.
 pub returns-in-Upgrade-clause-done : goal.returns-in-Upgrade-clause-done
 returns-in-Upgrade-clause-done g c = rw c.in-Upgrade.is c.upgrade_file.ensures.done
 
+pub returns-in-Apply-clause-done : goal.returns-in-Apply-clause-done
+returns-in-Apply-clause-done g c = rw c.in-Apply.is c.apply_files.ensures.done
+
+pub returns-in-Bench-clause-done : goal.returns-in-Bench-clause-done
+returns-in-Bench-clause-done g c = rw c.in-Bench.is c.bench_files.ensures.done
+
 -- a sweep alone ends with 2
+pub returns-in-Run-clause-wrong : goal.returns-in-Run-clause-wrong
+returns-in-Run-clause-wrong g c = rw c.in-Run.is (never-wrong c.run_file.result c.run_file.ensures.other)
+
+pub returns-in-Sweep-clause-wrong : goal.returns-in-Sweep-clause-wrong
+returns-in-Sweep-clause-wrong g c = rw c.in-Sweep.is c.sweep_file.ensures.wrong
+
 pub returns-in-Check-clause-wrong : goal.returns-in-Check-clause-wrong
 returns-in-Check-clause-wrong g c = rw c.in-Check.is (never-wrong c.check_file.result c.check_file.ensures.other)
 
@@ -33,33 +51,11 @@ returns-in-Recover-clause-wrong g c = rw c.in-Recover.is (never-wrong c.recover_
 pub returns-in-Upgrade-clause-wrong : goal.returns-in-Upgrade-clause-wrong
 returns-in-Upgrade-clause-wrong g c = rw c.in-Upgrade.is (never-wrong c.upgrade_file.result c.upgrade_file.ensures.other)
 
-pub returns-in-Show-clause-wrong : goal.returns-in-Show-clause-wrong
-returns-in-Show-clause-wrong g c = rw c.in-Show.is (never-wrong c.show_file.result c.show_file.ensures.other)
-
--- of these it is said elsewhere
-pub returns-in-Run-clause-done : goal.returns-in-Run-clause-done
-returns-in-Run-clause-done g c = rw c.in-Run.is (unsaid-done c.run_file.result)
-
-pub returns-in-Sweep-clause-done : goal.returns-in-Sweep-clause-done
-returns-in-Sweep-clause-done g c = rw c.in-Sweep.is (unsaid-done c.sweep_file.result)
-
-pub returns-in-Apply-clause-done : goal.returns-in-Apply-clause-done
-returns-in-Apply-clause-done g c = rw c.in-Apply.is (unsaid-done c.apply_files.result)
-
-pub returns-in-Bench-clause-done : goal.returns-in-Bench-clause-done
-returns-in-Bench-clause-done g c = rw c.in-Bench.is (unsaid-done c.bench_files.result)
-
-pub returns-in-Show-clause-done : goal.returns-in-Show-clause-done
-returns-in-Show-clause-done g c = rw c.in-Show.is (unsaid-done c.show_file.result)
-
-pub returns-in-Run-clause-wrong : goal.returns-in-Run-clause-wrong
-returns-in-Run-clause-wrong g c = rw c.in-Run.is (unsaid-wrong c.run_file.result)
-
-pub returns-in-Sweep-clause-wrong : goal.returns-in-Sweep-clause-wrong
-returns-in-Sweep-clause-wrong g c = rw c.in-Sweep.is (unsaid-wrong c.sweep_file.result)
-
 pub returns-in-Apply-clause-wrong : goal.returns-in-Apply-clause-wrong
-returns-in-Apply-clause-wrong g c = rw c.in-Apply.is (unsaid-wrong c.apply_files.result)
+returns-in-Apply-clause-wrong g c = rw c.in-Apply.is (never-wrong c.apply_files.result c.apply_files.ensures.other)
 
 pub returns-in-Bench-clause-wrong : goal.returns-in-Bench-clause-wrong
-returns-in-Bench-clause-wrong g c = rw c.in-Bench.is (unsaid-wrong c.bench_files.result)
+returns-in-Bench-clause-wrong g c = rw c.in-Bench.is (never-wrong c.bench_files.result c.bench_files.ensures.other)
+
+pub returns-in-Show-clause-wrong : goal.returns-in-Show-clause-wrong
+returns-in-Show-clause-wrong g c = rw c.in-Show.is (never-wrong c.show_file.result c.show_file.ensures.other)
