@@ -2,5 +2,6 @@
 mod Capacities
 mod Closes
 mod Counting
+mod Knowing
 mod Moments
 mod Refused
