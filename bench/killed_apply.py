@@ -33,7 +33,8 @@ from pathlib import Path
 
 from openings import opening, word
 from run_model import Device, Journal, Outcome, Refused, Run, formatted, number_behind
-from runs import TOP, Difference, FileSystems, RandomScript, first_difference, recover_by_e2fsck, recover_by_kernel
+from runs import (Difference, FileSystems, RandomScript, count_and_seed, first_difference, program_of, recover_by_e2fsck,
+                  recover_by_kernel)
 
 KILLS = 6  # of each script
 CLOSED_AT = 0x1C  # where a superblock says where the log begins: 0 where it is clean
@@ -249,15 +250,10 @@ class Killer:
 
 
 def main(words):
-    program = None
-    if words[:1] == ["--program"]:
-        program, words = Path(words[1]).resolve(), words[2:]
-    if program is None:
-        program = TOP / "jbench"
-        subprocess.run([str(program), "--version"], check=True, stdout=subprocess.DEVNULL)
+    program, words = program_of(words)
     recover = {"--e2fsck": recover_by_e2fsck, "--kernel": recover_by_kernel}.get(words[0] if words else None)
     words = words[1:] if recover else words
-    count, seed = (list(map(int, words)) + [200, 1][len(words) :])[:2]
+    count, seed = count_and_seed(words, 200)
     with tempfile.TemporaryDirectory() as folder:
         draw = random.Random(seed)
         killer = Killer(program, Path(folder), draw, recover)

@@ -15,16 +15,14 @@ of two blocks, both are there or neither. At the first difference all of it is p
 is `./jbench`, which is built first, or the one at PATH. Run it by hand.
 """
 import json
-import random
 import signal
 import subprocess
 import sys
-import tempfile
 import time
 from collections import Counter
 from pathlib import Path
 
-from runs import TOP, Difference
+from runs import Difference, compare_all
 
 SIZE, LENGTH, HOME, TRANSACTIONS = 1024, 33, 1024, 6
 
@@ -124,24 +122,5 @@ class Programs:
         self.cases["acknowledged transactions"] += len(acknowledged)
 
 
-def main(words):
-    program = TOP / "jbench"
-    if words[:1] == ["--program"]:
-        program, words = Path(words[1]).resolve(), words[2:]
-    else:
-        subprocess.run([str(program), "--version"], check=True, stdout=subprocess.DEVNULL)
-    count, seed = (list(map(int, words)) + [100, 1][len(words) :])[:2]
-    with tempfile.TemporaryDirectory() as folder:
-        programs = Programs(program, Path(folder), random.Random(seed))
-        try:
-            for _ in range(count):
-                programs.once()
-        except Difference as difference:
-            print(difference)
-            return 1
-    print(", ".join(f"{number} {name}" for name, number in programs.cases.items()))
-    return 0
-
-
 if __name__ == "__main__":
-    sys.exit(main(sys.argv[1:]))
+    sys.exit(compare_all(100, sys.argv[1:], Programs))

@@ -11,15 +11,12 @@ transactions that were committed, and nothing of the one that was running. At th
 more is run (exit status 1). The program is `./jbench`, which is built first, or the one at PATH. Run it by hand.
 """
 import json
-import random
 import subprocess
 import sys
-import tempfile
 from collections import Counter
-from pathlib import Path
 
 from killed_apply import Apply, Left
-from runs import TOP, Difference, RandomScript
+from runs import Difference, RandomScript, compare_all
 
 PLACES = 12  # of a script that has more operations
 
@@ -85,33 +82,13 @@ class Refusals:
             if path.read_bytes() != b"".join(blocks[area]):
                 raise Difference(f"{given}: {area} holds other bytes than the model says")
 
-    def compare_places(self, text):
-        script = json.loads(text)
+    def once(self):
+        script = json.loads(RandomScript(self.draw).text())
         places = range(len(script["ops"]) + 1)
         for place in places if len(places) <= PLACES else sorted(self.draw.sample(places, PLACES)):
             self.compare(refused_at(self.draw, script, place))
         self.cases["scripts"] += 1
 
 
-def main(words):
-    program = TOP / "jbench"
-    if words[:1] == ["--program"]:
-        program, words = Path(words[1]).resolve(), words[2:]
-    else:
-        subprocess.run([str(program), "--version"], check=True, stdout=subprocess.DEVNULL)
-    count, seed = (list(map(int, words)) + [100, 1][len(words) :])[:2]
-    draw = random.Random(seed)
-    with tempfile.TemporaryDirectory() as folder:
-        refusals = Refusals(program, Path(folder), draw)
-        try:
-            for _ in range(count):
-                refusals.compare_places(RandomScript(draw).text())
-        except Difference as difference:
-            print(difference)
-            return 1
-    print(", ".join(f"{number} {name}" for name, number in refusals.cases.items()))
-    return 0
-
-
 if __name__ == "__main__":
-    sys.exit(main(sys.argv[1:]))
+    sys.exit(compare_all(100, sys.argv[1:], Refusals))

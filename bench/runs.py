@@ -606,6 +606,38 @@ def compare_recovered(comparison, systems, outcome, recover, given):
 # ---- words
 
 
+def program_of(words):
+    """The program at the path behind --program, or `./jbench`, which is built first; and the words behind that."""
+    if words[:1] == ["--program"]:
+        return Path(words[1]).resolve(), words[2:]
+    program = TOP / "jbench"
+    subprocess.run([str(program), "--version"], check=True, stdout=subprocess.DEVNULL)
+    return program, words
+
+
+def count_and_seed(words, usual):
+    return [int(text) for text in words] + [usual, 1][len(words) :]
+
+
+def compare_all(usual, words, begin):
+    """Runs a comparison so many times, and tells its cases or the first difference. The answer is the exit status.
+
+    `begin` gives, for the program, a new folder and the draws of a seed, what is compared: its `cases`, and `once` for one time more.
+    """
+    program, words = program_of(words)
+    count, seed = count_and_seed(words, usual)
+    with tempfile.TemporaryDirectory() as folder:
+        compared = begin(program, Path(folder), random.Random(seed))
+        try:
+            for _ in range(count):
+                compared.once()
+        except Difference as difference:
+            print(difference)
+            return 1
+    print(", ".join(f"{number} {name}" for name, number in compared.cases.items()))
+    return 0
+
+
 def main():
     words = sys.argv[1:]
     program, kind = TOP / "jbench", Comparison
@@ -624,7 +656,7 @@ def main():
         comparing, usual, words = compare_by(recover_by_e2fsck, None), 40, words[1:]
     elif words[:1] == ["--kernel"]:
         comparing, usual, words = compare_by(recover_by_kernel, min(FileSystems.JOURNALS)), 40, words[1:]
-    count, seed = [int(text) for text in words] + [usual, 1][len(words) :]
+    count, seed = count_and_seed(words, usual)
     with tempfile.TemporaryDirectory() as folder:
         comparison = kind(program, Path(folder), wide)
         try:

@@ -17,16 +17,13 @@ difference the script, the write and its sectors are printed, and nothing more i
 which is built first, or the one at PATH. Run it by hand.
 """
 import json
-import random
 import subprocess
 import sys
-import tempfile
 from collections import Counter
-from pathlib import Path
 
 from killed_apply import Apply, Left
 from openings import DESCRIPTOR, REVOKE, has_magic, word
-from runs import TOP, Difference, RandomScript
+from runs import Difference, RandomScript, compare_all
 
 SECTOR = 512
 MOST_WRITES = 40  # of a script
@@ -107,7 +104,8 @@ class Tearer:
         self.cases[f"of the {area} area"] += 1
         self.cases["that add a transaction"] += found == wanted[1] != wanted[0]
 
-    def tear_some(self, text):
+    def once(self):
+        text = without_direct_writes(script_of(self.draw, self.cases["scripts"] % 4 == 0).text())
         apply = Apply(text, self.draw.random() < 0.5)
         writes = range(len(apply.device.made))
         if len(writes) > MOST_WRITES:
@@ -119,25 +117,5 @@ class Tearer:
         self.cases["scripts"] += 1
 
 
-def main(words):
-    program = TOP / "jbench"
-    if words[:1] == ["--program"]:
-        program, words = Path(words[1]).resolve(), words[2:]
-    else:
-        subprocess.run([str(program), "--version"], check=True, stdout=subprocess.DEVNULL)
-    count, seed = (list(map(int, words)) + [100, 1][len(words) :])[:2]
-    draw = random.Random(seed)
-    with tempfile.TemporaryDirectory() as folder:
-        tearer = Tearer(program, Path(folder), draw)
-        try:
-            for i in range(count):
-                tearer.tear_some(without_direct_writes(script_of(draw, i % 4 == 0).text()))
-        except Difference as difference:
-            print(difference)
-            return 1
-    print(", ".join(f"{number} {name}" for name, number in tearer.cases.items()))
-    return 0
-
-
 if __name__ == "__main__":
-    sys.exit(main(sys.argv[1:]))
+    sys.exit(compare_all(100, sys.argv[1:], Tearer))
