@@ -1,9 +1,6 @@
--- The lemmas of this crate that crates above it cite.
-pub mod Sent
--- The others.
+-- The lemmas of this crate: none above it cites them.
 mod Capacities
 mod Closes
 mod Counting
-mod Knowing
 mod Moments
 mod Refused

@@ -3,4 +3,3 @@ pub mod Ends
 pub mod Laid
 pub mod Moments
 pub mod Refusals
-pub mod Known
