@@ -5,9 +5,10 @@ use crate::files::{holds, make_log, open_in, write_in};
 use block_device::{Device, MemDevice};
 use file_device::{FileDevice, UnknownContents};
 use group_commit::Turn;
-use handle::{JournalName, Seat, Status, Ticket};
-use journal_model::{BlockNo, Tid};
-use shared_journal::{Journal, LaidJournal, Tally, lay};
+use handle::{JournalName, Seat, Status};
+use journal_model::BlockNo;
+use parts::PartsName;
+use shared_journal::{Journal, LaidJournal, Tally, Ticket, lay};
 use std::marker::Brand;
 use std::process::Abort;
 use std::sync::Wait;
@@ -24,7 +25,7 @@ const HANDLES: u64 = 20;
 
 /// Reserves all credits but one over and over, and counts in `held` what is granted: never those of two at once. It answers whether
 /// that was so.
-fn hammer<J: JournalName>(
+fn hammer<J: JournalName + PartsName>(
     journal: &Journal<J, MemDevice>,
     mut seat: Seat<J>,
     most: u64,
@@ -42,7 +43,7 @@ fn hammer<J: JournalName>(
 }
 
 /// Writes so many blocks from `first` on, each through a handle of its own. It answers the last handle's ticket.
-fn write_all<J: JournalName, D: Device, R: Wait>(
+fn write_all<J: JournalName + PartsName, D: Device, R: Wait>(
     rt: &R,
     journal: &Journal<J, D>,
     mut seat: Seat<J>,
@@ -70,9 +71,13 @@ fn write_all<J: JournalName, D: Device, R: Wait>(
     last
 }
 
-/// Takes commit turns until the transaction is committed. It answers whether it is.
-fn commit<J: JournalName, D: Device, R: Wait>(rt: &R, journal: &Journal<J, D>, tid: Tid) -> bool {
-    if journal.request(rt, tid).is_err() {
+/// Takes commit turns until the ticket's transaction is committed. It answers whether it is.
+fn commit<J: JournalName + PartsName, D: Device, R: Wait>(
+    rt: &R,
+    journal: &Journal<J, D>,
+    ticket: &mut Ticket<J>,
+) -> bool {
+    if journal.request(rt, ticket).is_err() {
         return false;
     }
     for _ in 0..1000 {
@@ -86,12 +91,11 @@ fn commit<J: JournalName, D: Device, R: Wait>(rt: &R, journal: &Journal<J, D>, t
 }
 
 /// Two threads write at once. It answers the last ticket of each.
-fn write_at_once<J: JournalName + Send + Sync, D: Device + Send, R: Threads + Wait + Sync>(
-    rt: &R,
-    journal: &Journal<J, D>,
-    one: Seat<J>,
-    two: Seat<J>,
-) -> Option<(Ticket<J>, Ticket<J>)> {
+fn write_at_once<
+    J: JournalName + PartsName + Send + Sync,
+    D: Device + Send,
+    R: Threads + Wait + Sync,
+>(rt: &R, journal: &Journal<J, D>, one: Seat<J>, two: Seat<J>) -> Option<(Ticket<J>, Ticket<J>)> {
     let (first, second) = join(
         rt,
         || -> Option<Ticket<J>> { write_all(rt, journal, one, 0) },
@@ -103,8 +107,26 @@ fn write_at_once<J: JournalName + Send + Sync, D: Device + Send, R: Threads + Wa
     }
 }
 
+/// Whether both tickets' transactions are committed. The journal's record bears out both receipts.
+fn both_stand<J: JournalName + PartsName, D: Device, R: Wait>(
+    rt: &R,
+    journal: &Journal<J, D>,
+    first: Ticket<J>,
+    second: Ticket<J>,
+) -> bool {
+    match (journal.reach(first), journal.reach(second)) {
+        (Ok(first), Ok(second)) => {
+            let (mut first, mut second) = (first, second);
+            journal.audit(rt, &mut first);
+            journal.audit(rt, &mut second);
+            first.tid() == second.tid() && first.handle() != second.handle()
+        }
+        _ => false,
+    }
+}
+
 /// The last credits that a journal can grant to one seat: all, where nobody holds any.
-fn all_are_left<J: JournalName>(
+fn all_are_left<J: JournalName + PartsName>(
     journal: &Journal<J, MemDevice>,
     seat: &mut Seat<J>,
     all: u64,
@@ -120,11 +142,12 @@ fn all_are_left<J: JournalName>(
 
 /// Two threads reserve and give back at once, then two write at once; all of it is committed in one transaction, and the credits
 /// are back.
-fn shared<J: JournalName + Send + Sync, R: Threads + Wait + Abort + Sync>(
+fn shared<J: JournalName + PartsName + Send + Sync, R: Threads + Wait + Abort + Sync>(
     rt: &R,
     laid: LaidJournal<MemDevice>,
 )
     requires board { laid.board ≡ J.board }
+    requires parts { laid.parts ≡ J.parts }
     requires capacity { laid.capacity ≡ J.capacity }
     requires block_size { laid.block_size ≡ J.block_size }
 {
@@ -147,7 +170,7 @@ fn shared<J: JournalName + Send + Sync, R: Threads + Wait + Abort + Sync>(
         || -> bool { hammer(&journal, two, all - 1, &held) },
     );
     assert!(rt; first && second && all_are_left(&journal, &mut seat, all));
-    let Some((first, second)) = write_at_once(rt, &journal, three, four) else {
+    let Some((mut first, second)) = write_at_once(rt, &journal, three, four) else {
         panic!(rt; "a handle is refused")
     };
     assert!(rt; journal.status(&first, &mut seat) == Status::Open);
@@ -160,10 +183,10 @@ fn shared<J: JournalName + Send + Sync, R: Threads + Wait + Abort + Sync>(
     );
     assert!(rt; !all_are_left(&journal, &mut seat, all - 2 * HANDLES + 1));
     assert!(rt; all_are_left(&journal, &mut seat, all - 2 * HANDLES));
-    assert!(rt; commit(rt, &journal, first.tid()));
+    assert!(rt; commit(rt, &journal, &mut first));
     assert!(rt; all_are_left(&journal, &mut seat, all));
     assert!(rt; journal.status(&second, &mut seat) == Status::Committed);
-    assert!(rt; journal.reach(first).is_ok() && journal.reach(second).is_ok());
+    assert!(rt; both_stand(rt, &journal, first, second));
     let Ok(parts) = journal.close() else {
         panic!(rt; "the close is refused")
     };
@@ -205,11 +228,13 @@ fn two_files(rt: &HostRuntime) -> io::Result<FileDevice<UnknownContents>> {
 }
 
 /// Two threads write at once, and all of it is committed in one transaction and written home.
-fn written<J: JournalName + Send + Sync, D: Device + Drop + Send, R: Threads + Wait + Abort + Sync>(
-    rt: &R,
-    laid: LaidJournal<D>,
-) -> D
+fn written<
+    J: JournalName + PartsName + Send + Sync,
+    D: Device + Drop + Send,
+    R: Threads + Wait + Abort + Sync,
+>(rt: &R, laid: LaidJournal<D>) -> D
     requires board { laid.board ≡ J.board }
+    requires parts { laid.parts ≡ J.parts }
     requires capacity { laid.capacity ≡ J.capacity }
     requires block_size { laid.block_size ≡ J.block_size }
 {
@@ -218,10 +243,11 @@ fn written<J: JournalName + Send + Sync, D: Device + Drop + Send, R: Threads + W
     else {
         panic!(rt; "there is no further seat")
     };
-    let Some((first, _)) = write_at_once(rt, &journal, one, two) else {
+    let Some((mut first, second)) = write_at_once(rt, &journal, one, two) else {
         panic!(rt; "a handle is refused")
     };
-    assert!(rt; commit(rt, &journal, first.tid()));
+    assert!(rt; commit(rt, &journal, &mut first));
+    assert!(rt; both_stand(rt, &journal, first, second));
     let Ok(parts) = journal.close() else {
         panic!(rt; "the close is refused")
     };

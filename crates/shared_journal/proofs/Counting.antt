@@ -1,13 +1,13 @@
 -- What is true whenever the lock is free stays true of each step that is made under it.
-use Rattle.std.proofs.Common.{◌≡◌, ℕ, Result, Ok, Err, IfErr, IfOk, OnOk, refl, sym, ◌∙◌, ap, arith, List, [], ◌∷◌, ◌++◌, length}
+use Rattle.std.proofs.Common.{◌≡◌, ◌+◌, ◌≤◌, ℕ, Result, Ok, Err, IfErr, IfOk, OnOk, refl, sym, ◌∙◌, ap, arith, List, [], ◌∷◌, ◌++◌, length}
 use Rattle.block_device.specs.State.{DeviceState}
 use Rattle.journal_model.proofs.Effects.{entries-push_read}
 use Rattle.journal_model.specs.declared.refusal.JournalError.{JournalError}
 use Rattle.journal_model.specs.Transaction.{entries}
 use Rattle.journal_world.specs.Front.{Front, FrontHappens, aborting, held, read_step, reading_block}
-use Rattle.journal_world.specs.Front.FrontEvent.{RevokeBlock, WriteBlock}
+use Rattle.journal_world.specs.Front.FrontEvent.{RevokeBlock, StopHandle, WriteBlock}
 use Rattle.journal_world.specs.Journal.Event.{DirectSync, DirectWrite, FrontStep}
-use Rattle.journal_world.proofs.Credits.{event-held}
+use Rattle.journal_world.proofs.Credits.{event-held, stopped-credits}
 use Rattle.journal_steps.specs.declared.turn.CheckTurn.{CheckTurn}
 use Rattle.journal_steps.specs.declared.turn.CheckTurn.TheVariants.{Idle as IdleCheck, Step as StepCheck, Released}
 use Rattle.journal_steps.specs.Direct.{DirectSyncRefused, DirectWriteRefused}
@@ -122,3 +122,11 @@ module _ {D : Type 0} (state : D → DeviceState) (most size count raised : ℕ)
       → IfErr r (λ e. DirectSyncRefused state old new e) → IsHeld state most size count raised new
   sync-direct (Ok a) ok err = front-same ok.front
   sync-direct (Err e) ok err = sync-refused e err
+
+-- a stop leaves no more credits held
+pub stop-fewer : (old new : Front) (h : ℕ) → FrontHappens old (StopHandle h) new → held new ≤ held old
+stop-fewer old new h step = let left = stopped-credits old new h step in omega arith
+
+-- credits that lie within the capacity are within what the front has
+pub within-held : (count held n most capacity : ℕ) → count ≡ held → capacity ≡ most → count + n ≤ most → held + n ≤ capacity
+within-held count held n most capacity is capacity_is within = omega arith

@@ -1,6 +1,9 @@
--- The lemmas of this crate: none above it cites them.
+-- The lemmas of this crate that crates above it cite.
+pub mod Sent
+-- The others.
 mod Capacities
 mod Closes
 mod Counting
+mod Knowing
 mod Moments
 mod Refused

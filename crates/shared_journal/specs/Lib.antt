@@ -3,3 +3,4 @@ pub mod Ends
 pub mod Laid
 pub mod Moments
 pub mod Refusals
+pub mod Known

@@ -1,39 +1,43 @@
 //! The journal that threads share: its calls take `&self`, and those that are steps take the lock.
-ghost use Rattle.std.specs.Prelude.{◌≡◌, ◌+◌, ◌<◌, ◌≤◌, true, length, IfErr, IfOk, MatchResult, OnOk};
+ghost use Rattle.std.specs.Prelude.{◌≡◌, ◌+◌, ◌<◌, ◌≤◌, ◌++◌, [], ◌∷◌, true, false, length, IfErr, IfOk, MatchResult, OnOk};
 ghost use Rattle.journal_model.specs.declared.refusal.JournalError.TheVariants.{Aborted};
 ghost use Rattle.journal_model.specs.Transaction.{entries};
 ghost use Rattle.journal_world.specs.Front.FrontEvent.{RevokeBlock, WriteBlock};
-ghost use Rattle.journal_world.specs.Front.{reserving};
+ghost use Rattle.journal_world.specs.Front.{read_step, reserving, revoke_step, transactions, write_step};
 ghost use Rattle.journal_world.specs.Journal.Event.{DirectSync, DirectWrite, FrontStep, ReadBlock};
 ghost use Rattle.handle.specs.Values.{Grants, Looks, LooksAgain, ReserveRefused, StatusIs, fresh_ticket, loading_credits, loading_mark};
-ghost use Rattle.journal_front.specs.Front.{ExtendRefused, Spends, TouchRefused};
+ghost use Rattle.journal_front.specs.Front.{ExtendRefused, IsOpenHandle, Spends, TouchRefused};
 ghost use Rattle.journal_steps.specs.Direct.{DirectSyncRefused, DirectWriteRefused, MayWriteDirectly};
 ghost use Rattle.journal_steps.specs.Journal.{CheckTurnDid, CheckTurnRefused, Does, NotesRead, ReadRefused, Requests, TurnDid, TurnRefused};
 ghost use Rattle.journal_steps.specs.Values.{JournalValue};
 ghost use Rattle.group_commit.specs.Extension.{Extends};
+ghost use Rattle.own_steps.specs.Own.{BearsOut};
 ghost use Rattle.shared_journal.specs.Ends.{AtTheEnd, IsClosedWell, IsNotClosed};
+ghost use Rattle.shared_journal.specs.Known.{own_of_ticket};
 ghost use Rattle.shared_journal.specs.Moments.{AtOneMoment, JoinedThen, StoppedThen};
-ghost use Rattle.shared_journal.specs.Refusals.{CouldNotJoin, IsExtendRefusal, IsJoinRefusal, IsTouchRefusal, MayHavePaid, StartRefused};
+ghost use Rattle.shared_journal.specs.Refusals.{CouldNotJoin, IsExtendRefusal, IsJoinRefusal, IsReadRefusal, IsTouchRefusal, MayHavePaid, StartRefused};
 
 use crate::closing::close;
 use crate::locked::{Counters, Locked, Tally};
 use crate::open_handle::Handle;
+use crate::stopped::{Receipt, Ticket};
 use block_device::Device;
 use group_commit::{CheckTurn, Journal as OneJournal, Parts, Record, Turn};
-use handle::{Credits, JournalName, Receipt, Seat, Status, Ticket};
+use handle::{Credits, JournalName, Seat, Status};
 use journal_model::{BlockNo, History, JournalError, Sealed, Tid};
+use parts::PartsName;
 use std::sync::{Mutex, Wait};
 
 /// A journal that any number of threads share by reference. It has to be ended by `close` or `into_single`, since it holds credits:
 /// a value of this type can't be dropped.
-pub struct Journal<J: JournalName, D: Device, R: Record = History<Sealed>> {
+pub struct Journal<J: JournalName + PartsName, D: Device, R: Record = History<Sealed>> {
     counters: Counters<J>,
     locked: Mutex<Locked<J, D, R>>,
     block_size: usize,
     pub ghost block_is: { block_size ≡ J.block_size },
 }
 
-impl<J: JournalName, D: Device, R: Record> Journal<J, D, R> {
+impl<J: JournalName + PartsName, D: Device, R: Record> Journal<J, D, R> {
     pub(crate) fn of(
         counters: Counters<J>,
         locked: Locked<J, D, R>,
@@ -96,22 +100,24 @@ impl<J: JournalName, D: Device, R: Record> Journal<J, D, R> {
     }
 
     /// Whether the ticket's transaction is committed, as far as the mark tells. It takes no lock.
-    pub fn status(&self, ticket: &Ticket<J>, seat: &mut Seat<J>) -> Status
-        ensures answer { StatusIs result ticket.now.tid seat.new.seen }
+    pub fn status(&self, ticket: &Ticket<J, R>, seat: &mut Seat<J>) -> Status
+        ensures answer { StatusIs result ticket.now.ticket.tid seat.new.seen }
         ensures seat { Looks seat.old seat.new }
     {
-        self.counters.mark.status(ticket, seat)
+        self.counters.mark.status(&ticket.inner, seat)
     }
 
-    /// The receipt for a ticket whose transaction is committed, as far as the mark tells. It takes no lock, and waits for nobody:
-    /// who waits takes commit turns, or lets others take them, and asks again.
+    /// The receipt for a ticket whose transaction is committed, as far as the mark tells: it knows what the ticket knew. It takes no
+    /// lock, and waits for nobody: who waits takes commit turns, or lets others take them, and asks again.
     ///
     /// # Errors
     ///
     /// It is not committed yet: the ticket comes back. After a device failure it may never be; `is_aborted` tells.
-    pub fn reach(&self, ticket: Ticket<J>) -> Result<Receipt<J>, Ticket<J>>
-        ensures ok { IfOk result (λ receipt. LooksAgain ticket receipt × (receipt.tid ≤ receipt.seen)) }
-        ensures err { IfErr result (λ back. LooksAgain ticket back × (back.seen < back.tid)) }
+    pub fn reach(&self, ticket: Ticket<J, R>) -> Result<Receipt<J, R>, Ticket<J, R>>
+        ensures ok { IfOk result (λ receipt. LooksAgain ticket.ticket receipt.ticket × (receipt.ticket.tid ≤ receipt.ticket.seen)
+            × (receipt ≡ record ticket { ticket = receipt.ticket })) }
+        ensures err { IfErr result (λ back. LooksAgain ticket.ticket back.ticket × (back.ticket.seen < back.ticket.tid)
+            × (back ≡ record ticket { ticket = back.ticket })) }
     {
         ticket.reach(&self.counters.mark)
     }
@@ -129,9 +135,9 @@ impl<J: JournalName, D: Device, R: Record> Journal<J, D, R> {
         &self,
         rt: &W,
         credits: Credits<J>,
-    ) -> Result<Handle<'_, J>, (Credits<J>, JournalError)>
-        ensures ok { IfOk result (λ handle. handle.left ≡ credits) }
-        ensures joins { IfOk result (JoinedThen D.state credits) }
+    ) -> Result<Handle<'_, J, R>, (Credits<J>, JournalError)>
+        ensures ok { IfOk result (λ handle. (handle.handle.left ≡ credits) × (handle.steps ≡ [])) }
+        ensures joins { IfOk result (λ handle. JoinedThen D.state credits handle.handle) }
         ensures err { IfErr result (λ e. (e.0 ≡ credits) × IsJoinRefusal e.1) }
         ensures why { IfErr result (λ e. CouldNotJoin D credits e.1) }
     {
@@ -143,18 +149,18 @@ impl<J: JournalName, D: Device, R: Record> Journal<J, D, R> {
     /// # Errors
     ///
     /// The credits come back. `Aborted` after a device failure, `NotRunning` where the handle's transaction takes no further
-    /// handles. (`NoCredit` where the handle is not open can't come, and no contract says so yet.)
+    /// handles.
     /// Source: journalling.rst (`journal_extend`).
     pub fn extend<W: Wait>(
         &self,
         rt: &W,
-        handle: &mut Handle<'_, J>,
+        handle: &mut Handle<'_, J, R>,
         credits: Credits<J>,
     ) -> Result<(), (Credits<J>, JournalError)>
-        ensures ok { OnOk result (handle.new ≡ record handle.old { left = handle.old.left + credits }) }
-        ensures extends { OnOk result (AtOneMoment (λ (old new : JournalValue D). Extends D.state handle.old.number credits old new)) }
+        ensures ok { OnOk result (handle.new ≡ record handle.old { handle = record handle.old.handle { left = handle.old.handle.left + credits } }) }
+        ensures extends { OnOk result (AtOneMoment (λ (old new : JournalValue D). Extends D.state handle.old.handle.number credits old new)) }
         ensures err { IfErr result (λ e. (e.0 ≡ credits) × IsExtendRefusal e.1 × (handle.new ≡ handle.old)) }
-        ensures why { IfErr result (λ e. AtOneMoment (λ (old new : JournalValue D). ExtendRefused (reserving old.journal.front credits) handle.old credits e.1 × (new ≡ old))) }
+        ensures why { IfErr result (λ e. AtOneMoment (λ (old new : JournalValue D). ExtendRefused (reserving old.journal.front credits) handle.old.handle credits e.1 × (new ≡ old))) }
     {
         self.locked.lock(rt).extend(&self.counters, handle, credits)
     }
@@ -170,15 +176,18 @@ impl<J: JournalName, D: Device, R: Record> Journal<J, D, R> {
     pub fn write<W: Wait>(
         &self,
         rt: &W,
-        handle: &mut Handle<'_, J>,
+        handle: &mut Handle<'_, J, R>,
         block: BlockNo,
         bytes: &[u8],
     ) -> Result<(), JournalError>
         requires { length bytes.now ≡ J.block_size }
-        ensures ok { OnOk result (MayHavePaid handle.old handle.new) }
-        ensures touches { OnOk result (AtOneMoment (λ (old new : JournalValue D). Does D.state old (FrontStep (WriteBlock handle.old.number block bytes.now)) new × Spends old.journal.front block handle.old handle.new)) }
+        ensures ok { OnOk result (MayHavePaid handle.old.handle handle.new.handle) }
+        ensures steps { OnOk result (handle.new.steps ≡ handle.old.steps ++ write_step handle.old.handle.number block bytes.now ∷ []) }
+        ensures touches { OnOk result (AtOneMoment (λ (old new : JournalValue D). Does D.state old (FrontStep (WriteBlock handle.old.handle.number block bytes.now)) new
+            × Spends old.journal.front block handle.old.handle handle.new.handle)) }
         ensures err { IfErr result (λ e. IsTouchRefusal e × (handle.new ≡ handle.old)) }
-        ensures why { IfErr result (λ e. AtOneMoment (λ (old new : JournalValue D). TouchRefused old.journal.front handle.old block e × (new ≡ old))) }
+        ensures why { IfErr result (λ e. AtOneMoment (λ (old new : JournalValue D). IsOpenHandle old.journal.front handle.old.handle
+            × TouchRefused old.journal.front handle.old.handle block e × (new ≡ old))) }
     {
         self.locked.lock(rt).write(handle, block, bytes)
     }
@@ -192,13 +201,16 @@ impl<J: JournalName, D: Device, R: Record> Journal<J, D, R> {
     pub fn revoke<W: Wait>(
         &self,
         rt: &W,
-        handle: &mut Handle<'_, J>,
+        handle: &mut Handle<'_, J, R>,
         block: BlockNo,
     ) -> Result<(), JournalError>
-        ensures ok { OnOk result (MayHavePaid handle.old handle.new) }
-        ensures touches { OnOk result (AtOneMoment (λ (old new : JournalValue D). Does D.state old (FrontStep (RevokeBlock handle.old.number block)) new × Spends old.journal.front block handle.old handle.new)) }
+        ensures ok { OnOk result (MayHavePaid handle.old.handle handle.new.handle) }
+        ensures steps { OnOk result (handle.new.steps ≡ handle.old.steps ++ revoke_step handle.old.handle.number block ∷ []) }
+        ensures touches { OnOk result (AtOneMoment (λ (old new : JournalValue D). Does D.state old (FrontStep (RevokeBlock handle.old.handle.number block)) new
+            × Spends old.journal.front block handle.old.handle handle.new.handle)) }
         ensures err { IfErr result (λ e. IsTouchRefusal e × (handle.new ≡ handle.old)) }
-        ensures why { IfErr result (λ e. AtOneMoment (λ (old new : JournalValue D). TouchRefused old.journal.front handle.old block e × (new ≡ old))) }
+        ensures why { IfErr result (λ e. AtOneMoment (λ (old new : JournalValue D). IsOpenHandle old.journal.front handle.old.handle
+            × TouchRefused old.journal.front handle.old.handle block e × (new ≡ old))) }
     {
         self.locked.lock(rt).revoke(handle, block)
     }
@@ -211,23 +223,24 @@ impl<J: JournalName, D: Device, R: Record> Journal<J, D, R> {
     ///
     /// The first that applies; the buffer stays as it is. `Aborted` after a device failure; `BadBlock` where home has no such
     /// block, or its number is not below 2^32 (in a log with numbers of 64 bits 2^48); `Revoked` where the block's last entry in
-    /// the transactions that are not committed is a revoke; `Memory`: nothing changes. `Device` where the device failed: the journal is aborted. (`NoCredit` where the
-    /// handle is not open can't come, and no contract says so yet.)
+    /// the transactions that are not committed is a revoke; `Memory`: nothing changes. `Device` where the device failed: the journal
+    /// is aborted.
     /// Source: journalling.rst (handles see the running transaction).
     pub fn read<W: Wait>(
         &self,
         rt: &W,
-        handle: &mut Handle<'_, J>,
+        handle: &mut Handle<'_, J, R>,
         block: BlockNo,
         into: &mut [u8],
     ) -> Result<(), JournalError>
         requires { length into.old ≡ J.block_size }
-        ensures reads { OnOk result (AtOneMoment (λ (old new : JournalValue D). NotesRead D.state old handle.old block into.new new
-            × (D.honest new.device → Does D.state old (ReadBlock handle.old.number block into.new) new))) }
-        ensures why { IfErr result (λ e. AtOneMoment (λ (old new : JournalValue D). ReadRefused D.state old handle.old block new e)) }
+        ensures reads { OnOk result (AtOneMoment (λ (old new : JournalValue D). NotesRead D.state old handle.old.handle block into.new new
+            × (D.honest new.device → Does D.state old (ReadBlock handle.old.handle.number block into.new) new))) }
+        ensures steps { OnOk result (handle.new ≡ record handle.old { steps = handle.old.steps ++ read_step handle.old.handle.number block into.new ∷ [] }) }
+        ensures err { IfErr result (λ e. IsReadRefusal e × (handle.new ≡ handle.old)) }
+        ensures why { IfErr result (λ e. AtOneMoment (λ (old new : JournalValue D). ReadRefused D.state old handle.old.handle block new e)) }
         ensures untouched { IfErr result (λ e. into.new ≡ into.old) }
         ensures length { length into.new ≡ length into.old }
-        ensures handle { handle.new ≡ handle.old }
     {
         self.locked.lock(rt).read(handle, block, into)
     }
@@ -270,9 +283,9 @@ impl<J: JournalName, D: Device, R: Record> Journal<J, D, R> {
 
     /// Ends a handle. Its credits that are left are given back. It always succeeds, after a device failure too.
     /// Source: journalling.rst (`journal_stop`).
-    pub fn stop<W: Wait>(&self, rt: &W, handle: Handle<'_, J>) -> Ticket<J>
-        ensures ticket { result ≡ fresh_ticket handle.entry.number handle.entry.tid }
-        ensures stops { StoppedThen D.state handle.entry }
+    pub fn stop<W: Wait>(&self, rt: &W, handle: Handle<'_, J, R>) -> Ticket<J, R>
+        ensures ticket { result ≡ record { ticket = fresh_ticket handle.entry.handle.number handle.entry.handle.tid; steps = handle.entry.steps; asked = false } }
+        ensures stops { StoppedThen D.state handle.entry.handle }
     {
         self.locked.lock(rt).stop(&self.counters, handle)
     }
@@ -305,18 +318,31 @@ impl<J: JournalName, D: Device, R: Record> Journal<J, D, R> {
         self.locked.lock(rt).checkpoint_turn()
     }
 
-    /// Asks for the commit of the transaction with this number: where it is still running, it takes no further handles.
+    /// Asks for the commit of the ticket's transaction: where it is still running, it takes no further handles. Then the ticket knows
+    /// that it was asked for.
     ///
     /// # Errors
     ///
     /// `Aborted` after a device failure.
     /// Source: fs/jbd2/journal.c by behaviour (`jbd2_log_start_commit`).
-    pub fn request<W: Wait>(&self, rt: &W, tid: Tid) -> Result<(), JournalError>
-        ensures ok { OnOk result (AtOneMoment (λ (old new : JournalValue D). Requests D.state tid old new)) }
-        ensures err { IfErr result (λ e. e ≡ Aborted) }
+    pub fn request<W: Wait>(&self, rt: &W, ticket: &mut Ticket<J, R>) -> Result<(), JournalError>
+        ensures ok { OnOk result (ticket.new ≡ record ticket.old { asked = true }) }
+        ensures asks { OnOk result (AtOneMoment (λ (old new : JournalValue D). Requests D.state ticket.old.ticket.tid old new)) }
+        ensures err { IfErr result (λ e. (e ≡ Aborted) × (ticket.new ≡ ticket.old)) }
         ensures why { IfErr result (λ e. AtOneMoment (λ (old new : JournalValue D). (old.journal.front.aborted ≡ true) × (new ≡ old))) }
     {
-        self.locked.lock(rt).request(tid)
+        self.locked.lock(rt).request(ticket)
+    }
+
+    /// Shows that the journal's record bears a receipt out: its handle stands there once, in a committed transaction, the one of the
+    /// receipt, with just the steps that the receipt knows.
+    /// Source: this project's own.
+    pub fn audit<W: Wait>(&self, rt: &W, receipt: &mut Receipt<J, R>)
+        ensures stands { AtOneMoment (λ (old new : JournalValue D). BearsOut old.journal.engine.committed (transactions old.journal.front) (own_of_ticket receipt.old)
+            × (new ≡ old)) }
+        ensures same { receipt.new ≡ receipt.old }
+    {
+        self.locked.lock(rt).audit(&self.counters, receipt);
     }
 
     /// What the credit word has, and how many entries the running transaction, at one moment. Where no handle is open and nobody has
@@ -348,9 +374,9 @@ impl<J: JournalName, D: Device, R: Record> Journal<J, D, R> {
         rt: &W,
         seat: &mut Seat<J>,
         n: u64,
-    ) -> Result<Handle<'_, J>, JournalError>
-        ensures ok { IfOk result (λ handle. (handle.left ≡ n) × Grants J.capacity n seat.old seat.new) }
-        ensures joins { IfOk result (JoinedThen D.state n) }
+    ) -> Result<Handle<'_, J, R>, JournalError>
+        ensures ok { IfOk result (λ handle. (handle.handle.left ≡ n) × (handle.steps ≡ []) × Grants J.capacity n seat.old seat.new) }
+        ensures joins { IfOk result (λ handle. JoinedThen D.state n handle.handle) }
         ensures err { IfErr result (StartRefused D J.capacity n seat.old seat.new) }
     {
         match self.reserve(seat, n) {
@@ -374,14 +400,15 @@ impl<J: JournalName, D: Device, R: Record> Journal<J, D, R> {
     pub fn restart<W: Wait>(
         &self,
         rt: &W,
-        handle: Handle<'_, J>,
+        handle: Handle<'_, J, R>,
         seat: &mut Seat<J>,
         n: u64,
-    ) -> Result<Handle<'_, J>, (Ticket<J>, JournalError)>
-        ensures stops { StoppedThen D.state handle.entry }
-        ensures ok { IfOk result (λ other. (other.left ≡ n) × Grants J.capacity n seat.old seat.new) }
-        ensures joins { IfOk result (JoinedThen D.state n) }
-        ensures err { IfErr result (λ e. (e.0 ≡ fresh_ticket handle.entry.number handle.entry.tid) × StartRefused D J.capacity n seat.old seat.new e.1) }
+    ) -> Result<Handle<'_, J, R>, (Ticket<J, R>, JournalError)>
+        ensures stops { StoppedThen D.state handle.entry.handle }
+        ensures ok { IfOk result (λ other. (other.handle.left ≡ n) × (other.steps ≡ []) × Grants J.capacity n seat.old seat.new) }
+        ensures joins { IfOk result (λ other. JoinedThen D.state n other.handle) }
+        ensures err { IfErr result (λ e. (e.0 ≡ record { ticket = fresh_ticket handle.entry.handle.number handle.entry.handle.tid; steps = handle.entry.steps; asked = false })
+            × StartRefused D J.capacity n seat.old seat.new e.1) }
     {
         let ticket = self.stop(rt, handle);
         match self.try_start(rt, seat, n) {

@@ -11,6 +11,7 @@ ghost use Rattle.handle.specs.Rule.{greatest_allotment, greatest_capacity};
 ghost use Rattle.handle.specs.Values.{fresh_seat};
 
 use crate::journal::Journal;
+use crate::known::UnnamedKnowing;
 use crate::locked::{Counters, Locked};
 use block_device::Device;
 use group_commit::{Journal as OneJournal, Record, Seat as OneSeat};
@@ -18,6 +19,7 @@ use handle::{JournalName, LaidBoard, Seat, board};
 use journal_model::{History, JournalError, Sealed, Tid};
 use log_format::Super;
 use log_ring::Layout;
+use parts::{PartsName, UnnamedParts};
 use recovery::Opened;
 use std::alloc::Global;
 use std::marker::Model;
@@ -28,6 +30,7 @@ pub struct LaidJournal<D: Device, R: Record = History<Sealed>> {
     journal: OneJournal<D, R>,
     seat: OneSeat,
     board: LaidBoard,
+    knowing: UnnamedKnowing<R>,
 }
 
 impl<D: Device, R: Record> Model for LaidJournal<D, R> {
@@ -35,7 +38,7 @@ impl<D: Device, R: Record> Model for LaidJournal<D, R> {
 
     ghost Value = { LaidValue D };
 
-    ghost view = { λ l. laid_value D.state l.board l.journal };
+    ghost view = { λ l. laid_value D.state l.board l.knowing l.journal };
 
     ghost invariant = { λ l. IsLaid D.state l.board l.journal };
 }
@@ -77,19 +80,24 @@ pub fn lay<D: Device, R: Record>(
     let Ok(board) = board(alloc, capacity_on(&opened), Tid(next.0 - 1)) else {
         return Err((opened, JournalError::Memory));
     };
+    let Ok(knowing) = UnnamedParts::new(alloc) else {
+        return Err((opened, JournalError::Memory));
+    };
     let (journal, seat) = OneJournal::new(alloc, opened)?;
     Ok(LaidJournal {
         journal,
         seat,
         board,
+        knowing,
     })
 }
 
 impl<D: Device, R: Record> LaidJournal<D, R> {
     /// The journal that J names, and the first seat. The caller's condition: J is the name of this journal. The call that brings
     /// J in picks it so.
-    pub fn named<J: JournalName>(self) -> (Journal<J, D, R>, Seat<J>)
+    pub fn named<J: JournalName + PartsName>(self) -> (Journal<J, D, R>, Seat<J>)
         requires board { self.board ≡ J.board }
+        requires parts { self.parts ≡ J.parts }
         requires capacity { self.capacity ≡ J.capacity }
         requires block_size { self.block_size ≡ J.block_size }
         ensures seat { result.1 ≡ fresh_seat greatest_allotment }
@@ -98,15 +106,19 @@ impl<D: Device, R: Record> LaidJournal<D, R> {
             journal,
             seat: inner,
             board,
+            knowing,
         } = self;
         let block_size = journal.block_size();
         let (pool, mark, raiser, mut seat) = board.named::<J>();
         let credits = pool.none(&mut seat);
+        let (knowing, recorded) = knowing.named::<J>(journal.front());
         let locked = Locked {
             journal,
             seat: inner,
             credits,
             raiser,
+            knowing,
+            recorded,
         };
         let counters = Counters { pool, mark };
         (Journal::of(counters, locked, block_size), seat)

@@ -7,11 +7,14 @@
 
 mod closing;
 mod journal;
+mod known;
 mod laid;
 mod locked;
 mod open_handle;
+mod stopped;
 
 pub use journal::Journal;
 pub use laid::{LaidJournal, lay};
 pub use locked::{Counters, Locked, Tally};
 pub use open_handle::Handle;
+pub use stopped::{Receipt, Ticket};

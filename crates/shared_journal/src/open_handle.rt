@@ -1,57 +1,67 @@
-//! The handle that callers hold: its place at the words, and the handle of the journal under the lock.
-ghost use Rattle.std.specs.Prelude.{◌≡◌};
+//! The handle that callers hold: its place at the words, the handle of the journal under the lock, and what it knows of the record.
+ghost use Rattle.std.specs.Prelude.{◌≡◌, [], Some};
 ghost use Rattle.handle.specs.Values.{fresh_ticket};
+ghost use Rattle.own_steps.specs.Own.{open_own};
+ghost use Rattle.shared_journal.specs.Known.{steps_known};
 
-use group_commit::Handle as FrontHandle;
+use crate::known::Known;
+use group_commit::{Handle as FrontHandle, Record};
 use handle::{Handle as Place, JournalName};
-use journal_model::{HandleNo, Tid};
+use journal_model::{HandleNo, History, Sealed, Tid};
+use parts::PartsName;
 use std::marker::Model;
 
 /// An open handle of a journal that threads share: it writes and revokes blocks as a part of one transaction. It has to be
 /// stopped: a value of this type can't be dropped or copied. It borrows its journal, which can't be closed while it is open.
+///
+/// It knows its steps: whatever other threads do, the journal's record has just these of it.
 /// Source: journalling.rst (`journal_start` and `journal_stop`).
-pub struct Handle<'j, J: JournalName> {
+pub struct Handle<'j, J: JournalName + PartsName, R: Record = History<Sealed>> {
     pub(crate) place: Place<'j, J>,
     pub(crate) inner: FrontHandle,
+    pub(crate) part: Known<J, R>,
 }
 
-impl<'j, J: JournalName> Model for Handle<'j, J> {
-    ghost use Rattle.std.specs.Prelude.{◌≡◌};
+impl<'j, J: JournalName + PartsName, R: Record> Model for Handle<'j, J, R> {
+    ghost use Rattle.std.specs.Prelude.{◌≡◌, Some};
     ghost use Rattle.handle.specs.Values.{fresh_ticket};
-    ghost use Rattle.journal_front.specs.Values.{HandleValue};
+    ghost use Rattle.own_steps.specs.Own.{open_own};
+    ghost use Rattle.shared_journal.specs.Known.{HandleKnown, handle_known, steps_known};
 
-    ghost Value = { HandleValue };
+    ghost Value = { HandleKnown };
 
-    ghost view = { λ h. h.inner };
+    ghost view = { λ h. handle_known h.inner h.part };
 
-    ghost invariant = { λ h. h.place ≡ fresh_ticket h.inner.number h.inner.tid };
+    ghost invariant = { λ h. (h.place ≡ fresh_ticket h.inner.number h.inner.tid) × (h.part ≡ Some (open_own h.inner (steps_known h.part))) };
 }
 
-impl<'j, J: JournalName> Handle<'j, J> {
-    pub(crate) fn of(place: Place<'j, J>, inner: FrontHandle) -> Handle<'j, J>
-        requires { place ≡ fresh_ticket inner.number inner.tid }
-        ensures { result ≡ inner }
+impl<'j, J: JournalName + PartsName, R: Record> Handle<'j, J, R> {
+    /// A handle that has made no step.
+    pub(crate) fn of(place: Place<'j, J>, inner: FrontHandle, part: Known<J, R>) -> Handle<'j, J, R>
+        requires place { place ≡ fresh_ticket inner.number inner.tid }
+        requires part { part ≡ Some (open_own inner []) }
+        ensures { result ≡ record { handle = inner; steps = [] } }
     {
-        Handle { place, inner }
+        Handle { place, inner, part }
     }
 
     /// Its number. No other handle of the journal has it.
     pub fn number(&self) -> HandleNo
-        ensures { result ≡ self.now.number }
+        ensures { result ≡ self.now.handle.number }
     {
         self.inner.number()
     }
 
     /// The number of its transaction.
     pub fn tid(&self) -> Tid
-        ensures { result ≡ self.now.tid }
+        ensures { result ≡ self.now.handle.tid }
     {
         self.inner.tid()
     }
 
     /// How many credits it has left.
     pub fn left(&self) -> u64
-        ensures { result ≡ self.now.left }
+        ensures { result ≡ self.now.handle.left }
     {
         self.inner.left()
     }

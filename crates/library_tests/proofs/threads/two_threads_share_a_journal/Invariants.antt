@@ -2,4 +2,4 @@ use Rattle.library_tests.proofs.threads.two_threads_share_a_journal.Given as goa
 
 -- the name is that of the laid journal
 abbrev pub ghosts-shared : goal.ghosts-shared
-ghosts-shared g a = record { board = a.laid.board; capacity = a.laid.capacity; block_size = a.laid.block_size }
+ghosts-shared g a = record { board = a.laid.board; parts = a.laid.parts; capacity = a.laid.capacity; block_size = a.laid.block_size }

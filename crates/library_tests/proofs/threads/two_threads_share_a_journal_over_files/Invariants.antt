@@ -2,4 +2,4 @@ use Rattle.library_tests.proofs.threads.two_threads_share_a_journal_over_files.G
 
 -- the name is that of the laid journal
 abbrev pub ghosts-written : goal.ghosts-written
-ghosts-written g a = record { board = a.laid.board; capacity = a.laid.capacity; block_size = a.laid.block_size }
+ghosts-written g a = record { board = a.laid.board; parts = a.laid.parts; capacity = a.laid.capacity; block_size = a.laid.block_size }

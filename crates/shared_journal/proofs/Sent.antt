@@ -1,0 +1,86 @@
+-- A journal may be shared by threads, and what lies under its lock may go to another: said once, since a search over all of it, from a
+-- closure that holds a journal, comes to its limits.
+use mir.Syntax.{Sym}
+use denote.RattleType.{RattleType}
+use denote.Struct.Declared.{fields, shape}
+use denote.Struct.Tuple.{TupleAt, type_at}
+use denote.Param.Send.{AllSend, IsSend, IsSync, recorded_send, sendable, struct_send, view_send}
+use Rattle.std.specs.Prelude.{List}
+use Rattle.std.proofs.Crossing.{crosses}
+use Rattle.std.proofs.MapsCrossing as maps
+use Rattle.atomic_table.proofs.owned.Table.TheSendSync as table
+use Rattle.atomic_table.proofs.shared.Seat.TheSendSync as seat
+use Rattle.journal_model.proofs.history.History.TheSendSync as history
+use Rattle.journal_model.specs.contracts.history.History as History
+use Rattle.journal_model.specs.contracts.transaction.Sealed as Sealed
+use Rattle.block_device.specs.declared.device.Device as Device
+use Rattle.handle.specs.contracts.seat.Seat as HandleSeat
+use Rattle.handle.specs.declared.place.JournalName as JournalName
+use Rattle.journal_front.specs.declared.record.Record as Record
+use Rattle.journal_front.specs.contracts.front.Front as Front
+use Rattle.journal_front.specs.contracts.transaction.Transaction as Transaction
+use Rattle.log_engine.specs.contracts.engine.Engine as Engine
+use Rattle.group_commit.specs.contracts.journal.Journal as One
+use Rattle.group_commit.specs.contracts.journal.Journal.TheInside as one
+use Rattle.parts.specs.declared.view.PartsName as PartsName
+use Rattle.shared_journal.specs.contracts.journal.Journal as Journal
+use Rattle.shared_journal.specs.contracts.locked.Locked as Locked
+use Rattle.shared_journal.specs.contracts.locked.Locked.TheInside as inside
+
+transaction_send : IsSend Transaction.the_row
+transaction_send = search (sendable, crosses, maps.crosses) depth 400 fits 200000
+
+front_send : (R : RattleType) (r : Record.Ghosts R.Denot) → IsSend R → IsSend (Front.the_row R r)
+front_send R r sr = search (transaction_send, sendable, crosses, maps.crosses) depth 400 fits 200000
+
+engine_send : (D : RattleType) (d : Device.Ghosts D.Denot) → IsSend D → IsSend (Engine.the_row D d)
+engine_send D d sd = search (history.the_send, sendable, crosses, maps.crosses) depth 400 fits 200000
+
+-- the journal of one thread
+one_send : (D R : RattleType) (d : Device.Ghosts D.Denot) (r : Record.Ghosts R.Denot) → IsSend D → IsSend R → IsSend (One.the_row D R d r)
+one_send D R d r sd sr =
+    view_send _ _ _ _ _
+    (recorded_send _ _ (one.the_type D R d r).to (one.the_type D R d r).to_one (struct_send (shape (one.the_type D R d r)) (front_send R r sr, (engine_send D d sd, tt))))
+
+inside_send : (J D R : RattleType) (j : JournalName.Ghosts J.Denot) (p : PartsName.Ghosts J.Denot) (d : Device.Ghosts D.Denot) (r : Record.Ghosts R.Denot) →
+    IsSend J → IsSend D → IsSend R → IsSend (inside.the_row J D R p j d r)
+inside_send J D R j p d r sj sd sr =
+    recorded_send _ _ (inside.the_type J D R p j d r).to (inside.the_type J D R p j d r).to_one
+    (struct_send (shape (inside.the_type J D R p j d r)) (
+      one_send D R d r sd sr,
+      (
+        search (seat.the_send, sendable, crosses) depth 400 fits 200000,
+        (
+          search (seat.the_send, sendable, crosses) depth 400 fits 200000,
+          (
+            search (seat.the_send, sendable, crosses) depth 400 fits 200000,
+            (
+              search (table.the_field_send, seat.the_send, sendable, crosses) depth 400 fits 200000,
+              (search (seat.the_send, sendable, crosses) depth 400 fits 200000, tt),
+            ),
+          ),
+        ),
+      ),
+    ))
+
+-- what lies under the lock
+locked_send : (J D R : RattleType) (j : JournalName.Ghosts J.Denot) (p : PartsName.Ghosts J.Denot) (d : Device.Ghosts D.Denot) (r : Record.Ghosts R.Denot) →
+    IsSend J → IsSend D → IsSend R → IsSend (Locked.the_row J D R p j d r)
+locked_send J D R j p d r sj sd sr = view_send _ _ _ _ _ (inside_send J D R j p d r sj sd sr)
+
+-- a journal that threads share
+pub journal_sync : (J D R : RattleType) (j : JournalName.Ghosts J.Denot) (p : PartsName.Ghosts J.Denot) (d : Device.Ghosts D.Denot) (r : Record.Ghosts R.Denot) →
+    IsSend J → IsSync J → IsSend D → IsSend R → IsSync (Journal.the_row J D R j p d r)
+journal_sync J D R j p d r sj yj sd sr = search (locked_send, table.the_field_sync, table.the_field_send, sendable, crosses) depth 400 fits 200000
+
+-- its record, as data
+pub record_send : IsSend (History.the_row Sealed.the_row)
+record_send = search (history.the_send, sendable, crosses) depth 400 fits 200000
+
+-- a caller's seat
+pub seat_send : (J : RattleType) (j : JournalName.Ghosts J.Denot) → IsSend J → IsSend (HandleSeat.the_row J j)
+seat_send J j sj = search (seat.the_send, sendable, crosses) depth 400 fits 200000
+
+-- a closure all of whose captures may go to another thread
+pub closure_send : (ν : Sym) (Ts : List RattleType) → AllSend (fields (type_at ν Ts)) → IsSend (TupleAt ν Ts)
+closure_send ν Ts all = recorded_send _ _ (type_at ν Ts).to (type_at ν Ts).to_one (struct_send (shape (type_at ν Ts)) all)
