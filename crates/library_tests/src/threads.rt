@@ -25,12 +25,12 @@ const HANDLES: u64 = 20;
 
 /// Reserves all credits but one over and over, and counts in `held` what is granted: never those of two at once. It answers whether
 /// that was so.
-fn hammer<J: JournalName + PartsName>(
-    journal: &Journal<J, MemDevice>,
+fn hammer<J: JournalName + PartsName, D: Device>(
+    journal: &Journal<J, D>,
     mut seat: Seat<J>,
-    most: u64,
     held: &AtomicU64,
 ) -> bool {
+    let most = journal.capacity().saturating_sub(1);
     let mut within = true;
     for _ in 0..ROUNDS {
         if let Ok(credits) = journal.reserve(&mut seat, most) {
@@ -40,6 +40,21 @@ fn hammer<J: JournalName + PartsName>(
         }
     }
     within
+}
+
+/// Two threads reserve and give back at once. It answers whether what both held was never more than the capacity.
+fn hammer_at_once<
+    J: JournalName + PartsName + Send + Sync,
+    D: Device + Send,
+    R: Threads + Wait + Sync,
+>(rt: &R, journal: &Journal<J, D>, one: Seat<J>, two: Seat<J>) -> bool {
+    let held = AtomicU64::new(0);
+    let (first, second) = join(
+        rt,
+        || -> bool { hammer(journal, one, &held) },
+        || -> bool { hammer(journal, two, &held) },
+    );
+    first && second
 }
 
 /// Writes so many blocks from `first` on, each through a handle of its own. It answers the last handle's ticket.
@@ -163,13 +178,8 @@ fn shared<J: JournalName + PartsName + Send + Sync, R: Threads + Wait + Abort + 
     ) else {
         panic!(rt; "there is no further seat")
     };
-    let held = AtomicU64::new(0);
-    let (first, second) = join(
-        rt,
-        || -> bool { hammer(&journal, one, all - 1, &held) },
-        || -> bool { hammer(&journal, two, all - 1, &held) },
-    );
-    assert!(rt; first && second && all_are_left(&journal, &mut seat, all));
+    assert!(rt; hammer_at_once(rt, &journal, one, two));
+    assert!(rt; all_are_left(&journal, &mut seat, all));
     let Some((mut first, second)) = write_at_once(rt, &journal, three, four) else {
         panic!(rt; "a handle is refused")
     };
