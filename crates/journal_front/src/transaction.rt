@@ -267,7 +267,7 @@ impl Transaction {
     }
 
     /// A copy of its entries, as the batch that is written to the log. The transaction stays as it is, so that the batch may
-    /// still be refused.
+    /// still be refused. Room for all of them is made at once, so that it makes one request for memory however many they are.
     ///
     /// # Errors
     ///
@@ -276,7 +276,8 @@ impl Transaction {
         ensures ok { IfOk result (λ batch. batch ≡ batch_of self.now.transaction) }
         ensures err { IfErr result (λ e. e ≡ Memory) }
     {
-        let mut entries = Items::new(self.alloc);
+        let room = Vec::with_capacity(self.alloc, self.entries.len())?;
+        let mut entries = Items::from_vec(room);
         for (block, entry) in self.entries.iter() {
             entries.push((*block, entry.try_clone()?))?;
         }

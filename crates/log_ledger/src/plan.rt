@@ -26,13 +26,16 @@ impl Plan {
         }
     }
 
-    /// Makes it the plan of these entries, in memory in proportion to them. Where memory runs out it is the plan of a part
-    /// of them.
+    /// Makes it the plan of these entries, in memory in proportion to them. Where memory runs out it is the plan of none of them.
+    /// Room for all of them is made at once, in either list, so that it makes two requests for memory at most, and none where it
+    /// was the plan of as many before.
     pub fn make(&mut self, entries: &[(BlockNo, Entry)]) -> Result<(), AllocError>
         ensures { OnOk result (IsPlanOf entries.now self.new) }
     {
         self.copies.clear();
         self.revokes.clear();
+        self.copies.try_reserve(entries.len())?;
+        self.revokes.try_reserve(entries.len())?;
         for (place, (block, entry)) in entries.iter().enumerate() {
             match entry {
                 Entry::Copy(_) => self.copies.push(place)?,
