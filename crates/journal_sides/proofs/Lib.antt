@@ -1,0 +1,7 @@
+-- The lemmas of this crate.
+mod CaughtUp
+mod Extending
+mod HeldReads
+mod Landing
+mod Moving
+mod Running
