@@ -15,6 +15,7 @@ mod Examining
 mod GatherRuns
 mod LastCopies
 mod MadeCalls
+mod MakingMoments
 mod NewestHome
 mod Noting
 mod OpeningDone

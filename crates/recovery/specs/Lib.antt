@@ -4,6 +4,7 @@ pub mod BeforeSteps
 pub mod Calls
 pub mod Choice
 pub mod Gather
+pub mod Making
 pub mod Opening
 pub mod Planned
 pub mod Upgrade

@@ -3,7 +3,8 @@ ghost use Rattle.std.specs.Prelude.{◌≡◌, ◌<◌, ◌≤◌, length, OnOk,
 ghost use Rattle.journal_model.specs.declared.number.Area.TheVariants.{Log};
 ghost use Rattle.log_model.specs.Superblock.{greatest_length, least_length};
 ghost use Rattle.log_format.specs.Size.{IsBlockSize};
-ghost use Rattle.block_device.specs.State.{IsDeviceFailure};
+ghost use Rattle.block_device.specs.State.{EachMoment, IsDeviceFailure};
+ghost use Rattle.recovery.specs.Making.{IsMakingMoment, IsZeroingMoment};
 ghost use Rattle.recovery.specs.Opening.{FormatRefused, HasZeros, IsFormatted};
 
 use block_device::Device;
@@ -15,8 +16,9 @@ use log_format::Super;
 const MOST_BYTES: usize = 4096;
 
 /// Makes an empty log of `maxlen` blocks, 17 to 1,048,576, the superblock among them, with this UUID. All of its blocks behind
-/// the superblock become zeros; what lies behind the log in its area is made durable as it reads, and home isn't touched.
-/// Nothing is promised of a stop within it, nor after a device failure.
+/// the superblock become zeros; what lies behind the log in its area is made durable as it reads, and home isn't touched. The
+/// superblock is written once the zeros are durable: so a stop within it, or behind a device failure, leaves in block 0
+/// what might have stood there before, or the whole empty log; what the ring had may be gone.
 ///
 /// # Errors
 ///
@@ -31,6 +33,8 @@ pub fn format<D: Device>(
 ) -> Result<(), JournalError>
     ensures ok { OnOk result (IsFormatted (D.state device.old).shape maxlen uuid.now wide (D.state device.old).disk (D.state device.new).disk) }
     ensures err { IfErr result (λ e. FormatRefused maxlen (D.state device.old) (D.state device.new) e) }
+    // Whatever the answer is: home stays, and the superblock comes last.
+    ensures moments { EachMoment (IsMakingMoment (D.state device.old).shape maxlen uuid.now wide (D.state device.old).disk) (D.state device.old) (D.state device.new) }
     ensures no_fault { OnOk result ((D.state device.new).faults ≡ (D.state device.old).faults) }
     ensures shape { (D.state device.new).shape ≡ (D.state device.old).shape }
     ensures honest { D.honest device.new → D.honest device.old }
@@ -63,6 +67,7 @@ fn write_log<D: Device>(
     requires most { maxlen ≤ greatest_length }
     requires there { maxlen ≤ (D.state device.old).shape.log_blocks }
     ensures ok { OnOk result (IsFormatted (D.state device.old).shape maxlen uuid.now wide (D.state device.old).disk (D.state device.new).disk) }
+    ensures moments { EachMoment (IsMakingMoment (D.state device.old).shape maxlen uuid.now wide (D.state device.old).disk) (D.state device.old) (D.state device.new) }
     ensures faults { MatchResult result (λ _. (D.state device.new).faults ≡ (D.state device.old).faults) (λ e. IsDeviceFailure (D.state device.old) (D.state device.new) e) }
     ensures shape { (D.state device.new).shape ≡ (D.state device.old).shape }
     ensures honest { D.honest device.new → D.honest device.old }
@@ -82,6 +87,7 @@ fn write_zeros<D: Device>(device: &mut D, zeros: &[u8], maxlen: u64) -> Result<(
     requires some { 0 < maxlen }
     requires there { maxlen ≤ (D.state device.old).shape.log_blocks }
     ensures ok { OnOk result (HasZeros zeros.now maxlen (D.state device.old).disk (D.state device.new).disk) }
+    ensures moments { EachMoment (IsZeroingMoment zeros.now maxlen (D.state device.old).disk) (D.state device.old) (D.state device.new) }
     ensures faults { MatchResult result (λ _. (D.state device.new).faults ≡ (D.state device.old).faults) (λ e. IsDeviceFailure (D.state device.old) (D.state device.new) e) }
     ensures shape { (D.state device.new).shape ≡ (D.state device.old).shape }
     ensures honest { D.honest device.new → D.honest device.old }

@@ -1,9 +1,12 @@
-use Rattle.std.proofs.Common.{sym, ◌∙◌, ap, subst}
+use Rattle.std.proofs.Common.{sym, ◌∙◌, ap, subst, arith}
 use Rattle.std.specs.Prelude.{List, ℕ, replicate}
 use Rattle.journal_model.specs.Disk.{Disk, Shape}
 use Rattle.log_model.specs.Superblock.{formatted_super}
 use Rattle.log_format.specs.Size.{IsBlockSize}
+use Rattle.block_device.specs.State.{DeviceState}
+use Rattle.recovery.specs.Making.{IsMakingMoment}
 use Rattle.recovery.specs.Opening.{HasZeros}
+use Rattle.recovery.proofs.MakingMoments.{behind-stays, making-flush, making-named, making-zeroed}
 use Rattle.recovery.proofs.Zeroed.{formatted}
 use Rattle.recovery.proofs.empty_log.write_log.Goals as goal
 
@@ -20,6 +23,72 @@ returns-clause-ok g c =
     (c.format.ensures ∙ ap (λ (n : ℕ). formatted_super n c.args.maxlen c.args.uuid.now c.args.wide) (c.fill.auto.self ∙ c.requires.block))
     (subst (λ (bytes : List ℕ). HasZeros bytes c.args.maxlen old zeroed) (c.fill.ensures.after (λ y same. same) ∙ ap (λ (n : ℕ). replicate n 0) c.requires.block) zeros)
     c.in_ok-flush.ensures.ok.now c.in_ok-write.ensures.ok.now c.in_ok-flush-2.ensures.ok.now
+
+-- zeros were written, all or some
+pub returns-in_err-write_zeros-clause-moments : goal.returns-in_err-write_zeros-clause-moments
+returns-in_err-write_zeros-clause-moments g c =
+    let s : DeviceState = g.D.Device.state c.args.device.now in
+    let zeros = c.fill.ensures.after (λ y same. same) ∙ ap (λ (n : ℕ). replicate n 0) c.requires.block in
+    making-zeroed s.shape c.args.maxlen c.args.uuid.now c.args.wide s (g.D.Device.state c.write_zeros.new.device)
+    (rw (← zeros, ← c.from.ensures) c.write_zeros.ensures.moments)
+
+-- they may not be durable
+pub returns-in_err-flush-clause-moments : goal.returns-in_err-flush-clause-moments
+returns-in_err-flush-clause-moments g c =
+    let s : DeviceState = g.D.Device.state c.args.device.now in
+    let zeros = c.fill.ensures.after (λ y same. same) ∙ ap (λ (n : ℕ). replicate n 0) c.requires.block in
+    behind-stays (IsMakingMoment s.shape c.args.maxlen c.args.uuid.now c.args.wide s.disk) s (g.D.Device.state c.write_zeros.new.device) (g.D.Device.state c.flush.new.self)
+    (making-zeroed s.shape c.args.maxlen c.args.uuid.now c.args.wide s (g.D.Device.state c.write_zeros.new.device)
+    (rw (← zeros, ← c.from.ensures) c.write_zeros.ensures.moments))
+    c.in_err-flush.ensures.err
+
+-- the superblock may be written
+pub returns-in_err-write-clause-moments : goal.returns-in_err-write-clause-moments
+returns-in_err-write-clause-moments g c =
+    let s : DeviceState = g.D.Device.state c.args.device.now in
+    let zeroed : DeviceState = g.D.Device.state c.write_zeros.new.device in
+    let t : DeviceState = g.D.Device.state c.flush.new.self in
+    let zeros = c.fill.ensures.after (λ y same. same) ∙ ap (λ (n : ℕ). replicate n 0) c.requires.block in
+    making-named s.shape c.args.maxlen c.args.uuid.now c.format.new.block c.args.wide s zeroed t (g.D.Device.state c.write.new.self) (omega (arith, c.requires.least))
+    (rw (← zeros, ← c.from.ensures) c.in_ok-write_zeros.ensures.ok) c.in_ok-flush.ensures.ok.now
+    (c.format.ensures ∙ ap (λ (n : ℕ). formatted_super n c.args.maxlen c.args.uuid.now c.args.wide) (c.fill.auto.self ∙ c.requires.block))
+    (making-flush s.shape c.args.maxlen c.args.uuid.now c.args.wide s zeroed t
+    (making-zeroed s.shape c.args.maxlen c.args.uuid.now c.args.wide s zeroed (rw (← zeros, ← c.from.ensures) c.write_zeros.ensures.moments)) c.in_ok-flush.ensures.ok)
+    c.write.ensures.writes
+
+-- and it may not be durable
+pub returns-in_err-flush-2-clause-moments : goal.returns-in_err-flush-2-clause-moments
+returns-in_err-flush-2-clause-moments g c =
+    let s : DeviceState = g.D.Device.state c.args.device.now in
+    let zeroed : DeviceState = g.D.Device.state c.write_zeros.new.device in
+    let t : DeviceState = g.D.Device.state c.flush.new.self in
+    let u : DeviceState = g.D.Device.state c.write.new.self in
+    let zeros = c.fill.ensures.after (λ y same. same) ∙ ap (λ (n : ℕ). replicate n 0) c.requires.block in
+    behind-stays (IsMakingMoment s.shape c.args.maxlen c.args.uuid.now c.args.wide s.disk) s u (g.D.Device.state c.flush-2.new.self)
+    (making-named s.shape c.args.maxlen c.args.uuid.now c.format.new.block c.args.wide s zeroed t u (omega (arith, c.requires.least))
+    (rw (← zeros, ← c.from.ensures) c.in_ok-write_zeros.ensures.ok) c.in_ok-flush.ensures.ok.now
+    (c.format.ensures ∙ ap (λ (n : ℕ). formatted_super n c.args.maxlen c.args.uuid.now c.args.wide) (c.fill.auto.self ∙ c.requires.block))
+    (making-flush s.shape c.args.maxlen c.args.uuid.now c.args.wide s zeroed t
+    (making-zeroed s.shape c.args.maxlen c.args.uuid.now c.args.wide s zeroed (rw (← zeros, ← c.from.ensures) c.write_zeros.ensures.moments)) c.in_ok-flush.ensures.ok)
+    c.write.ensures.writes)
+    c.in_err-flush-2.ensures.err
+
+-- or it is
+pub returns-clause-moments : goal.returns-clause-moments
+returns-clause-moments g c =
+    let s : DeviceState = g.D.Device.state c.args.device.now in
+    let zeroed : DeviceState = g.D.Device.state c.write_zeros.new.device in
+    let t : DeviceState = g.D.Device.state c.flush.new.self in
+    let u : DeviceState = g.D.Device.state c.write.new.self in
+    let zeros = c.fill.ensures.after (λ y same. same) ∙ ap (λ (n : ℕ). replicate n 0) c.requires.block in
+    making-flush s.shape c.args.maxlen c.args.uuid.now c.args.wide s u (g.D.Device.state c.flush-2.new.self)
+    (making-named s.shape c.args.maxlen c.args.uuid.now c.format.new.block c.args.wide s zeroed t u (omega (arith, c.requires.least))
+    (rw (← zeros, ← c.from.ensures) c.in_ok-write_zeros.ensures.ok) c.in_ok-flush.ensures.ok.now
+    (c.format.ensures ∙ ap (λ (n : ℕ). formatted_super n c.args.maxlen c.args.uuid.now c.args.wide) (c.fill.auto.self ∙ c.requires.block))
+    (making-flush s.shape c.args.maxlen c.args.uuid.now c.args.wide s zeroed t
+    (making-zeroed s.shape c.args.maxlen c.args.uuid.now c.args.wide s zeroed (rw (← zeros, ← c.from.ensures) c.write_zeros.ensures.moments)) c.in_ok-flush.ensures.ok)
+    c.write.ensures.writes)
+    c.in_ok-flush-2.ensures.ok
 
 pub returns-clause-honest : goal.returns-clause-honest
 returns-clause-honest g c = λ honest.

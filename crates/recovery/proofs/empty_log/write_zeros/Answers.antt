@@ -1,12 +1,19 @@
 use Rattle.std.proofs.Common.{◌≡◌, ◌∙◌, arith, refl, subst}
 use Rattle.std.specs.Prelude.{ℕ}
 use Rattle.recovery.specs.Opening.{HasZeros}
+use Rattle.recovery.proofs.MakingMoments.{zeroing-none, zeroing-write}
 use Rattle.recovery.proofs.Zeroed.{zeros-more, zeros-none}
 use Rattle.recovery.proofs.empty_log.write_zeros.Goals as goal
 
 -- none is written yet
 pub loop-n-init : goal.loop-n-init
-loop-n-init g c = (zeros-none c.args.zeros.now (g.D.Device.state c.args.device.now).disk, refl, refl, λ honest. honest)
+loop-n-init g c = (
+  zeros-none c.args.zeros.now (g.D.Device.state c.args.device.now).disk,
+  refl,
+  refl,
+  λ honest. honest,
+  zeroing-none c.args.zeros.now c.args.maxlen (g.D.Device.state c.args.device.now),
+)
 
 -- one more block is zeros
 pub loop-n-preserved : goal.loop-n-preserved
@@ -16,6 +23,8 @@ loop-n-preserved g c = (
   c.in_ok-write.ensures.ok.shape ∙ c.loop-n.invariant.1,
   c.in_ok-write.ensures.faults ∙ c.loop-n.invariant.2,
   λ honest. c.loop-n.invariant.3 (c.write.ensures.honest honest),
+  zeroing-write c.args.zeros.now c.args.maxlen c.loop-n.n (g.D.Device.state c.args.device.now) (g.D.Device.state c.loop-n.device) (g.D.Device.state c.write.new.self)
+      (omega arith) (omega arith) c.loop-n.invariant.4 c.write.ensures.writes,
 )
 
 -- all are
@@ -24,3 +33,9 @@ returns-clause-ok g c =
     let all : c.loop-n.n ≡ c.args.maxlen = omega arith in
     subst (λ (end : ℕ). HasZeros c.args.zeros.now end (g.D.Device.state c.args.device.now).disk (g.D.Device.state c.loop-n.device).disk) all
     c.loop-n.invariant.0
+
+-- a write that failed may have written
+pub returns-in_err-write-clause-moments : goal.returns-in_err-write-clause-moments
+returns-in_err-write-clause-moments g c =
+    zeroing-write c.args.zeros.now c.args.maxlen c.loop-n.n (g.D.Device.state c.args.device.now) (g.D.Device.state c.loop-n.device) (g.D.Device.state c.write.new.self)
+    (omega arith) (omega arith) c.loop-n.invariant.4 c.write.ensures.writes
