@@ -114,6 +114,28 @@ pub fn open<D: Device>(alloc: Global, device: D) -> Result<Opened<D>, (D, Journa
 }
 
 impl<D: Device> Opened<D> {
+    /// An opened log of these parts: those that `into_parts` gave of one, and its report. So its device may stand over another one
+    /// that has the same blocks: a device, as `FailOnce`, that counts its calls from behind the opening on.
+    pub fn from_parts(device: D, superblock: Vec<u8>, next: Tid, report: Report) -> Self
+        requires named { IsNextNamed (D.state device).shape superblock.items next }
+        requires log { D.honest device → IsOpenedLog (D.state device).shape (D.state device).disk superblock.items next }
+        ensures { result ≡ record {
+          device = device;
+          superblock = superblock.items;
+          next = next;
+          clean = report.clean;
+          ends_at = report.ends_at;
+          transactions = report.transactions;
+        } }
+    {
+        Opened {
+            device,
+            superblock,
+            next,
+            report,
+        }
+    }
+
     /// What the opening found.
     pub fn report(&self) -> Report
         ensures { result ≡ record { clean = self.now.clean; ends_at = self.now.ends_at; transactions = self.now.transactions } }
