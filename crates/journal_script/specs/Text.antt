@@ -1,5 +1,5 @@
 -- What the text of a script says: its operations, in their order, and measures.
-use Rattle.std.specs.Prelude.{◌≡◌, ◌++◌, ℕ, List, [], ◌∷◌, Option, Some, Ok, IfSome, codes}
+use Rattle.std.specs.Prelude.{◌≡◌, ◌++◌, ⊤, ℕ, false, List, [], ◌∷◌, Option, Some, Ok, IfSome, MatchOption, codes, replicate}
 use Rattle.hex.specs.Hex.{decode_of}
 use Rattle.serde_json.specs.Data.{Data, array, boolean, number, string, unsigned}
 use Rattle.serde_json.specs.Find.{get}
@@ -75,12 +75,26 @@ pub record HasOperations (script : Data) (operations : List Operation) : Type 0 
 abbrev pub IsAt : Option Data → Data → Type 0
 IsAt found value = IfSome found (λ there. there ≡ value)
 
--- the keys of a value that speak of a device say these measures, where they stand. (Of the UUID it is not said.)
+-- the keys of a value that speak of a device say these measures, where they stand
 pub record AgreesWith (script : Data) (m : Measures) : Type 0 where
   pub block : IsAt (get (key_name Block) script) (number_value m.block_size)
   pub length : IsAt (get (key_name Length) script) (number_value m.log_blocks)
   pub home : IsAt (get (key_name Home) script) (number_value m.home_blocks)
+  pub uuid : IfSome (get (key_name Uuid) script) (IsHexOf m.uuid)
   pub wide : IsAt (get (key_name Wide) script) (boolean m.wide)
+
+-- where a key does not stand, this holds
+abbrev pub IsElse : Option Data → Type 0 → Type 0
+IsElse found default = MatchOption found default (λ there. ⊤)
+
+-- the measures of a value are the defaults where their keys do not stand: 33 log blocks and 64 home blocks of 1024 bytes, a UUID of
+-- bytes aa, and block numbers of 32 bits
+pub record IsDefaultElse (script : Data) (m : Measures) : Type 0 where
+  pub block : IsElse (get (key_name Block) script) (m.block_size ≡ 1024)
+  pub length : IsElse (get (key_name Length) script) (m.log_blocks ≡ 33)
+  pub home : IsElse (get (key_name Home) script) (m.home_blocks ≡ 64)
+  pub uuid : IsElse (get (key_name Uuid) script) (m.uuid ≡ replicate 16 0xaa)
+  pub wide : IsElse (get (key_name Wide) script) (m.wide ≡ false)
 
 -- the text is one of JSON, whose value has these operations, and agrees with these measures
 pub record IsTextOf (text : List ℕ) (operations : List Operation) (measures : Measures) : Type 0 where
@@ -88,3 +102,8 @@ pub record IsTextOf (text : List ℕ) (operations : List Operation) (measures : 
   pub is : read text ≡ Some script
   pub has : HasOperations script operations
   pub agrees : AgreesWith script measures
+
+-- so it has and does, and the measures whose keys do not stand in it are the defaults
+pub record IsScriptOf (text : List ℕ) (operations : List Operation) (measures : Measures) : Type 0 where
+  pub of_text : IsTextOf text operations measures
+  pub defaults : IsDefaultElse of_text.script measures

@@ -1,5 +1,6 @@
 //! The measures of a device, as a script's keys or words give them, and their limits.
-ghost use Rattle.std.specs.Prelude.{◌≡◌, ◌↔◌, ◌≤◌, IfSome, IsTrue};
+ghost use Rattle.std.specs.Prelude.{◌≡◌, ◌↔◌, ◌≤◌, IfOk, IfSome, IsTrue};
+ghost use Rattle.hex.specs.Hex.{decode_of};
 ghost use Rattle.log_format.specs.Size.{IsBlockSize};
 ghost use Rattle.journal_script.specs.Measures.{most_home_blocks};
 
@@ -78,7 +79,9 @@ pub fn limited(word: &str, limits: (u64, u64)) -> Option<u64>
 }
 
 /// The UUID that 32 hex digits give, or `None` where the text is another. It fails where memory runs out.
-pub fn uuid_of(alloc: Global, digits: &str) -> Result<Option<[u8; 16]>, AllocError> {
+pub fn uuid_of(alloc: Global, digits: &str) -> Result<Option<[u8; 16]>, AllocError>
+    ensures { IfOk result (λ found. IfSome found (λ uuid. decode_of digits.now ≡ Ok uuid)) }
+{
     match hex::decode(alloc, digits) {
         Ok(bytes) => Ok(<[u8; 16]>::try_from(bytes.as_slice()).ok()),
         Err(FromHexError::OutOfMemory) => Err(AllocError),

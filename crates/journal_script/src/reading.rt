@@ -1,13 +1,13 @@
 //! Reads a script from the bytes of its file.
-ghost use Rattle.std.specs.Prelude.{◌≡◌, ◌≤◌, [], ◌∷◌, IfOk, OnOk, Some, codes, length, map};
+ghost use Rattle.std.specs.Prelude.{◌≡◌, ◌≤◌, [], ◌∷◌, IfOk, IfSome, OnOk, Some, codes, false, length, map, replicate};
 ghost use Rattle.serde_json.specs.Data.{boolean, string};
 ghost use Rattle.serde_json.specs.Find.{as_str, get};
 ghost use Rattle.serde_json.specs.Read.{read as read_text};
 ghost use Rattle.serde_json.specs.View.{view};
 ghost use Rattle.journal_script.specs.Line.{word_of};
 ghost use Rattle.journal_script.specs.Measures.{AreLimited, most_home_blocks};
-ghost use Rattle.journal_script.specs.Text.{AgreesWith, AreArguments, AreOperations, HasOperations, IsAt, IsHexOf, IsOperation, IsTextOf, key_name, list_value, number_value};
-ghost use Rattle.journal_script.specs.declared.error.Key.TheVariants.{Home, Operations, Wide};
+ghost use Rattle.journal_script.specs.Text.{AgreesWith, AreArguments, AreOperations, HasOperations, IsAt, IsDefaultElse, IsElse, IsHexOf, IsOperation, IsScriptOf, IsTextOf, key_name, list_value, number_value};
+ghost use Rattle.journal_script.specs.declared.error.Key.TheVariants.{Home, Operations, Uuid, Wide};
 
 use crate::error::{BadOperation, BadScript, Key, OperationFault, OperationName, ScriptError};
 use crate::measures::{DEFAULTS, LENGTHS, Measures, homes, is_block_size, uuid_of};
@@ -41,6 +41,7 @@ pub fn read(alloc: Global, text: &[u8]) -> Result<Script, ScriptError>
     ensures operations { IfOk result (λ script. length script.operations.items ≤ 100_000) }
     ensures measures { IfOk result (λ script. AreLimited script.measures) }
     ensures text { IfOk result (λ script. IsTextOf text.now script.operations.items script.measures) }
+    ensures script { IfOk result (λ script. IsScriptOf text.now script.operations.items script.measures) }
 {
     let value = read_value(alloc, text)?;
     match value.as_object() {
@@ -104,11 +105,17 @@ fn require_number(value: &Value, key: Key, number: u64) -> Result<(), ScriptErro
 }
 
 /// Fails where a UUID stands in a script, and another than this.
-fn require_uuid(alloc: Global, value: &Value, uuid: &[u8; 16]) -> Result<(), ScriptError> {
-    if value.get(Key::Uuid.name()).is_some() && read_uuid(alloc, value)? != *uuid {
-        return Err(ScriptError::BadScript(BadScript::Disagrees(Key::Uuid)));
+fn require_uuid(alloc: Global, value: &Value, uuid: &[u8; 16]) -> Result<(), ScriptError>
+    ensures { OnOk result (IfSome (get (key_name Uuid) (view value.now)) (IsHexOf uuid.now)) }
+{
+    if value.get(Key::Uuid.name()).is_none() {
+        return Ok(());
     }
-    Ok(())
+    if read_uuid(alloc, value)? == *uuid {
+        Ok(())
+    } else {
+        Err(ScriptError::BadScript(BadScript::Disagrees(Key::Uuid)))
+    }
 }
 
 /// Fails where a width of block numbers stands in a script, and another than this.
@@ -151,6 +158,7 @@ fn read_members(
     ensures measures { IfOk result (λ script. AreLimited script.measures) }
     ensures has { IfOk result (λ script. HasOperations (view value.now) script.operations.items) }
     ensures agrees { IfOk result (λ script. AgreesWith (view value.now) script.measures) }
+    ensures defaults { IfOk result (λ script. IsDefaultElse (view value.now) script.measures) }
 {
     require_known_keys(alloc, members)?;
     let measures = read_measures(alloc, value)?;
@@ -226,6 +234,7 @@ fn read_value(alloc: Global, text: &[u8]) -> Result<Value, ScriptError>
 fn read_measures(alloc: Global, value: &Value) -> Result<Measures, ScriptError>
     ensures limited { IfOk result (λ measures. AreLimited measures) }
     ensures agrees { IfOk result (λ measures. AgreesWith (view value.now) measures) }
+    ensures defaults { IfOk result (λ measures. IsDefaultElse (view value.now) measures) }
 {
     let block_size = read_number(value, Key::Block, DEFAULTS.block_size as u64, (1024, 4096))?;
     if !is_block_size(block_size) {
@@ -258,6 +267,7 @@ fn read_number(
     ensures least { IfOk result (λ number. limits.0 ≤ number) }
     ensures most { IfOk result (λ number. number ≤ limits.1) }
     ensures is { IfOk result (λ number. IsAt (get (key_name key) (view value.now)) (number_value number)) }
+    ensures default { IfOk result (λ number. IsElse (get (key_name key) (view value.now)) (number ≡ default)) }
 {
     let Some(found) = value.get(key.name()) else {
         return Ok(default);
@@ -273,6 +283,7 @@ fn read_home(value: &Value, wide: bool) -> Result<u64, ScriptError>
     ensures least { IfOk result (λ blocks. 1 ≤ blocks) }
     ensures most { IfOk result (λ blocks. blocks ≤ most_home_blocks wide) }
     ensures is { IfOk result (λ blocks. IsAt (get (key_name Home) (view value.now)) (number_value blocks)) }
+    ensures default { IfOk result (λ blocks. IsElse (get (key_name Home) (view value.now)) (blocks ≡ 64)) }
 {
     match read_number(value, Key::Home, DEFAULTS.home_blocks, homes(wide)) {
         Ok(blocks) => Ok(blocks),
@@ -282,7 +293,10 @@ fn read_home(value: &Value, wide: bool) -> Result<u64, ScriptError>
 }
 
 /// The UUID of a script's journal.
-fn read_uuid(alloc: Global, value: &Value) -> Result<[u8; 16], ScriptError> {
+fn read_uuid(alloc: Global, value: &Value) -> Result<[u8; 16], ScriptError>
+    ensures is { IfOk result (λ uuid. IfSome (get (key_name Uuid) (view value.now)) (IsHexOf uuid)) }
+    ensures default { IfOk result (λ uuid. IsElse (get (key_name Uuid) (view value.now)) (uuid ≡ replicate 16 0xaa)) }
+{
     let Some(found) = value.get(Key::Uuid.name()) else {
         return Ok(DEFAULTS.uuid);
     };
@@ -297,7 +311,8 @@ fn read_uuid(alloc: Global, value: &Value) -> Result<[u8; 16], ScriptError> {
 
 /// Whether the block numbers of a script's log have 64 bits.
 fn read_width(value: &Value) -> Result<bool, ScriptError>
-    ensures { IfOk result (λ wide. IsAt (get (key_name Wide) (view value.now)) (boolean wide)) }
+    ensures is { IfOk result (λ wide. IsAt (get (key_name Wide) (view value.now)) (boolean wide)) }
+    ensures default { IfOk result (λ wide. IsElse (get (key_name Wide) (view value.now)) (wide ≡ false)) }
 {
     let Some(found) = value.get(Key::Wide.name()) else {
         return Ok(DEFAULTS.wide);
