@@ -13,6 +13,8 @@ mod files;
 #[cfg(test)]
 mod gathered;
 #[cfg(test)]
+mod held;
+#[cfg(test)]
 mod tables;
 #[cfg(test)]
 mod threads;

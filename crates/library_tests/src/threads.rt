@@ -7,6 +7,7 @@ use file_device::{FileDevice, UnknownContents};
 use group_commit::Turn;
 use handle::{JournalName, Seat, Status};
 use journal_model::BlockNo;
+use meeting::MeetingName;
 use parts::PartsName;
 use shared_journal::{Journal, LaidJournal, Tally, Ticket, lay};
 use std::marker::Brand;
@@ -25,7 +26,7 @@ const HANDLES: u64 = 20;
 
 /// Reserves all credits but one over and over, and counts in `held` what is granted: never those of two at once. It answers whether
 /// that was so.
-fn hammer<J: JournalName + PartsName, D: Device>(
+fn hammer<J: JournalName + PartsName + MeetingName, D: Device>(
     journal: &Journal<J, D>,
     mut seat: Seat<J>,
     held: &AtomicU64,
@@ -44,7 +45,7 @@ fn hammer<J: JournalName + PartsName, D: Device>(
 
 /// Two threads reserve and give back at once. It answers whether what both held was never more than the capacity.
 fn hammer_at_once<
-    J: JournalName + PartsName + Send + Sync,
+    J: JournalName + PartsName + MeetingName + Send + Sync,
     D: Device + Send,
     R: Threads + Wait + Sync,
 >(rt: &R, journal: &Journal<J, D>, one: Seat<J>, two: Seat<J>) -> bool {
@@ -58,7 +59,7 @@ fn hammer_at_once<
 }
 
 /// Writes so many blocks from `first` on, each through a handle of its own. It answers the last handle's ticket.
-fn write_all<J: JournalName + PartsName, D: Device, R: Wait>(
+fn write_all<J: JournalName + PartsName + MeetingName, D: Device, R: Wait>(
     rt: &R,
     journal: &Journal<J, D>,
     mut seat: Seat<J>,
@@ -87,7 +88,7 @@ fn write_all<J: JournalName + PartsName, D: Device, R: Wait>(
 }
 
 /// Takes commit turns until the ticket's transaction is committed. It answers whether it is.
-fn commit<J: JournalName + PartsName, D: Device, R: Wait>(
+fn commit<J: JournalName + PartsName + MeetingName, D: Device, R: Wait>(
     rt: &R,
     journal: &Journal<J, D>,
     ticket: &mut Ticket<J>,
@@ -107,7 +108,7 @@ fn commit<J: JournalName + PartsName, D: Device, R: Wait>(
 
 /// Two threads write at once. It answers the last ticket of each.
 fn write_at_once<
-    J: JournalName + PartsName + Send + Sync,
+    J: JournalName + PartsName + MeetingName + Send + Sync,
     D: Device + Send,
     R: Threads + Wait + Sync,
 >(rt: &R, journal: &Journal<J, D>, one: Seat<J>, two: Seat<J>) -> Option<(Ticket<J>, Ticket<J>)> {
@@ -123,7 +124,7 @@ fn write_at_once<
 }
 
 /// Whether both tickets' transactions are committed. The journal's record bears out both receipts.
-fn both_stand<J: JournalName + PartsName, D: Device, R: Wait>(
+fn both_stand<J: JournalName + PartsName + MeetingName, D: Device, R: Wait>(
     rt: &R,
     journal: &Journal<J, D>,
     first: Ticket<J>,
@@ -141,7 +142,7 @@ fn both_stand<J: JournalName + PartsName, D: Device, R: Wait>(
 }
 
 /// The last credits that a journal can grant to one seat: all, where nobody holds any.
-fn all_are_left<J: JournalName + PartsName>(
+fn all_are_left<J: JournalName + PartsName + MeetingName>(
     journal: &Journal<J, MemDevice>,
     seat: &mut Seat<J>,
     all: u64,
@@ -157,12 +158,13 @@ fn all_are_left<J: JournalName + PartsName>(
 
 /// Two threads reserve and give back at once, then two write at once; all of it is committed in one transaction, and the credits
 /// are back.
-fn shared<J: JournalName + PartsName + Send + Sync, R: Threads + Wait + Abort + Sync>(
+fn shared<J: JournalName + PartsName + MeetingName + Send + Sync, R: Threads + Wait + Abort + Sync>(
     rt: &R,
     laid: LaidJournal<MemDevice>,
 )
     requires board { laid.board ≡ J.board }
     requires parts { laid.parts ≡ J.parts }
+    requires meeting { laid.meeting ≡ J.meeting }
     requires capacity { laid.capacity ≡ J.capacity }
     requires block_size { laid.block_size ≡ J.block_size }
 {
@@ -239,12 +241,13 @@ fn two_files(rt: &HostRuntime) -> io::Result<FileDevice<UnknownContents>> {
 
 /// Two threads write at once, and all of it is committed in one transaction and written home.
 fn written<
-    J: JournalName + PartsName + Send + Sync,
+    J: JournalName + PartsName + MeetingName + Send + Sync,
     D: Device + Drop + Send,
     R: Threads + Wait + Abort + Sync,
 >(rt: &R, laid: LaidJournal<D>) -> D
     requires board { laid.board ≡ J.board }
     requires parts { laid.parts ≡ J.parts }
+    requires meeting { laid.meeting ≡ J.meeting }
     requires capacity { laid.capacity ≡ J.capacity }
     requires block_size { laid.block_size ≡ J.block_size }
 {

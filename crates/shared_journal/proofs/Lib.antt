@@ -5,5 +5,7 @@ mod Capacities
 mod Closes
 mod Counting
 mod Knowing
+mod BehindMeeting
 mod Moments
 mod Refused
+mod TurnMoments

@@ -13,10 +13,13 @@ use Rattle.journal_front.specs.Values.{HandleValue}
 use Rattle.journal_steps.specs.Journal.{ReadRefused}
 use Rattle.journal_steps.specs.Journal.ReadRefused.{ReadFailed, ReadKeptOut, ReadRevoked, ReadUnnoted}
 use Rattle.journal_steps.specs.Values.{JournalValue}
+use Rattle.log_engine.specs.Engine.{EngineValue}
+use Rattle.journal_sides.specs.Sides.{MeetsAnd}
 use Rattle.group_commit.specs.Extension.{ExtensionRefused, StartRefused}
 use Rattle.group_commit.specs.Extension.ExtensionRefused.{NotExtended, NotGranted as NoneGranted}
 use Rattle.group_commit.specs.Extension.StartRefused.{NotJoined, Ungranted}
 use Rattle.shared_journal.specs.Refusals.{IsExtendRefusal, IsJoinRefusal, IsReadRefusal, IsTouchRefusal}
+use Rattle.shared_journal.proofs.BehindMeeting.{Learns, met-learns}
 use Rattle.shared_journal.specs.Refusals.IsExtendRefusal.{ExtendAborted, ExtendLocked}
 use Rattle.shared_journal.specs.Refusals.IsJoinRefusal.{JoinAborted, JoinLocked, JoinMemory, JoinNumber}
 use Rattle.shared_journal.specs.Refusals.IsReadRefusal.{ReadAborted, ReadDevice, ReadMemory, ReadOfRevoke, ReadOutside}
@@ -59,6 +62,16 @@ reads state old new h b e it (ReadKeptOut why same) = kept-from old.journal.fron
 reads state old new h b e it (ReadRevoked may last same is) = subst IsReadRefusal (sym is) ReadOfRevoke
 reads state old new h b e it (ReadUnnoted may last same faults is) = subst IsReadRefusal (sym is) ReadMemory
 reads state old new h b e it (ReadFailed may last none did faults is) = subst IsReadRefusal (sym is) ReadDevice
+
+-- a handle that is open is so behind a meeting
+open-met : (f g : Front) (h : HandleValue) → Learns f g → IsOpenHandle f h → IsOpenHandle g h
+open-met f g h l it =
+    subst (λ (x : Front). IsOpenHandle x h) (sym l.is) (record { left = it.left; transaction = it.transaction })
+
+pub reads-met : {D : Type 0} (state : D → DeviceState) (old : JournalValue D) (engine : EngineValue D) (new : JournalValue D) (h : HandleValue) (b : ℕ) (e : JournalError) →
+    IsOpenHandle old.journal.front h → MeetsAnd state old engine (λ (mid : JournalValue D). ReadRefused state mid h b new e) → IsReadRefusal e
+reads-met state old engine new h b e it m =
+    reads state m.mid new h b e (open-met old.journal.front m.mid.journal.front h (met-learns state old engine m.mid m.meets) it) m.did
 
 -- credits that lie with the front already can be granted
 granted : (f : Front) (n : ℕ) (e : JournalError) → held f + n ≤ f.capacity → ReserveRefused f n e → ⊥

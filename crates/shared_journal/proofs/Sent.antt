@@ -1,4 +1,4 @@
--- A journal may be shared by threads, and what lies under its lock may go to another: said once, since a search over all of it, from a
+-- A journal may be shared by threads, and what lies under its locks may go to another: said once, since a search over all of it, from a
 -- closure that holds a journal, comes to its limits.
 use mir.Syntax.{Sym}
 use denote.RattleType.{RattleType}
@@ -20,8 +20,11 @@ use Rattle.journal_front.specs.declared.record.Record as Record
 use Rattle.journal_front.specs.contracts.front.Front as Front
 use Rattle.journal_front.specs.contracts.transaction.Transaction as Transaction
 use Rattle.log_engine.specs.contracts.engine.Engine as Engine
-use Rattle.group_commit.specs.contracts.journal.Journal as One
-use Rattle.group_commit.specs.contracts.journal.Journal.TheInside as one
+use Rattle.journal_sides.specs.contracts.engine_side.EngineSide as EngineSide
+use Rattle.journal_sides.specs.contracts.engine_side.EngineSide.TheInside as engine_inside
+use Rattle.journal_sides.specs.contracts.front_side.FrontSide as FrontSide
+use Rattle.journal_sides.specs.contracts.front_side.FrontSide.TheInside as front_inside
+use Rattle.meeting.specs.declared.view.MeetingName as MeetingName
 use Rattle.parts.specs.declared.view.PartsName as PartsName
 use Rattle.shared_journal.specs.contracts.journal.Journal as Journal
 use Rattle.shared_journal.specs.contracts.locked.Locked as Locked
@@ -36,42 +39,48 @@ front_send R r sr = search (transaction_send, sendable, crosses, maps.crosses) d
 engine_send : (D : RattleType) (d : Device.Ghosts D.Denot) → IsSend D → IsSend (Engine.the_row D d)
 engine_send D d sd = search (history.the_send, sendable, crosses, maps.crosses) depth 400 fits 200000
 
--- the journal of one thread
-one_send : (D R : RattleType) (d : Device.Ghosts D.Denot) (r : Record.Ghosts R.Denot) → IsSend D → IsSend R → IsSend (One.the_row D R d r)
-one_send D R d r sd sr =
+-- the front's side
+front_side_send : (J D R : RattleType) (m : MeetingName.Ghosts J.Denot) (d : Device.Ghosts D.Denot) (r : Record.Ghosts R.Denot) → IsSend J → IsSend D → IsSend R →
+    IsSend (FrontSide.the_row J D R m d r)
+front_side_send J D R m d r sj sd sr =
     view_send _ _ _ _ _
-    (recorded_send _ _ (one.the_type D R d r).to (one.the_type D R d r).to_one (struct_send (shape (one.the_type D R d r)) (front_send R r sr, (engine_send D d sd, tt))))
+    (recorded_send _ _ (front_inside.the_type J D R m d r).to (front_inside.the_type J D R m d r).to_one
+    (struct_send (shape (front_inside.the_type J D R m d r)) (front_send R r sr, (search (seat.the_send, sendable, crosses) depth 400 fits 200000, tt))))
 
-inside_send : (J D R : RattleType) (j : JournalName.Ghosts J.Denot) (p : PartsName.Ghosts J.Denot) (d : Device.Ghosts D.Denot) (r : Record.Ghosts R.Denot) →
-    IsSend J → IsSend D → IsSend R → IsSend (inside.the_row J D R p j d r)
-inside_send J D R j p d r sj sd sr =
-    recorded_send _ _ (inside.the_type J D R p j d r).to (inside.the_type J D R p j d r).to_one
-    (struct_send (shape (inside.the_type J D R p j d r)) (
-      one_send D R d r sd sr,
+-- the engine's
+engine_side_send : (J D : RattleType) (m : MeetingName.Ghosts J.Denot) (d : Device.Ghosts D.Denot) → IsSend J → IsSend D → IsSend (EngineSide.the_row J D m d)
+engine_side_send J D m d sj sd =
+    view_send _ _ _ _ _
+    (recorded_send _ _ (engine_inside.the_type J D m d).to (engine_inside.the_type J D m d).to_one
+    (struct_send (shape (engine_inside.the_type J D m d)) (engine_send D d sd, (search (seat.the_send, sendable, crosses) depth 400 fits 200000, tt))))
+
+inside_send : (J D R : RattleType) (j : JournalName.Ghosts J.Denot) (p : PartsName.Ghosts J.Denot) (m : MeetingName.Ghosts J.Denot) (d : Device.Ghosts D.Denot)
+    (r : Record.Ghosts R.Denot) → IsSend J → IsSend D → IsSend R → IsSend (inside.the_row J D R p j m d r)
+inside_send J D R j p m d r sj sd sr =
+    recorded_send _ _ (inside.the_type J D R p j m d r).to (inside.the_type J D R p j m d r).to_one
+    (struct_send (shape (inside.the_type J D R p j m d r)) (
+      front_side_send J D R m d r sj sd sr,
       (
         search (seat.the_send, sendable, crosses) depth 400 fits 200000,
         (
           search (seat.the_send, sendable, crosses) depth 400 fits 200000,
           (
-            search (seat.the_send, sendable, crosses) depth 400 fits 200000,
-            (
-              search (table.the_field_send, seat.the_send, sendable, crosses) depth 400 fits 200000,
-              (search (seat.the_send, sendable, crosses) depth 400 fits 200000, tt),
-            ),
+            search (table.the_field_send, seat.the_send, sendable, crosses) depth 400 fits 200000,
+            (search (seat.the_send, sendable, crosses) depth 400 fits 200000, tt),
           ),
         ),
       ),
     ))
 
--- what lies under the lock
-locked_send : (J D R : RattleType) (j : JournalName.Ghosts J.Denot) (p : PartsName.Ghosts J.Denot) (d : Device.Ghosts D.Denot) (r : Record.Ghosts R.Denot) →
-    IsSend J → IsSend D → IsSend R → IsSend (Locked.the_row J D R p j d r)
-locked_send J D R j p d r sj sd sr = view_send _ _ _ _ _ (inside_send J D R j p d r sj sd sr)
+-- what lies under the front's lock
+locked_send : (J D R : RattleType) (j : JournalName.Ghosts J.Denot) (p : PartsName.Ghosts J.Denot) (m : MeetingName.Ghosts J.Denot) (d : Device.Ghosts D.Denot)
+    (r : Record.Ghosts R.Denot) → IsSend J → IsSend D → IsSend R → IsSend (Locked.the_row J D R p j m d r)
+locked_send J D R j p m d r sj sd sr = view_send _ _ _ _ _ (inside_send J D R j p m d r sj sd sr)
 
 -- a journal that threads share
-pub journal_sync : (J D R : RattleType) (j : JournalName.Ghosts J.Denot) (p : PartsName.Ghosts J.Denot) (d : Device.Ghosts D.Denot) (r : Record.Ghosts R.Denot) →
-    IsSend J → IsSync J → IsSend D → IsSend R → IsSync (Journal.the_row J D R j p d r)
-journal_sync J D R j p d r sj yj sd sr = search (locked_send, table.the_field_sync, table.the_field_send, sendable, crosses) depth 400 fits 200000
+pub journal_sync : (J D R : RattleType) (j : JournalName.Ghosts J.Denot) (p : PartsName.Ghosts J.Denot) (m : MeetingName.Ghosts J.Denot) (d : Device.Ghosts D.Denot)
+    (r : Record.Ghosts R.Denot) → IsSend J → IsSync J → IsSend D → IsSend R → IsSync (Journal.the_row J D R j p m d r)
+journal_sync J D R j p m d r sj yj sd sr = search (locked_send, engine_side_send, table.the_field_sync, table.the_field_send, sendable, crosses) depth 400 fits 200000
 
 -- its record, as data
 pub record_send : IsSend (History.the_row Sealed.the_row)

@@ -4,3 +4,4 @@ pub mod Laid
 pub mod Moments
 pub mod Refusals
 pub mod Known
+pub mod Turns

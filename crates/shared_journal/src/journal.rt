@@ -1,5 +1,5 @@
 //! The journal that threads share: its calls take `&self`, and those that are steps take the lock.
-ghost use Rattle.std.specs.Prelude.{◌≡◌, ◌+◌, ◌<◌, ◌≤◌, ◌++◌, [], ◌∷◌, true, false, length, IfErr, IfOk, MatchResult, OnOk};
+ghost use Rattle.std.specs.Prelude.{◌≡◌, ◌+◌, ◌<◌, ◌≤◌, ◌++◌, [], ◌∷◌, true, false, length, IfErr, IfOk, IfSome, MatchResult, OnOk};
 ghost use Rattle.journal_model.specs.declared.refusal.JournalError.TheVariants.{Aborted};
 ghost use Rattle.journal_model.specs.Transaction.{entries};
 ghost use Rattle.journal_world.specs.Front.FrontEvent.{RevokeBlock, WriteBlock};
@@ -8,13 +8,14 @@ ghost use Rattle.journal_world.specs.Journal.Event.{DirectSync, DirectWrite, Fro
 ghost use Rattle.handle.specs.Values.{Grants, Looks, LooksAgain, ReserveRefused, StatusIs, fresh_ticket, loading_credits, loading_mark};
 ghost use Rattle.journal_front.specs.Front.{ExtendRefused, IsOpenHandle, Spends, TouchRefused};
 ghost use Rattle.journal_steps.specs.Direct.{DirectSyncRefused, DirectWriteRefused, MayWriteDirectly};
-ghost use Rattle.journal_steps.specs.Journal.{CheckTurnDid, CheckTurnRefused, Does, NotesRead, ReadRefused, Requests, TurnDid, TurnRefused};
+ghost use Rattle.journal_steps.specs.Journal.{Does, NotesRead, ReadRefused, Requests};
 ghost use Rattle.journal_steps.specs.Values.{JournalValue};
 ghost use Rattle.group_commit.specs.Extension.{Extends};
 ghost use Rattle.own_steps.specs.Own.{BearsOut};
 ghost use Rattle.shared_journal.specs.Ends.{AtTheEnd, IsClosedWell, IsNotClosed};
 ghost use Rattle.shared_journal.specs.Known.{own_of_ticket};
 ghost use Rattle.shared_journal.specs.Moments.{AtOneMoment, JoinedThen, StoppedThen};
+ghost use Rattle.shared_journal.specs.Turns.{CheckTurnThen, RoundRefusedThen, RoundThen, StepRefusedThen, StepThen, TurnRefusedThen, TurnThen};
 ghost use Rattle.shared_journal.specs.Refusals.{CouldNotJoin, IsExtendRefusal, IsJoinRefusal, IsReadRefusal, IsTouchRefusal, MayHavePaid, StartRefused};
 
 use crate::closing::close;
@@ -25,29 +26,42 @@ use block_device::Device;
 use group_commit::{CheckTurn, Journal as OneJournal, Parts, Record, Turn};
 use handle::{Credits, JournalName, Seat, Status};
 use journal_model::{BlockNo, History, JournalError, Sealed, Tid};
+use journal_sides::{EngineSide, SidesMeeting};
+use log_engine::Progress;
+use meeting::MeetingName;
 use parts::PartsName;
 use std::sync::{Mutex, Wait};
 
 /// A journal that any number of threads share by reference. It has to be ended by `close` or `into_single`, since it holds credits:
 /// a value of this type can't be dropped.
-pub struct Journal<J: JournalName + PartsName, D: Device, R: Record = History<Sealed>> {
+pub struct Journal<
+    J: JournalName + PartsName + MeetingName,
+    D: Device,
+    R: Record = History<Sealed>,
+> {
     counters: Counters<J>,
+    meeting: SidesMeeting<J, D>,
     locked: Mutex<Locked<J, D, R>>,
+    engine: Mutex<EngineSide<J, D>>,
     block_size: usize,
     pub ghost block_is: { block_size ≡ J.block_size },
 }
 
-impl<J: JournalName + PartsName, D: Device, R: Record> Journal<J, D, R> {
+impl<J: JournalName + PartsName + MeetingName, D: Device, R: Record> Journal<J, D, R> {
     pub(crate) fn of(
         counters: Counters<J>,
+        meeting: SidesMeeting<J, D>,
         locked: Locked<J, D, R>,
+        engine: EngineSide<J, D>,
         block_size: usize,
     ) -> Journal<J, D, R>
         requires { block_size ≡ J.block_size }
     {
         Journal {
             counters,
+            meeting,
             locked: Mutex::new(locked),
+            engine: Mutex::new(engine),
             block_size,
         }
     }
@@ -242,7 +256,16 @@ impl<J: JournalName + PartsName, D: Device, R: Record> Journal<J, D, R> {
         ensures untouched { IfErr result (λ e. into.new ≡ into.old) }
         ensures length { length into.new ≡ length into.old }
     {
-        self.locked.lock(rt).read(handle, block, into)
+        let mut locked = self.locked.lock(rt);
+        let mut engine = self.engine.lock(rt);
+        locked.read(
+            &self.counters,
+            &self.meeting,
+            &mut engine,
+            handle,
+            block,
+            into,
+        )
     }
 
     /// Writes a block of the home area directly, of one block of bytes, past the log. What was written is durable behind a
@@ -265,7 +288,9 @@ impl<J: JournalName + PartsName, D: Device, R: Record> Journal<J, D, R> {
         ensures writes { OnOk result (AtOneMoment (λ (old new : JournalValue D). MayWriteDirectly old.journal block × Does D.state old (DirectWrite block bytes.now) new)) }
         ensures why { IfErr result (λ e. AtOneMoment (λ (old new : JournalValue D). DirectWriteRefused D.state old block bytes.now new e)) }
     {
-        self.locked.lock(rt).write_direct(block, bytes)
+        let mut locked = self.locked.lock(rt);
+        let mut engine = self.engine.lock(rt);
+        locked.write_direct(&self.counters, &self.meeting, &mut engine, block, bytes)
     }
 
     /// Flushes the home area, so that every direct write that answered Ok before is durable.
@@ -278,7 +303,9 @@ impl<J: JournalName + PartsName, D: Device, R: Record> Journal<J, D, R> {
         ensures syncs { OnOk result (AtOneMoment (λ (old new : JournalValue D). Does D.state old DirectSync new)) }
         ensures why { IfErr result (λ e. AtOneMoment (λ (old new : JournalValue D). DirectSyncRefused D.state old new e)) }
     {
-        self.locked.lock(rt).sync_direct()
+        let mut locked = self.locked.lock(rt);
+        let mut engine = self.engine.lock(rt);
+        locked.sync_direct(&self.counters, &self.meeting, &mut engine)
     }
 
     /// Ends a handle. Its credits that are left are given back. It always succeeds, after a device failure too.
@@ -290,8 +317,9 @@ impl<J: JournalName + PartsName, D: Device, R: Record> Journal<J, D, R> {
         self.locked.lock(rt).stop(&self.counters, handle)
     }
 
-    /// Takes the next step of committing: one device call of a commit, or the seal of a transaction that takes no further
-    /// handles and has no open one. The lock is held while the device works.
+    /// Takes the next step of committing: one device call of a commit, under the engine's lock alone; or the seal of a transaction that
+    /// takes no further handles and has no open one, under the front's lock and then the engine's, which calls no device. Behind the last
+    /// step of a commit, and where the device failed, both locks are taken for a moment, so that the front knows of it.
     ///
     /// # Errors
     ///
@@ -299,23 +327,97 @@ impl<J: JournalName + PartsName, D: Device, R: Record> Journal<J, D, R> {
     /// `Memory`: the transaction stays as it is. `Device` where the device failed: the journal is aborted.
     /// Source: fs/jbd2/commit.c by behaviour.
     pub fn commit_turn<W: Wait>(&self, rt: &W) -> Result<Turn, JournalError>
-        ensures ok { IfOk result (λ turn. AtOneMoment (λ (old new : JournalValue D). TurnDid D.state turn old new)) }
-        ensures why { IfErr result (λ e. AtOneMoment (λ (old new : JournalValue D). TurnRefused D.state old new e)) }
+        ensures ok { IfOk result (TurnThen D.state) }
+        ensures why { IfErr result (TurnRefusedThen D.state) }
     {
-        self.locked.lock(rt).commit_turn(&self.counters)
+        for _ in rt.forever() {
+            match self.next_turn(rt) {
+                Ok(Some(turn)) => return Ok(turn),
+                Ok(None) => {}
+                Err(e) => return Err(e),
+            }
+        }
+        unreachable!()
     }
 
-    /// Takes the next step of a checkpoint round: at most one device call. The lock is held while the device works.
+    /// The same once: none where another thread has sealed a transaction between a look at the engine and the seal.
+    fn next_turn<W: Wait>(&self, rt: &W) -> Result<Option<Turn>, JournalError>
+        ensures ok { IfOk result (λ turn. IfSome turn (TurnThen D.state)) }
+        ensures why { IfErr result (TurnRefusedThen D.state) }
+    {
+        let progress = match self.step(rt) {
+            Ok(progress) => progress,
+            Err(e) => {
+                self.meet(rt);
+                return Err(e);
+            }
+        };
+        match progress {
+            Progress::Idle => self.seal(rt),
+            Progress::Step => Ok(Some(Turn::Step)),
+            Progress::Done(tid) => {
+                self.meet(rt);
+                Ok(Some(Turn::Committed(tid)))
+            }
+        }
+    }
+
+    /// A step of the commit that is under way, under the engine's lock alone.
+    fn step<W: Wait>(&self, rt: &W) -> Result<Progress, JournalError>
+        ensures ok { IfOk result (λ p. StepThen D.state p) }
+        ensures why { IfErr result (StepRefusedThen D.state) }
+    {
+        self.engine.lock(rt).commit_step(&self.meeting)
+    }
+
+    /// A step of a checkpoint round, under the engine's lock alone.
+    fn round<W: Wait>(&self, rt: &W) -> Result<Progress, JournalError>
+        ensures ok { IfOk result (λ p. RoundThen D.state p) }
+        ensures why { IfErr result (RoundRefusedThen D.state) }
+    {
+        self.engine.lock(rt).checkpoint_step(&self.meeting)
+    }
+
+    /// Both locks for a moment: the front learns what the engine did alone.
+    fn meet<W: Wait>(&self, rt: &W) {
+        let mut locked = self.locked.lock(rt);
+        let mut engine = self.engine.lock(rt);
+        locked.meet(&self.counters, &self.meeting, &mut engine);
+    }
+
+    /// Both locks, for a seal.
+    fn seal<W: Wait>(&self, rt: &W) -> Result<Option<Turn>, JournalError>
+        ensures ok { IfOk result (λ turn. IfSome turn (TurnThen D.state)) }
+        ensures why { IfErr result (TurnRefusedThen D.state) }
+    {
+        let mut locked = self.locked.lock(rt);
+        let mut engine = self.engine.lock(rt);
+        locked.seal(&self.counters, &self.meeting, &mut engine)
+    }
+
+    /// Takes the next step of a checkpoint round: at most one device call, under the engine's lock alone. Where the device failed, both
+    /// locks are taken for a moment, so that the front knows of it.
     ///
     /// # Errors
     ///
     /// `Aborted` after a device failure. `Device` where the device failed: the journal is aborted.
     /// Source: fs/jbd2/checkpoint.c by behaviour.
     pub fn checkpoint_turn<W: Wait>(&self, rt: &W) -> Result<CheckTurn, JournalError>
-        ensures ok { IfOk result (λ turn. AtOneMoment (λ (old new : JournalValue D). CheckTurnDid D.state turn old new)) }
-        ensures why { IfErr result (λ e. AtOneMoment (λ (old new : JournalValue D). CheckTurnRefused D.state old new e)) }
+        ensures ok { IfOk result (CheckTurnThen D.state) }
+        ensures why { IfErr result (RoundRefusedThen D.state) }
     {
-        self.locked.lock(rt).checkpoint_turn()
+        let progress = match self.round(rt) {
+            Ok(progress) => progress,
+            Err(e) => {
+                self.meet(rt);
+                return Err(e);
+            }
+        };
+        match progress {
+            Progress::Idle => Ok(CheckTurn::Idle),
+            Progress::Step => Ok(CheckTurn::Step),
+            Progress::Done(tid) => Ok(CheckTurn::Released(tid)),
+        }
     }
 
     /// Asks for the commit of the ticket's transaction: where it is still running, it takes no further handles. Then the ticket knows
@@ -443,9 +545,13 @@ impl<J: JournalName + PartsName, D: Device, R: Record> Journal<J, D, R> {
     {
         let Journal {
             counters,
+            meeting,
             locked,
+            engine,
             block_size: _,
         } = self;
-        locked.into_inner().into_single(&counters)
+        locked
+            .into_inner()
+            .into_single(&counters, &meeting, engine.into_inner())
     }
 }

@@ -14,11 +14,13 @@ use crate::journal::Journal;
 use crate::known::UnnamedKnowing;
 use crate::locked::{Counters, Locked};
 use block_device::Device;
-use group_commit::{Journal as OneJournal, Record, Seat as OneSeat};
+use group_commit::Record;
 use handle::{JournalName, LaidBoard, Seat, board};
 use journal_model::{History, JournalError, Sealed, Tid};
+use journal_sides::UnnamedSides;
 use log_format::Super;
 use log_ring::Layout;
+use meeting::MeetingName;
 use parts::{PartsName, UnnamedParts};
 use recovery::Opened;
 use std::alloc::Global;
@@ -27,8 +29,7 @@ use std::marker::Model;
 /// A journal on an opened log that has no name yet.
 #[derive(Drop)]
 pub struct LaidJournal<D: Device, R: Record = History<Sealed>> {
-    journal: OneJournal<D, R>,
-    seat: OneSeat,
+    sides: UnnamedSides<D, R>,
     board: LaidBoard,
     knowing: UnnamedKnowing<R>,
 }
@@ -38,9 +39,9 @@ impl<D: Device, R: Record> Model for LaidJournal<D, R> {
 
     ghost Value = { LaidValue D };
 
-    ghost view = { λ l. laid_value D.state l.board l.knowing l.journal };
+    ghost view = { λ l. laid_value D.state l.board l.knowing l.sides };
 
-    ghost invariant = { λ l. IsLaid D.state l.board l.journal };
+    ghost invariant = { λ l. IsLaid D.state l.board l.sides.journal };
 }
 
 /// The most credits of a journal on this log.
@@ -83,10 +84,9 @@ pub fn lay<D: Device, R: Record>(
     let Ok(knowing) = UnnamedParts::new(alloc) else {
         return Err((opened, JournalError::Memory));
     };
-    let (journal, seat) = OneJournal::new(alloc, opened)?;
+    let sides = UnnamedSides::new(alloc, opened)?;
     Ok(LaidJournal {
-        journal,
-        seat,
+        sides,
         board,
         knowing,
     })
@@ -95,32 +95,35 @@ pub fn lay<D: Device, R: Record>(
 impl<D: Device, R: Record> LaidJournal<D, R> {
     /// The journal that J names, and the first seat. The caller's condition: J is the name of this journal. The call that brings
     /// J in picks it so.
-    pub fn named<J: JournalName + PartsName>(self) -> (Journal<J, D, R>, Seat<J>)
+    pub fn named<J: JournalName + PartsName + MeetingName>(self) -> (Journal<J, D, R>, Seat<J>)
         requires board { self.board ≡ J.board }
         requires parts { self.parts ≡ J.parts }
+        requires meeting { self.meeting ≡ J.meeting }
         requires capacity { self.capacity ≡ J.capacity }
         requires block_size { self.block_size ≡ J.block_size }
         ensures seat { result.1 ≡ fresh_seat greatest_allotment }
     {
         let LaidJournal {
-            journal,
-            seat: inner,
+            sides,
             board,
             knowing,
         } = self;
-        let block_size = journal.block_size();
+        let block_size = sides.block_size();
         let (pool, mark, raiser, mut seat) = board.named::<J>();
         let credits = pool.none(&mut seat);
+        let (meeting, journal, engine) = sides.named::<J>();
         let (knowing, recorded) = knowing.named::<J>(journal.front());
         let locked = Locked {
             journal,
-            seat: inner,
             credits,
             raiser,
             knowing,
             recorded,
         };
         let counters = Counters { pool, mark };
-        (Journal::of(counters, locked, block_size), seat)
+        (
+            Journal::of(counters, meeting, locked, engine, block_size),
+            seat,
+        )
     }
 }

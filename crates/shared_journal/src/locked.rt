@@ -11,7 +11,9 @@ ghost use Rattle.handle.specs.Values.{fresh_ticket, loading_credits};
 ghost use Rattle.journal_steps.specs.Direct.{DirectSyncRefused, DirectWriteRefused, IsDuringDirectSync, IsDuringDirectWrite, MayWriteDirectly};
 ghost use Rattle.group_commit.specs.Extension.{Extends, Starts};
 ghost use Rattle.journal_front.specs.Front.{ExtendRefused, IsOpenHandle, JoinRefused, Spends, TouchRefused};
-ghost use Rattle.journal_steps.specs.Journal.{CheckTurnDid, CheckTurnRefused, Does, IsDuringCheckTurn, IsDuringTurn, LeavesFewerRounds, NotesRead, OpensNow, ReadRefused, Requests, TurnDid, TurnRefused};
+ghost use Rattle.journal_steps.specs.Journal.{Does, NotesRead, ReadRefused, Requests, TurnRefused};
+ghost use Rattle.journal_steps.specs.Values.{JournalValue};
+ghost use Rattle.journal_sides.specs.Sides.{Meets, MeetsAnd, SealDid, engine_of};
 ghost use Rattle.own_steps.specs.Own.{BearsOut};
 ghost use Rattle.shared_journal.specs.Known.{own_of_ticket};
 
@@ -19,9 +21,11 @@ use crate::known::{Knowing, Recorded, enter, look, note};
 use crate::open_handle::Handle;
 use crate::stopped::{Receipt, Ticket};
 use block_device::Device;
-use group_commit::{CheckTurn, Journal as OneJournal, Record, Seat as OneSeat, Turn};
+use group_commit::{Journal as OneJournal, Record, Turn};
 use handle::{CommitMark, CreditPool, Credits, Handle as Place, JournalName, Raiser, Seat};
 use journal_model::{BlockNo, History, JournalError, Sealed};
+use journal_sides::{EngineSide, FrontSide, SidesMeeting};
+use meeting::MeetingName;
 use parts::PartsName;
 use std::marker::{Brand, Model};
 
@@ -43,11 +47,15 @@ pub struct Tally {
     pub entries: u64,
 }
 
-/// What lies under the lock of a journal: the journal of one thread, what it keeps at the two words, and its record as the holders of
-/// handles, tickets and receipts know it. Contracts see the journal. Each call is a step of it.
-pub struct Locked<J: JournalName + PartsName, D: Device, R: Record = History<Sealed>> {
-    pub(crate) journal: OneJournal<D, R>,
-    pub(crate) seat: OneSeat,
+/// What lies under the front's lock of a journal: its front's side, what it keeps at the two words, and its record as the holders of
+/// handles, tickets and receipts know it. Contracts see the journal as the front knows it. A call that is not lent the engine's side is
+/// a step of that journal; one that is lent it is a step of the journal that both are where they have met.
+pub struct Locked<
+    J: JournalName + PartsName + MeetingName,
+    D: Device,
+    R: Record = History<Sealed>,
+> {
+    pub(crate) journal: FrontSide<J, D, R>,
     /// The credits that open handles have left, and one for each entry of the running transaction.
     pub(crate) credits: Credits<J>,
     pub(crate) raiser: Raiser<J>,
@@ -55,7 +63,7 @@ pub struct Locked<J: JournalName + PartsName, D: Device, R: Record = History<Sea
     pub(crate) recorded: Recorded<J, R>,
 }
 
-impl<J: JournalName + PartsName, D: Device, R: Record> Model for Locked<J, D, R> {
+impl<J: JournalName + PartsName + MeetingName, D: Device, R: Record> Model for Locked<J, D, R> {
     ghost use Rattle.std.specs.Prelude.{◌≡◌};
     ghost use Rattle.journal_steps.specs.Values.{JournalValue};
     ghost use Rattle.shared_journal.specs.Locked.{IsHeld};
@@ -76,7 +84,7 @@ fn settle<J: JournalName>(pool: &CreditPool<J>, credits: &mut Credits<J>, held: 
     credits.split(pool, over).give_back(pool);
 }
 
-impl<J: JournalName + PartsName, D: Device, R: Record> Locked<J, D, R> {
+impl<J: JournalName + PartsName + MeetingName, D: Device, R: Record> Locked<J, D, R> {
     /// Makes a handle of the running transaction, with these credits.
     ///
     /// # Errors
@@ -100,7 +108,7 @@ impl<J: JournalName + PartsName, D: Device, R: Record> Locked<J, D, R> {
         self.journal.recall_invariant();
         let n = credits.count();
         self.credits.join(&counters.pool, credits);
-        match self.journal.try_start(&mut self.seat, n) {
+        match self.journal.try_start(n) {
             Ok(joined) => {
                 let part = enter::<J, R, Brand>(
                     &self.knowing,
@@ -151,7 +159,7 @@ impl<J: JournalName + PartsName, D: Device, R: Record> Locked<J, D, R> {
         self.journal.recall_invariant();
         let n = credits.count();
         self.credits.join(&counters.pool, credits);
-        match self.journal.extend(&mut handle.inner, &mut self.seat, n) {
+        match self.journal.extend(&mut handle.inner, n) {
             Ok(()) => {
                 note::<J, R, Brand>(
                     &self.knowing,
@@ -243,7 +251,7 @@ impl<J: JournalName + PartsName, D: Device, R: Record> Locked<J, D, R> {
         Ok(())
     }
 
-    /// Reads a block of the home area into a buffer of one block, as `group_commit::Journal::read`.
+    /// Reads a block of the home area into a buffer of one block, as `journal_sides::read`.
     ///
     /// # Errors
     ///
@@ -251,21 +259,25 @@ impl<J: JournalName + PartsName, D: Device, R: Record> Locked<J, D, R> {
     /// Source: journalling.rst (handles see the running transaction).
     pub fn read(
         &mut self,
+        counters: &Counters<J>,
+        meeting: &SidesMeeting<J, D>,
+        engine: &mut EngineSide<J, D>,
         handle: &mut Handle<'_, J, R>,
         block: BlockNo,
         into: &mut [u8],
     ) -> Result<(), JournalError>
         requires { length into.old ≡ J.block_size }
-        ensures ok { OnOk result (D.honest self.new.device → Does D.state self.old (ReadBlock handle.old.handle.number block into.new) self.new) }
-        ensures noted { OnOk result (NotesRead D.state self.old handle.old.handle block into.new self.new) }
+        ensures engine { engine.new ≡ engine_of self.new }
+        ensures ok { OnOk result (MeetsAnd D.state self.old engine.old (λ (mid : JournalValue D). NotesRead D.state mid handle.old.handle block into.new self.new
+            × (D.honest engine.new.device → Does D.state mid (ReadBlock handle.old.handle.number block into.new) self.new))) }
         ensures open { IsOpenHandle self.old.journal.front handle.old.handle }
         ensures steps { OnOk result (handle.new ≡ record handle.old { steps = handle.old.steps ++ read_step handle.old.handle.number block into.new ∷ [] }) }
-        ensures err { IfErr result (λ e. ReadRefused D.state self.old handle.old.handle block self.new e × (handle.new ≡ handle.old)) }
+        ensures err { IfErr result (λ e. MeetsAnd D.state self.old engine.old (λ (mid : JournalValue D). ReadRefused D.state mid handle.old.handle block self.new e)) }
+        ensures same { IfErr result (λ e. handle.new ≡ handle.old) }
         ensures untouched { IfErr result (λ e. into.new ≡ into.old) }
-        ensures device { OnlyReads D.state D.honest self.old.device self.new.device }
-        ensures opens { D.honest self.old.device → OpensNow self.new.journal (D.state self.new.device).disk }
-        ensures calls { MakesAtMostOneCall (D.state self.old.device) (D.state self.new.device) }
-        ensures no_fault { OnOk result ((D.state self.new.device).faults ≡ (D.state self.old.device).faults) }
+        ensures device { OnlyReads D.state D.honest engine.old.device engine.new.device }
+        ensures calls { MakesAtMostOneCall (D.state engine.old.device) (D.state engine.new.device) }
+        ensures no_fault { OnOk result ((D.state engine.new.device).faults ≡ (D.state engine.old.device).faults) }
         ensures length { length into.new ≡ length into.old }
     {
         look(
@@ -274,7 +286,16 @@ impl<J: JournalName + PartsName, D: Device, R: Record> Locked<J, D, R> {
             &mut handle.part,
             self.journal.front(),
         );
-        match self.journal.read(&mut handle.inner, block, into) {
+        let answer = journal_sides::read(
+            meeting,
+            &mut self.journal,
+            engine,
+            &handle.inner,
+            block,
+            into,
+        );
+        counters.mark.raise(&mut self.raiser, self.journal.mark());
+        match answer {
             Ok(()) => {
                 note::<J, R, Brand>(
                     &self.knowing,
@@ -292,40 +313,99 @@ impl<J: JournalName + PartsName, D: Device, R: Record> Locked<J, D, R> {
         }
     }
 
-    /// Writes a block of the home area directly, past the log, as `group_commit::Journal::write_direct`.
+    /// Writes a block of the home area directly, past the log, as `journal_sides::write_direct`.
     ///
     /// # Errors
     ///
     /// Those of `group_commit::Journal::write_direct`.
     /// Source: this project's own, by what journal.rst says of revokes.
-    pub fn write_direct(&mut self, block: BlockNo, bytes: &[u8]) -> Result<(), JournalError>
+    pub fn write_direct(
+        &mut self,
+        counters: &Counters<J>,
+        meeting: &SidesMeeting<J, D>,
+        engine: &mut EngineSide<J, D>,
+        block: BlockNo,
+        bytes: &[u8],
+    ) -> Result<(), JournalError>
         requires { length bytes.now ≡ J.block_size }
-        ensures right { OnOk result (MayWriteDirectly self.old.journal block) }
-        ensures ok { OnOk result (Does D.state self.old (DirectWrite block bytes.now) self.new) }
-        ensures err { IfErr result (λ e. DirectWriteRefused D.state self.old block bytes.now self.new e) }
-        ensures no_fault { OnOk result ((D.state self.new.device).faults ≡ (D.state self.old.device).faults) }
-        ensures device { MakesOneCall D.state D.honest (IsDuringDirectWrite self.old.journal block bytes.now (D.state self.old.device).disk) self.old.device self.new.device }
+        ensures engine { engine.new ≡ engine_of self.new }
+        ensures ok { OnOk result (MeetsAnd D.state self.old engine.old (λ (mid : JournalValue D). MayWriteDirectly mid.journal block × Does D.state mid (DirectWrite block bytes.now) self.new)) }
+        ensures err { IfErr result (λ e. MeetsAnd D.state self.old engine.old (λ (mid : JournalValue D). DirectWriteRefused D.state mid block bytes.now self.new e)) }
+        ensures device { MeetsAnd D.state self.old engine.old (λ (mid : JournalValue D).
+            MakesOneCall D.state D.honest (IsDuringDirectWrite mid.journal block bytes.now (D.state mid.device).disk) mid.device self.new.device) }
+        ensures no_fault { OnOk result ((D.state engine.new.device).faults ≡ (D.state engine.old.device).faults) }
     {
-        let wrote = self.journal.write_direct(block, bytes);
+        let wrote = journal_sides::write_direct(meeting, &mut self.journal, engine, block, bytes);
         self.knowing.go_on(&mut self.recorded, self.journal.front());
+        counters.mark.raise(&mut self.raiser, self.journal.mark());
         wrote
     }
 
-    /// Flushes the home area, so that every direct write that answered Ok before is durable.
+    /// Flushes the home area, so that every direct write that answered Ok before is durable, as `journal_sides::sync_direct`.
     ///
     /// # Errors
     ///
     /// Those of `group_commit::Journal::sync_direct`.
     /// Source: this project's own; a flush request (the kernel's writeback_cache_control.rst).
-    pub fn sync_direct(&mut self) -> Result<(), JournalError>
-        ensures ok { OnOk result (Does D.state self.old DirectSync self.new) }
-        ensures err { IfErr result (λ e. DirectSyncRefused D.state self.old self.new e) }
-        ensures no_fault { OnOk result ((D.state self.new.device).faults ≡ (D.state self.old.device).faults) }
-        ensures device { MakesOneCall D.state D.honest (IsDuringDirectSync self.old.journal (D.state self.old.device).disk) self.old.device self.new.device }
+    pub fn sync_direct(
+        &mut self,
+        counters: &Counters<J>,
+        meeting: &SidesMeeting<J, D>,
+        engine: &mut EngineSide<J, D>,
+    ) -> Result<(), JournalError>
+        ensures engine { engine.new ≡ engine_of self.new }
+        ensures ok { OnOk result (MeetsAnd D.state self.old engine.old (λ (mid : JournalValue D). Does D.state mid DirectSync self.new)) }
+        ensures err { IfErr result (λ e. MeetsAnd D.state self.old engine.old (λ (mid : JournalValue D). DirectSyncRefused D.state mid self.new e)) }
+        ensures device { MeetsAnd D.state self.old engine.old (λ (mid : JournalValue D).
+            MakesOneCall D.state D.honest (IsDuringDirectSync mid.journal (D.state mid.device).disk) mid.device self.new.device) }
+        ensures no_fault { OnOk result ((D.state engine.new.device).faults ≡ (D.state engine.old.device).faults) }
     {
-        let flushed = self.journal.sync_direct();
+        let flushed = journal_sides::sync_direct(meeting, &mut self.journal, engine);
         self.knowing.go_on(&mut self.recorded, self.journal.front());
+        counters.mark.raise(&mut self.raiser, self.journal.mark());
         flushed
+    }
+
+    /// The front meets the engine, and catches up with it, as `journal_sides::meet`; where that has committed a transaction, the mark
+    /// is raised.
+    pub fn meet(
+        &mut self,
+        counters: &Counters<J>,
+        meeting: &SidesMeeting<J, D>,
+        engine: &mut EngineSide<J, D>,
+    )
+        ensures engine { engine.new ≡ engine.old }
+        ensures met { Meets D.state self.old engine.old self.new }
+    {
+        journal_sides::meet(meeting, &mut self.journal, engine);
+        self.knowing.go_on(&mut self.recorded, self.journal.front());
+        let told = self.journal.mark();
+        counters.mark.raise(&mut self.raiser, told);
+    }
+
+    /// Seals the transaction that takes no further handles and has no open one, as `journal_sides::seal`: none where another transaction
+    /// is being committed by now. The credits of its entries are given back.
+    ///
+    /// # Errors
+    ///
+    /// Those of `journal_sides::seal`.
+    /// Source: fs/jbd2/commit.c by behaviour.
+    pub fn seal(
+        &mut self,
+        counters: &Counters<J>,
+        meeting: &SidesMeeting<J, D>,
+        engine: &mut EngineSide<J, D>,
+    ) -> Result<Option<Turn>, JournalError>
+        ensures engine { engine.new ≡ engine_of self.new }
+        ensures ok { IfOk result (λ turn. MeetsAnd D.state self.old engine.old (λ (mid : JournalValue D). SealDid D.state turn mid self.new)) }
+        ensures err { IfErr result (λ e. MeetsAnd D.state self.old engine.old (λ (mid : JournalValue D). TurnRefused D.state mid self.new e)) }
+        ensures device { engine.new.device ≡ engine.old.device }
+    {
+        let turn = journal_sides::seal(meeting, &mut self.journal, engine);
+        self.knowing.go_on(&mut self.recorded, self.journal.front());
+        counters.mark.raise(&mut self.raiser, self.journal.mark());
+        settle(&counters.pool, &mut self.credits, self.journal.held());
+        turn
     }
 
     /// Ends a handle. Its credits that are left are given back. It always succeeds.
@@ -369,48 +449,6 @@ impl<J: JournalName + PartsName, D: Device, R: Record> Locked<J, D, R> {
         Ok(())
     }
 
-    /// Takes the next step of committing, as `group_commit::Journal::commit_turn`. The credits of the entries of a transaction
-    /// that is sealed are given back, and the mark is raised where one is committed.
-    ///
-    /// # Errors
-    ///
-    /// Those of `group_commit::Journal::commit_turn`.
-    /// Source: fs/jbd2/commit.c by behaviour.
-    pub fn commit_turn(&mut self, counters: &Counters<J>) -> Result<Turn, JournalError>
-        ensures ok { IfOk result (λ turn. TurnDid D.state turn self.old self.new) }
-        ensures err { IfErr result (λ e. TurnRefused D.state self.old self.new e) }
-        ensures no_fault { OnOk result ((D.state self.new.device).faults ≡ (D.state self.old.device).faults) }
-        ensures device { MakesOneCall D.state D.honest (IsDuringTurn self.old.journal (D.state self.old.device).disk) self.old.device self.new.device }
-    {
-        let turn = self.journal.commit_turn();
-        self.knowing.go_on(&mut self.recorded, self.journal.front());
-        let turn = turn?;
-        match turn {
-            Turn::Sealed(_) => settle(&counters.pool, &mut self.credits, self.journal.held()),
-            Turn::Committed(tid) => counters.mark.raise(&mut self.raiser, tid),
-            Turn::Idle | Turn::Waiting | Turn::Step => {}
-        }
-        Ok(turn)
-    }
-
-    /// Takes the next step of a checkpoint round, as `group_commit::Journal::checkpoint_turn`.
-    ///
-    /// # Errors
-    ///
-    /// Those of `group_commit::Journal::checkpoint_turn`.
-    /// Source: fs/jbd2/checkpoint.c by behaviour.
-    pub fn checkpoint_turn(&mut self) -> Result<CheckTurn, JournalError>
-        ensures ok { IfOk result (λ turn. CheckTurnDid D.state turn self.old self.new) }
-        ensures err { IfErr result (λ e. CheckTurnRefused D.state self.old self.new e) }
-        ensures fewer { IfOk result (λ turn. LeavesFewerRounds turn self.old.journal.engine self.new.journal.engine) }
-        ensures no_fault { OnOk result ((D.state self.new.device).faults ≡ (D.state self.old.device).faults) }
-        ensures device { MakesOneCall D.state D.honest (IsDuringCheckTurn self.old.journal (D.state self.old.device).disk) self.old.device self.new.device }
-    {
-        let turn = self.journal.checkpoint_turn();
-        self.knowing.go_on(&mut self.recorded, self.journal.front());
-        turn
-    }
-
     /// What the credit word has, and how many entries the running transaction: with no credits beside these, and no open handle,
     /// the word is that number.
     /// Source: fs/jbd2/transaction.c by behaviour (`t_outstanding_credits` beside the buffers of the transaction).
@@ -440,29 +478,34 @@ impl<J: JournalName + PartsName, D: Device, R: Record> Locked<J, D, R> {
         );
     }
 
-    /// Whether the device has failed.
+    /// Whether the device has failed, as far as the front knows.
     pub fn is_aborted(&self) -> bool
         ensures { result ≡ self.now.journal.engine.aborted }
     {
+        self.journal.recall_invariant();
         self.journal.is_aborted()
     }
 
-    /// Ends it: the credits that it holds are given back.
-    pub(crate) fn into_single(self, counters: &Counters<J>) -> OneJournal<D, R>
-        ensures journal { result ≡ self }
+    /// Ends it: the credits that it holds are given back, and both sides are one journal again.
+    pub(crate) fn into_single(
+        self,
+        counters: &Counters<J>,
+        meeting: &SidesMeeting<J, D>,
+        engine: EngineSide<J, D>,
+    ) -> OneJournal<D, R>
+        ensures met { Meets D.state self engine result }
         ensures reserved { result.journal.front.reserved ≡ 0 }
         ensures capacity { result.journal.front.capacity ≡ J.capacity }
         ensures block_size { (D.state result.device).shape.block_size ≡ J.block_size }
     {
         let Locked {
             journal,
-            seat: _,
             credits,
             raiser: _,
             knowing: _,
             recorded: _,
         } = self;
         credits.give_back(&counters.pool);
-        journal
+        journal_sides::into_single(meeting, journal, engine)
     }
 }

@@ -6,3 +6,6 @@ ghosts-shared-J-JournalName g a = record { board = a.laid.board; capacity = a.la
 
 abbrev pub ghosts-shared-J-PartsName : goal.ghosts-shared-J-PartsName
 ghosts-shared-J-PartsName g a = record { parts = a.laid.parts }
+
+abbrev pub ghosts-shared-J-MeetingName : goal.ghosts-shared-J-MeetingName
+ghosts-shared-J-MeetingName g a = record { meeting = a.laid.meeting }

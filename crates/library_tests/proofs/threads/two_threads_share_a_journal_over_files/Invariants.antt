@@ -6,3 +6,6 @@ ghosts-written-J-JournalName g a = record { board = a.laid.board; capacity = a.l
 
 abbrev pub ghosts-written-J-PartsName : goal.ghosts-written-J-PartsName
 ghosts-written-J-PartsName g a = record { parts = a.laid.parts }
+
+abbrev pub ghosts-written-J-MeetingName : goal.ghosts-written-J-MeetingName
+ghosts-written-J-MeetingName g a = record { meeting = a.laid.meeting }
