@@ -21,6 +21,7 @@ ghost use Rattle.shared_journal.specs.Refusals.{CouldNotJoin, IsExtendRefusal, I
 use crate::closing::close;
 use crate::locked::{Counters, Locked, Tally};
 use crate::open_handle::Handle;
+use crate::sole::Sole;
 use crate::stopped::{Receipt, Ticket};
 use block_device::Device;
 use group_commit::{CheckTurn, Journal as OneJournal, Parts, Record, Turn};
@@ -41,7 +42,7 @@ pub struct Journal<
 > {
     counters: Counters<J>,
     meeting: SidesMeeting<J, D>,
-    locked: Mutex<Locked<J, D, R>>,
+    pub(crate) locked: Mutex<Locked<J, D, R>>,
     engine: Mutex<EngineSide<J, D>>,
     block_size: usize,
     pub ghost block_is: { block_size ≡ J.block_size },
@@ -536,13 +537,9 @@ impl<J: JournalName + PartsName + MeetingName, D: Device, R: Record> Journal<J, 
         close(self.into_single())
     }
 
-    /// The journal of one thread, once nobody shares it any longer. No handle is open then, since each borrows this journal and has
-    /// to be stopped.
-    pub fn into_single(self) -> OneJournal<D, R>
-        ensures reserved { result.journal.front.reserved ≡ 0 }
-        ensures capacity { result.journal.front.capacity ≡ J.capacity }
-        ensures block_size { (D.state result.device).shape.block_size ≡ J.block_size }
-    {
+    /// The journal and all that lies beside it, once nobody shares it any longer: front and engine have met for the last time. No handle
+    /// is open then, since each borrows this journal and has to be stopped.
+    pub fn into_sole(self) -> Sole<J, D, R> {
         let Journal {
             counters,
             meeting,
@@ -550,8 +547,21 @@ impl<J: JournalName + PartsName + MeetingName, D: Device, R: Record> Journal<J, 
             engine,
             block_size: _,
         } = self;
-        locked
-            .into_inner()
-            .into_single(&counters, &meeting, engine.into_inner())
+        Sole::of(
+            counters,
+            &meeting,
+            locked.into_inner(),
+            engine.into_inner(),
+        )
+    }
+
+    /// The journal of one thread, once nobody shares it any longer. No handle is open then, since each borrows this journal and has
+    /// to be stopped.
+    pub fn into_single(self) -> OneJournal<D, R>
+        ensures reserved { result.journal.front.reserved ≡ 0 }
+        ensures capacity { result.journal.front.capacity ≡ J.capacity }
+        ensures block_size { (D.state result.device).shape.block_size ≡ J.block_size }
+    {
+        self.into_sole().into_single()
     }
 }

@@ -3,6 +3,7 @@
 //!
 //! `locked` has those steps, and says what is true whenever the lock is free: all credits that the front holds lie in one value, and
 //! the number of the raiser is the mark. `journal` takes the lock, makes one of them, and hands on its answer; `closing` ends it.
+//! `locking` locks the running transaction, and `sole` is the journal once nobody shares it any longer.
 #![tactic(auto)]
 
 mod closing;
@@ -10,11 +11,14 @@ mod journal;
 mod known;
 mod laid;
 mod locked;
+mod locking;
 mod open_handle;
+mod sole;
 mod stopped;
 
 pub use journal::Journal;
 pub use laid::{LaidJournal, lay};
 pub use locked::{Counters, Locked, Tally};
 pub use open_handle::Handle;
+pub use sole::Sole;
 pub use stopped::{Receipt, Ticket};

@@ -21,7 +21,7 @@ use crate::known::{Knowing, Recorded, enter, look, note};
 use crate::open_handle::Handle;
 use crate::stopped::{Receipt, Ticket};
 use block_device::Device;
-use group_commit::{Journal as OneJournal, Record, Turn};
+use group_commit::{Record, Turn};
 use handle::{CommitMark, CreditPool, Credits, Handle as Place, JournalName, Raiser, Seat};
 use journal_model::{BlockNo, History, JournalError, Sealed};
 use journal_sides::{EngineSide, FrontSide, SidesMeeting};
@@ -484,28 +484,5 @@ impl<J: JournalName + PartsName + MeetingName, D: Device, R: Record> Locked<J, D
     {
         self.journal.recall_invariant();
         self.journal.is_aborted()
-    }
-
-    /// Ends it: the credits that it holds are given back, and both sides are one journal again.
-    pub(crate) fn into_single(
-        self,
-        counters: &Counters<J>,
-        meeting: &SidesMeeting<J, D>,
-        engine: EngineSide<J, D>,
-    ) -> OneJournal<D, R>
-        ensures met { Meets D.state self engine result }
-        ensures reserved { result.journal.front.reserved ≡ 0 }
-        ensures capacity { result.journal.front.capacity ≡ J.capacity }
-        ensures block_size { (D.state result.device).shape.block_size ≡ J.block_size }
-    {
-        let Locked {
-            journal,
-            credits,
-            raiser: _,
-            knowing: _,
-            recorded: _,
-        } = self;
-        credits.give_back(&counters.pool);
-        journal_sides::into_single(meeting, journal, engine)
     }
 }
