@@ -1,0 +1,12 @@
+use Rattle.std.proofs.Common.{List, map, subst}
+use Rattle.std.proofs.lemmas.Result.{IfOk-weaker}
+use Rattle.volume_service.specs.declared.plan.Touch.{Touch}
+use Rattle.volume_service.specs.Plan.{StopsAs, touch_step}
+use Rattle.volume_service.proofs.Handles.{came}
+use Rattle.volume_service.proofs.client.Client.see_through.Goals as goal
+
+-- what came of the handle is what its plan says
+pub returns : goal.returns
+returns g c =
+    let stops = subst (λ (ts : List Touch). StopsAs c.args.handle c.in_ok-ticket.ticket (map (touch_step c.args.handle.handle.number) ts)) c.deref.ensures.value c.in_ok-ticket.ensures in
+    IfOk-weaker c.follow.result _ _ (λ receipt follows. came c.args.plan.now c.args.handle c.in_ok-ticket.ticket receipt c.requires stops follows) c.follow.ensures
