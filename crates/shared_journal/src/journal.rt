@@ -547,12 +547,7 @@ impl<J: JournalName + PartsName + MeetingName, D: Device, R: Record> Journal<J, 
             engine,
             block_size: _,
         } = self;
-        Sole::of(
-            counters,
-            &meeting,
-            locked.into_inner(),
-            engine.into_inner(),
-        )
+        Sole::of(counters, &meeting, locked.into_inner(), engine.into_inner())
     }
 
     /// The journal of one thread, once nobody shares it any longer. No handle is open then, since each borrows this journal and has

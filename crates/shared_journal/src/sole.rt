@@ -81,12 +81,8 @@ impl<J: JournalName + PartsName + MeetingName, D: Device, R: Record> Sole<J, D, 
         self.counters
             .mark
             .confirm(&mut self.raiser, &mut receipt.inner);
-        look(
-            &self.knowing,
-            &mut self.recorded,
-            &mut receipt.part,
-            self.journal.front(),
-        );
+        let front = self.journal.front();
+        look(&self.knowing, &mut self.recorded, &mut receipt.part, front);
     }
 
     /// The journal of one thread: the credits that are held are given back. No handle is open, since each borrowed the journal that was shared and had to be stopped.

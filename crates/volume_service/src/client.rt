@@ -21,7 +21,13 @@ use std::sync::Wait;
 
 /// A client.
 #[derive(Drop)]
-pub(crate) struct Client<'s, J: JournalName + PartsName + MeetingName, D: Device, R: Record, G: Gate> {
+pub(crate) struct Client<
+    's,
+    J: JournalName + PartsName + MeetingName,
+    D: Device,
+    R: Record,
+    G: Gate,
+> {
     /// What all share.
     pub(crate) shared: &'s Shared<'s, J, D, R, G>,
     /// Its number, counted from 0.
@@ -32,7 +38,13 @@ pub(crate) struct Client<'s, J: JournalName + PartsName + MeetingName, D: Device
     pub(crate) kicks: Sender<Kick>,
 }
 
-impl<'s, J: JournalName + PartsName + MeetingName, D: Device, R: Record, G: Gate> Client<'s, J, D, R, G> {
+impl<'s, J: JournalName + PartsName + MeetingName, D: Device, R: Record, G: Gate> Client<
+    's,
+    J,
+    D,
+    R,
+    G,
+> {
     /// Does a plan, handle by handle, until it is done or a call is refused. No handle is left open.
     pub(crate) fn run<W: Wait>(
         self,

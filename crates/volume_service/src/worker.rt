@@ -15,7 +15,13 @@ use std::thread;
 
 /// What all threads share.
 #[derive(Drop)]
-pub(crate) struct Shared<'s, J: JournalName + PartsName + MeetingName, D: Device, R: Record, G: Gate> {
+pub(crate) struct Shared<
+    's,
+    J: JournalName + PartsName + MeetingName,
+    D: Device,
+    R: Record,
+    G: Gate,
+> {
     /// The journal.
     pub(crate) journal: &'s Journal<J, D, R>,
     /// Rings where a handle has stopped, a transaction is sealed or committed, or the device has failed.
@@ -45,7 +51,13 @@ pub(crate) struct Round;
 
 /// The worker that commits.
 #[derive(Drop)]
-pub(crate) struct Committer<'s, J: JournalName + PartsName + MeetingName, D: Device, R: Record, G: Gate> {
+pub(crate) struct Committer<
+    's,
+    J: JournalName + PartsName + MeetingName,
+    D: Device,
+    R: Record,
+    G: Gate,
+> {
     /// What all share.
     pub(crate) shared: &'s Shared<'s, J, D, R, G>,
     /// Its own seat.
@@ -58,7 +70,13 @@ pub(crate) struct Committer<'s, J: JournalName + PartsName + MeetingName, D: Dev
     pub(crate) steps: u64,
 }
 
-impl<'s, J: JournalName + PartsName + MeetingName, D: Device, R: Record, G: Gate> Committer<'s, J, D, R, G> {
+impl<'s, J: JournalName + PartsName + MeetingName, D: Device, R: Record, G: Gate> Committer<
+    's,
+    J,
+    D,
+    R,
+    G,
+> {
     /// Answers kicks until nobody is left who could send one. It answers the last refusal that a turn met.
     pub(crate) fn run<W: Wait>(self, rt: &W) -> Option<JournalError> {
         let mut worker = self;
@@ -136,14 +154,26 @@ impl<'s, J: JournalName + PartsName + MeetingName, D: Device, R: Record, G: Gate
 
 /// The worker that writes home.
 #[derive(Drop)]
-pub(crate) struct Checkpointer<'s, J: JournalName + PartsName + MeetingName, D: Device, R: Record, G: Gate> {
+pub(crate) struct Checkpointer<
+    's,
+    J: JournalName + PartsName + MeetingName,
+    D: Device,
+    R: Record,
+    G: Gate,
+> {
     /// What all share.
     pub(crate) shared: &'s Shared<'s, J, D, R, G>,
     /// What wakes it.
     pub(crate) rounds: Receiver<Round>,
 }
 
-impl<'s, J: JournalName + PartsName + MeetingName, D: Device, R: Record, G: Gate> Checkpointer<'s, J, D, R, G> {
+impl<'s, J: JournalName + PartsName + MeetingName, D: Device, R: Record, G: Gate> Checkpointer<
+    's,
+    J,
+    D,
+    R,
+    G,
+> {
     /// Makes a round for each that is asked for, until nobody is left who could ask. It answers the last refusal that a turn met.
     pub(crate) fn run<W: Wait>(self, rt: &W) -> Option<JournalError> {
         let mut refusal = None;

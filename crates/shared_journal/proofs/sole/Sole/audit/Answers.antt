@@ -10,5 +10,5 @@ pub returns-clause-stands : goal.returns-clause-stands
 returns-clause-stands g c =
     let own = own_of_ticket (ticket_known c.receipt.inside.inner c.receipt.inside.part) in
     rw (← c.self.view_is, ← c.receipt.view_is) (bears_out c.self.inside.journal.journal own c.recall_invariant.ensures.agrees
-    (subst (λ (f : Front). IsOwn f own) c.front.ensures (c.look.ensures.agrees own c.receipt.invariant))
+    (subst (λ (f : Front). IsOwn f own) c.front-front.ensures (c.look.ensures.agrees own c.receipt.invariant))
     (subst (λ (n : ℕ). own.tid ≤ n) c.self.invariant.0.mark c.confirm.ensures.reached))
