@@ -3,7 +3,7 @@ use Rattle.std.proofs.Common.{◌∙◌, ◌≡◌, ◌⊎◌, ⊎_elim, List, O
 use Rattle.std.proofs.lemmas.Bool.{false≢true}
 use Rattle.std.specs.Prelude.{◌≢◌, ⊤, Bool, true, false, IfOk, IfSome, IsOk, IsSome, None, Some, Result, Err, Ok}
 use Rattle.journal_script.specs.Measures.{AreLimited}
-use Rattle.journal_script.specs.Text.{IsTextOf}
+use Rattle.journal_script.specs.Text.{IsScriptOf}
 use Rattle.journal_script.specs.declared.script.Script.{Script}
 use Rattle.jbench_words.specs.declared.fault.Fault.{Fault}
 use Rattle.jbench_words.specs.declared.fault.Status.{Status}
@@ -39,9 +39,9 @@ never-wrong (Ok status) other = λ wrong.
     subst IsWrong (sym wrong ∙ refused) tt
 
 -- a script that was read is one of its text
-pub is-taken : {E : Type 0} (known : Option (List ℕ)) (text : List ℕ) (read : Result Script E) → IsWhole known text → IfOk read (λ script. IsTextOf text script.operations.items script.measures)
+pub is-taken : {E : Type 0} (known : Option (List ℕ)) (text : List ℕ) (read : Result Script E) → IsWhole known text → IfOk read (λ script. IsScriptOf text script.operations.items script.measures)
     → IfOk read (λ script. AreLimited script.measures) → IsOk read → HasTaken known
-is-taken known text (Ok script) whole is limited ok = record { script = script; taken = record { of_text = record { text = text; whole = whole; is = is }; limited = limited } }
+is-taken known text (Ok script) whole is limited ok = record { script = script; taken = record { of_text = record { text = text; whole = whole; is = is.of_text }; limited = limited; defaults = is.defaults } }
 is-taken known text (Err e) whole is limited ok = absurd (false≢true ok)
 
 -- what is left where something is
@@ -49,6 +49,6 @@ pub some-left : {A : Type 0} (P : A → Type 0) (done : Option A) → IsSome don
 some-left P (Some left) is p = (left, p)
 some-left P None is p = absurd (false≢true is)
 
-pub some-both : {A C : Type 0} (P Q : A → Type 0) (done : Option A) → IsSome done → IfSome done P → (C → IfSome done Q) → (left : A) × P left × (C → Q left)
-some-both P Q (Some left) is p q = (left, p, q)
-some-both P Q None is p q = absurd (false≢true is)
+pub ok-both : {A E C : Type 0} (P Q : A → Type 0) (done : Result A E) → IsOk done → IfOk done P → (C → IfOk done Q) → (left : A) × P left × (C → Q left)
+ok-both P Q (Ok left) is p q = (left, p, q)
+ok-both P Q (Err e) is p q = absurd (false≢true is)

@@ -1,3 +1,4 @@
 mod Ending
 mod Obeyed
 mod Staying
+mod Unapplying

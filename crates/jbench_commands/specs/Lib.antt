@@ -3,3 +3,4 @@ pub mod Making
 pub mod Obeying
 pub mod Runs
 pub mod Sweeps
+pub mod Unapplied

@@ -2,7 +2,7 @@
 use Rattle.std.specs.Prelude.{◌≡◌, ℕ, ◌≤◌, Bool, List, Option, Some, None, IfSome}
 use Rattle.block_device.specs.State.{DeviceState}
 use Rattle.journal_script.specs.Measures.{AreLimited}
-use Rattle.journal_script.specs.Text.{IsTextOf}
+use Rattle.journal_script.specs.Text.{IsDefaultElse, IsTextOf}
 use Rattle.journal_script.specs.declared.measures.Measures.{Measures}
 use Rattle.journal_script.specs.declared.script.Operation.{Operation}
 use Rattle.journal_script.specs.declared.script.Script.{Script}
@@ -24,10 +24,11 @@ pub record AreOfText (known : Option (List ℕ)) (operations : List Operation) (
   pub whole : IsWhole known text
   pub is : IsTextOf text operations measures
 
--- a script has the operations and the measures of such a text, within their limits
+-- a script has the operations and the measures of such a text, within their limits, and the defaults for keys that do not stand in it
 pub record IsTaken (known : Option (List ℕ)) (script : Script) : Type 0 where
   pub of_text : AreOfText known script.operations.items script.measures
   pub limited : AreLimited script.measures
+  pub defaults : IsDefaultElse of_text.is.script script.measures
 
 -- such a script was taken
 pub record HasTaken (known : Option (List ℕ)) : Type 0 where

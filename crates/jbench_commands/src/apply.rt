@@ -1,5 +1,7 @@
 //! The command `apply`, over devices: does the operations of a script over a log in files.
-ghost use Rattle.std.specs.Prelude.{◌≡◌, false, IfOk, IfSome, IsNone, OnOk};
+ghost use Rattle.std.specs.Prelude.{◌≡◌, false, IfErr, IfOk, IsErr, IsOk, OnOk};
+ghost use Rattle.jbench_commands.specs.declared.apply.Unapplied.TheVariants.{Undone};
+ghost use Rattle.journal_model.specs.declared.refusal.JournalError.TheVariants.{Memory};
 ghost use Rattle.std.specs.Io.Buffered.{line_writer_contents};
 ghost use Rattle.std.specs.Io.KnownBytes.{Appends, Keeps};
 ghost use Rattle.journal_model.specs.Disk.{reading};
@@ -8,6 +10,7 @@ ghost use Rattle.block_device.specs.State.{Stays};
 ghost use Rattle.script_client.specs.declared.performing.Ending.TheVariants.{Close, Stay};
 ghost use Rattle.script_client.specs.Ended.{IsEnded, IsLeftClosed};
 ghost use Rattle.script_client.specs.Told.{IsLedTo};
+ghost use Rattle.jbench_commands.specs.Unapplied.{IsUnapplied, IsUnappliedBehind};
 ghost use Rattle.jbench_commands.specs.Applying.{AreForDevice, AreOf, EndsWithNext, IsDoneBehind, IsDoneTo, IsOperated, SaysBehind, SaysNext, after_told, closed_line, ending_told};
 
 use crate::faults::of_run;
@@ -33,10 +36,22 @@ struct Prepared<W: Write + Drop> {
     out: LineWriter<W>,
 }
 
+/// What an apply that was refused leaves.
+#[derive(Drop)]
+pub enum Unapplied<D> {
+    /// The device, whose log was not opened: no more was done of that than a refused opening does.
+    Unopened(D),
+    /// The device, on which the log was opened, and no operation was done.
+    Unbegun(D),
+    /// What the operations left that were done, up to the one that was refused, or to the close.
+    Undone(Performed<D>),
+}
+
 /// Opens the log of a device, and prints what was found; does the operations of a script, and prints a line for each, up to the first
 /// that is refused, where the words don't tell to go on; and closes the journal, where they don't tell that it is to stay. Keys of the
 /// script that speak of the device have to agree with it. What is left comes back where all was done. Else one line on `err` says why it
-/// was not, and nothing comes back: what was committed by then is in the log or at home, and of a transaction that was not, nothing is.
+/// was not, and what is left then comes back: what was committed by then is in the log or at home, and of a transaction that was not,
+/// nothing is.
 ///
 /// # Errors
 ///
@@ -48,43 +63,44 @@ pub fn apply<D: Device + Drop, R: Read + Drop, W: Write + Drop, E: Write + Drop>
     script: R,
     out: W,
     err: E,
-) -> io::Result<Option<Performed<D>>>
-    ensures closed { words.now.stay ≡ false → IfOk result (λ done. IfSome done (λ left. D.honest left.device →
+) -> io::Result<Result<Performed<D>, Unapplied<D>>>
+    ensures closed { words.now.stay ≡ false → IfOk result (λ done. IfOk done (λ left. D.honest left.device →
         IsLeftClosed (D.state left.device) left.sealed.items)) }
-    ensures done { IfOk result (λ done. IfSome done (λ left.
+    ensures done { IfOk result (λ done. IfOk done (λ left.
         IsDoneTo D.state D.honest device (R.remaining script) (after_told words.now.keep_going) (ending_told words.now.stay) left.device left.sealed.items left.acknowledged (W.contents out))) }
+    ensures left { IfOk result (λ done. IfErr done (IsUnapplied D.state D.honest device (R.remaining script) (after_told words.now.keep_going) (ending_told words.now.stay))) }
 {
     let (mut device, mut err) = (device, err);
     let prepared = match prepare(alloc, &mut device, script, out) {
         Ok(prepared) => prepared,
-        Err(fault) => return refuse_script(words, fault, &mut err),
+        Err(fault) => {
+            say_refused(words, fault, &mut err)?;
+            return Ok(Err(Unapplied::Unopened(device)));
+        }
     };
     match recovery::open(alloc, device) {
         Ok(opened) => match apply_script(alloc, words, opened, prepared) {
-            Ok(left) => Ok(Some(left)),
-            Err(fault) => refuse_script(words, fault, &mut err),
+            Ok(left) => Ok(Ok(left)),
+            Err((unapplied, fault)) => {
+                say_refused(words, fault, &mut err)?;
+                Ok(Err(unapplied))
+            }
         },
         Err((device, e)) => {
             let mut device = device;
             refuse(alloc, words.script, &mut device, e, &mut err)?;
-            Ok(None)
+            Ok(Err(Unapplied::Unopened(device)))
         }
     }
 }
 
 /// Says why a script was not applied.
-fn refuse_script<D: Drop>(
-    words: &ApplyWords<'_>,
-    fault: Fault,
-    err: &mut impl Write,
-) -> io::Result<Option<Performed<D>>>
-    ensures { IfOk result IsNone }
-{
+fn say_refused(words: &ApplyWords<'_>, fault: Fault, err: &mut impl Write) -> io::Result<()> {
     match fault {
         Fault::Output(e) => Err(e),
         fault => {
             fault::refuse(err, words.script, &fault)?;
-            Ok(None)
+            Ok(())
         }
     }
 }
@@ -112,9 +128,10 @@ fn apply_script<D: Device + Drop, W: Write + Drop>(
     words: &ApplyWords<'_>,
     opened: Opened<D>,
     prepared: Prepared<W>,
-) -> Result<Performed<D>, Fault>
+) -> Result<Performed<D>, (Unapplied<D>, Fault)>
     ensures closed { words.now.stay ≡ false → IfOk result (λ left. D.honest left.device →
         IsLeftClosed (D.state left.device) left.sealed.items) }
+    ensures left { IfErr result (λ e. IsUnappliedBehind D.state D.honest opened prepared.operations.items (after_told words.now.keep_going) (ending_told words.now.stay) e.0) }
     ensures done { IfOk result (λ left. IsDoneBehind D.state D.honest opened prepared.operations.items (after_told words.now.keep_going) (ending_told words.now.stay)
         left.device left.sealed.items left.acknowledged (line_writer_contents W.contents prepared.out)) }
 {
@@ -122,18 +139,32 @@ fn apply_script<D: Device + Drop, W: Write + Drop>(
         operations,
         mut out,
     } = prepared;
-    say_opened(opened.report(), opened.next(), &mut out)?;
-    let Applied { left, end } = apply_operations::<D, AnyHome, _>(
+    match say_opened(opened.report(), opened.next(), &mut out) {
+        Ok(()) => {}
+        Err(fault) => return Err((Unapplied::Unbegun(opened.into_device()), fault)),
+    }
+    match apply_operations::<D, AnyHome, _>(
         alloc,
         opened,
         &operations,
         after_of(words.keep_going),
         ending_of(words.stay),
         &mut out,
-    )?;
+    ) {
+        Ok(applied) => left_of(applied),
+        Err((opened, e)) => Err((Unapplied::Unbegun(opened.into_device()), Fault::Refused(e))),
+    }
+}
+
+/// What is left of operations that were applied, and why not all was done, where it was not.
+fn left_of<D: Device>(applied: Applied<D>) -> Result<Performed<D>, (Unapplied<D>, Fault)>
+    ensures all { IfOk result (λ left. IsOk applied.end × (left ≡ applied.left)) }
+    ensures err { IfErr result (λ e. IsErr applied.end × (e.0 ≡ Undone applied.left)) }
+{
+    let Applied { left, end } = applied;
     match end {
         Ok(()) => Ok(left),
-        Err(fault) => Err(of_run(fault)),
+        Err(fault) => Err((Unapplied::Undone(left), of_run(fault))),
     }
 }
 
@@ -211,7 +242,7 @@ fn read_super<D: Device>(alloc: Global, device: &mut D) -> Result<Super, Journal
 ///
 /// # Errors
 ///
-/// `Memory` where there is none for the journal: nothing was done.
+/// `Memory` where there is none for the journal: nothing was done, and the opened log comes back.
 pub fn apply_operations<D: Device + Drop, H: HomeFact, W: Write>(
     alloc: Global,
     opened: Opened<D>,
@@ -219,7 +250,7 @@ pub fn apply_operations<D: Device + Drop, H: HomeFact, W: Write>(
     after: AfterRefusal,
     ending: Ending,
     out: &mut W,
-) -> Result<Applied<D>, JournalError>
+) -> Result<Applied<D>, (Opened<D>, JournalError)>
     requires { D.honest opened.device → H.holds (D.state opened.device).shape (D.state opened.device).disk }
     ensures ended { IfOk result (λ applied. D.honest applied.left.device →
         IsEnded H.holds operations.now (D.state applied.left.device) applied.left.sealed.items applied.left.acknowledged) }
@@ -232,9 +263,12 @@ pub fn apply_operations<D: Device + Drop, H: HomeFact, W: Write>(
     ensures operated { IfOk result (λ applied. IsOperated D.state D.honest opened operations.now after ending applied.left.device applied.left.sealed.items applied.left.acknowledged applied.end
         (W.contents out.old) (W.contents out.new)) }
     ensures honest { IfOk result (λ applied. D.honest applied.left.device → D.honest opened.device) }
+    ensures err { IfErr result (λ e. (e.0 ≡ opened) × (e.1 ≡ Memory)) }
 {
-    let applied = script_client::apply::<D, H, W>(alloc, opened, operations, after, ending, out)?;
-    Ok(say_end(alloc, ending, applied, out))
+    match script_client::apply::<D, H, W>(alloc, opened, operations, after, ending, out) {
+        Ok(applied) => Ok(say_end(alloc, ending, applied, out)),
+        Err(refused) => Err(refused),
+    }
 }
 
 /// Says which number comes next, where a journal was closed behind all operations.

@@ -1,5 +1,5 @@
 //! Opens the files that the words name, and does what the words tell.
-ghost use Rattle.std.specs.Prelude.{◌≡◌, ◌≢◌, ◌↔◌, ◌<◌, ℕ, IfOk, IsSome, List, Option, true};
+ghost use Rattle.std.specs.Prelude.{◌≡◌, ◌≢◌, ◌↔◌, ◌<◌, ℕ, IfOk, IsOk, IsSome, List, Option, true};
 ghost use Rattle.journal_model.specs.Disk.{reading};
 ghost use Rattle.log_dump.specs.Dumping.{HasDump, shape_of};
 ghost use Rattle.jbench_words.specs.declared.fault.Status.TheVariants.{Fine, Refused, VerdictFalse};
@@ -300,9 +300,20 @@ fn apply_opened<W: Write + Drop, E: Write + Drop>(
     match device_of(rt.alloc(), UnknownContents, files) {
         Ok(device) => {
             let done = apply::apply(rt.alloc(), words, device, script.into_file(), out, err)?;
-            Ok(status_of(&done))
+            Ok(status_of_all(&done))
         }
         Err(e) => refuse_file(&mut err, words.paths.log, e),
+    }
+}
+
+/// How a command ended that answers what is left, where all was done or where it was refused.
+fn status_of_all<T, U>(done: &Result<T, U>) -> Status
+    ensures fine { result ≡ Fine ↔ IsOk done.now }
+    ensures other { result ≢ Fine → result ≡ Refused }
+{
+    match done {
+        Ok(_) => Status::Fine,
+        Err(_) => Status::Refused,
     }
 }
 

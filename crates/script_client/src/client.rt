@@ -102,15 +102,15 @@ impl<'a, D: Device + Drop, H: HomeFact> Client<'a, D, H> {
     ///
     /// # Errors
     ///
-    /// `Memory`.
+    /// `Memory`: the opened log comes back.
     pub fn new(
         alloc: Global,
         opened: Opened<D>,
         operations: &'a [Operation],
-    ) -> Result<Self, JournalError>
+    ) -> Result<Self, (Opened<D>, JournalError)>
         requires { D.honest opened.device → H.holds (D.state opened.device).shape (D.state opened.device).disk }
         ensures fresh { IfOk result (λ client. IsNewClient D.state opened operations.now client) }
-        ensures err { IfErr result (λ e. e ≡ Memory) }
+        ensures err { IfErr result (λ e. (e.0 ≡ opened) × (e.1 ≡ Memory)) }
     {
         match Journal::new(alloc, opened) {
             Ok((journal, seat)) => Ok(Client {
@@ -120,7 +120,7 @@ impl<'a, D: Device + Drop, H: HomeFact> Client<'a, D, H> {
                 acknowledged: None,
                 of: PhantomData,
             }),
-            Err((_, e)) => Err(e),
+            Err(refused) => Err(refused),
         }
     }
 

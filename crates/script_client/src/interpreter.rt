@@ -100,24 +100,27 @@ impl<'a, D: Device + Drop, H: HomeFact> Interpreter<'a, D, H> {
     ///
     /// # Errors
     ///
-    /// `Memory`.
+    /// `Memory`: the opened log comes back.
     pub fn new(
         alloc: Global,
         opened: Opened<D>,
         operations: &'a [Operation],
-    ) -> Result<Self, JournalError>
+    ) -> Result<Self, (Opened<D>, JournalError)>
         requires { D.honest opened.device → H.holds (D.state opened.device).shape (D.state opened.device).disk }
         ensures begun { IfOk result (λ interpreter. IsBegun D.state opened operations.now (record { client = interpreter.client; names = interpreter.slots })) }
-        ensures err { IfErr result (λ e. e ≡ Memory) }
+        ensures err { IfErr result (λ e. (e.0 ≡ opened) × (e.1 ≡ Memory)) }
     {
-        let slots = Slots::new(alloc)?;
+        let slots = match Slots::new(alloc) {
+            Ok(slots) => slots,
+            Err(_) => return Err((opened, JournalError::Memory)),
+        };
         match Client::new(alloc, opened, operations) {
             Ok(client) => Ok(Interpreter {
                 alloc,
                 client,
                 slots,
             }),
-            Err(e) => Err(e),
+            Err(refused) => Err(refused),
         }
     }
 

@@ -1,5 +1,5 @@
 //! The operations of a script, one after the other.
-ghost use Rattle.std.specs.Prelude.{◌≡◌, ◌↔◌, IfErr, IfNone, IfOk, IfSome, IsTrue, OnOk};
+ghost use Rattle.std.specs.Prelude.{◌≡◌, ◌↔◌, IfErr, IfNone, IfOk, IfSome, IsTrue, OnErr, OnOk};
 ghost use Rattle.std.specs.Io.KnownBytes.{Appends};
 ghost use Rattle.journal_model.specs.declared.refusal.JournalError.TheVariants.{Memory};
 ghost use Rattle.script_client.specs.declared.outcome.Outcome.TheVariants.{Refused};
@@ -93,7 +93,7 @@ pub fn perform<D: Device + Drop, H: HomeFact, W: Write>(
 {
     match Interpreter::<D, H>::new(alloc, opened, operations) {
         Ok(interpreter) => perform_by(interpreter, operations, after, out),
-        Err(e) => Err(Fault::Refused(e)),
+        Err((_, e)) => Err(Fault::Refused(e)),
     }
 }
 
@@ -127,7 +127,7 @@ fn perform_by<D: Device + Drop, H: HomeFact, W: Write>(
 ///
 /// # Errors
 ///
-/// `Memory` where there is none for the journal: nothing was done.
+/// `Memory` where there is none for the journal: nothing was done, and the opened log comes back.
 pub fn apply<D: Device + Drop, H: HomeFact, W: Write>(
     alloc: Global,
     opened: Opened<D>,
@@ -135,7 +135,7 @@ pub fn apply<D: Device + Drop, H: HomeFact, W: Write>(
     after: AfterRefusal,
     ending: Ending,
     out: &mut W,
-) -> Result<Applied<D>, JournalError>
+) -> Result<Applied<D>, (Opened<D>, JournalError)>
     requires { D.honest opened.device → H.holds (D.state opened.device).shape (D.state opened.device).disk }
     ensures ended { IfOk result (λ applied. D.honest applied.left.device →
         IsEnded H.holds operations.now (D.state applied.left.device) applied.left.sealed.items applied.left.acknowledged) }
@@ -146,7 +146,8 @@ pub fn apply<D: Device + Drop, H: HomeFact, W: Write>(
     ensures outcomes { IfOk result (λ applied.
         HasApplied D.state D.honest opened operations.now after ending applied.left.device applied.left.sealed.items applied.left.acknowledged applied.end (W.contents out.old) (W.contents out.new)) }
     ensures honest { IfOk result (λ applied. D.honest applied.left.device → D.honest opened.device) }
-    ensures err { IfErr result (λ e. e ≡ Memory) }
+    ensures err { IfErr result (λ e. (e.0 ≡ opened) × (e.1 ≡ Memory)) }
+    ensures unwritten { OnErr result (out.new ≡ out.old) }
 {
     apply_known::<D, Brand, W>(alloc, opened, operations, after, ending, out)
 }
@@ -159,7 +160,7 @@ fn apply_known<D: Device + Drop, H: HomeFact, W: Write>(
     after: AfterRefusal,
     ending: Ending,
     out: &mut W,
-) -> Result<Applied<D>, JournalError>
+) -> Result<Applied<D>, (Opened<D>, JournalError)>
     requires { D.honest opened.device → H.holds (D.state opened.device).shape (D.state opened.device).disk }
     ensures ended { IfOk result (λ applied. D.honest applied.left.device →
         IsEnded H.holds operations.now (D.state applied.left.device) applied.left.sealed.items applied.left.acknowledged) }
@@ -169,11 +170,17 @@ fn apply_known<D: Device + Drop, H: HomeFact, W: Write>(
         IsLedTo H.holds operations.now (D.state applied.left.device) applied.left.sealed.items applied.left.acknowledged) }
     ensures outcomes { IfOk result (λ applied.
         HasApplied D.state D.honest opened operations.now after ending applied.left.device applied.left.sealed.items applied.left.acknowledged applied.end (W.contents out.old) (W.contents out.new)) }
-    ensures err { IfErr result (λ e. e ≡ Memory) }
+    ensures err { IfErr result (λ e. (e.0 ≡ opened) × (e.1 ≡ Memory)) }
+    ensures unwritten { OnErr result (out.new ≡ out.old) }
 {
-    let mut interpreter = Interpreter::<D, H>::new(alloc, opened, operations)?;
-    let applied = apply_all(&mut interpreter, operations, after, out);
-    Ok(end_of(interpreter, applied, ending))
+    match Interpreter::<D, H>::new(alloc, opened, operations) {
+        Ok(interpreter) => {
+            let mut interpreter = interpreter;
+            let applied = apply_all(&mut interpreter, operations, after, out);
+            Ok(end_of(interpreter, applied, ending))
+        }
+        Err(refused) => Err(refused),
+    }
 }
 
 /// Performs operations up to the one that is the last, and prints a line for each.

@@ -5,23 +5,23 @@ use Rattle.script_client.specs.Told.{IsLedTo}
 use Rattle.script_client.proofs.performing.apply_known.Goals as goal
 
 -- of these operations
-pub returns-clause-ended : goal.returns-clause-ended
-returns-clause-ended g c = λ honest.
+pub returns-in-Ok-clause-ended : goal.returns-in-Ok-clause-ended
+returns-in-Ok-clause-ended g c = λ honest.
     let left = c.end_of.result.left in
     subst (λ (operations : List Operation). IsEnded g.H.HomeFact.holds operations (g.D.Device.state left.device) left.sealed.items left.acknowledged)
-    (c.apply_all-applied.ensures.operations ∙ c.in_ok-interpreter.ensures.begun.client.operations_are) (c.end_of.ensures.ended honest)
+    (c.apply_all-applied.ensures.operations ∙ c.in-Ok.ensures.begun.client.operations_are) (c.end_of.ensures.ended honest)
 
-pub returns-clause-stays : goal.returns-clause-stays
-returns-clause-stays g c = λ ending honest.
+pub returns-in-Ok-clause-stays : goal.returns-in-Ok-clause-stays
+returns-in-Ok-clause-stays g c = λ ending honest.
     let left = c.end_of.result.left in
     subst (λ (operations : List Operation). IsLedTo g.H.HomeFact.holds operations (g.D.Device.state left.device) left.sealed.items left.acknowledged)
-    (c.apply_all-applied.ensures.operations ∙ c.in_ok-interpreter.ensures.begun.client.operations_are) (c.end_of.ensures.stays ending honest)
+    (c.apply_all-applied.ensures.operations ∙ c.in-Ok.ensures.begun.client.operations_are) (c.end_of.ensures.stays ending honest)
 
 -- from the journal that was just made
-pub returns-clause-outcomes : goal.returns-clause-outcomes
-returns-clause-outcomes g c = record {
-  start = record { client = c.in_ok-interpreter.interpreter.client; names = c.in_ok-interpreter.interpreter.slots };
-  begun = c.in_ok-interpreter.ensures.begun;
+pub returns-in-Ok-clause-outcomes : goal.returns-in-Ok-clause-outcomes
+returns-in-Ok-clause-outcomes g c = record {
+  start = record { client = c.in-Ok.interpreter.client; names = c.in-Ok.interpreter.slots };
+  begun = c.in-Ok.ensures.begun;
   last = record { client = c.apply_all-applied.new.interpreter.client; names = c.apply_all-applied.new.interpreter.slots };
   applied = c.apply_all-applied.result;
   applies = c.apply_all-applied.ensures.applies;

@@ -1,0 +1,58 @@
+-- What an apply that was refused leaves.
+use Rattle.std.specs.Prelude.{◌≡◌, ℕ, List, Option, Result, IsErr}
+use Rattle.journal_model.specs.Transaction.{History}
+use Rattle.block_device.specs.State.{DeviceState, EachMoment}
+use Rattle.journal_world.specs.Opening.{IsOpening}
+use Rattle.log_epochs.specs.OpeningRun.{IsMoment}
+use Rattle.recovery.specs.Values.{OpenedValue}
+use Rattle.journal_script.specs.declared.script.Operation.{Operation}
+use Rattle.script_client.specs.declared.fault.Fault.{Fault}
+use Rattle.script_client.specs.declared.performing.AfterRefusal.{AfterRefusal}
+use Rattle.script_client.specs.declared.performing.Ending.{Ending}
+use Rattle.script_client.specs.Ended.{IsEnded}
+use Rattle.script_client.specs.Told.{IsAnyHome}
+use Rattle.jbench_commands.specs.declared.apply.Unapplied.{Unapplied}
+use Rattle.jbench_commands.specs.declared.apply.Unapplied.TheVariants.{Unbegun, Undone, Unopened}
+use Rattle.jbench_commands.specs.Applying.{AreForDevice, IsOperated}
+
+-- Operations were applied on an opened log, up to the one that was refused, or to the close; what was committed by then is in the log or
+-- at home, and of a transaction that was not, nothing is.
+pub record IsUndone {D : Type 0} (state : D → DeviceState) (honest : D → Type 0) (opened : OpenedValue D) (operations : List Operation) (after : AfterRefusal) (ending : Ending)
+    (left : D) (sealed : History) (shown : Option ℕ) : Type 0 where
+  pub begun : Option (List ℕ)
+  pub written : Option (List ℕ)
+  pub end : Result (Unit {0}) Fault
+  pub refused : IsErr end
+  pub operated : IsOperated state honest opened operations after ending left sealed shown end begun written
+  pub ended : honest left → IsEnded IsAnyHome operations (state left) sealed shown
+  pub honest_before : honest left → honest opened.device
+
+-- what is left of an opened log: its device as it was, or what such operations left
+abbrev pub IsUnappliedBehind : {D : Type 0} → (state : D → DeviceState) → (honest : D → Type 0) → OpenedValue D → List Operation → AfterRefusal → Ending → Unapplied D → Type 0
+IsUnappliedBehind state honest opened operations after ending (Unopened device) = ⊥
+IsUnappliedBehind state honest opened operations after ending (Unbegun device) = device ≡ opened.device
+IsUnappliedBehind state honest opened operations after ending (Undone left) =
+    IsUndone state honest opened operations after ending left.device left.sealed.items left.acknowledged
+
+-- an opening of this device was done, and such operations of a script for it were applied behind
+pub record IsUndoneOf {D : Type 0} (state : D → DeviceState) (honest : D → Type 0) (device : D) (known : Option (List ℕ)) (after : AfterRefusal) (ending : Ending)
+    (left : D) (sealed : History) (shown : Option ℕ) : Type 0 where
+  pub opened : OpenedValue D
+  pub opens : honest opened.device → IsOpening (state device).shape (state device).disk (state opened.device).disk opened.superblock opened.next
+  pub operations : List Operation
+  pub for_device : AreForDevice known (state device) (honest opened.device) operations
+  pub undone : IsUndone state honest opened operations after ending left sealed shown
+
+-- an opening of a device was done, and this is what it left
+pub record IsOpenedOnly {D : Type 0} (state : D → DeviceState) (honest : D → Type 0) (device left : D) : Type 0 where
+  pub superblock : List ℕ
+  pub next : ℕ
+  pub opens : honest left → IsOpening (state device).shape (state device).disk (state left).disk superblock next
+
+-- What is left of a device: no more was done than a refused opening does, at each moment; or it was opened, and no more; or such
+-- operations were applied.
+abbrev pub IsUnapplied : {D : Type 0} → (state : D → DeviceState) → (honest : D → Type 0) → D → (known : Option (List ℕ)) → AfterRefusal → Ending → Unapplied D → Type 0
+IsUnapplied state honest device known after ending (Unopened left) = honest left → EachMoment (IsMoment (state device).shape (state device).disk) (state device) (state left)
+IsUnapplied state honest device known after ending (Unbegun left) = IsOpenedOnly state honest device left
+IsUnapplied state honest device known after ending (Undone left) =
+    IsUndoneOf state honest device known after ending left.device left.sealed.items left.acknowledged
