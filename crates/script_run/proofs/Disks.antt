@@ -1,6 +1,6 @@
 -- The disk on which a run begins.
-use Rattle.std.proofs.Common.{◌∙◌, refl, sym, ap, subst, arith, false}
-use Rattle.std.specs.Prelude.{◌≡◌, ℕ, ◌^◌, ◌<◌, ◌≤◌, Bool, List, [], ◌∷◌, length, replicate}
+use Rattle.std.proofs.Common.{◌∙◌, refl, sym, ap, subst, arith}
+use Rattle.std.specs.Prelude.{◌≡◌, ℕ, ◌^◌, ◌<◌, ◌≤◌, Bool, List, [], ◌∷◌, Option, length, replicate}
 use Rattle.journal_model.specs.declared.number.Area.{Area}
 use Rattle.journal_model.specs.declared.number.Area.TheVariants.{Home, Log}
 use Rattle.journal_model.specs.Disk.{Cell, Disk, Shape, flushed}
@@ -13,9 +13,10 @@ use Rattle.journal_world.specs.Opening.{IsOpening}
 use Rattle.journal_world.specs.Sound.{durable_cell}
 use Rattle.log_format.proofs.Formatted.{formatted_says}
 use Rattle.recovery.specs.Opening.{IsFormatted}
+use Rattle.recovery.specs.Values.{OpenedValue}
 use Rattle.journal_script.specs.declared.measures.Measures.{Measures}
 use Rattle.script_client.specs.Told.{IsZeroHome}
-use Rattle.script_run.specs.Disks.{IsEmptyLog, disk_behind, run_state, shape_of}
+use Rattle.script_run.specs.Disks.{IsEmptyLog, IsOpenedAnew, run_device_over, run_state, shape_of}
 
 -- a crash that keeps no write leaves what was flushed
 kept-none : (v : List ℕ) (ws : List (ℕ × List ℕ)) → kept_value [] v ws ≡ v
@@ -63,9 +64,23 @@ opened-zero m old new superblock next empty is shape =
     let still : new.disk ≡ flushed old.disk Log = is.untouched empty.clean in
     λ b. ap (λ (d : Disk). d Home b) still ∙ empty.home b ∙ ap (λ (s : Shape). durable_cell (replicate s.block_size 0)) (sym shape)
 
--- the device of a run has the disk of the one behind it
-pub empty-run : (m : Measures) (disk : MemState) (device : FailOnce (StopAt MemState)) → disk_behind device ≡ disk → IsEmptyLog m (state_of disk)
-    → IsEmptyLog m (run_state device)
-empty-run m disk device is empty =
-    let moved : IsEmptyLog m (state_of (disk_behind device)) = subst (λ (s : MemState). IsEmptyLog m (state_of s)) (sym is) empty in
-    record { shape_is = moved.shape_is; home = moved.home; superblock = moved.superblock; clean = moved.clean }
+-- the device of a run has the disk that it was made over
+pub run-zero : (disk : MemState) (stop fail : Option ℕ) (device : FailOnce (StopAt MemState)) → device ≡ run_device_over disk stop fail → IsZeroHome (state_of disk).shape (state_of disk).disk
+    → IsZeroHome (run_state device).shape (run_state device).disk
+run-zero disk stop fail device is zero = subst (λ (d : FailOnce (StopAt MemState)). IsZeroHome (run_state d).shape (run_state d).disk) (sym is) zero
+
+-- what was opened over that disk is opened over the device
+pub run-anew : (m : Measures) (stop fail : Option ℕ) (formatted disk : MemState) (superblock : List ℕ) (next : ℕ) (opened : OpenedValue (FailOnce (StopAt MemState)))
+    → IsEmptyLog m (state_of formatted) → (state_of disk).shape ≡ (state_of formatted).shape
+    → IsOpening (state_of formatted).shape (state_of formatted).disk (state_of disk).disk superblock next → opened.device ≡ run_device_over disk stop fail
+    → opened.superblock ≡ superblock → opened.next ≡ next → IsOpenedAnew m stop fail opened
+run-anew m stop fail formatted disk superblock next opened empty shape opening over block number = record {
+  formatted = formatted;
+  empty = empty;
+  disk = disk;
+  shape_is = shape ∙ empty.shape_is;
+  opening =
+      subst (λ (b : List ℕ). IsOpening (state_of formatted).shape (state_of formatted).disk (state_of disk).disk b opened.next) (sym block)
+      (subst (λ (n : ℕ). IsOpening (state_of formatted).shape (state_of formatted).disk (state_of disk).disk superblock n) (sym number) opening);
+  device_is = over;
+}

@@ -1,5 +1,5 @@
 -- The moves of the machine behind a stop of a run: the stop, and what an opening then does.
-use Rattle.std.proofs.Common.{refl, subst, ◌∙◌}
+use Rattle.std.proofs.Common.{refl, subst}
 use Rattle.std.specs.Prelude.{◌≡◌, ℕ, List, [], ◌∷◌, ◌++◌, Some, Option}
 use Rattle.journal_model.specs.Disk.{Disk, Image, Leaves, Shape, disk_of}
 use Rattle.block_device.specs.State.{DeviceState}

@@ -13,7 +13,7 @@ use Rattle.log_model.specs.HomeChange.{IsRightlyHeld}
 use Rattle.log_model.specs.HomeChange.IsRightlyHeld.{FromCopy, FromDirectWrite, FromOpening}
 use Rattle.log_model.specs.Opening.{OpensAs, numbered_below}
 use Rattle.journal_model.specs.Record.{acknowledged}
-use Rattle.journal_model.specs.Transaction.{History, Transaction, Volume, bytes_of, content_of, effect, last_effect, later}
+use Rattle.journal_model.specs.Transaction.{History, Transaction, Volume, bytes_of, content_of, effect, last_effect}
 use Rattle.journal_world.proofs.Suffixes.{get-take}
 use Rattle.block_device.specs.Memory.{MemState, crashed, state_of}
 use Rattle.block_device.specs.State.{DeviceState}

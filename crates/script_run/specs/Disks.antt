@@ -1,5 +1,5 @@
 -- The disk on which a run begins, and the device over it.
-use Rattle.std.specs.Prelude.{◌≡◌, ℕ, ◌+◌, ◌-◌, ◌^◌, min, false, Option, Some, unwrap_or}
+use Rattle.std.specs.Prelude.{◌≡◌, ℕ, false, Option, unwrap_or}
 use Rattle.journal_model.specs.declared.number.Area.TheVariants.{Log}
 use Rattle.journal_model.specs.Disk.{Shape}
 use Rattle.log_model.specs.Superblock.{formatted_super, super_in}
@@ -9,6 +9,8 @@ use Rattle.block_device.specs.State.{DeviceState}
 use Rattle.block_device.specs.Stop.{stopping}
 use Rattle.block_device.specs.declared.fail.FailOnce.{FailOnce}
 use Rattle.block_device.specs.declared.stop.StopAt.{StopAt}
+use Rattle.journal_world.specs.Opening.{IsOpening}
+use Rattle.recovery.specs.Values.{OpenedValue}
 use Rattle.journal_script.specs.declared.measures.Measures.{Measures}
 use Rattle.script_client.specs.Told.{IsZeroHome}
 
@@ -36,10 +38,16 @@ run_device_over disk stop fail = record {
   faults = 0;
 }
 
--- a call is named that comes k calls behind some others
-abbrev pub IsCallBehind : ℕ → Option ℕ → Type 0
-IsCallBehind k behind = (calls : ℕ) × (behind ≡ Some (min (calls + k) (2 ^ 64 - 1)))
-
 -- the state of the device of a run
 abbrev pub run_state : FailOnce (StopAt MemState) → DeviceState
 run_state device = failing (stopping state_of) device
+
+-- An empty log of these measures was opened, and over the disk of that stands a device that stops at this write, and of which this call
+-- fails, where they are named: both are counted from behind the opening.
+pub record IsOpenedAnew (m : Measures) (stop fail : Option ℕ) (opened : OpenedValue (FailOnce (StopAt MemState))) : Type 0 where
+  pub formatted : MemState
+  pub empty : IsEmptyLog m (state_of formatted)
+  pub disk : MemState
+  pub shape_is : disk.shape ≡ shape_of m
+  pub opening : IsOpening (state_of formatted).shape (state_of formatted).disk (state_of disk).disk opened.superblock opened.next
+  pub device_is : opened.device ≡ run_device_over disk stop fail

@@ -20,7 +20,7 @@ use Rattle.script_client.specs.declared.performing.AfterFailure.{AfterFailure}
 use Rattle.script_client.specs.declared.performing.AfterFailure.TheVariants.{End, GoOn}
 use Rattle.script_client.specs.Outcomes.{HasPerformed}
 use Rattle.script_client.specs.Told.{IsLedTo, IsZeroHome}
-use Rattle.script_run.specs.Disks.{disk_behind, run_state}
+use Rattle.script_run.specs.Disks.{IsOpenedAnew, disk_behind, run_state}
 
 -- the verdict on an image, by the write at which its opening stops, where one is named, and what it then keeps
 abbrev pub IsVerdictBy : Option ℕ → (keep : List ℕ) → MemState → History → Option ℕ → NamedBlocks → Bool → Type 0
@@ -59,11 +59,13 @@ pub record HasRun (opened : OpenedValue (FailOnce (StopAt MemState))) (operation
   pub performs : HasPerformed run_state (λ d. Unit {0}) opened operations after over sealed shown lines
   pub behind : device ≡ disk_behind over
 
--- so they were on an empty log, on a home of zeros
-pub record HasRunAnew (operations : List Operation) (after : AfterFailure) (device : MemState) (sealed : History) (shown : Option ℕ) (lines : List ℕ) : Type 0 where
+-- so a script's were on an empty log of its measures, on a home of zeros, over a device that from then on stops at this write, and of
+-- which this call fails, where they are named
+pub record HasRunAnew (script : Script) (stop fail : Option ℕ) (device : MemState) (sealed : History) (shown : Option ℕ) (lines : List ℕ) : Type 0 where
   pub opened : OpenedValue (FailOnce (StopAt MemState))
+  pub anew : IsOpenedAnew script.measures stop fail opened
   pub zero : IsZeroHome (run_state opened.device).shape (run_state opened.device).disk
-  pub run : HasRun opened operations after device sealed shown lines
+  pub run : HasRun opened script.operations.items (after_call fail) device sealed shown lines
 
 -- The end of a script's run: moves of the machine led from an empty log, on a home of zeros, to a device, to the transactions that
 -- were sealed, and to the greatest one that was answered committed. Each operation was performed, up to the one at which the script
@@ -73,7 +75,7 @@ pub record IsEndOf (script : Script) (stop : Stop) (failing_call : Option ℕ) (
   pub device : MemState
   pub led : IsLedTo IsZeroHome script.operations.items (state_of device) sealed shown
   pub lines : List ℕ
-  pub outcomes : HasRunAnew script.operations.items (after_call failing_call) device sealed shown lines
+  pub outcomes : HasRunAnew script stop.at_write failing_call device sealed shown lines
   pub at_write : Option ℕ
   pub stops : IsStoppedAtWrite stop.at_write at_write (writes_of device.calls)
   pub crash : IsCrashOf device stop.keep.now image

@@ -1,8 +1,8 @@
 //! The disk of a run, and the device over it.
-ghost use Rattle.std.specs.Prelude.{◌≡◌, IfOk, MatchOption, None};
+ghost use Rattle.std.specs.Prelude.{◌≡◌, IfOk};
 ghost use Rattle.block_device.specs.Memory.{state_of};
 ghost use Rattle.script_client.specs.Told.{IsZeroHome};
-ghost use Rattle.script_run.specs.Disks.{IsCallBehind, IsEmptyLog, run_device_over, run_state, shape_of};
+ghost use Rattle.script_run.specs.Disks.{IsEmptyLog, IsOpenedAnew, run_device_over, run_state};
 
 use block_device::{FailOnce, MemDevice, StopAt};
 use journal_model::JournalError;
@@ -47,51 +47,36 @@ pub fn run_device(disk: MemDevice, stop: Option<u64>, fail: Option<u64>) -> RunD
     )
 }
 
-/// The opened log of an empty disk. Opening an empty log makes no write. The device stops at write `stop`, or never, and call `fail`
-/// of it fails, or none: both are counted from 1 behind the opening.
+/// The opened log of an empty disk with these measures, over a device that stops at write `stop`, or never, and of which call `fail`
+/// fails, or none. Both are counted from 1 behind the opening, which makes no write.
 ///
 /// # Errors
 ///
 /// Those of the disk, and `Memory`.
-pub(crate) fn empty_log(
+pub fn empty_log(
     alloc: Global,
     measures: &Measures,
     stop: Option<u64>,
     fail: Option<u64>,
 ) -> Result<Opened<RunDevice>, JournalError>
+    ensures anew { IfOk result (IsOpenedAnew measures.now stop fail) }
     ensures home { IfOk result (λ opened. IsZeroHome (run_state opened.device).shape (run_state opened.device).disk) }
-    ensures shape { IfOk result (λ opened. (run_state opened.device).shape ≡ shape_of measures.now) }
 {
-    let fail = call_behind_opening(alloc, measures, fail)?;
-    let device = run_device(empty_disk(alloc, measures)?, stop, fail);
-    match open(alloc, device) {
-        Ok(opened) => Ok(opened),
-        Err((_, e)) => Err(e),
-    }
-}
-
-/// The number of this call behind the opening of an empty log, counted from before that. It stays at 2^64 - 1.
-fn call_behind_opening(
-    alloc: Global,
-    measures: &Measures,
-    call: Option<u64>,
-) -> Result<Option<u64>, JournalError>
-    ensures { IfOk result (λ behind. MatchOption call (behind ≡ None) (λ k. IsCallBehind k behind)) }
-{
-    match call {
-        Some(call) => {
-            let calls = calls_of_opening(alloc, measures)?;
-            Ok(Some(calls.saturating_add(call)))
-        }
-        None => Ok(None),
-    }
-}
-
-/// How many calls the opening of an empty log makes.
-fn calls_of_opening(alloc: Global, measures: &Measures) -> Result<u64, JournalError> {
     let disk = empty_disk(alloc, measures)?;
-    match open(alloc, FailOnce::new(disk, NEVER)) {
-        Ok(opened) => Ok(opened.into_device().calls()),
+    match open(alloc, disk) {
+        Ok(opened) => Ok(with_stops(opened, stop, fail)),
         Err((_, e)) => Err(e),
     }
+}
+
+/// The same opened log over a device that stops at write `stop`, or never, and of which call `fail` fails, or none. Both are counted from
+/// now on.
+fn with_stops(opened: Opened<MemDevice>, stop: Option<u64>, fail: Option<u64>) -> Opened<RunDevice>
+    ensures device { result.device ≡ run_device_over opened.device stop fail }
+    ensures superblock { result.superblock ≡ opened.superblock }
+    ensures next { result.next ≡ opened.next }
+{
+    let report = opened.report();
+    let (disk, superblock, next) = opened.into_parts();
+    Opened::from_parts(run_device(disk, stop, fail), superblock, next, report)
 }

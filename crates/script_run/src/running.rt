@@ -143,7 +143,7 @@ pub fn run_operations<W: Write>(
 ) -> Result<Stopped, Fault>
     ensures led { IfOk result (λ stopped. IsLedTo IsZeroHome script.now.operations.items (state_of stopped.device) stopped.recorded.sealed.items stopped.recorded.acknowledged) }
     ensures outcomes { IfOk result (λ stopped. Writes (W.contents out.old) (W.contents out.new)
-        (HasRunAnew script.now.operations.items (after_call failing_call) stopped.device stopped.recorded.sealed.items stopped.recorded.acknowledged)) }
+        (HasRunAnew script.now stop failing_call stopped.device stopped.recorded.sealed.items stopped.recorded.acknowledged)) }
     ensures stop { IfOk result (λ stopped. IsStoppedBy stop stopped) }
 {
     let after = after_failing(failing_call);

@@ -113,8 +113,8 @@ module _ (keeps : Type 0) (holds : keeps) (stopped : Stopped) (named : NamedBloc
   fails-keeps choice old new one none = first-keeps (kept_of (writes_of stopped.device.calls) choice) one.image old one.found new one.crash one.is_judged none
 
 -- a run of a script that names these blocks
-run-named : (script : Script) (named : NamedBlocks) (stop : Option ℕ) (stopped : Stopped) → AreNamedBy script named → HasRun script.operations.items stop stopped → HasRunNamed stopped named
-run-named script named stop stopped names run = record { operations = script.operations.items; run = run.led; directs = names.directs }
+run-named : (script : Script) (named : NamedBlocks) (stop fail : Option ℕ) (stopped : Stopped) → AreNamedBy script named → HasRun script stop fail stopped → HasRunNamed stopped named
+run-named script named stop fail stopped names run = record { operations = script.operations.items; run = run.led; directs = names.directs }
 
 -- no verdict of a sweep is false
 pub sweep-right : (keeps : Type 0) (script : Script) (counts : Counts) → IsSweep keeps script counts → keeps → counts.not_right.wrong ≡ 0
@@ -122,16 +122,16 @@ sweep-right keeps script counts sweep holds =
     steps-keep (λ i. SweepsStop keeps script sweep.named (i + 1)) (λ c. c.not_right.wrong ≡ 0)
     (λ i s t stop so_far.
     steps-keep (SweepsChoice keeps stop.stopped sweep.named (i + 1)) (λ c. c.not_right.wrong ≡ 0)
-    (λ choice x y step none. choice-keeps keeps holds stop.stopped sweep.named (run-named script sweep.named (Some (i + 1)) stop.stopped sweep.names (stop.run holds)) (i + 1) choice x y step none)
+    (λ choice x y step none. choice-keeps keeps holds stop.stopped sweep.named (run-named script sweep.named (Some (i + 1)) None stop.stopped sweep.names (stop.run holds)) (i + 1) choice x y step none)
     (choices_of (i + 1)) s t stop.choices so_far)
     counts.writes (record { writes = counts.writes; images = 0; again = 0; not_right = record { wrong = 0; refused = 0 } }) counts sweep.stops refl
 
 pub failures-right : (keeps : Type 0) (script : Script) (counts : FailureCounts) → IsFailureSweep keeps script counts → keeps → counts.not_right.wrong ≡ 0
 failures-right keeps script counts sweep holds =
-    steps-keep (λ i. FailsCall keeps script sweep.named) (λ n. n.wrong ≡ 0)
+    steps-keep (λ i. FailsCall keeps script sweep.named (i + 1)) (λ n. n.wrong ≡ 0)
     (λ i s t call so_far.
     steps-keep (FailsChoice keeps call.stopped sweep.named) (λ n. n.wrong ≡ 0)
-    (λ choice x y step none. fails-keeps keeps holds call.stopped sweep.named (run-named script sweep.named None call.stopped sweep.names (call.run holds)) choice x y step none)
+    (λ choice x y step none. fails-keeps keeps holds call.stopped sweep.named (run-named script sweep.named None (Some (i + 1)) call.stopped sweep.names (call.run holds)) choice x y step none)
     (choices_of (writes_of call.stopped.device.calls)) s t call.choices so_far)
     counts.calls (record { wrong = 0; refused = 0 }) counts.not_right sweep.calls refl
 

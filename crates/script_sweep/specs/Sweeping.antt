@@ -126,7 +126,7 @@ pub record SweepsChoice (keeps : Type 0) (stopped : Stopped) (named : NamedBlock
 -- a script was run with a stop at write k, and each choice of what it left was swept
 pub record SweepsStop (keeps : Type 0) (script : Script) (named : NamedBlocks) (k : ℕ) (old new : Counts) : Type 0 where
   pub stopped : Stopped
-  pub run : keeps → HasRun script.operations.items (Some k) stopped
+  pub run : keeps → HasRun script (Some k) None stopped
   pub choices : Steps (SweepsChoice keeps stopped named k) (choices_of k) old new
 
 -- A sweep of stops: a run of the script that did not stop made so many writes, and each of them was swept. All counts are sums over
@@ -135,7 +135,7 @@ pub record IsSweep (keeps : Type 0) (script : Script) (counts : Counts) : Type 0
   pub named : NamedBlocks
   pub names : AreNamedBy script named
   pub whole : Stopped
-  pub run : keeps → HasRun script.operations.items None whole
+  pub run : keeps → HasRun script None None whole
   pub writes : counts.writes ≡ writes_of whole.device.calls
   pub stops : Steps (λ i. SweepsStop keeps script named (i + 1)) counts.writes (record { writes = counts.writes; images = 0; again = 0; not_right = none_wrong }) counts
 
@@ -151,15 +151,15 @@ pub record FailsChoice (keeps : Type 0) (stopped : Stopped) (named : NamedBlocks
   pub found : Option Found
   pub is_judged : IsJudged keeps stopped named image old found new
 
--- a script was run of which one call failed, and each choice of what it left was judged
-pub record FailsCall (keeps : Type 0) (script : Script) (named : NamedBlocks) (old new : NotRight) : Type 0 where
+-- a script was run of which call k failed, and each choice of what it left was judged
+pub record FailsCall (keeps : Type 0) (script : Script) (named : NamedBlocks) (k : ℕ) (old new : NotRight) : Type 0 where
   pub stopped : Stopped
-  pub run : keeps → HasRun script.operations.items None stopped
+  pub run : keeps → HasRun script None (Some k) stopped
   pub choices : Steps (FailsChoice keeps stopped named) (choices_of (writes_of stopped.device.calls)) old new
 
 -- A sweep of failing calls: a run of the script of which none failed made so many calls, and each of them was swept.
 pub record IsFailureSweep (keeps : Type 0) (script : Script) (counts : FailureCounts) : Type 0 where
   pub named : NamedBlocks
   pub names : AreNamedBy script named
-  pub whole : keeps → MakesCalls script.operations.items counts.calls
-  pub calls : Steps (λ i. FailsCall keeps script named) counts.calls none_wrong counts.not_right
+  pub whole : keeps → MakesCalls script counts.calls
+  pub calls : Steps (λ i. FailsCall keeps script named (i + 1)) counts.calls none_wrong counts.not_right

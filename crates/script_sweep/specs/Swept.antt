@@ -1,5 +1,5 @@
 -- What is known within a sweep of a journal that keeps its contracts.
-use Rattle.std.specs.Prelude.{◌≡◌, ℕ, ◌+◌, ◌-◌, ◌^◌, List, Option, min}
+use Rattle.std.specs.Prelude.{◌≡◌, ℕ, ◌+◌, ◌-◌, ◌^◌, List, Option, None, min}
 use Rattle.std.specs.BTreeSet.{keys}
 use Rattle.journal_model.specs.Disk.{reading}
 use Rattle.journal_model.specs.Transaction.{History}
@@ -12,17 +12,21 @@ use Rattle.recovery.specs.Opening.{Tells}
 use Rattle.recovery.specs.Values.{OpenedValue}
 use Rattle.journal_script.specs.declared.script.NamedBlocks.{NamedBlocks}
 use Rattle.journal_script.specs.declared.script.Operation.{Operation}
+use Rattle.journal_script.specs.declared.script.Script.{Script}
 use Rattle.journal_script.specs.Named.{HasDirects}
 use Rattle.script_client.specs.declared.performing.AfterFailure.TheVariants.{End}
 use Rattle.script_client.specs.Outcomes.{HasPerformed}
 use Rattle.script_client.specs.Told.{IsLedTo, IsZeroHome}
 use Rattle.script_run.specs.declared.running.Stopped.{Stopped}
-use Rattle.script_run.specs.Disks.{run_state}
-use Rattle.script_run.specs.Left.{IsStoppedBy}
+use Rattle.script_run.specs.Disks.{IsOpenedAnew, run_state}
+use Rattle.script_run.specs.Left.{HasRunAnew, IsStoppedBy}
 
--- a run of these operations was led to what it left, and stopped at this write, where one is named
-pub record HasRun (operations : List Operation) (stop : Option ℕ) (stopped : Stopped) : Type 0 where
-  pub led : IsLedTo IsZeroHome operations (state_of stopped.device) stopped.recorded.sealed.items stopped.recorded.acknowledged
+-- a run of a script was led to what it left, over a device that stops at this write, and of which this call fails, where they are named;
+-- and there it stopped
+pub record HasRun (script : Script) (stop fail : Option ℕ) (stopped : Stopped) : Type 0 where
+  pub led : IsLedTo IsZeroHome script.operations.items (state_of stopped.device) stopped.recorded.sealed.items stopped.recorded.acknowledged
+  pub lines : List ℕ
+  pub outcomes : HasRunAnew script stop fail stopped.device stopped.recorded.sealed.items stopped.recorded.acknowledged lines
   pub stops : IsStoppedBy stop stopped
 
 -- so was one of operations of which these are the direct writes
@@ -31,15 +35,17 @@ pub record HasRunNamed (stopped : Stopped) (named : NamedBlocks) : Type 0 where
   pub run : IsLedTo IsZeroHome operations (state_of stopped.device) stopped.recorded.sealed.items stopped.recorded.acknowledged
   pub directs : HasDirects operations (keys named.directs)
 
--- these operations were performed over an opened log, and made so many calls of its device behind those of the opening
-pub record MakesCalls (operations : List Operation) (calls : ℕ) : Type 0 where
+-- a script's operations were performed on an empty log of its measures, over a device that does not stop and of which no call fails, and
+-- made so many calls of it
+pub record MakesCalls (script : Script) (calls : ℕ) : Type 0 where
   pub opened : OpenedValue (FailOnce (StopAt MemState))
+  pub anew : IsOpenedAnew script.measures None None opened
   pub device : FailOnce (StopAt MemState)
   pub sealed : History
   pub shown : Option ℕ
   pub lines : List ℕ
-  pub performed : HasPerformed run_state (λ d. Unit {0}) opened operations End device sealed shown lines
-  pub calls_are : calls ≡ calls_of device - calls_of opened.device
+  pub performed : HasPerformed run_state (λ d. Unit {0}) opened script.operations.items End device sealed shown lines
+  pub calls_are : calls ≡ calls_of device
 
 -- this is what an opening finds in the image
 abbrev pub IsFirst : MemState → Report → Type 0

@@ -4,9 +4,9 @@ ghost use Rattle.script_sweep.specs.Swept.{MakesCalls};
 
 use journal_model::JournalError;
 use journal_script::{Measures, Script};
-use recovery::{Opened, open};
+use recovery::open;
 use script_client::perform;
-use script_run::{AfterFailure, AnyHome, Fault, RunDevice, empty_disk, run_device};
+use script_run::{AfterFailure, AnyHome, Fault, RunDevice, empty_disk, empty_log, run_device};
 use std::alloc::Global;
 use std::io;
 
@@ -17,10 +17,9 @@ use std::io;
 ///
 /// `Fault::Refused` where memory runs out.
 pub fn calls_of_run(alloc: Global, script: &Script) -> Result<u64, Fault>
-    ensures { IfOk result (MakesCalls script.now.operations.items) }
+    ensures { IfOk result (MakesCalls script.now) }
 {
-    let opened = empty_log(alloc, &script.measures)?;
-    let calls_before = opened.device().calls();
+    let opened = empty_log(alloc, &script.measures, None, None)?;
     let performed = perform::<RunDevice, AnyHome, _>(
         alloc,
         opened,
@@ -28,7 +27,7 @@ pub fn calls_of_run(alloc: Global, script: &Script) -> Result<u64, Fault>
         AfterFailure::End,
         &mut io::sink(),
     )?;
-    Ok(performed.device.calls().saturating_sub(calls_before))
+    Ok(performed.device.calls())
 }
 
 /// How many device calls the opening of an empty log with these measures makes.
@@ -37,13 +36,8 @@ pub fn calls_of_run(alloc: Global, script: &Script) -> Result<u64, Fault>
 ///
 /// Those of `script_run::empty_disk`, and `Memory`.
 pub fn calls_of_opening(alloc: Global, measures: &Measures) -> Result<u64, JournalError> {
-    Ok(empty_log(alloc, measures)?.into_device().calls())
-}
-
-/// The opened log of an empty disk with these measures, over a device that counts its calls and of which none fails.
-fn empty_log(alloc: Global, measures: &Measures) -> Result<Opened<RunDevice>, JournalError> {
     match open(alloc, run_device(empty_disk(alloc, measures)?, None, None)) {
-        Ok(opened) => Ok(opened),
+        Ok(opened) => Ok(opened.into_device().calls()),
         Err((_, e)) => Err(e),
     }
 }

@@ -1,5 +1,5 @@
 //! A sweep of failing calls, from call to call.
-ghost use Rattle.std.specs.Prelude.{◌≡◌, IfOk, OnOk};
+ghost use Rattle.std.specs.Prelude.{◌≡◌, ◌+◌, IfOk, OnOk};
 ghost use Rattle.block_device.specs.Memory.{writes_of};
 ghost use Rattle.script_sweep.specs.Steps.{Steps};
 ghost use Rattle.script_sweep.specs.Places.{choices_of};
@@ -52,7 +52,7 @@ fn fail_calls<J: Swept>(
     watch: &mut impl Watch,
     err: &mut impl Write,
 ) -> Result<(), Fault>
-    ensures swept { OnOk result (Steps (λ i. FailsCall J.keeps script.now named.now) counts.old.calls counts.old.not_right counts.new.not_right) }
+    ensures swept { OnOk result (Steps (λ i. FailsCall J.keeps script.now named.now (i + 1)) counts.old.calls counts.old.not_right counts.new.not_right) }
     ensures calls { counts.new.calls ≡ counts.old.calls }
 {
     let calls = counts.calls;

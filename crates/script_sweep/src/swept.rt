@@ -32,7 +32,7 @@ pub trait Swept {
         stop: Option<u64>,
         failing_call: Option<u64>,
     ) -> Result<Stopped, Fault>
-        ensures { IfOk result (λ stopped. keeps → HasRun script.now.operations.items stop stopped) };
+        ensures { IfOk result (λ stopped. keeps → HasRun script.now stop failing_call stopped) };
 
     /// How many device calls a run of a script makes behind the first opening, where none fails: its reads, writes and flushes.
     ///
@@ -40,7 +40,7 @@ pub trait Swept {
     ///
     /// `Fault::Refused` where memory runs out.
     fn calls(&self, alloc: Global, script: &Script) -> Result<u64, Fault>
-        ensures { IfOk result (λ calls. keeps → MakesCalls script.now.operations.items calls) };
+        ensures { IfOk result (λ calls. keeps → MakesCalls script.now calls) };
 
     /// Opens what a crash left.
     ///

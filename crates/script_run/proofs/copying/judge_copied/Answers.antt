@@ -1,4 +1,3 @@
-use Rattle.std.specs.BTreeSet.{keys}
 use Rattle.std.proofs.lemmas.Result.{IfOk-weaker}
 use Rattle.script_run.specs.Left.{IsLeftVerdict}
 use Rattle.script_run.proofs.Openings.{left-verdict, only-read-stays}

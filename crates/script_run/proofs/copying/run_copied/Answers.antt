@@ -1,6 +1,5 @@
 use Rattle.std.proofs.Common.{◌≡◌, inr, true}
 use Rattle.std.specs.Prelude.{Result, Ok, Err, IfOk}
-use Rattle.std.specs.BTreeSet.{keys}
 use Rattle.std.proofs.lemmas.Result.{IfOk-weaker}
 use Rattle.script_run.specs.Copying.{IsCopiedRun, IsCopy}
 use Rattle.script_run.specs.Left.{IsLeftVerdict}

@@ -1,15 +1,16 @@
-use Rattle.std.proofs.Common.{◌∙◌, ap}
-use Rattle.script_run.specs.Disks.{disk_behind, run_state}
-use Rattle.script_run.proofs.Disks.{empty-run, opened-zero}
+use Rattle.block_device.specs.Memory.{state_of}
+use Rattle.script_run.proofs.Disks.{opened-zero, run-anew, run-zero}
 use Rattle.script_run.proofs.disk.empty_log.Goals as goal
+
+-- over the disk of the opening
+pub returns-in-Ok-clause-anew : goal.returns-in-Ok-clause-anew
+returns-in-Ok-clause-anew c =
+    run-anew c.args.measures.now c.args.stop c.args.fail c.in_ok-disk.disk c.in-Ok.opened.device c.in-Ok.opened.superblock c.in-Ok.opened.next c.with_stops.result
+    c.in_ok-disk.ensures c.in-Ok.ensures.shape (c.in-Ok.ensures.opened tt) c.with_stops.ensures.device c.with_stops.ensures.superblock c.with_stops.ensures.next
 
 -- opening an empty log leaves home as it is
 pub returns-in-Ok-clause-home : goal.returns-in-Ok-clause-home
 returns-in-Ok-clause-home c =
-    opened-zero c.args.measures.now (run_state c.run_device-device.result) (run_state c.in-Ok.opened.device) c.in-Ok.opened.superblock c.in-Ok.opened.next
-    (empty-run c.args.measures.now _ c.run_device-device.result (ap disk_behind c.run_device-device.ensures) c.in_ok-empty_disk.ensures) (c.in-Ok.ensures.opened tt) c.in-Ok.ensures.shape
-
--- nor does it change how many blocks there are
-pub returns-in-Ok-clause-shape : goal.returns-in-Ok-clause-shape
-returns-in-Ok-clause-shape c =
-    c.in-Ok.ensures.shape ∙ (empty-run c.args.measures.now _ c.run_device-device.result (ap disk_behind c.run_device-device.ensures) c.in_ok-empty_disk.ensures).shape_is
+    run-zero c.in-Ok.opened.device c.args.stop c.args.fail c.with_stops.result.device c.with_stops.ensures.device
+    (opened-zero c.args.measures.now (state_of c.in_ok-disk.disk) (state_of c.in-Ok.opened.device) c.in-Ok.opened.superblock c.in-Ok.opened.next
+    c.in_ok-disk.ensures (c.in-Ok.ensures.opened tt) c.in-Ok.ensures.shape)

@@ -1,5 +1,4 @@
 use Rattle.std.proofs.Common.{refl, subst}
-use Rattle.std.specs.BTreeSet.{keys}
 use Rattle.std.proofs.lemmas.Result.{IfOk-weaker}
 use Rattle.journal_model.specs.Disk.{reading}
 use Rattle.block_device.specs.Memory.{state_of}

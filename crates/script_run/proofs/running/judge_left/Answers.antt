@@ -1,6 +1,5 @@
 use Rattle.std.proofs.Common.{ℕ, sym, subst}
 use Rattle.std.specs.Prelude.{Option, Some}
-use Rattle.std.specs.BTreeSet.{keys}
 use Rattle.std.proofs.lemmas.Result.{IfOk-weaker}
 use Rattle.block_device.specs.Memory.{state_of}
 use Rattle.script_run.specs.Left.{IsLeftVerdict, IsVerdictBy}

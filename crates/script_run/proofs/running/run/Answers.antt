@@ -1,5 +1,4 @@
 use Rattle.std.proofs.Common.{◌≡◌, true}
-use Rattle.std.specs.BTreeSet.{keys}
 use Rattle.std.proofs.lemmas.Result.{IfOk-weaker}
 use Rattle.script_run.specs.Left.{IsLeftVerdict, IsRunOf}
 use Rattle.script_run.proofs.Verdicts.{run-right}

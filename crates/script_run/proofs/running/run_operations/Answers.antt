@@ -8,6 +8,6 @@ returns-clause-outcomes g c =
     (λ stopped writes. record {
       lines = writes.lines;
       said = writes.said;
-      are = record { opened = c.in_ok-opened.opened; zero = c.in_ok-opened.ensures.home; run = rw (← c.after_failing-after.ensures, ← c.deref.ensures.value) writes.are };
+      are = record { opened = c.in_ok-opened.opened; anew = c.in_ok-opened.ensures.anew; zero = c.in_ok-opened.ensures.home; run = rw (← c.after_failing-after.ensures, ← c.deref.ensures.value) writes.are };
     })
     c.run_operations_over.ensures.outcomes

@@ -1,4 +1,4 @@
-use Rattle.std.proofs.Common.{arith, ℕ, ◌≡◌, refl, subst}
+use Rattle.std.proofs.Common.{arith, ℕ, ◌≡◌, ◌+◌, refl, subst}
 use Rattle.script_sweep.specs.Steps.{Steps}
 use Rattle.script_sweep.specs.Steps.Steps.{NoStep, OneMore}
 use Rattle.script_sweep.specs.Sweeping.{FailsCall}
@@ -19,4 +19,4 @@ loop-before-preserved g c = record {
 pub returns-clause-swept : goal.returns-clause-swept
 returns-clause-swept g c =
     let end : c.loop-before.before ≡ c.args.counts.now.calls = omega (arith, c.loop-before-test.false, c.loop-before.auto.before-end) in
-    subst (λ (n : ℕ). Steps (λ i. FailsCall g.J.Swept.keeps c.args.script.now c.args.named.now) n c.args.counts.now.not_right c.loop-before.counts.not_right) end c.loop-before.invariant.swept
+    subst (λ (n : ℕ). Steps (λ i. FailsCall g.J.Swept.keeps c.args.script.now c.args.named.now (i + 1)) n c.args.counts.now.not_right c.loop-before.counts.not_right) end c.loop-before.invariant.swept

@@ -1,4 +1,4 @@
-use Rattle.std.proofs.Common.{ℕ, ◌∙◌, ap, subst, sym}
+use Rattle.std.proofs.Common.{ℕ, ◌+◌, ◌∙◌, ap, subst, sym}
 use Rattle.script_sweep.specs.declared.counts.FailureCounts.{FailureCounts}
 use Rattle.script_sweep.specs.declared.counts.NotRight.{NotRight}
 use Rattle.script_sweep.specs.Steps.{Steps}
@@ -16,11 +16,11 @@ returns-clause-swept g c =
       named = c.in_ok-named.named;
       names = c.in_ok-named.ensures;
       whole =
-          subst (λ (n : ℕ). g.J.Swept.keeps → MakesCalls c.args.script.now.operations.items n)
+          subst (λ (n : ℕ). g.J.Swept.keeps → MakesCalls c.args.script.now n)
           (sym (c.fail_calls-swept.ensures.calls ∙ ap (λ (f : FailureCounts). f.calls) c.of_calls-counts.ensures)) c.in_ok-calls.ensures;
       calls =
-          subst (λ (n : ℕ). Steps (λ i. FailsCall g.J.Swept.keeps c.args.script.now c.in_ok-named.named) n none_wrong new.not_right) (sym c.fail_calls-swept.ensures.calls)
-          (subst (λ (s : NotRight). Steps (λ i. FailsCall g.J.Swept.keeps c.args.script.now c.in_ok-named.named) old.calls s new.not_right)
+          subst (λ (n : ℕ). Steps (λ i. FailsCall g.J.Swept.keeps c.args.script.now c.in_ok-named.named (i + 1)) n none_wrong new.not_right) (sym c.fail_calls-swept.ensures.calls)
+          (subst (λ (s : NotRight). Steps (λ i. FailsCall g.J.Swept.keeps c.args.script.now c.in_ok-named.named (i + 1)) old.calls s new.not_right)
           (ap (λ (f : FailureCounts). f.not_right) c.of_calls-counts.ensures) c.in_ok-swept.ensures.swept);
     }
 
