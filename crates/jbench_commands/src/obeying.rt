@@ -237,8 +237,16 @@ fn recover_device<W: Write + Drop, E: Write + Drop>(
     ensures done { IfOk result (λ status. status ≡ Fine → IsOverTwo device → IsDoneOver IsOverTwo (Recovers words.now.dry_run words.now.before_damage)) }
     ensures other { IfOk result (λ status. status ≢ Fine → status ≡ Refused) }
 {
+    let mut out = out;
     let progress = Progress::new(rt);
-    let (status, _device) = recovering::recover(rt.alloc(), words, device, progress, out, err)?;
+    let (status, _device) = recovering::recover(
+        rt.alloc(),
+        words,
+        device,
+        progress,
+        &mut out,
+        err,
+    )?;
     Ok(status)
 }
 

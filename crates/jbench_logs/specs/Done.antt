@@ -1,5 +1,6 @@
 -- What a command over a log leaves of its device.
-use Rattle.std.specs.Prelude.{◌≡◌, ◌⊎◌, ℕ, Bool, true, false, List, None}
+use Rattle.std.specs.Prelude.{◌≡◌, ◌⊎◌, ℕ, Bool, true, false, List, Option, None}
+use Rattle.std.specs.Io.KnownBytes.{Appends}
 use Rattle.journal_model.specs.declared.number.Area.TheVariants.{Home}
 use Rattle.journal_model.specs.declared.refusal.JournalError.{JournalError}
 use Rattle.journal_model.specs.Disk.{Disk, Shape, flushed, reading}
@@ -9,11 +10,13 @@ use Rattle.journal_world.specs.Opening.{IsOpening}
 use Rattle.log_epochs.specs.OpeningRun.{IsMoment}
 use Rattle.recovery.specs.Before.{BeforeRefused, IsMomentBefore, IsOpeningBefore, TellsBefore}
 use Rattle.recovery.specs.BeforeSteps.{HasDoneBefore}
-use Rattle.recovery.specs.Opening.{IsDone, IsFormatted, OpeningRefused}
+use Rattle.recovery.specs.Making.{IsMakingMoment}
+use Rattle.recovery.specs.Opening.{IsDone, IsFormatted, OpeningRefused, Tells}
 use Rattle.recovery.specs.Planned.{IsPlanned, IsPlannedBefore}
 use Rattle.recovery.specs.Upgrade.{IsUpgradeBroken, IsUpgraded}
 use Rattle.jbench_logs.specs.declared.damage.Taken.{Taken}
 use Rattle.jbench_logs.specs.declared.plans.Planned.{Planned}
+use Rattle.jbench_logs.specs.Said.{opened_line}
 
 -- a log of so many blocks, with this UUID and block numbers of 64 or of 32 bits, was made: all of its blocks are durable, and then
 -- home was made durable as it read
@@ -22,12 +25,32 @@ pub record IsMade (maxlen : ℕ) (uuid : List ℕ) (wide : Bool) (old new : Devi
   pub of_log : IsFormatted old.shape maxlen uuid wide old.disk formatted
   pub of_home : new.disk ≡ flushed formatted Home
 
+-- a moment of that: home is as it was, and the superblock comes last; or all was done
+pub data IsMakeMoment (shape : Shape) (maxlen : ℕ) (uuid : List ℕ) (wide : Bool) (old disk : Disk) : Type 0 where
+  OfLog : IsMakingMoment shape maxlen uuid wide old disk → IsMakeMoment shape maxlen uuid wide old disk
+  OfHome : (formatted : Disk) → IsFormatted shape maxlen uuid wide old formatted → disk ≡ flushed formatted Home → IsMakeMoment shape maxlen uuid wide old disk
+
 -- an opening was done: it made the calls that are due for what it read, and home is what the log's complete transactions leave
 pub record IsRecovered (old new : DeviceState) : Type 0 where
   pub superblock : List ℕ
   pub next : ℕ
   pub opening : IsOpening old.shape old.disk new.disk superblock next
   pub calls : IsDone old new
+
+-- an opening was done, behind which this number is the next one, and this is told of it
+pub record IsOpeningTold (old new : DeviceState) (clean : Bool) (ends_at transactions next : ℕ) : Type 0 where
+  pub superblock : List ℕ
+  pub opening : IsOpening old.shape old.disk new.disk superblock next
+  pub tells : Tells old.shape (reading old.disk) clean ends_at transactions
+
+-- the line of an opening was written, of what was found where reads were honest
+pub record SaysOpened (honest : Type 0) (old new : DeviceState) (before written : Option (List ℕ)) : Type 0 where
+  pub clean : Bool
+  pub ends_at : ℕ
+  pub transactions : ℕ
+  pub next : ℕ
+  pub said : Appends before written (opened_line clean ends_at transactions next)
+  pub told : honest → IsOpeningTold old new clean ends_at transactions next
 
 -- an upgrade was done: the log was empty, and the calls that are due for its superblock were made
 pub record HasUpgraded (old new : DeviceState) : Type 0 where

@@ -36,12 +36,12 @@ pub struct Taken {
 /// # Errors
 ///
 /// The output can't be written.
-pub fn recover_before_damage<D: Device + Drop, H: Watch + Drop, W: Write + Drop, E: Write + Drop>(
+pub fn recover_before_damage<D: Device + Drop, H: Watch + Drop, W: Write, E: Write + Drop>(
     alloc: Global,
     path: &str,
     device: D,
     watch: H,
-    out: W,
+    out: &mut W,
     err: E,
 ) -> io::Result<(Status, D)>
     ensures recovered { IfOk result (λ done. done.0 ≡ Fine → D.honest done.1 → IsRecoveredBefore (D.state device) (D.state done.1)) }
@@ -49,10 +49,10 @@ pub fn recover_before_damage<D: Device + Drop, H: Watch + Drop, W: Write + Drop,
     // In each case, each moment is one of such an opening: nothing else was written.
     ensures moments { IfOk result (λ done. D.honest done.1 → EachMoment (IsMomentBefore (D.state device).shape (D.state device).disk) (D.state device) (D.state done.1)) }
 {
-    let (mut out, mut err) = (out, err);
+    let mut err = err;
     match open_watched(alloc, device, watch) {
         Ok((device, taken)) => {
-            say_taken(&taken, &mut out)?;
+            say_taken(&taken, out)?;
             Ok((Status::Fine, device))
         }
         Err((device, e)) => {

@@ -8,7 +8,7 @@ ghost use Rattle.log_epochs.specs.OpeningRun.{IsMoment};
 ghost use Rattle.log_epochs.specs.UpgradeRun.{IsUpgradeMoment};
 ghost use Rattle.recovery.specs.Opening.{OpeningRefused};
 ghost use Rattle.jbench_words.specs.declared.fault.Status.TheVariants.{Fine, Refused};
-ghost use Rattle.jbench_logs.specs.Done.{HasUpgraded, IsMade, IsRecovered, IsRefusedBy, IsUpgradeLeft};
+ghost use Rattle.jbench_logs.specs.Done.{HasUpgraded, IsMade, IsMakeMoment, IsOpeningTold, IsRecovered, IsRefusedBy, IsUpgradeLeft, SaysOpened};
 ghost use Rattle.jbench_logs.specs.Said.{opened_line};
 
 use crate::reasons::say_why;
@@ -38,6 +38,8 @@ pub fn format<D: Device, W: Write + Drop, E: Write + Drop>(
 ) -> io::Result<Status>
     ensures made { IfOk result (λ status. status ≡ Fine → IsMade measures.now.log_blocks measures.now.uuid measures.now.wide (D.state device.old) (D.state device.new)) }
     ensures other { IfOk result (λ status. status ≢ Fine → status ≡ Refused) }
+    // Whatever the answer is: home stays, but that it may be durable as it reads.
+    ensures moments { EachMoment (IsMakeMoment (D.state device.old).shape measures.now.log_blocks measures.now.uuid measures.now.wide (D.state device.old).disk) (D.state device.old) (D.state device.new) }
 {
     match make_log(measures, device) {
         Ok(()) => end(path, say_made(measures, out), err),
@@ -47,7 +49,8 @@ pub fn format<D: Device, W: Write + Drop, E: Write + Drop>(
 
 /// Makes an empty log, and makes home durable.
 fn make_log<D: Device>(measures: &Measures, device: &mut D) -> Result<(), Fault>
-    ensures { OnOk result (IsMade measures.now.log_blocks measures.now.uuid measures.now.wide (D.state device.old) (D.state device.new)) }
+    ensures made { OnOk result (IsMade measures.now.log_blocks measures.now.uuid measures.now.wide (D.state device.old) (D.state device.new)) }
+    ensures moments { EachMoment (IsMakeMoment (D.state device.old).shape measures.now.log_blocks measures.now.uuid measures.now.wide (D.state device.old).disk) (D.state device.old) (D.state device.new) }
 {
     recovery::format(device, measures.log_blocks, &measures.uuid, measures.wide)?;
     match device.flush(Area::Home) {
@@ -108,23 +111,25 @@ fn dump_device<D: Device, W: Write + Drop>(
 /// # Errors
 ///
 /// The output can't be written.
-pub fn recover<D: Device + Drop, H: Watch + Drop, W: Write + Drop, E: Write + Drop>(
+pub fn recover<D: Device + Drop, H: Watch + Drop, W: Write, E: Write + Drop>(
     alloc: Global,
     path: &str,
     device: D,
     watch: H,
-    out: W,
+    out: &mut W,
     err: E,
 ) -> io::Result<(Status, D)>
     ensures recovered { IfOk result (λ done. done.0 ≡ Fine → D.honest done.1 → IsRecovered (D.state device) (D.state done.1)) }
+    // The line is that of what was found.
+    ensures says { IfOk result (λ done. done.0 ≡ Fine → SaysOpened (D.honest done.1) (D.state device) (D.state done.1) (W.contents out.old) (W.contents out.new)) }
     ensures refused { IfOk result (λ done. done.0 ≢ Fine → (done.0 ≡ Refused) × IsRefusedBy OpeningRefused D.state D.honest (D.state device) done.1) }
     // In each case, each moment is one of an opening: nothing else was written.
     ensures moments { IfOk result (λ done. D.honest done.1 → EachMoment (IsMoment (D.state device).shape (D.state device).disk) (D.state device) (D.state done.1)) }
 {
-    let (mut out, mut err) = (out, err);
+    let mut err = err;
     match open_watched(alloc, device, watch) {
         Ok((device, report, next)) => {
-            write_opened(report, next, &mut out)?;
+            write_opened(report, next, out)?;
             Ok((Status::Fine, device))
         }
         Err((device, e)) => {
@@ -142,6 +147,8 @@ fn open_watched<D: Device + Drop, H: Watch + Drop>(
     watch: H,
 ) -> Result<(D, Report, Tid), (D, JournalError)>
     ensures opened { IfOk result (λ opened. D.honest opened.0 → IsRecovered (D.state device) (D.state opened.0)) }
+    ensures tells { IfOk result (λ opened. D.honest opened.0 →
+        IsOpeningTold (D.state device) (D.state opened.0) opened.1.clean opened.1.ends_at opened.1.transactions opened.2) }
     ensures refused { IfErr result (λ e. OpeningRefused (D.honest e.0) (D.state device) (D.state e.0) e.1) }
     ensures moments { MatchResult result
         (λ opened. D.honest opened.0 → EachMoment (IsMoment (D.state device).shape (D.state device).disk) (D.state device) (D.state opened.0))

@@ -34,25 +34,25 @@ pub struct Planned {
 /// # Errors
 ///
 /// The output can't be written.
-pub fn plan<D: Device + Drop, H: Watch + Drop, W: Write + Drop, E: Write + Drop>(
+pub fn plan<D: Device + Drop, H: Watch + Drop, W: Write, E: Write + Drop>(
     alloc: Global,
     words: &RecoverWords<'_>,
     device: D,
     watch: H,
-    out: W,
+    out: &mut W,
     err: E,
 ) -> io::Result<(Status, D)>
     ensures stays { IfOk result (λ done. Stays (D.state device) (D.state done.1)) }
     ensures planned { IfOk result (λ done. done.0 ≡ Fine → D.honest done.1 → IsFoundOut words.now.before_damage (D.state device)) }
     ensures refused { IfOk result (λ done. done.0 ≢ Fine → (done.0 ≡ Refused) × IsRefusedBy (IsRefusalOf words.now.before_damage) D.state D.honest (D.state device) done.1) }
 {
-    let (mut out, mut err) = (out, err);
+    let mut err = err;
     let path = words.paths.log;
     let (device, planned) = plan_watched(alloc, words.before_damage, device, watch);
     let mut device = device;
     match planned {
         Ok(planned) => {
-            say_plan(alloc, &mut device, &planned, &mut out)?;
+            say_plan(alloc, &mut device, &planned, out)?;
             Ok((Status::Fine, device))
         }
         Err(e) => {

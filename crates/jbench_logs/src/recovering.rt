@@ -2,7 +2,7 @@
 ghost use Rattle.std.specs.Prelude.{◌≡◌, ◌≢◌, IfOk, false, true};
 ghost use Rattle.block_device.specs.State.{EachMoment, Stays};
 ghost use Rattle.jbench_words.specs.declared.fault.Status.TheVariants.{Fine, Refused};
-ghost use Rattle.jbench_logs.specs.Done.{IsFoundOut, IsMomentOf, IsRecovered, IsRecoveredBefore, IsRefusalOf, IsRefusedBy};
+ghost use Rattle.jbench_logs.specs.Done.{IsFoundOut, IsMomentOf, IsRecovered, IsRecoveredBefore, IsRefusalOf, IsRefusedBy, SaysOpened};
 
 use crate::damage::recover_before_damage;
 use crate::{logs, plans};
@@ -20,16 +20,18 @@ use std::io::Write;
 /// # Errors
 ///
 /// The output can't be written.
-pub fn recover<D: Device + Drop, H: Watch + Drop, W: Write + Drop, E: Write + Drop>(
+pub fn recover<D: Device + Drop, H: Watch + Drop, W: Write, E: Write + Drop>(
     alloc: Global,
     words: &RecoverWords<'_>,
     device: D,
     watch: H,
-    out: W,
+    out: &mut W,
     err: E,
 ) -> io::Result<(Status, D)>
     ensures recovered { words.now.dry_run ≡ false → words.now.before_damage ≡ false →
         IfOk result (λ done. done.0 ≡ Fine → D.honest done.1 → IsRecovered (D.state device) (D.state done.1)) }
+    ensures says { words.now.dry_run ≡ false → words.now.before_damage ≡ false →
+        IfOk result (λ done. done.0 ≡ Fine → SaysOpened (D.honest done.1) (D.state device) (D.state done.1) (W.contents out.old) (W.contents out.new)) }
     ensures before { words.now.dry_run ≡ false → words.now.before_damage ≡ true →
         IfOk result (λ done. done.0 ≡ Fine → D.honest done.1 → IsRecoveredBefore (D.state device) (D.state done.1)) }
     ensures moments { words.now.dry_run ≡ false → IfOk result (λ done. D.honest done.1 →
@@ -46,16 +48,18 @@ pub fn recover<D: Device + Drop, H: Watch + Drop, W: Write + Drop, E: Write + Dr
 }
 
 /// Opens the log of a device, in spite of a damaged block or of one that is ahead where the words tell.
-fn recover_as<D: Device + Drop, H: Watch + Drop, W: Write + Drop, E: Write + Drop>(
+fn recover_as<D: Device + Drop, H: Watch + Drop, W: Write, E: Write + Drop>(
     alloc: Global,
     words: &RecoverWords<'_>,
     device: D,
     watch: H,
-    out: W,
+    out: &mut W,
     err: E,
 ) -> io::Result<(Status, D)>
     ensures recovered { words.now.before_damage ≡ false →
         IfOk result (λ done. done.0 ≡ Fine → D.honest done.1 → IsRecovered (D.state device) (D.state done.1)) }
+    ensures says { words.now.before_damage ≡ false →
+        IfOk result (λ done. done.0 ≡ Fine → SaysOpened (D.honest done.1) (D.state device) (D.state done.1) (W.contents out.old) (W.contents out.new)) }
     ensures before { words.now.before_damage ≡ true →
         IfOk result (λ done. done.0 ≡ Fine → D.honest done.1 → IsRecoveredBefore (D.state device) (D.state done.1)) }
     ensures moments { IfOk result (λ done. D.honest done.1 →
