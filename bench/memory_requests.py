@@ -4,14 +4,14 @@
 usage: memory_requests.py [--program PATH]
 
 `jbench apply` does scripts over two files, under a wrapper of the C library's malloc, realloc, pwrite and fdatasync (refused_memory.c,
-which `cc` builds). What it writes down between two lines that the program prints is what one operation came to. The one block that the
-program makes of the bytes of a `write`, a `read` or a `direct` is not counted: it is the script's, and not the journal's. A request
-behind a write is then refused, in an apply of its own: where that changes no line and no byte of both files it is one of the device's,
-for a buffer that it can do without.
+which `cc` builds). What it writes down between two lines that the program prints is what one operation came to. What the program takes
+itself is not counted: the block that it makes of the bytes of a `write`, a `read` or a `direct`, its table of handles, and behind the
+close the block from which it tells the next number. A request in a call that takes none for the journal is the device's, for a buffer
+that it can do without: each of these is refused, in an apply of its own, and has to change no line and no byte of either file.
 
-It prints a table: the call, its requests the first time, and the least and the most that any later one made; and then what the seals of
-one copy and of six make, each in a journal that was just made, what a write of a block makes that its transaction has already, and how
-many requests come behind the first write of a call. The program is `./jbench`, which is built first, or the one at PATH. Run it by hand;
+It prints a table: the call, its requests the first time, the least and the most that any later one made, and how many of all these come
+behind the first write of their call; and then what the seals of one copy and of six make, each in a journal that was just made, what a
+write of a block makes that its transaction has already, and what came of the device's requests. The program is `./jbench`, which is built first, or the one at PATH. Run it by hand;
 it needs `cc` and glibc.
 """
 import json
@@ -23,7 +23,10 @@ from refused_memory import Refuser
 from runs import program_of
 
 LENGTH = 257  # blocks of the log
-OWN_BLOCK = ("write", "read", "direct")  # operations of which one request is the program's own block
+FIRST = ["turn"]  # the first operation, which does nothing: what comes before its line is the journal's making
+# Of these lines the program has requests of its own: how many before the journal's, and how many behind them.
+OWN = {"new": (1, 0), "write": (1, 0), "read": (1, 0), "direct": (1, 0), "close": (0, 2)}
+NONE_TAKEN = ("extend", "stop", "request", "wait", "direct", "sync", "ckturn", "turn step", "turn committed", "turn idle")
 
 
 def transaction(name, count, kind="write"):
@@ -32,12 +35,12 @@ def transaction(name, count, kind="write"):
 
 
 def seal_of(count, kind="write"):
-    return [*transaction(1, count, kind), ["turn"]]
+    return [FIRST, *transaction(1, count, kind), ["turn"]]
 
 
 # Of each kind of call some: 12 transactions of one to six entries, with reads, revokes, direct writes and rounds between them.
 EACH_CALL = [
-    *(operation for i in range(12) for operation in [
+    FIRST, *(operation for i in range(12) for operation in [
         ["start", i, 6], *(["write", i, 10 + (7 * i + j) % 20, "22"] for j in range(i % 6 + 1)), *(["write", i, 10 + 7 * i % 20, "33"],) * 9,
         ["read", i, 10 + 7 * i % 20], ["read", i, 50], ["extend", i, 0], ["restart", i, 1], ["revoke", i, 30 + i],
         ["revoke", i, 30 + i], ["stop", i], ["request", i], *[["turn"]] * 16, ["wait", i], ["direct", 40 + i, "44"], ["sync"],
@@ -67,29 +70,22 @@ class Applied:
                 self.parts[-1].append((kind, int(size or 0)))
 
     def by_call(self):
-        """Of each line: the word of its call, the sizes of its requests, and how many of them come behind its first write."""
+        """Of each line: the word of its call, the numbers and the sizes of its requests, and how many come behind its first write."""
         lines = self.done[1].splitlines()
         assert self.done[0] == 0 and len(lines) == len(self.operations) + 2 and len(self.parts) >= len(lines), self.done
-        words = ["open and new", *(name_of(operation, line) for operation, line in zip(self.operations, lines[1:])), "close"]
-        for word, part in zip(words, self.parts):
-            sizes = [size for kind, size in part if kind == "request"]
-            writes = next((i for i, (kind, _) in enumerate(part) if kind != "request"), len(part))
-            behind = sum(kind == "request" for kind, _ in part[writes:])
-            if word.split()[0] in OWN_BLOCK:
-                assert sizes[0] == 1024, (word, part)
-                sizes = sizes[1:]
-            yield word, sizes, behind
-
-    def numbers_behind_writes(self):
-        """The numbers of the requests that come behind the first write between two lines."""
+        words = ["opening", "new", *(name_of(operation, line) for operation, line in zip(self.operations[1:], lines[2:])), "close"]
         number = 0
-        for part in self.parts:
-            has_written = False
-            for kind, _ in part:
+        for word, part in zip(words, self.parts):
+            made, has_written = [], False
+            for kind, size in part:
+                if kind == "request":
+                    number += 1
+                    made.append((number, size, has_written))
                 has_written = has_written or kind != "request"
-                number += kind == "request"
-                if kind == "request" and has_written:
-                    yield number
+            before, behind = OWN.get(word.split()[0], (0, 0))
+            made = made[before : len(made) - behind]
+            if word != "opening":
+                yield word, [each[0] for each in made], [each[1] for each in made], sum(each[2] for each in made)
 
 
 def name_of(operation, line):
@@ -104,7 +100,7 @@ def name_of(operation, line):
 
 def table(applied):
     calls = {}
-    for word, sizes, behind in applied.by_call():
+    for word, _, sizes, behind in applied.by_call():
         calls.setdefault(word, []).append((len(sizes), behind))
     print("| Call | Requests the first time | later | behind its first write |")
     print("|---|---|---|---|")
@@ -122,14 +118,14 @@ def main(words):
         table(applied)
         for kind in ("write", "revoke"):
             for count in (1, 6):
-                *_, (word, sizes, _), _ = Applied(refuser, seal_of(count, kind)).by_call()
+                *_, (word, _, sizes, _), _ = Applied(refuser, seal_of(count, kind)).by_call()
                 print(f"{word} of {count} by {kind}: {len(sizes)} requests, of {sizes} bytes")
-        known = [["start", 1, 1], *[["write", 1, 9, "11"]] * 40]
-        made = [sizes for word, sizes, _ in Applied(refuser, known).by_call() if word == "write"]
+        known = [FIRST, ["start", 1, 1], *[["write", 1, 9, "11"]] * 40]
+        made = [sizes for word, _, sizes, _ in Applied(refuser, known).by_call() if word == "write"]
         print(f"write of a block that is known: requests {[len(sizes) for sizes in made[1:]]}")
-        behind = list(applied.numbers_behind_writes())
-        same = sum((other.done, other.files) == (applied.done, applied.files) for other in (Applied(refuser, EACH_CALL, number) for number in behind))
-        print(f"requests behind the first write of a call: {len(behind)}, of which {same} change nothing where they are refused")
+        numbers = [number for word, numbers, _, _ in applied.by_call() for number in numbers if word.startswith(NONE_TAKEN)]
+        same = sum((other.done, other.files) == (applied.done, applied.files) for other in (Applied(refuser, EACH_CALL, number) for number in numbers))
+        print(f"requests in calls that take none for the journal: {len(numbers)}, of which {same} change nothing where they are refused")
     return 0
 
 
