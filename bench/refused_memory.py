@@ -10,7 +10,8 @@ refused request K
 
 - `run` prints the lines of a separate model (run_model.py) in which one operation is refused `1 Memory`, the one behind it answers what
   that one would have, and every other line is as in the row, with the verdict ok; or those of a run of which one device call fails, for
-  the device of a run is in memory too; or the program itself is refused, and prints nothing but `jbench: refusal 1 Memory` or `2 Device`;
+  the device of a run is in memory too; or the program itself is refused, its device or the opening of what is left, and then it prints
+  a front of the row's lines and `jbench: refusal 1 Memory` or `2 Device`;
 - `apply` does what killed_apply.py asks of one that is killed: the lines of the model up to the refusal, files as they are behind one of
   the model's writes, and `recover` brings home all that was committed and nothing else;
 - `recover`, `format`, `upgrade`, `dump`, `show` and `check` come to what they come to with ample memory, or are refused; a `recover` that
@@ -56,6 +57,9 @@ ROWS = {
     "direct_write": [
         *transaction(1, (8, "aa")), ["start", 2, 1], ["revoke", 2, 8], ["stop", 2], ["request", 2], ["direct", 8, "cc"], ["commit"],
         ["direct", 8, "bb"], ["sync"]],
+    # the list of a transaction's handles has to grow at the restart
+    "restart": [
+        ["start", 1, 1], ["write", 1, 5, "01"], ["restart", 1, 1], ["write", 1, 6, "02"], ["stop", 1], ["request", 1], ["commit"]],
     "further_handles": [
         ["start", 1, 1], ["write", 1, 5, "01"], ["write", 1, 6, "02"], ["extend", 1, 1], ["write", 1, 6, "03"], ["extend", 1, 5],
         ["extend", 1, 7], ["restart", 1, 1], ["write", 1, 7, "04"], ["read", 1, 6], ["stop", 1], ["request", 1], ["turn"],
@@ -226,22 +230,18 @@ class Refuser:
         return cases
 
 
-def is_refused(status, output, messages, refusals=(MEMORY,)):
-    return status == 1 and output == "" and messages in refusals
-
-
 def differ(found, wanted=""):
     raise Difference(f"found: {found}\nwanted: {wanted}")
 
 
 def judge_runs(refuser, name, script):
-    """Runs of a script. Each operation that can be refused for want of memory has to be, once at least, and to answer as in the row next."""
+    """Runs of a script. An operation that is refused for want of memory answers as in the row, made again."""
     wanted = Wanted(script.text)
     seen = set()
 
     def judge(status, output, messages):
-        if is_refused(status, output, messages, (MEMORY, DEVICE)):
-            return "of the program itself"
+        if status == 1 and messages in (MEMORY, DEVICE) and wanted.row.startswith(output) and output[-1:] in ("", "\n"):
+            return "of the program, its device or the opening"
         if (status, messages) != (0, "") or output not in wanted.by_lines:
             differ((status, messages), first_difference(wanted.row, output))
         if output in wanted.places:
@@ -255,14 +255,12 @@ def judge_runs(refuser, name, script):
 
 
 def judge_row(refuser, name, operations):
+    """Runs of a row; the answer is which words of operations were refused in it."""
     script = Script(operations)
     wanted, seen = judge_runs(refuser, f"run {name}", script)
     kinds = Counter(wanted.operations[place][0] for place in seen)
-    missing = {operation[0] for operation in operations if operation[0] in REFUSABLE} - set(kinds)
     print(f"  refused and made again: {', '.join(f'{kind} {times}' for kind, times in sorted(kinds.items()))}")
-    if missing:
-        refuser.false += 1
-        print(f"run {name}: never refused: {missing}")
+    return set(kinds)
 
 
 # ---- over files
@@ -354,8 +352,9 @@ def judge_commands(refuser):
     script = refuser.path("checked", json.dumps({"ops": ROWS["further_handles"]}))
     judge_files(refuser, "check", ["check", script], {})
     for name, operations in ROWS.items():
-        text = json.dumps({"ops": operations})
-        judge_apply(refuser, f"apply {name}", text, name == "direct_write")
+        lines = Run(json.dumps({"ops": operations})).lines  # an apply ends at the first operation that is refused: these are left out
+        accepted = [operation for operation, line in zip(operations, lines) if " = refused " not in line]
+        judge_apply(refuser, f"apply {name}", json.dumps({"ops": accepted}), name == "direct_write")
 
 
 def random_script(draw):
@@ -371,8 +370,10 @@ def main(words):
     count, seed = count_and_seed(words, 0)
     with tempfile.TemporaryDirectory() as folder:
         refuser = Refuser(program, Path(folder))
-        for name, operations in ROWS.items():
-            judge_row(refuser, name, operations)
+        missing = set(REFUSABLE) - set().union(*(judge_row(refuser, name, operations) for name, operations in ROWS.items()))
+        if missing:
+            refuser.false += 1
+            print(f"never refused: {missing}")
         judge_commands(refuser)
         draw = random.Random(seed)
         for number in range(count):
