@@ -1,4 +1,4 @@
-//! A handle of the next transaction writes while a device write of a commit is held.
+//! A handle of the next transaction writes and reads while a device write of a commit is held.
 ghost use Rattle.std.specs.Prelude.{◌≡◌};
 
 use block_device::{Device, DeviceFault, MemDevice};
@@ -146,7 +146,29 @@ fn commit_one<J: JournalName + PartsName + MeetingName, D: Device, R: Wait>(
     false
 }
 
-/// Once a write of the log is held, writes one block, and lets the held one go. It answers whether it was written.
+/// Writes one block through a handle of its own, and reads it, and then the one that is being committed: the front holds both. It answers
+/// whether it read what was written.
+fn write_and_read<J: JournalName + PartsName + MeetingName, D: Device, R: Wait>(
+    rt: &R,
+    journal: &Journal<J, D>,
+    mut seat: Seat<J>,
+) -> bool {
+    if journal.block_size() != 1024 {
+        return false;
+    }
+    let Ok(mut handle) = journal.try_start(rt, &mut seat, 1) else {
+        return false;
+    };
+    let wrote = journal.write(rt, &mut handle, BlockNo(9), &[8; 1024]);
+    let mut bytes = [0; 1024];
+    let read = journal.read(rt, &mut handle, BlockNo(9), &mut bytes);
+    let newest = bytes[0];
+    let read_other = journal.read(rt, &mut handle, BlockNo(3), &mut bytes);
+    journal.stop(rt, handle);
+    wrote.is_ok() && read.is_ok() && newest == 8 && read_other.is_ok() && bytes[0] == 7
+}
+
+/// Once a write of the log is held, writes one block and reads, and lets the held one go. It answers whether that was done.
 fn overtake<J: JournalName + PartsName + MeetingName, D: Device, R: Wait>(
     rt: &R,
     journal: &Journal<J, D>,
@@ -156,9 +178,9 @@ fn overtake<J: JournalName + PartsName + MeetingName, D: Device, R: Wait>(
     if !is_set(&gate.held) {
         return false;
     }
-    let written = write_one(rt, journal, seat, 9).is_some();
+    let done = write_and_read(rt, journal, seat);
     gate.written.store(1, Ordering::SeqCst);
-    written
+    done
 }
 
 /// One thread commits, and another writes while the commit's first write is held.
@@ -199,7 +221,7 @@ fn overtaken<
     parts.committed
 }
 
-/// Under one lock for front and engine the write would wait for the held one, and the gate would give up.
+/// Under one lock for front and engine, or where a read always took both, it would wait for the held write, and the gate would give up.
 #[test]
 fn a_handle_writes_while_a_commit_is_held(rt: HostRuntime) -> Result<(), Fail> {
     let mut device = MemDevice::new(rt.alloc(), 1024, 1024, 4096);

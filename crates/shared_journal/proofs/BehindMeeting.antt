@@ -1,6 +1,6 @@
 -- What holders know and what is counted, once front and engine have met and made a step.
 use Rattle.std.proofs.Common.{refl, sym, ap, subst, ◌∙◌, arith}
-use Rattle.std.specs.Prelude.{◌≡◌, ℕ, ◌+◌, ◌≤◌, max, Bool, true, List, Option, Some, None, Result, Ok, Err, IfErr, IfOk, OnOk}
+use Rattle.std.specs.Prelude.{◌≡◌, ℕ, ◌+◌, ◌≤◌, max, Bool, true, false, List, Option, Some, None, Result, Ok, Err, IfErr, IfOk, OnOk}
 use Rattle.std.proofs.Math.Nat.{le-max_left, max-eq_right}
 use Rattle.block_device.specs.State.{DeviceState}
 use Rattle.journal_model.specs.Disk.{Disk}
@@ -16,7 +16,7 @@ use Rattle.journal_steps.specs.Direct.{DirectSyncRefused, DirectWriteRefused, Ma
 use Rattle.journal_steps.specs.Journal.{Does, NotesRead, ReadRefused, TurnDid, TurnRefused}
 use Rattle.journal_steps.specs.Journal.TurnRefused.{DeviceFailed, MemoryIsShort, RingIsShort, WasAborted}
 use Rattle.journal_steps.specs.Values.{JournalValue}
-use Rattle.journal_sides.specs.Sides.{Finishes, Meets, MeetsAnd, SealDid, Tells, engine_of}
+use Rattle.journal_sides.specs.Sides.{Finishes, HeldReadDid, Meets, MeetsAnd, SealDid, Tells, engine_of}
 use Rattle.journal_sides.specs.Sides.Finishes.{NoneFinished, OneFinished}
 use Rattle.journal_sides.specs.Sides.Tells.{NotTold, Told}
 use Rattle.own_steps.specs.declared.own.HandleStage.{HandleStage}
@@ -219,6 +219,14 @@ module _ {D : Type 0} (state : D → DeviceState) (old : JournalValue D) (engine
       IfErr r (λ e. MeetsAnd state old engine (λ (mid : JournalValue D). DirectSyncRefused state mid new e)) → AllStillKnow old.journal.front new.journal.front
   sync_direct-know new (Ok a) ok err = both-know new _ ok (λ mid did. calls.direct_sync state mid new did)
   sync_direct-know new (Err e) ok err = both-know new _ err (λ mid did. calls.refused_direct_sync state mid new e did)
+
+-- a read at the front changes nothing that is counted
+pub held-read : {D : Type 0} (state : D → DeviceState) (most size count raised : ℕ) (old new : JournalValue D) → IsHeld state most size count raised old →
+    new.device ≡ old.device → (held : Bool) (h : HandleValue) (b : ℕ) (v : List ℕ) → HeldReadDid state held h b v old new → IsHeld state most size count raised new
+held-read {D} state most size count raised old new is same true h b v did =
+    let r : Result (Unit {0}) JournalError = Ok tt in
+    counting.read state most size count raised old new is (ap (λ (d : D). (state d).shape) same) r h b v did.1 tt
+held-read {D} state most size count raised old new is same false h b v did = subst (IsHeld state most size count raised) (sym did.2) is
 
 -- of a seal: it may leave fewer credits held
 pub record Lessens (f g : Front) : Type 0 where

@@ -232,7 +232,8 @@ impl<J: JournalName + PartsName + MeetingName, D: Device, R: Record> Journal<J, 
 
     /// Reads a block of the home area into a buffer of one block: the running transaction's copy, else that of the one that is
     /// being committed, else the newest committed copy, else what home reads. What the handle sees is a step of its transaction,
-    /// and takes no credit. Isolation between handles is left to the caller.
+    /// and takes no credit. Isolation between handles is left to the caller. A block of which the front holds a copy is read under the
+    /// front's lock alone, any other under both.
     ///
     /// # Errors
     ///
@@ -258,6 +259,10 @@ impl<J: JournalName + PartsName + MeetingName, D: Device, R: Record> Journal<J, 
         ensures length { length into.new ≡ length into.old }
     {
         let mut locked = self.locked.lock(rt);
+        let held = locked.read_held(handle, block, into)?;
+        if held {
+            return Ok(());
+        }
         let mut engine = self.engine.lock(rt);
         locked.read(
             &self.counters,

@@ -13,7 +13,7 @@ ghost use Rattle.group_commit.specs.Extension.{Extends, Starts};
 ghost use Rattle.journal_front.specs.Front.{ExtendRefused, IsOpenHandle, JoinRefused, Spends, TouchRefused};
 ghost use Rattle.journal_steps.specs.Journal.{Does, NotesRead, ReadRefused, Requests, TurnRefused};
 ghost use Rattle.journal_steps.specs.Values.{JournalValue};
-ghost use Rattle.journal_sides.specs.Sides.{Meets, MeetsAnd, SealDid, engine_of};
+ghost use Rattle.journal_sides.specs.Sides.{HeldReadDid, Meets, MeetsAnd, SealDid, engine_of};
 ghost use Rattle.own_steps.specs.Own.{BearsOut};
 ghost use Rattle.shared_journal.specs.Known.{own_of_ticket};
 
@@ -249,6 +249,48 @@ impl<J: JournalName + PartsName + MeetingName, D: Device, R: Record> Locked<J, D
             &handle.inner,
         );
         Ok(())
+    }
+
+    /// Reads a block of which the front holds a copy, as `journal_sides::FrontSide::read_held`. It answers whether there is one; else
+    /// nothing changes.
+    ///
+    /// # Errors
+    ///
+    /// Those of `journal_sides::FrontSide::read_held`: nothing changes.
+    /// Source: journalling.rst (handles see the running transaction).
+    pub fn read_held(
+        &mut self,
+        handle: &mut Handle<'_, J, R>,
+        block: BlockNo,
+        into: &mut [u8],
+    ) -> Result<bool, JournalError>
+        requires { length into.old ≡ J.block_size }
+        ensures ok { IfOk result (λ held. HeldReadDid D.state held handle.old.handle block into.new self.old self.new) }
+        ensures open { IsOpenHandle self.old.journal.front handle.old.handle }
+        ensures steps { IfOk result (λ held. held ≡ true → handle.new ≡ record handle.old { steps = handle.old.steps ++ read_step handle.old.handle.number block into.new ∷ [] }) }
+        ensures none { IfOk result (λ held. held ≡ false → (handle.new ≡ handle.old) × (into.new ≡ into.old)) }
+        ensures err { IfErr result (λ e. ReadRefused D.state self.old handle.old.handle block self.new e × (self.new ≡ self.old) × (handle.new ≡ handle.old)) }
+        ensures untouched { IfErr result (λ e. into.new ≡ into.old) }
+        ensures length { length into.new ≡ length into.old }
+    {
+        look(
+            &self.knowing,
+            &mut self.recorded,
+            &mut handle.part,
+            self.journal.front(),
+        );
+        let held = self.journal.read_held(&handle.inner, block, into)?;
+        if !held {
+            return Ok(false);
+        }
+        note::<J, R, Brand>(
+            &self.knowing,
+            &mut self.recorded,
+            &mut handle.part,
+            self.journal.front(),
+            &handle.inner,
+        );
+        Ok(true)
     }
 
     /// Reads a block of the home area into a buffer of one block, as `journal_sides::read`.

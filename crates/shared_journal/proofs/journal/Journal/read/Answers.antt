@@ -1,32 +1,74 @@
-use Rattle.std.proofs.Common.{◌≡◌, subst, sym}
-use Rattle.std.proofs.lemmas.Result.{IfErr-weaker}
+use Rattle.std.proofs.Common.{◌≡◌, ◌∙◌, Bool, subst, sym}
+use Rattle.std.proofs.lemmas.Result.{IfErr-weaker, err_from_is_err_and}
 use Rattle.log_engine.specs.Engine.{EngineValue}
-use Rattle.journal_steps.specs.Journal.{ReadRefused}
+use Rattle.journal_world.specs.Journal.Event.{ReadBlock}
+use Rattle.journal_steps.specs.Journal.{Does, NotesRead, ReadRefused}
 use Rattle.journal_steps.specs.Values.{JournalValue}
-use Rattle.journal_sides.specs.Sides.{MeetsAnd}
-use Rattle.shared_journal.proofs.Refused.{reads-met}
-use Rattle.shared_journal.proofs.Moments.{err-both, err-met, on-met}
+use Rattle.journal_sides.specs.Sides.{HeldReadDid, MeetsAnd}
+use Rattle.shared_journal.specs.Known.{HandleKnown}
+use Rattle.shared_journal.proofs.Refused.{reads, reads-met}
+use Rattle.shared_journal.proofs.Moments.{err-both, on-met}
 use Rattle.shared_journal.proofs.journal.Journal.read.Goals as goal
 
--- the step
+-- at the front it is refused for one of its causes
+pub returns-in_err-held-clause-err : goal.returns-in_err-held-clause-err
+returns-in_err-held-clause-err g c =
+    let p = err_from_is_err_and c.from_residual.result c.from_residual.ensures.1 in
+    let why = c.in_err-held.ensures.err in
+    rw (p.1, p.2) (
+      reads g.D.Device.state c.deref_mut.result.now c.read_held.new.self c.args.handle.now.handle c.args.block c.in_err-held.field-0.0 c.read_held.ensures.«open» why.0,
+      why.2,
+    )
+
+pub returns-in_err-held-clause-why : goal.returns-in_err-held-clause-why
+returns-in_err-held-clause-why g c =
+    let p = err_from_is_err_and c.from_residual.result c.from_residual.ensures.1 in
+    rw (p.1, p.2) (record { old = c.deref_mut.result.now; new = c.read_held.new.self; did = c.in_err-held.ensures.err.0 })
+
+-- the front holds a copy
+pub returns-then-held-clause-reads : goal.returns-then-held-clause-reads
+returns-then-held-clause-reads g c =
+    let old = c.deref_mut.result.now in
+    let new = c.read_held.new.self in
+    let did =
+    subst (λ (x : Bool). HeldReadDid g.D.Device.state x c.args.handle.now.handle c.args.block c.read_held.new.into old new) c.if-held.true c.in_ok-held.ensures.ok in
+    record { old = old; new = new; did = (did.1, λ honest. did.0) }
+
+-- else the read is made where both have met, by the handle as it was
 pub returns-clause-reads : goal.returns-clause-reads
 returns-clause-reads g c =
-    on-met g.D.Device.state c.deref_mut.result.now c.deref_mut-2.result.now c.read.new.self c.read.result _ _
-    (λ mid did. (did.0, λ honest. did.1 (subst (λ (e : EngineValue g.row.D.Denot). g.D.Device.honest e.device) (sym c.read.ensures.engine) honest)))
+    let state = g.D.Device.state in
+    let new = c.read.new.self in
+    let v = c.read.new.into in
+    let same : c.read_held.new.handle ≡ c.args.handle.now = (c.in_ok-held.ensures.none c.if-held.false).0 in
+    on-met state c.deref_mut-2.result.now c.deref_mut-3.result.now new c.read.result _ _
+    (λ mid did.
+    let here =
+    subst (λ (k : HandleKnown). NotesRead state mid k.handle c.args.block v new
+    × (g.D.Device.honest c.read.new.engine.device → Does state mid (ReadBlock k.handle.number c.args.block v) new)) same did in
+    (here.0, λ honest. here.1 (subst (λ (e : EngineValue g.row.D.Denot). g.D.Device.honest e.device) (sym c.read.ensures.engine) honest)))
     c.read.ensures.ok
 
 -- and the cause of its refusal
 pub returns-clause-why : goal.returns-clause-why
 returns-clause-why g c =
-    err-met g.D.Device.state c.deref_mut.result.now c.deref_mut-2.result.now c.read.new.self c.read.result _ c.read.ensures.err
+    let state = g.D.Device.state in
+    let same : c.read_held.new.handle ≡ c.args.handle.now = (c.in_ok-held.ensures.none c.if-held.false).0 in
+    IfErr-weaker c.read.result _ _
+    (λ e m. record {
+      old = m.mid;
+      new = c.read.new.self;
+      did = subst (λ (k : HandleKnown). ReadRefused state m.mid k.handle c.args.block c.read.new.self e) same m.did;
+    }) c.read.ensures.err
 
 -- which is one of those that it may answer
 pub returns-clause-err : goal.returns-clause-err
 returns-clause-err g c =
     let state = g.D.Device.state in
-    let old = c.deref_mut.result.now in
+    let old = c.deref_mut-2.result.now in
     let new = c.read.new.self in
-    let h = c.args.handle.now.handle in
-    IfErr-weaker c.read.result _ _ (λ e why. (reads-met state old c.deref_mut-2.result.now new h c.args.block e c.read.ensures.«open» why.0, why.1))
-    (err-both c.read.result (λ e. MeetsAnd state old c.deref_mut-2.result.now (λ (mid : JournalValue g.row.D.Denot). ReadRefused state mid h c.args.block new e))
-    (λ e. c.read.new.handle ≡ c.args.handle.now) c.read.ensures.err c.read.ensures.same)
+    let h = c.read_held.new.handle.handle in
+    let same : c.read_held.new.handle ≡ c.args.handle.now = (c.in_ok-held.ensures.none c.if-held.false).0 in
+    IfErr-weaker c.read.result _ _ (λ e why. (reads-met state old c.deref_mut-3.result.now new h c.args.block e c.read.ensures.«open» why.0, why.1 ∙ same))
+    (err-both c.read.result (λ e. MeetsAnd state old c.deref_mut-3.result.now (λ (mid : JournalValue g.row.D.Denot). ReadRefused state mid h c.args.block new e))
+    (λ e. c.read.new.handle ≡ c.read_held.new.handle) c.read.ensures.err c.read.ensures.same)
