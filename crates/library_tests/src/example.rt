@@ -1,4 +1,4 @@
-//! The example of a journal, over a device in memory.
+//! The examples, over a device in memory: of a journal, and of one that threads share.
 
 use block_device::MemDevice;
 use journal_example::work;
@@ -11,5 +11,17 @@ fn two_blocks_change_together(rt: HostRuntime) -> Result<(), Fail> {
         return Err("a call is refused".into());
     };
     assert_eq!(rt; (done.tid.0, done.first, done.home), (2, 0x11, 2));
+    Ok(())
+}
+
+/// Each of two threads is told of two changes that they are safe: in two transactions at least, and four at most.
+#[test]
+fn two_threads_change_blocks(rt: HostRuntime) -> Result<(), Fail> {
+    let device = MemDevice::new(rt.alloc(), 1024, 33, 64);
+    let Ok(done) = threads_example::work(&rt, rt.alloc(), device) else {
+        return Err("a call is refused".into());
+    };
+    assert_eq!(rt; done.safe, 4);
+    assert!(rt; 2 <= done.home && done.home <= 4);
     Ok(())
 }

@@ -15,6 +15,8 @@ mod gathered;
 #[cfg(test)]
 mod held;
 #[cfg(test)]
+mod service;
+#[cfg(test)]
 mod tables;
 #[cfg(test)]
 mod threads;

@@ -1,0 +1,96 @@
+//! Gates that hold a thread until another has come to a point, and give up after a limit of looks.
+use std::sync::atomic::{AtomicU64, Ordering};
+use std::thread;
+use volume_service::{Gate, Point};
+
+/// How often a gate looks before it gives up.
+const LOOKS: u32 = 2_000_000;
+
+/// Looks until the word is so great. It answers whether it came to that.
+fn comes_to(word: &AtomicU64, least: u64) -> bool {
+    for _ in 0..LOOKS {
+        if word.load(Ordering::SeqCst) >= least {
+            return true;
+        }
+        thread::yield_now();
+    }
+    false
+}
+
+/// Holds each client's handle open until two clients have opened one.
+#[derive(Drop)]
+pub(crate) struct Meeting {
+    opened: AtomicU64,
+    given_up: AtomicU64,
+}
+
+impl Meeting {
+    pub(crate) fn new() -> Meeting {
+        Meeting {
+            opened: AtomicU64::new(0),
+            given_up: AtomicU64::new(0),
+        }
+    }
+
+    /// Whether they never met.
+    pub(crate) fn failed(&self) -> bool {
+        self.given_up.load(Ordering::SeqCst) != 0
+    }
+}
+
+impl Gate for Meeting {
+    fn pass(&self, point: Point) {
+        if let Point::Opened(_) = point {
+            self.opened.fetch_add(1, Ordering::SeqCst);
+            if !comes_to(&self.opened, 2) {
+                self.given_up.store(1, Ordering::SeqCst);
+            }
+        }
+    }
+}
+
+/// Holds the first write of the log until a handle has written a block meanwhile.
+#[derive(Drop)]
+pub(crate) struct Overtaking {
+    held: AtomicU64,
+    written: AtomicU64,
+    given_up: AtomicU64,
+}
+
+impl Overtaking {
+    pub(crate) fn new() -> Overtaking {
+        Overtaking {
+            held: AtomicU64::new(0),
+            written: AtomicU64::new(0),
+            given_up: AtomicU64::new(0),
+        }
+    }
+
+    /// Whether nobody wrote while the write was held.
+    pub(crate) fn failed(&self) -> bool {
+        self.given_up.load(Ordering::SeqCst) != 0
+    }
+
+    /// Whether a write was held.
+    pub(crate) fn has_held(&self) -> bool {
+        self.held.load(Ordering::SeqCst) != 0
+    }
+}
+
+impl Gate for Overtaking {
+    fn pass(&self, point: Point) {
+        match point {
+            Point::LogWrite => {
+                if self.held.fetch_add(1, Ordering::SeqCst) == 0 && !comes_to(&self.written, 1) {
+                    self.given_up.store(1, Ordering::SeqCst);
+                }
+            }
+            Point::Wrote(_, _) => {
+                if self.held.load(Ordering::SeqCst) != 0 {
+                    self.written.store(1, Ordering::SeqCst);
+                }
+            }
+            Point::Opened(_) => {}
+        }
+    }
+}
