@@ -1,8 +1,10 @@
 //! The journal that threads share. Its calls take `&self`; callers reserve credits, give them back and look at the commit mark
-//! without a lock, and all else is a step of the journal of one thread (`group_commit`), made under one lock.
+//! without a lock, and all else is a step of one of its two sides (`journal_sides`), or of both where they meet, made under a lock for
+//! the front, one for the engine, or both.
 //!
-//! `locked` has those steps, and says what is true whenever the lock is free: all credits that the front holds lie in one value, and
-//! the number of the raiser is the mark. `journal` takes the lock, makes one of them, and hands on its answer; `closing` ends it.
+//! `locked` has those steps, and says what is true whenever the front's lock is free: all credits that the front holds lie in one
+//! value, and the number of the raiser is the mark. `journal` takes the locks, makes one of them, and hands on its answer; `closing`
+//! ends it.
 //! `locking` locks the running transaction, and `sole` is the journal once nobody shares it any longer.
 #![tactic(auto)]
 
