@@ -17,6 +17,3 @@ pub use both::{into_single, meet, read, seal, sync_direct, write_direct};
 pub use engine_side::{Alone, EngineSide, SidesMeeting};
 pub use front_side::FrontSide;
 pub use making::UnnamedSides;
-
-#[cfg(test)]
-mod tests;

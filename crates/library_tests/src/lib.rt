@@ -15,7 +15,13 @@ mod gathered;
 #[cfg(test)]
 mod held;
 #[cfg(test)]
+mod meetings;
+#[cfg(test)]
 mod service;
+#[cfg(test)]
+mod shares;
+#[cfg(test)]
+mod sides;
 #[cfg(test)]
 mod tables;
 #[cfg(test)]

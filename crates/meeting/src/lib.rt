@@ -9,6 +9,3 @@ mod view;
 
 pub use meeting::{Follower, Meeting, Owner, UnnamedMeeting};
 pub use view::{MeetingName, MetAndNow, Place, Since, View, Word};
-
-#[cfg(test)]
-mod tests;

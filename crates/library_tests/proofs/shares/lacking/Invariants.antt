@@ -1,4 +1,4 @@
-use Rattle.parts.proofs.tests.lacking.Given as goal
+use Rattle.library_tests.proofs.shares.lacking.Given as goal
 
 -- it stays as it is
 abbrev pub ghosts-step : goal.ghosts-step

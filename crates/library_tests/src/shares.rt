@@ -1,7 +1,7 @@
 //! A number that rises, and shares of it that others took.
 ghost use Rattle.std.specs.Prelude.{◌≡◌, ◌≤◌, Some};
 
-use crate::{Agreement, Part, Parts, PartsName, UnnamedParts, Whole};
+use parts::{Agreement, Part, Parts, PartsName, UnnamedParts, Whole};
 use std::marker::{Brand, Model};
 use std::process::Abort;
 use std::test::Fail;

@@ -1,4 +1,4 @@
-use Rattle.meeting.proofs.tests.a_follower_meets_a_counter.Given as goal
+use Rattle.library_tests.proofs.meetings.a_follower_meets_a_counter.Given as goal
 
 -- the name is that of the meeting
 abbrev pub ghosts-rises_between_meetings : goal.ghosts-rises_between_meetings

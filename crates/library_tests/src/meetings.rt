@@ -1,7 +1,7 @@
 //! A counter, and what it was when both last met.
 ghost use Rattle.std.specs.Prelude.{◌≡◌, ◌≤◌};
 
-use crate::{Follower, Meeting, MeetingName, Owner, Since, UnnamedMeeting};
+use meeting::{Follower, Meeting, MeetingName, Owner, Since, UnnamedMeeting};
 use std::marker::{Brand, Model};
 use std::process::Abort;
 use std::test::Fail;

@@ -1,4 +1,4 @@
-use Rattle.journal_sides.proofs.tests.a_front_goes_on_while_the_engine_commits.Given as goal
+use Rattle.library_tests.proofs.sides.a_front_goes_on_while_the_engine_commits.Given as goal
 
 -- the name is that of the meeting of these sides
 abbrev pub ghosts-goes_on : goal.ghosts-goes_on

@@ -1,5 +1,5 @@
 use Rattle.std.specs.Prelude.{Some}
-use Rattle.parts.proofs.tests.none.Given as goal
+use Rattle.library_tests.proofs.shares.none.Given as goal
 
 -- it has nothing
 abbrev pub ghosts-add : goal.ghosts-add

@@ -1,4 +1,4 @@
-use Rattle.parts.proofs.tests.two_shares_of_a_number.Given as goal
+use Rattle.library_tests.proofs.shares.two_shares_of_a_number.Given as goal
 
 -- the name is that of the whole
 abbrev pub ghosts-rises_between : goal.ghosts-rises_between

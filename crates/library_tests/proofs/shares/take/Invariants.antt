@@ -1,5 +1,5 @@
 use Rattle.std.specs.Prelude.{Some}
-use Rattle.parts.proofs.tests.take.Given as goal
+use Rattle.library_tests.proofs.shares.take.Given as goal
 
 -- it has all of the number
 abbrev pub ghosts-step : goal.ghosts-step

@@ -1,9 +1,9 @@
 //! A front that goes on while the engine commits.
 ghost use Rattle.std.specs.Prelude.{◌≡◌};
 
-use crate::{FrontSide, UnnamedSides, meet, seal};
 use block_device::MemDevice;
 use journal_model::{BlockNo, JournalError, Tid};
+use journal_sides::{FrontSide, UnnamedSides, meet, seal};
 use journal_steps::Turn;
 use log_engine::Progress;
 use meeting::MeetingName;
