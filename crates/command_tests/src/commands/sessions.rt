@@ -10,7 +10,7 @@ const FOLDER: &str = "session";
 type Script = (&'static str, &'static str);
 
 /// The scripts.
-const SCRIPTS: [Script; 8] = [
+const SCRIPTS: [Script; 9] = [
     (
         "session/two.json",
         r#"{"ops": [["start",1,2],["write",1,9,"11"],["write",1,10,"22"],["stop",1],["request",1],["commit"],["wait",1]]}"#,
@@ -34,6 +34,10 @@ const SCRIPTS: [Script; 8] = [
     ("session/longer.json", r#"{"length": 34, "ops": []}"#),
     ("session/wrong.json", r#"{"ops": [["stop",1]]}"#),
     (
+        "session/other.json",
+        r#"{"uuid": "bbbbbbbbbbbbbbbbbbbbbbbbbbbbbbbb", "ops": []}"#,
+    ),
+    (
         "session/same.json",
         r#"{"block": 1024, "length": 33, "home": 64, "uuid": "AAAAAAAAAAAAAAAAaaaaaaaaaaaaaaaa", "ops": []}"#,
     ),
@@ -41,7 +45,7 @@ const SCRIPTS: [Script; 8] = [
 
 /// Commands over one log, in their order. The numbers follow the rules of the format: an opening passes over one number, and
 /// a close names the number that its next transaction would have got.
-const STEPS: [Step; 37] = [
+const STEPS: [Step; 38] = [
     (
         "jbench format session/log session/home",
         "formatted 33 blocks of 1024\n| Fine",
@@ -95,6 +99,10 @@ end sequence=5 transactions=1
     ),
     (
         "jbench apply session/log session/home session/wrong.json",
+        "| jbench: bad script\nRefused",
+    ),
+    (
+        "jbench apply session/log session/home session/other.json",
         "| jbench: bad script\nRefused",
     ),
     (
