@@ -1,4 +1,1 @@
-pub mod Noted
-pub mod Slot
-pub mod Slots
 pub mod Versions

@@ -1,137 +1,100 @@
-//! A cache of copies by block: the newest copy of each, and a frozen one only where it is needed.
-ghost use Rattle.std.specs.Prelude.{◌≡◌, IsOk, IsSome, OnOk, OnErr};
+//! What two transactions leave of each block that they touch: the one that runs, and the one that is being committed.
+ghost use Rattle.std.specs.Prelude.{◌≡◌, [], nat_eq, IsOk, IsSome, OnOk, OnErr};
+ghost use Rattle.std.specs.Map.{lookup};
 ghost use Rattle.std.specs.Option.{option_copied};
-ghost use Rattle.std.specs.FinMap as map;
-ghost use Rattle.frozen_copy.specs.Slot.{written};
+ghost use Rattle.indexmap.specs.IndexMap.{insert_entry};
 ghost use Rattle.frozen_copy.specs.Versions.{newer};
 
 use indexmap::IndexMap;
-use journal_model::{Block, BlockNo};
+use journal_model::{BlockNo, Entry};
 use std::alloc::{AllocError, Global};
 use std::marker::Model;
 
-/// The copies of one block.
-#[derive(Drop)]
-struct Slot {
-    /// The newest copy.
-    newest: Block,
-    /// The parity of the transaction that wrote it.
-    parity: bool,
-    /// The copy of the transaction that is being committed, where the one that runs has written a newer one.
-    frozen: Option<Block>,
-}
-
-impl Slot {
-    /// Takes a newer copy by the transaction that runs, whose parity this is. A copy by the one that is being committed becomes the
-    /// frozen one.
-    fn write(&mut self, parity: bool, copy: Block)
-        ensures { self.new ≡ written parity copy self.old }
-    {
-        let older = std::mem::replace(&mut self.newest, copy);
-        if self.parity != parity {
-            self.parity = parity;
-            self.frozen = Some(older);
-        }
-    }
-}
-
-/// The copies of two transactions by block: of the one that runs, and of the one that is being committed. Contracts see two finite maps.
+/// The entries of two transactions by block: of the one that runs, and of the one that is being committed. Contracts see two finite
+/// maps, each as a list of its blocks with their entries, in the order of the first writes.
 ///
-/// At most two transactions have copies at a time, so one bit tells them apart: a seal flips it, and moves nothing.
+/// A seal has the two maps change places, and a finish empties one: both keep their room, so that a transaction takes memory for
+/// its map only where it touches more blocks than those before it did.
 #[derive(Drop)]
 pub struct VersionCache {
-    slots: IndexMap<BlockNo, Slot>,
-    /// The parity of the transaction that runs. The one that is being committed has the other.
-    parity: bool,
+    /// Those of the transaction that runs.
+    running: IndexMap<BlockNo, Entry>,
+    /// Those of the one that is being committed.
+    committing: IndexMap<BlockNo, Entry>,
 }
 
 impl Model for VersionCache {
-    ghost use Rattle.frozen_copy.specs.Versions.{Versions, versions_code};
+    ghost use Rattle.frozen_copy.specs.Versions.{Versions};
 
     ghost Value = { Versions };
 
-    ghost coded = { versions_code };
-
-    ghost use Rattle.frozen_copy.specs.Slots.{versions_of, HasDistinctBlocks};
-
-    ghost view = { versions_of };
-
-    ghost invariant = { HasDistinctBlocks };
+    ghost view = { λ c. record { running = c.running.entries; committing = c.committing.entries } };
 }
 
 impl VersionCache {
-    /// No copies. It takes no memory.
+    /// No entries. It takes no memory.
     pub fn new(alloc: Global) -> Self
-        ensures { result ≡ record { running = map.empty; committing = map.empty } }
+        ensures { result ≡ record { running = []; committing = [] } }
     {
         VersionCache {
-            slots: IndexMap::new(alloc),
-            parity: false,
+            running: IndexMap::new(alloc),
+            committing: IndexMap::new(alloc),
         }
     }
 
-    /// Notes a copy of a block by the transaction that runs, in the place of an older one of its own. The copies of the transaction
-    /// that is being committed stay as they are. A block of which either has a copy takes no memory.
+    /// Notes what the transaction that runs leaves of a block: in the place of what it left of it before, or else behind its other
+    /// blocks. The entries of the transaction that is being committed stay as they are.
     ///
     /// # Errors
     ///
-    /// Memory ran out: nothing changes.
-    pub fn write(&mut self, block: BlockNo, copy: Block) -> Result<(), AllocError>
-        ensures running { OnOk result (self.new.running ≡ map.insert self.old.running block copy) }
+    /// Memory ran out: nothing changes. A block of which the transaction that runs has an entry takes none.
+    pub fn write(&mut self, block: BlockNo, entry: Entry) -> Result<(), AllocError>
+        ensures running { OnOk result (self.new.running ≡ insert_entry nat_eq self.old.running block entry) }
         ensures committing { self.new.committing ≡ self.old.committing }
         ensures err { OnErr result (self.new ≡ self.old) }
-        ensures again { IsSome (newer self.old block) → IsOk result }
+        ensures again { IsSome (lookup (nat_eq block) self.old.running) → IsOk result }
     {
-        if let Some(slot) = self.slots.get_mut(&block) {
-            slot.write(self.parity, copy);
-            return Ok(());
-        }
-        let slot = Slot {
-            newest: copy,
-            parity: self.parity,
-            frozen: None,
-        };
-        self.slots.insert(block, slot)?;
+        self.running.insert(block, entry)?;
         Ok(())
     }
 
-    /// The transaction that runs is the one that is being committed from now on, and the next one has no copies. It copies and moves
+    /// The transaction that runs is the one that is being committed from now on, and the next one has no entries. It copies
     /// nothing, and takes no memory. The caller's condition: the transaction before is finished.
     pub fn seal(&mut self)
-        requires { self.old.committing ≡ map.empty }
-        ensures { self.new ≡ record { running = map.empty; committing = self.old.running } }
+        requires { self.old.committing ≡ [] }
+        ensures { self.new ≡ record { running = []; committing = self.old.running } }
     {
-        self.parity = !self.parity;
+        std::mem::swap(&mut self.running, &mut self.committing);
     }
 
-    /// The copy of a block by the transaction that is being committed.
-    pub fn committing(&self, block: BlockNo) -> Option<&Block>
-        ensures { option_copied result ≡ map.get self.now.committing block }
-    {
-        let slot = self.slots.get(&block)?;
-        if slot.parity == self.parity {
-            slot.frozen.as_ref()
-        } else {
-            Some(&slot.newest)
-        }
-    }
-
-    /// The transaction that was being committed is finished, and its copies are dropped.
+    /// The transaction that was being committed is finished, and its entries are dropped.
     pub fn finish(&mut self)
-        ensures { self.new ≡ record { running = self.old.running; committing = map.empty } }
+        ensures { self.new ≡ record { running = self.old.running; committing = [] } }
     {
-        let parity = self.parity;
-        self.slots.retain(|_, slot| {
-            slot.frozen = None;
-            slot.parity == parity
-        });
+        self.committing.clear();
     }
 
-    /// The newer copy of a block: that of the transaction that runs, or else that of the one that is being committed.
-    pub fn get(&self, block: BlockNo) -> Option<&Block>
+    /// The entries of the transaction that runs, in the order of the first writes.
+    pub fn running(&self) -> &IndexMap<BlockNo, Entry>
+        ensures { result.now.entries ≡ self.now.running }
+    {
+        &self.running
+    }
+
+    /// The entry of a block by the transaction that is being committed.
+    pub fn committing(&self, block: BlockNo) -> Option<&Entry>
+        ensures { option_copied result ≡ lookup (nat_eq block) self.now.committing }
+    {
+        self.committing.get(&block)
+    }
+
+    /// The newer entry of a block: that of the transaction that runs, or else that of the one that is being committed.
+    pub fn get(&self, block: BlockNo) -> Option<&Entry>
         ensures { option_copied result ≡ newer self.now block }
     {
-        let found = self.slots.get(&block)?;
-        Some(&found.newest)
+        match self.running.get(&block) {
+            Some(entry) => Some(entry),
+            None => self.committing.get(&block),
+        }
     }
 }

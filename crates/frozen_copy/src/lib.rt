@@ -1,9 +1,8 @@
-//! The copies of the transaction that runs and of the one that is being committed, where both may have one of a block. A write by the
-//! one that runs leaves the copies of the other as they are, and a seal copies nothing.
+//! The entries of the transaction that runs and of the one that is being committed, where both may have one of a block. A write by the
+//! one that runs leaves those of the other as they are, and a seal copies nothing.
 #![tactic(auto)]
 
 mod cache;
-pub mod laws;
 
 pub use cache::VersionCache;
 

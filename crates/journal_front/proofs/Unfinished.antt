@@ -1,5 +1,5 @@
 -- The transactions that are not finished: their last effect on a block, from the entries that the front keeps.
-use Rattle.std.proofs.Common.{◌≡◌, ℕ, ◌+◌, ◌-◌, ◌<◌, List, [], ◌∷◌, ◌++◌, length, drop, Option, Some, None, sym, ap, ap₂, subst, ◌∙◌, arith, nat_eq, append_assoc, length-append}
+use Rattle.std.proofs.Common.{◌≡◌, ℕ, ◌+◌, ◌-◌, ◌<◌, List, [], ◌∷◌, ◌++◌, length, drop, Option, Some, None, refl, sym, ap, ap₂, subst, ◌∙◌, arith, nat_eq, append_assoc, length-append}
 use Rattle.std.specs.Map.{lookup}
 use Rattle.std.proofs.Math.Seq.{drop-append_seam}
 use Rattle.journal_model.specs.declared.entry.Entry.{Entry}
@@ -26,21 +26,12 @@ left-two f before last are told =
     ∙ drop-append_seam before (last ∷ f.running ∷ [])
 
 -- their last effect on a block is what the entries have
-unfinished-effect : (f : Front) (es : List (ℕ × Entry)) (b : ℕ) → AreCommitting f.sealed f.finished f.running.tid es →
+pub unfinished-effect : (f : Front) (es : List (ℕ × Entry)) (b : ℕ) → AreCommitting f.sealed f.finished f.running.tid es →
     last_effect b (unfinished f) ≡ later (lookup (nat_eq b) es) (effect b f.running.steps)
 unfinished-effect f es b (AllFinished told) = ap (last_effect b) (left-one f told) ∙ sym (later-none (effect b f.running.steps))
 unfinished-effect f es b (LastUnfinished before last are told) =
     ap (last_effect b) (left-two f before last are told)
     ∙ ap (λ (o : Option Entry). later o (effect b f.running.steps)) (sym (lookup-effect last.steps b))
-
-module _ (f : Front) (cs : List (ℕ × Entry)) (b : ℕ) (committing : AreCommitting f.sealed f.finished f.running.tid cs) where
-  -- an entry of the running transaction is the last
-  pub running-last : (e : Entry) → effect b f.running.steps ≡ Some e → last_effect b (unfinished f) ≡ Some e
-  running-last e found = unfinished-effect f cs b committing ∙ ap (later (lookup (nat_eq b) cs)) found
-
-  -- where that has none, the last one is the sealed transaction's
-  pub committing-last : effect b f.running.steps ≡ None → last_effect b (unfinished f) ≡ lookup (nat_eq b) cs
-  committing-last none = unfinished-effect f cs b committing ∙ ap (later (lookup (nat_eq b) cs)) none
 
 -- where all are finished, no entries are kept
 pub committing-none : (sealed : History) (finished running : ℕ) (es : List (ℕ × Entry)) → es ≡ [] → finished + 1 ≡ running → AreCommitting sealed finished running es
@@ -55,3 +46,8 @@ committing-sealed old sealed t finished running es are same told = subst (AreCom
 pub one-untold : (sealed : History) (finished running : ℕ) (es : List (ℕ × Entry)) → AreCommitting sealed finished running es → finished + 1 < running → finished + 2 ≡ running
 one-untold sealed finished running es (AllFinished told) less = absurd (omega arith)
 one-untold sealed finished running es (LastUnfinished before last are told) less = told
+
+-- where all are finished, none are kept
+pub all-told : (sealed : History) (finished running : ℕ) (es : List (ℕ × Entry)) → AreCommitting sealed finished running es → finished + 1 ≡ running → es ≡ []
+all-told sealed finished running es (AllFinished told) all = refl
+all-told sealed finished running es (LastUnfinished before last are told) all = absurd (omega arith)

@@ -35,5 +35,5 @@ pub data AreCommitting (sealed : History) (finished running : ℕ) : List (ℕ �
 pub record KeepsFront {R : Type 0} (transactions : R → History) (has_room : R → Type 0) (f : Inside R) : Type 0 where
   pub front : IsFront (front_of transactions f)
   pub held_are : f.held ≡ held (front_of transactions f)
-  pub committing_are : AreCommitting (transactions f.sealed) f.finished f.running.transaction.tid f.committing
+  pub committing_are : AreCommitting (transactions f.sealed) f.finished f.running.transaction.tid f.running.committing
   pub room : 0 < length f.running.transaction.handles → has_room f.sealed

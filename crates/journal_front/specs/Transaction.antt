@@ -15,10 +15,12 @@ pub record OpenTransaction : Type 0 where
   pub transaction : Transaction  -- its number, the handles that joined it, and their steps so far
   pub locked : Bool  -- it takes no further handles
   pub reserved : Bool  -- there is room for one more step
+  pub committing : List (ℕ × Entry)  -- the entries of the transaction before it, while that is being committed
 
--- a running transaction that no handle has joined
-abbrev pub begun : ℕ → OpenTransaction
-begun tid = record { transaction = record { tid = tid; handles = []; steps = [] }; locked = false; reserved = false }
+-- a running transaction that no handle has joined, and what the one before it leaves of blocks, while that is being committed
+abbrev pub begun : ℕ → List (ℕ × Entry) → OpenTransaction
+begun tid before =
+    record { transaction = record { tid = tid; handles = []; steps = [] }; locked = false; reserved = false; committing = before }
 
 -- one more handle joins
 abbrev pub joined_by : OpenTransaction → ℕ → OpenTransaction
@@ -29,6 +31,10 @@ locking t = record t { locked = true }
 
 abbrev pub reserving : OpenTransaction → OpenTransaction
 reserving t = record t { reserved = true }
+
+-- the transaction before it is finished
+abbrev pub finishing : OpenTransaction → OpenTransaction
+finishing t = record t { committing = [] }
 
 -- one more step is made, and takes the room that there was for it
 abbrev pub noting : OpenTransaction → Step → OpenTransaction

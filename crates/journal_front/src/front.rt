@@ -12,9 +12,9 @@ ghost use Rattle.journal_world.specs.Front.FrontEvent.{ExtendHandle, GiveBack, J
 ghost use Rattle.journal_world.specs.Journal.{batch_of};
 ghost use Rattle.journal_front.specs.Front.{ExtendRefused, IsKeptOut, IsOpenHandle, JoinRefused, MayExtend, MayStep, MayTouch, ReserveRefused, Spends, TouchRefused};
 
+use crate::Transaction;
 use crate::handle::{Credits, Handle};
 use crate::record::Record;
-use crate::{Entries, Transaction};
 use indexmap::IndexMap;
 use journal_model::layout::GREATEST_NUMBER;
 use journal_model::{
@@ -44,10 +44,8 @@ pub struct Front<R: Record> {
     mark: u32,
     /// The transactions sealed since the opening.
     sealed: R,
-    /// The one that handles join.
+    /// The one that handles join, beside which are the entries of the last sealed one, while that is not finished.
     running: Transaction,
-    /// The entries of the last sealed transaction, while it is not finished.
-    committing: Entries,
     /// The handles of the running one that have not stopped, in the order in which they joined, with the credits that each
     /// has left.
     open_handles: IndexMap<HandleNo, u64>,
@@ -95,7 +93,6 @@ impl<R: Record> Front<R> {
             mark: first.0 - 1,
             sealed: R::new(alloc),
             running: Transaction::new(alloc, first),
-            committing: Entries::new(alloc),
             open_handles: IndexMap::new(alloc),
             given: 0,
             aborted: false,
@@ -220,10 +217,7 @@ impl<R: Record> Front<R> {
     pub fn newest(&self, block: BlockNo) -> Option<&Entry>
         ensures { option_copied result ≡ last_effect block (unfinished self.now) }
     {
-        match self.running.get(block) {
-            Some(entry) => Some(entry),
-            None => self.committing.get(block),
-        }
+        self.running.newest(block)
     }
 
     /// Whether no transaction that is not finished has an entry of the block.
@@ -331,7 +325,7 @@ impl<R: Record> Front<R> {
         self.running.reserve()?;
         let op = Op::Read(bytes);
         let handle = handle.number();
-        self.running.note(Step { handle, block, op }, None);
+        self.running.note(Step { handle, block, op });
         Ok(())
     }
 
@@ -454,9 +448,9 @@ impl<R: Record> Front<R> {
         requires finished { self.old.finished + 1 ≡ self.old.running.tid }
         ensures { self.new ≡ sealing self.old }
     {
-        let (sealed, entries) = self.running.seal();
-        self.held = self.held.saturating_sub(entries.len() as u64);
-        self.committing = entries;
+        let entries = self.running.len() as u64;
+        let sealed = self.running.seal();
+        self.held = self.held.saturating_sub(entries);
         self.sealed.note(sealed);
     }
 
@@ -466,7 +460,7 @@ impl<R: Record> Front<R> {
         ensures { self.new ≡ finishing self.old }
     {
         self.finished += 1;
-        self.committing = Entries::new(self.alloc);
+        self.running.finish();
     }
 
     /// Callers are told that the transactions up to this one are committed, which are finished. The mark never falls.
@@ -494,7 +488,6 @@ impl<R: Record> Front<R> {
             mark: _,
             sealed,
             running: _,
-            committing: _,
             open_handles: _,
             given: _,
             aborted: _,

@@ -10,14 +10,12 @@
 //! first touches.
 #![tactic(auto)]
 
-mod entries;
 mod front;
 mod handle;
 pub mod laws;
 mod record;
 mod transaction;
 
-pub use entries::Entries;
 pub use front::Front;
 pub use handle::{Credits, Handle};
 pub use record::Record;

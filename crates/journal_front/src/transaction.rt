@@ -1,13 +1,13 @@
-//! A transaction until its seal: its number, the handles that joined it, their steps, and the entries of these.
-ghost use Rattle.std.specs.Prelude.{◌≡◌, ◌+◌, ◌-◌, ◌<◌, ◌^◌, ◌↔◌, true, false, IsTrue, length, nat_eq, IfErr, IfOk, OnOk};
-ghost use Rattle.std.specs.Option.{option_copied, option_map_or};
-ghost use Rattle.indexmap.specs.IndexMap.{insert_entry, spare};
+//! A transaction until its seal: its number, the handles that joined it, their steps, and the entries of these. Beside them it has
+//! those of the transaction before it, while that is being committed.
+ghost use Rattle.std.specs.Prelude.{◌≡◌, ◌+◌, ◌-◌, ◌<◌, ◌^◌, ◌↔◌, [], true, false, IsTrue, length, nat_eq, IfErr, IfOk, None, OnOk, Some};
+ghost use Rattle.std.specs.Map.{lookup};
+ghost use Rattle.std.specs.Option.{option_copied};
 ghost use Rattle.journal_model.specs.declared.refusal.JournalError.TheVariants.{Memory};
-ghost use Rattle.journal_model.specs.Transaction.{copied, effect, entries, entry_of, revoked};
-ghost use Rattle.journal_front.specs.Transaction.{LacksCredit, MayTouch, TouchRefused, Touches, batch_of, begun, cost, joined_by, locking, noting, reserving, revoke_step, touch_of, write_step};
+ghost use Rattle.journal_model.specs.Transaction.{copied, effect, entries, entry_of, later, revoked};
+ghost use Rattle.journal_front.specs.Transaction.{LacksCredit, MayTouch, TouchRefused, Touches, batch_of, begun, cost, finishing, joined_by, locking, noting, reserving, revoke_step, touch_of, write_step};
 
-use crate::Entries;
-use indexmap::IndexMap;
+use frozen_copy::VersionCache;
 use journal_model::{
     Batch, Block, BlockNo, Entry, HandleNo, Items, JournalError, Op, Sealed, Step, Tid,
 };
@@ -48,11 +48,12 @@ pub struct Transaction {
     handles: Items<HandleNo>,
     /// In the order in which they were made.
     steps: Vec<Step>,
-    /// What the steps leave of each block that they touch, in the order of the first touches.
-    entries: IndexMap<BlockNo, Entry>,
+    /// What the steps leave of each block that they touch, in the order of the first touches, and what the transaction before left
+    /// while it is being committed.
+    versions: VersionCache,
     /// It takes no further handles.
     locked: bool,
-    /// There is room for one more step and its entry.
+    /// There is room for one more step.
     reserved: bool,
 }
 
@@ -68,27 +69,18 @@ impl Model for Transaction {
     ghost invariant = { KeepsTransaction };
 }
 
-/// Puts in what a step leaves of a block, if anything, where there is room for it.
-fn put_entry(entries: &mut IndexMap<BlockNo, Entry>, block: BlockNo, entry: Option<Entry>)
-    requires { 0 < spare entries.old }
-    ensures { entries.new.entries ≡ option_map_or (λ e. insert_entry nat_eq entries.old.entries block e) entry entries.old.entries }
-{
-    if let Some(entry) = entry {
-        let _old = entries.insert(block, entry);
-    }
-}
-
 impl Transaction {
-    /// A running transaction of this number, which no handle has joined. It takes no memory.
+    /// A running transaction of this number, which no handle has joined, with none before it that is being committed. It takes no
+    /// memory.
     pub fn new(alloc: Global, tid: Tid) -> Self
-        ensures { result ≡ begun tid }
+        ensures { result ≡ begun tid [] }
     {
         Transaction {
             alloc,
             tid,
             handles: Items::new(alloc),
             steps: Vec::new(alloc),
-            entries: IndexMap::new(alloc),
+            versions: VersionCache::new(alloc),
             locked: false,
             reserved: false,
         }
@@ -119,7 +111,7 @@ impl Transaction {
     pub fn len(&self) -> usize
         ensures { result ≡ length (entries self.now.transaction.steps) }
     {
-        self.entries.len()
+        self.versions.running().len()
     }
 
     /// How many of its entries are copies, and how many are revokes. It looks at each of them.
@@ -127,9 +119,10 @@ impl Transaction {
         ensures copies { result.0 ≡ length (copied (entries self.now.transaction.steps)) }
         ensures revokes { result.1 ≡ length (revoked (entries self.now.transaction.steps)) }
     {
-        let all = self.entries.len();
+        let entries = self.versions.running();
+        let all = entries.len();
         let mut copies = 0;
-        for (_, entry) in self.entries.iter() {
+        for (_, entry) in entries.iter() {
             if let Entry::Copy(_) = entry {
                 copies += 1;
             }
@@ -141,7 +134,14 @@ impl Transaction {
     pub fn get(&self, block: BlockNo) -> Option<&Entry>
         ensures { option_copied result ≡ effect block self.now.transaction.steps }
     {
-        self.entries.get(&block)
+        self.versions.running().get(&block)
+    }
+
+    /// The newer entry of a block: its own, or else that of the transaction before it, while that is being committed.
+    pub fn newest(&self, block: BlockNo) -> Option<&Entry>
+        ensures { option_copied result ≡ later (lookup (nat_eq block) self.now.committing) (effect block self.now.transaction.steps) }
+    {
+        self.versions.get(block)
     }
 
     /// What a touch of the block would be.
@@ -179,7 +179,7 @@ impl Transaction {
         }
     }
 
-    /// Makes room for one more step, which `note` makes.
+    /// Makes room for one more step that touches no block, which `note` makes.
     ///
     /// # Errors
     ///
@@ -189,21 +189,36 @@ impl Transaction {
         ensures err { IfErr result (λ e. (e ≡ Memory) × (self.new ≡ self.old)) }
     {
         self.steps.try_reserve(1)?;
-        self.entries.reserve(1)?;
         self.reserved = true;
         Ok(())
     }
 
-    /// Makes a step, for which there is room. `entry` is what it leaves of its block; a read leaves nothing. Whether a touch
-    /// is paid for is the caller's to see. It takes no memory.
-    pub fn note(&mut self, step: Step, entry: Option<Entry>)
+    /// Makes a step that touches no block, as a read, for which there is room. It takes no memory.
+    pub fn note(&mut self, step: Step)
         requires room { self.old.reserved ≡ true }
-        requires entry { entry ≡ entry_of step.op }
+        requires untouched { entry_of step.op ≡ None }
         ensures { self.new ≡ noting self.old step }
     {
         self.reserved = false;
-        put_entry(&mut self.entries, step.block, entry);
         self.steps.push_reserved(step);
+    }
+
+    /// Makes a step, which leaves this of its block. Whether the touch is paid for is the caller's to see. The list of steps grows
+    /// first, so that nothing changes where the entry has no room.
+    ///
+    /// # Errors
+    ///
+    /// `Memory`: nothing has changed.
+    fn note_touch(&mut self, step: Step, entry: Entry) -> Result<(), JournalError>
+        requires { entry_of step.op ≡ Some entry }
+        ensures ok { OnOk result (self.new ≡ noting self.old step) }
+        ensures err { IfErr result (λ e. (e ≡ Memory) × (self.new ≡ self.old)) }
+    {
+        self.steps.try_reserve(1)?;
+        self.versions.write(step.block, entry)?;
+        self.steps.push_reserved(step);
+        self.reserved = false;
+        Ok(())
     }
 
     /// Whether a handle with so many credits left may touch the block, and what that touch is.
@@ -238,8 +253,7 @@ impl Transaction {
         let touch = self.paid_touch(left, block)?;
         let copy = Block::copy_of(self.alloc, bytes)?;
         let op = Op::Write(copy.try_clone()?);
-        self.reserve()?;
-        self.note(Step { handle, block, op }, Some(Entry::Copy(copy)));
+        self.note_touch(Step { handle, block, op }, Entry::Copy(copy))?;
         Ok(touch)
     }
 
@@ -260,9 +274,8 @@ impl Transaction {
         ensures err { IfErr result (λ e. TouchRefused self.old left block e × (self.new ≡ self.old)) }
     {
         let touch = self.paid_touch(left, block)?;
-        self.reserve()?;
         let op = Op::Revoke;
-        self.note(Step { handle, block, op }, Some(Entry::Revoke));
+        self.note_touch(Step { handle, block, op }, Entry::Revoke)?;
         Ok(touch)
     }
 
@@ -276,9 +289,10 @@ impl Transaction {
         ensures ok { IfOk result (λ batch. batch ≡ batch_of self.now.transaction) }
         ensures err { IfErr result (λ e. e ≡ Memory) }
     {
-        let room = Vec::with_capacity(self.alloc, self.entries.len())?;
+        let versions = self.versions.running();
+        let room = Vec::with_capacity(self.alloc, versions.len())?;
         let mut entries = Items::from_vec(room);
-        for (block, entry) in self.entries.iter() {
+        for (block, entry) in versions.iter() {
             entries.push((*block, entry.try_clone()?))?;
         }
         Ok(Batch {
@@ -287,30 +301,34 @@ impl Transaction {
         })
     }
 
-    /// It is sealed: it is handed out with its entries, moved and not copied, and the next one begins in its place. The
-    /// caller's conditions: it is locked, and there is a next number. It takes no memory, and can't be refused.
-    pub fn seal(&mut self) -> (Sealed, Entries)
+    /// It is sealed: it is handed out, and the next one begins in its place, beside which its entries stay while it is being
+    /// committed: none of them is moved or copied. The caller's conditions: it is locked, there is a next number, and the one before
+    /// it is finished. It takes no memory, and can't be refused.
+    pub fn seal(&mut self) -> Sealed
         requires locked { self.old.locked ≡ true }
         requires number { self.old.transaction.tid < 2 ^ 32 - 1 }
-        ensures sealed { result.0 ≡ self.old.transaction }
-        ensures entries { result.1 ≡ entries self.old.transaction.steps }
-        ensures next { self.new ≡ begun (self.old.transaction.tid + 1) }
+        requires finished { self.old.committing ≡ [] }
+        ensures sealed { result ≡ self.old.transaction }
+        ensures next { self.new ≡ begun (self.old.transaction.tid + 1) (entries self.old.transaction.steps) }
     {
-        let next = Transaction::new(self.alloc, Tid(self.tid.0 + 1));
-        let Transaction {
-            alloc: _,
-            tid,
-            handles,
-            steps,
-            entries,
-            locked: _,
-            reserved: _,
-        } = std::mem::replace(self, next);
-        let sealed = Sealed {
+        let tid = self.tid;
+        let handles = std::mem::replace(&mut self.handles, Items::new(self.alloc));
+        let steps = std::mem::replace(&mut self.steps, Vec::new(self.alloc));
+        self.tid = Tid(tid.0 + 1);
+        self.versions.seal();
+        self.locked = false;
+        self.reserved = false;
+        Sealed {
             tid,
             handles,
             steps: Items::from_vec(steps),
-        };
-        (sealed, Entries::of(entries))
+        }
+    }
+
+    /// The transaction before it is finished: its entries are dropped.
+    pub fn finish(&mut self)
+        ensures { self.new ≡ finishing self.old }
+    {
+        self.versions.finish();
     }
 }

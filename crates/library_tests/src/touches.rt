@@ -60,19 +60,19 @@ fn the_place_stays_and_the_last_operation_decides(rt: HostRuntime) -> Result<(),
         [(9, Some(0x33)), (5, Some(0))].as_slice()
     );
     transaction.lock();
+    transaction.finish();
     if !transaction.is_locked() || transaction.tid().0 > 2 {
         return Err("it is not locked, or has another number".into());
     }
-    let (sealed, entries) = transaction.seal();
+    let sealed = transaction.seal();
     assert_eq!(rt;
         (sealed.tid.0, sealed.handles.len(), sealed.steps.len()),
         (2, 2, 6)
     );
-    assert_eq!(rt;
-        (entries.len(), shown(entries.get(BlockNo(9)))),
-        (2, Some(0x33))
-    );
     assert_eq!(rt; (transaction.tid().0, transaction.len()), (3, 0));
+    assert_eq!(rt; shown(transaction.newest(BlockNo(9))), Some(0x33));
+    transaction.finish();
+    assert!(rt; transaction.newest(BlockNo(9)).is_none());
     Ok(())
 }
 
@@ -94,17 +94,18 @@ fn a_write_copies_its_bytes_once(rt: HostRuntime) -> Result<(), Fail> {
     let batch = transaction.batch()?;
     assert_eq!(rt; holders(transaction.get(block)), Some(3));
     transaction.lock();
+    transaction.finish();
     if transaction.tid().0 > 2 {
         return Err("it has another number".into());
     }
-    let (sealed, entries) = transaction.seal();
+    let sealed = transaction.seal();
     assert_eq!(rt;
-        (sealed.steps.len(), holders(entries.get(block))),
+        (sealed.steps.len(), holders(transaction.newest(block))),
         (1, Some(3))
     );
     drop(batch);
-    assert_eq!(rt; holders(entries.get(block)), Some(2));
+    assert_eq!(rt; holders(transaction.newest(block)), Some(2));
     drop(sealed);
-    assert_eq!(rt; holders(entries.get(block)), Some(1));
+    assert_eq!(rt; holders(transaction.newest(block)), Some(1));
     Ok(())
 }

@@ -121,9 +121,9 @@ invariant_of-self-2 g c =
       front = is-front f _ (Join c.args.n) step c.self.invariant.front;
       held_are = c.self.invariant.held_are ∙ sym same;
       committing_are =
-          subst (λ (n : ℕ). AreCommitting (g.R.Record.transactions c.make_room.new.self) c.self.inside.finished n c.self.inside.committing)
-          (sym (ap (λ (t : OpenTransaction). t.transaction.tid) c.in_ok-join.ensures.ok))
-          (subst (λ (ts : List Sealed). AreCommitting ts c.self.inside.finished c.self.inside.running.transaction.tid c.self.inside.committing)
+          subst (λ (t : OpenTransaction). AreCommitting (g.R.Record.transactions c.make_room.new.self) c.self.inside.finished t.transaction.tid t.committing)
+          (sym c.in_ok-join.ensures.ok)
+          (subst (λ (ts : List Sealed). AreCommitting ts c.self.inside.finished c.self.inside.running.transaction.tid c.self.inside.running.committing)
           (sym c.make_room.ensures.same) c.self.invariant.committing_are);
       room = λ joined. c.in_ok-make_room.ensures.room;
     }
@@ -137,7 +137,7 @@ invariant_of-self g c =
       front = subst IsFront (sym same) c.self.invariant.front;
       held_are = c.self.invariant.held_are;
       committing_are =
-          subst (λ (ts : List Sealed). AreCommitting ts c.self.inside.finished c.self.inside.running.transaction.tid c.self.inside.committing)
+          subst (λ (ts : List Sealed). AreCommitting ts c.self.inside.finished c.self.inside.running.transaction.tid c.self.inside.running.committing)
           (sym c.make_room.ensures.same) c.self.invariant.committing_are;
       room = λ joined. c.make_room.ensures.kept (c.self.invariant.room joined);
     }

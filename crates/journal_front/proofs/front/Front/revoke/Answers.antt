@@ -5,8 +5,9 @@ use Rattle.journal_world.specs.Front.FrontEvent.{RevokeBlock}
 use Rattle.journal_world.proofs.Credits.{event-held}
 use Rattle.journal_front.specs.Front.{MayStep}
 use Rattle.journal_front.specs.FrontView.{AreCommitting, front_of}
+use Rattle.journal_front.specs.Transaction.{OpenTransaction}
 use Rattle.journal_front.proofs.Holding.{is-front}
-use Rattle.journal_front.proofs.Touching.{open-still, same-handles, same-number, spends, revoked}
+use Rattle.journal_front.proofs.Touching.{open-still, same-handles, spends, revoked}
 use Rattle.journal_front.proofs.front.Front.revoke.Goals as goal
 
 -- the handle revoked
@@ -53,10 +54,8 @@ invariant_of-self-2 g c =
       front = is-front f _ event step c.self.invariant.front;
       held_are = c.self.invariant.held_are ∙ sym (event-held f _ event step);
       committing_are =
-          subst (λ (n : ℕ). AreCommitting (g.R.Record.transactions c.self.inside.sealed) c.self.inside.finished n c.self.inside.committing)
-          (sym (same-number f c.self.inside.running c.touch_revoke.new.self c.args.handle.now c.pay.new.self c.number.result c.left.result c.args.block Revoke
-          c.in_ok-touch.touch c.insert.new.self.entries refl refl may c.number.ensures c.left.ensures c.in_ok-touch.ensures.ok c.pay.ensures told))
-          c.self.invariant.committing_are;
+          subst (λ (t : OpenTransaction). AreCommitting (g.R.Record.transactions c.self.inside.sealed) c.self.inside.finished t.transaction.tid t.committing)
+          (sym c.in_ok-touch.ensures.ok.noted) c.self.invariant.committing_are;
       room = λ joined.
           c.self.invariant.room
           (subst (λ (js : List ℕ). 0 < length js)

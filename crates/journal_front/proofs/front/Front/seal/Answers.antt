@@ -3,8 +3,15 @@ use Rattle.std.proofs.lemmas.Bool.{true≢false}
 use Rattle.log_model.specs.Opening.{greatest_number}
 use Rattle.journal_model.specs.Transaction.{Transaction, entries}
 use Rattle.journal_front.specs.Transaction.{OpenTransaction}
-use Rattle.journal_front.proofs.Unfinished.{committing-sealed}
+use Rattle.journal_front.proofs.Unfinished.{all-told, committing-sealed}
 use Rattle.journal_front.proofs.front.Front.seal.Goals as goal
+
+-- no transaction is being committed
+pub seal-sealed-requires-clause-finished : goal.seal-sealed-requires-clause-finished
+seal-sealed-requires-clause-finished g c =
+    let f = c.self.inside in
+    all-told (g.R.Record.transactions f.sealed) f.finished f.running.transaction.tid f.running.committing c.self.invariant.committing_are
+    (rw (← c.self.view_is) at c.requires.finished)
 
 -- the entries of the running transaction are those of the one that is being committed
 pub invariant_of-self : goal.invariant_of-self
@@ -14,7 +21,7 @@ invariant_of-self g c =
     let next = c.seal-sealed.ensures.next in
     let tid : c.seal-sealed.new.self.transaction.tid ≡ f.running.transaction.tid + 1 = ap (λ (t : OpenTransaction). t.transaction.tid) next in
     let held_are = c.self.invariant.held_are in
-    let count = ap length c.seal-sealed.ensures.entries in
+    let count = c.len-entries.ensures in
     let none : length (entries c.seal-sealed.new.self.transaction.steps) ≡ 0 = ap (λ (t : OpenTransaction). length (entries t.transaction.steps)) next in
     let told : f.finished + 1 ≡ f.running.transaction.tid = rw (← c.self.view_is) at c.requires.finished in
     record {
@@ -29,6 +36,7 @@ invariant_of-self g c =
       held_are = omega arith;
       committing_are =
           committing-sealed (g.R.Record.transactions f.sealed) _ f.running.transaction f.finished _ _
-          (c.note.ensures ∙ ap (λ (t : Transaction). (g.R.Record.transactions f.sealed) ++ t ∷ []) c.seal-sealed.ensures.sealed) c.seal-sealed.ensures.entries (omega arith);
+          (c.note.ensures ∙ ap (λ (t : Transaction). (g.R.Record.transactions f.sealed) ++ t ∷ []) c.seal-sealed.ensures.sealed)
+          (ap (λ (t : OpenTransaction). t.committing) next) (omega arith);
       room = λ joined. absurd (let none : length c.seal-sealed.new.self.transaction.handles ≡ 0 = ap (λ (t : OpenTransaction). length t.transaction.handles) next in omega arith);
     }

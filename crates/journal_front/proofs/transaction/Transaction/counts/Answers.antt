@@ -10,7 +10,7 @@ pub loop-entry-init : goal.loop-entry-init
 loop-entry-init c =
     none-yet _ _
     (ap (λ (es : List (ℕ × Entry)). length (copied es))
-    (c.into_iter-entry-iterator.ensures.into_iter_gives ∙ c.iter-entry-items.ensures.rest ∙ c.self.invariant.entries_are)
+    (c.into_iter-entry-iterator.ensures.into_iter_gives ∙ c.iter-entry-items.ensures.rest ∙ c.running-entries.ensures ∙ c.self.invariant.entries_are)
     ∙ ap (λ (t : OpenTransaction). length (copied (entries t.transaction.steps))) c.self.view_is)
 
 -- a copy is
@@ -29,7 +29,7 @@ overflow_add-copies c =
     let count = counts-copy _ _ _ _ _ _ _ c.in-Some.ensures.steps c.in-Copy.is c.loop-entry.invariant in
     let all = few-copies es (c.loop-entry.copies + 1) _ count in omega arith in
     let len : length es ≡ c.len-all.result =
-    ap (λ (t : OpenTransaction). length (entries t.transaction.steps)) (sym c.self.view_is) ∙ ap length (sym c.self.invariant.entries_are) ∙ sym c.len-all.ensures.len in
+    ap (λ (t : OpenTransaction). length (entries t.transaction.steps)) (sym c.self.view_is) ∙ ap length (sym (c.running-entries.ensures ∙ c.self.invariant.entries_are)) ∙ sym c.len-all.ensures.len in
     omega arith
 
 pub overflow_sub-result : goal.overflow_sub-result
@@ -37,7 +37,7 @@ overflow_sub-result c =
     let es = entries c.args.self.now.transaction.steps in
     let few = few-copies es c.loop-entry.copies _ c.loop-entry.invariant in
     let len : length es ≡ c.len-all.result =
-    ap (λ (t : OpenTransaction). length (entries t.transaction.steps)) (sym c.self.view_is) ∙ ap length (sym c.self.invariant.entries_are) ∙ sym c.len-all.ensures.len in
+    ap (λ (t : OpenTransaction). length (entries t.transaction.steps)) (sym c.self.view_is) ∙ ap length (sym (c.running-entries.ensures ∙ c.self.invariant.entries_are)) ∙ sym c.len-all.ensures.len in
     omega arith
 
 -- at the end all are counted
@@ -50,5 +50,5 @@ returns-clause-revokes c =
     let es = entries c.args.self.now.transaction.steps in
     let others = other-revokes es c.loop-entry.copies (all-copies _ _ _ c.in-None.ensures.steps.0 c.loop-entry.invariant) in
     let len : length es ≡ c.len-all.result =
-    ap (λ (t : OpenTransaction). length (entries t.transaction.steps)) (sym c.self.view_is) ∙ ap length (sym c.self.invariant.entries_are) ∙ sym c.len-all.ensures.len in
+    ap (λ (t : OpenTransaction). length (entries t.transaction.steps)) (sym c.self.view_is) ∙ ap length (sym (c.running-entries.ensures ∙ c.self.invariant.entries_are)) ∙ sym c.len-all.ensures.len in
     omega arith

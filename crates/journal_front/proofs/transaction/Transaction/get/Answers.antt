@@ -7,4 +7,4 @@ use Rattle.journal_front.proofs.transaction.Transaction.get.Goals as goal
 pub returns : goal.returns
 returns c =
     rw (← c.self.view_is)
-    (c.get.ensures.value ∙ ap (lookup (nat_eq c.args.block)) c.self.invariant.entries_are ∙ lookup-effect c.self.inside.steps.items c.args.block)
+    (c.get.ensures.value ∙ ap (lookup (nat_eq c.args.block)) (c.running.ensures ∙ c.self.invariant.entries_are) ∙ lookup-effect c.self.inside.steps.items c.args.block)
