@@ -3,16 +3,16 @@
 
 usage: memory_requests.py [--program PATH]
 
-`jbench apply` does scripts over two files, under a wrapper of the C library's malloc, realloc, pwrite and fdatasync (refused_memory.c,
-which `cc` builds). What it writes down between two lines that the program prints is what one operation came to. What the program takes
+`jbench apply` does scripts over two files, under a wrapper of the C library's malloc, realloc, pwrite and fdatasync
+(refused_memory.c). What it writes down between two lines that the program prints is what one operation came to. What the program takes
 itself is not counted: the block that it makes of the bytes of a `write`, a `read` or a `direct`, its table of handles, and behind the
 close the block from which it tells the next number. A request in a call that takes none for the journal is the device's, for a buffer
 that it can do without: each of these is refused, in an apply of its own, and has to change no line and no byte of either file.
 
 It prints a table: the call, its requests the first time, the least and the most that any later one made, and how many of all these come
 behind the first write of their call; and then what the seals of one copy and of six make, each in a journal that was just made, what a
-write of a block makes that its transaction has already, and what came of the device's requests. The program is `./jbench`, which is built first, or the one at PATH. Run it by hand;
-it needs `cc` and glibc.
+write of a block makes that its transaction has already, and what came of the device's requests. The program is `./jbench`, which is
+built first, or the one at PATH. Run it by hand; it needs glibc, and a C compiler or the kit's.
 """
 import json
 import sys

@@ -1,20 +1,29 @@
-/* Wraps the requests for memory of a program that is linked to the C library (cc -shared -fPIC -O2, loaded by LD_PRELOAD).
+/* Wraps the requests for memory of a program that is linked to glibc 2.34 or later (-shared -fPIC -O2 -nostdlib, loaded by LD_PRELOAD).
  *
  * REFUSED=K     request K of all, from 1, is refused
  * CALLS=PATH    a line for each request, and for each call that writes to a file or brings one to its disk, in their order
- * COUNT=PATH    how many requests there were, once the program ends
+ * COUNT=PATH    how many requests there were, once the program ends: by its return, or by _exit
  *
  * The program's output and its messages are calls like others: a line of CALLS that begins with `print` ends what came to that output.
+ *
+ * It names what it calls itself, as Linux has it on x86-64, so that a compiler without headers builds it too: that of the kit.
  */
-#define _GNU_SOURCE
-#include <dlfcn.h>
-#include <errno.h>
-#include <fcntl.h>
-#include <stdio.h>
-#include <stdlib.h>
-#include <string.h>
-#include <sys/types.h>
-#include <unistd.h>
+typedef unsigned long size_t;
+typedef long ssize_t;
+typedef long off_t;
+
+#define NEXT ((void *)-1)
+#define NEW_FILE (01 | 0100 | 01000) /* to write, created, cut to nothing */
+#define APPENDED (02000 | 02000000)  /* at its end, and closed by another program */
+#define NO_MEMORY 12
+
+void *dlsym(void *where, const char *name);
+char *getenv(const char *name);
+int open(const char *path, int flags, ...);
+int dprintf(int file, const char *format, ...);
+int snprintf(char *text, size_t length, const char *format, ...);
+unsigned long strtoul(const char *text, char **end, int base);
+int *__errno_location(void);
 
 void *__libc_malloc(size_t size);
 void *__libc_realloc(void *block, size_t size);
@@ -39,20 +48,28 @@ static void tell_number(const char *name, unsigned long number)
 
 __attribute__((constructor)) static void begin(void)
 {
-    real_write = dlsym(RTLD_NEXT, "write");
+    real_write = dlsym(NEXT, "write");
     if (getenv("CALLS"))
-        calls = open(getenv("CALLS"), O_WRONLY | O_CREAT | O_TRUNC | O_APPEND | O_CLOEXEC, 0666);
+        calls = open(getenv("CALLS"), NEW_FILE | APPENDED, 0666);
     if (getenv("REFUSED"))
-        refused = strtoul(getenv("REFUSED"), NULL, 10);
+        refused = strtoul(getenv("REFUSED"), 0, 10);
     requests = 0; /* those of the wrapper itself are none of the program */
 }
 
 __attribute__((destructor)) static void end(void)
 {
     const char *path = getenv("COUNT");
-    int file = path ? open(path, O_WRONLY | O_CREAT | O_TRUNC, 0666) : -1;
+    int file = path ? open(path, NEW_FILE, 0666) : -1;
     if (file >= 0)
         dprintf(file, "%lu\n", requests);
+}
+
+void _exit(int status)
+{
+    void (*real)(int) = (void (*)(int))dlsym(NEXT, "_exit");
+    end();
+    real(status);
+    __builtin_unreachable();
 }
 
 static int is_refused(size_t size)
@@ -61,24 +78,24 @@ static int is_refused(size_t size)
     tell_number("request", size);
     if (number != refused)
         return 0;
-    errno = ENOMEM;
+    *__errno_location() = NO_MEMORY;
     return 1;
 }
 
 void *malloc(size_t size)
 {
-    return is_refused(size) ? NULL : __libc_malloc(size);
+    return is_refused(size) ? 0 : __libc_malloc(size);
 }
 
 void *realloc(void *block, size_t size)
 {
-    return is_refused(size) ? NULL : __libc_realloc(block, size);
+    return is_refused(size) ? 0 : __libc_realloc(block, size);
 }
 
 ssize_t write(int file, const void *bytes, size_t length)
 {
     if (!real_write)
-        real_write = dlsym(RTLD_NEXT, "write");
+        real_write = dlsym(NEXT, "write");
     if (file == 1) {
         tell("print ", 6);
         tell(bytes, length);
@@ -90,7 +107,7 @@ ssize_t pwrite(int file, const void *bytes, size_t length, off_t at)
 {
     static ssize_t (*real)(int, const void *, size_t, off_t);
     if (!real)
-        real = dlsym(RTLD_NEXT, "pwrite");
+        real = dlsym(NEXT, "pwrite");
     tell_number("write", length);
     return real(file, bytes, length, at);
 }
@@ -99,7 +116,7 @@ int fdatasync(int file)
 {
     static int (*real)(int);
     if (!real)
-        real = dlsym(RTLD_NEXT, "fdatasync");
+        real = dlsym(NEXT, "fdatasync");
     tell("sync\n", 5);
     return real(file);
 }

@@ -3,8 +3,7 @@
 
 usage: refused_memory.py [--program PATH] [COUNT [SEED]]     the rows below, and so many random scripts (default: 0, from seed 1)
 
-A wrapper of the C library's malloc and realloc (refused_memory.c, which `cc` builds) refuses one request of the program, for each of
-its requests in turn. The scripts are the rows below, in which each operation that can be refused for want of memory is made again at
+A wrapper of the C library's malloc and realloc (refused_memory.c) refuses one request of the program, for each of its requests in turn. The scripts are the rows below, in which each operation that can be refused for want of memory is made again at
 once, and behind it starts try how many credits are held: one of just those that are left, and one of one more. Of the program that is
 refused request K
 
@@ -18,12 +17,13 @@ refused request K
   is refused has left both files as they were; and the same command made again, with ample memory, does all.
 
 It writes a line for each of these, with how many requests there were and how many answers were false, names each false answer, and ends
-with status 1 where there is one. The program is `./jbench`, which is built first, or the one at PATH. Run it by hand; it needs `cc` and
-glibc, and takes some minutes.
+with status 1 where there is one. The program is `./jbench`, which is built first, or the one at PATH. Run it by hand; it needs glibc,
+and a C compiler or the kit's, and takes some minutes.
 """
 import json
 import os
 import random
+import shutil
 import subprocess
 import sys
 import tempfile
@@ -189,13 +189,21 @@ class Wanted:
 # ---- the program
 
 
+def compiler():
+    """How the system's C compiler is called, or that of the kit."""
+    if shutil.which("cc"):
+        return ["cc"]
+    kit = Path(subprocess.run(["rt", "doc"], capture_output=True, text=True, check=True).stdout.strip()).parent
+    return [kit / "toolchain" / "bin" / "clang", "-fuse-ld=lld"]
+
+
 class Refuser:
     """The program under the wrapper, and how often it did what."""
 
     def __init__(self, program, folder):
         self.program, self.folder = program, folder
         self.wrapper, self.counted, self.calls = folder / "wrapper.so", folder / "counted", folder / "calls"
-        subprocess.run(["cc", "-shared", "-fPIC", "-O2", "-o", self.wrapper, HERE / "refused_memory.c", "-ldl"], check=True)
+        subprocess.run([*compiler(), "-shared", "-fPIC", "-O2", "-nostdlib", "-o", self.wrapper, HERE / "refused_memory.c"], check=True)
         self.requests = self.false = 0
 
     def path(self, name, text=None):
