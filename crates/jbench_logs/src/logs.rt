@@ -2,6 +2,7 @@
 ghost use Rattle.std.specs.Prelude.{◌≡◌, ◌≢◌, IfErr, IfOk, IsOk, MatchResult, OnOk};
 ghost use Rattle.std.specs.Io.KnownBytes.{Appends};
 ghost use Rattle.journal_model.specs.Disk.{reading};
+ghost use Rattle.block_device.specs.Call.{OnlyReads};
 ghost use Rattle.block_device.specs.State.{EachMoment, Stays};
 ghost use Rattle.log_dump.specs.Dumping.{HasDump, shape_of};
 ghost use Rattle.log_epochs.specs.OpeningRun.{IsMoment};
@@ -220,8 +221,7 @@ pub fn refuse<D: Device>(
     err: &mut impl Write,
 ) -> io::Result<Status>
     ensures refused { IfOk result (λ status. status ≡ Refused) }
-    ensures stays { Stays (D.state device.old) (D.state device.new) }
-    ensures honest { D.honest device.new → D.honest device.old }
+    ensures device { OnlyReads D.state D.honest device.old device.new }
 {
     let status = fault::refuse(err, path, &Fault::Refused(e))?;
     say_why(alloc, device, e, err)?;

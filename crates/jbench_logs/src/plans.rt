@@ -108,8 +108,7 @@ fn say_plan<D: Device, W: Write>(
     planned: &Planned,
     out: &mut W,
 ) -> io::Result<()>
-    ensures stays { Stays (D.state device.old) (D.state device.new) }
-    ensures honest { D.honest device.new → D.honest device.old }
+    ensures device { OnlyReads D.state D.honest device.old device.new }
 {
     say_planned(planned, out)?;
     if let Some(e) = planned.stopped_by {

@@ -1,6 +1,6 @@
 //! Why a log is refused, where its refusal does not say it: a home area that is too short for the log.
 ghost use Rattle.std.specs.Prelude.{◌≡◌, IfOk, length};
-ghost use Rattle.block_device.specs.State.{Stays};
+ghost use Rattle.block_device.specs.Call.{OnlyReads};
 ghost use Rattle.log_format.specs.Accepted.{IsAccepted};
 
 use block_device::{Device, read_block};
@@ -23,8 +23,7 @@ pub(crate) fn say_why<D: Device>(
     e: JournalError,
     err: &mut impl Write,
 ) -> io::Result<()>
-    ensures stays { Stays (D.state device.old) (D.state device.new) }
-    ensures honest { D.honest device.new → D.honest device.old }
+    ensures device { OnlyReads D.state D.honest device.old device.new }
 {
     let JournalError::Damage(place) = e else {
         return Ok(());
@@ -46,8 +45,7 @@ fn is_whole_without_home<D: Device>(
     device: &mut D,
     place: u64,
 ) -> Result<bool, JournalError>
-    ensures stays { Stays (D.state device.old) (D.state device.new) }
-    ensures honest { D.honest device.new → D.honest device.old }
+    ensures device { OnlyReads D.state D.honest device.old device.new }
 {
     let log = read_log(alloc, device)?;
     let mut finder = Finder::new(log.layout());
@@ -61,8 +59,7 @@ fn is_whole_without_home<D: Device>(
 /// Reads and tests the superblock.
 fn read_log<D: Device>(alloc: Global, device: &mut D) -> Result<Log, JournalError>
     ensures accepted { IfOk result (λ log. IsAccepted (D.state device.old).shape.block_size (D.state device.old).shape.log_blocks log) }
-    ensures stays { Stays (D.state device.old) (D.state device.new) }
-    ensures honest { D.honest device.new → D.honest device.old }
+    ensures device { OnlyReads D.state D.honest device.old device.new }
 {
     let log_blocks = device.blocks(Area::Log);
     if log_blocks == 0 {

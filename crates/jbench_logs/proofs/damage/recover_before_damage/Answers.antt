@@ -6,4 +6,4 @@ use Rattle.jbench_logs.proofs.damage.recover_before_damage.Goals as goal
 pub returns-clause-moments : goal.returns-clause-moments
 returns-clause-moments g c = λ honest.
     each-read (IsMomentBefore (g.D.Device.state c.args.device).shape (g.D.Device.state c.args.device).disk) (g.D.Device.state c.args.device) _
-    (g.D.Device.state c.refuse.new.device) (c.in-Err.ensures.moments (c.refuse.ensures.honest honest)) c.refuse.ensures.stays
+    (g.D.Device.state c.refuse.new.device) (c.in-Err.ensures.moments (c.refuse.ensures.device.honest honest)) c.refuse.ensures.device.stays
