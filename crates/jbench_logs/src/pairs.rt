@@ -3,14 +3,15 @@ ghost use Rattle.std.specs.Prelude.{◌≡◌, IfOk, IfSome};
 ghost use Rattle.jbench_logs.specs.Apart.{AreApart};
 
 use crate::locked::{LockedFile, take, take_shared};
-use crate::regular::{Made, RegularFile, given_twice, make, open_there, open_to_read};
+use crate::regular::{
+    Made, Named, RegularFile, given_twice, make, open_there, open_to_read, sync_folders,
+};
 use file_device::{ReadLock, WriteLock};
 use jbench_words::words::LogPaths;
 use std::fs::{File, Files};
+use std::io;
 use std::io::ErrorKind;
 use std::marker::PhantomData;
-use std::path::Path;
-use std::{fs, io};
 
 /// The two files of a log, which are not one, each with its lock.
 #[derive(Drop)]
@@ -124,7 +125,6 @@ impl<'a> Unopened<'a> {
 }
 
 /// A file that was opened, and that it was made where it was not there before.
-#[derive(Drop)]
 struct Opened<'a, F> {
     file: F,
     made: Option<Made<'a>>,
@@ -133,9 +133,23 @@ struct Opened<'a, F> {
 impl<F: Drop> Opened<'_, F> {
     /// Takes the file away again where it was made. Where that fails it stays, with no bytes.
     fn undo<R: Files<File = File>>(self, rt: &R) {
-        if let Some(made) = self.made {
-            made.undo(rt);
+        let Opened { file: _, made } = self;
+        match made {
+            Some(made) => made.undo(rt),
+            None => {}
         }
+    }
+
+    /// The file, whose name is durable.
+    fn keep(self, named: &Named) -> F
+        ensures { result ≡ self.file }
+    {
+        let Opened { file, made } = self;
+        match made {
+            Some(made) => made.keep(named),
+            None => {}
+        }
+        file
     }
 }
 
@@ -331,11 +345,29 @@ fn claim<'a, R: Files<File = File>>(
 {
     let opened = open_or_make(rt, path)?;
     let opened = apart_from(rt, script, opened)?;
-    let opened = apart_from(rt, log, opened)?;
-    Ok(Opened {
-        file: take(rt, path, opened.file)?,
-        made: opened.made,
-    })
+    locked(rt, path, apart_from(rt, log, opened)?)
+}
+
+/// Takes the lock of a file that was opened by this path. One that was made stays where that can't be had, since another program may
+/// have it.
+fn locked<'a, R: Files<File = File>>(
+    rt: &R,
+    path: &str,
+    opened: Opened<'a, RegularFile>,
+) -> io::Result<Opened<'a, LockedFile<WriteLock>>>
+    ensures { IfOk result (λ locked. locked.file.file ≡ opened.file) }
+{
+    let Opened { file, made } = opened;
+    match take(rt, path, file) {
+        Ok(file) => Ok(Opened { file, made }),
+        Err(e) => {
+            match made {
+                Some(made) => made.leave(&e),
+                None => {}
+            }
+            Err(e)
+        }
+    }
 }
 
 /// Opens a file to be read and written, and makes it where there is none. What it holds stays.
@@ -384,41 +416,12 @@ fn named<'a, R: Files<File = File>>(
     requires { AreApart log.file.file home.file.file }
     ensures { IfOk result (λ pair. (pair.log ≡ log.entry.file) × (pair.home ≡ home.entry.file)) }
 {
-    match sync_folders(rt, paths) {
-        Ok(()) => Ok(LockedPair::new(log.file, home.file)),
-        Err(unopened) => {
+    match sync_folders(rt, [paths.log, paths.home]) {
+        Ok(durable) => Ok(LockedPair::new(log.keep(&durable), home.keep(&durable))),
+        Err((path, error)) => {
             log.undo(rt);
             home.undo(rt);
-            Err(unopened)
+            Err(Unopened::new(path, error))
         }
-    }
-}
-
-/// Makes durable which files are in the folders of these.
-fn sync_folders<'a, R: Files<File = File>>(
-    rt: &R,
-    paths: LogPaths<'a>,
-) -> Result<(), Unopened<'a>> {
-    for path in [paths.log, paths.home] {
-        if let Err(error) = sync_folder(rt, path) {
-            return Err(Unopened::new(path, error));
-        }
-    }
-    Ok(())
-}
-
-/// Makes durable which files are in the folder of this one.
-fn sync_folder<R: Files<File = File>>(rt: &R, path: &str) -> io::Result<()> {
-    match fs::open(rt, folder_of(path)) {
-        Ok(folder) => folder.sync_all(),
-        Err(e) => Err(e),
-    }
-}
-
-/// The folder of the file that has this path.
-fn folder_of(path: &str) -> &str {
-    match Path::new(path).parent() {
-        Some(folder) if !folder.as_str().is_empty() => folder.as_str(),
-        _ => ".",
     }
 }

@@ -6,6 +6,7 @@ ghost use Rattle.jbench_logs.specs.Apart.{AreApart};
 use std::fs::{File, Files, Metadata, OpenOptions};
 use std::io::ErrorKind;
 use std::os::unix::fs::MetadataExt;
+use std::path::Path;
 use std::{fs, io};
 
 /// Which file of the system a file is: no two that are there at once have the same.
@@ -103,8 +104,8 @@ fn require_length(metadata: &Metadata, bytes: u64) -> io::Result<()>
     }
 }
 
-/// A file that was not there before this program made it, by its path. `make` alone makes one.
-#[derive(Drop)]
+/// A file that was not there before this program made it, by its path. `make` alone makes one. It can't be dropped, so a command that
+/// is refused takes the file away again, or says why it does not.
 pub(crate) struct Made<'a> {
     path: &'a str,
 }
@@ -112,7 +113,55 @@ pub(crate) struct Made<'a> {
 impl Made<'_> {
     /// Takes the file away again. Where that fails it stays, with no bytes.
     pub(crate) fn undo<R: Files<File = File>>(self, rt: &R) {
-        let _gone = fs::remove_file(rt, self.path);
+        let Made { path } = self;
+        let _gone = fs::remove_file(rt, path);
+    }
+
+    /// Keeps the file, whose name is durable.
+    pub(crate) fn keep(self, _named: &Named) {
+        let Made { path: _ } = self;
+    }
+
+    /// Leaves the file there, since it could not be locked for this cause: another program may have it.
+    pub(crate) fn leave(self, _unlocked: &io::Error) {
+        let Made { path: _ } = self;
+    }
+}
+
+/// That the files of a log have durable names, as `sync_folders` alone says.
+#[derive(Drop)]
+pub(crate) struct Named(());
+
+/// Makes durable which files are in the folders of these paths.
+///
+/// # Errors
+///
+/// The path whose folder can't be opened and synced, and why.
+pub(crate) fn sync_folders<'a, R: Files<File = File>>(
+    rt: &R,
+    paths: [&'a str; 2],
+) -> Result<Named, (&'a str, io::Error)> {
+    for path in paths {
+        if let Err(error) = sync_folder(rt, path) {
+            return Err((path, error));
+        }
+    }
+    Ok(Named(()))
+}
+
+/// Makes durable which files are in the folder of this one.
+fn sync_folder<R: Files<File = File>>(rt: &R, path: &str) -> io::Result<()> {
+    match fs::open(rt, folder_of(path)) {
+        Ok(folder) => folder.sync_all(),
+        Err(e) => Err(e),
+    }
+}
+
+/// The folder of the file that has this path.
+fn folder_of(path: &str) -> &str {
+    match Path::new(path).parent() {
+        Some(folder) if !folder.as_str().is_empty() => folder.as_str(),
+        _ => ".",
     }
 }
 
