@@ -2,11 +2,9 @@
 ghost use Rattle.std.specs.Prelude.{IfOk};
 ghost use Rattle.script_sweep.specs.Swept.{MakesCalls};
 
-use journal_model::JournalError;
-use journal_script::{Measures, Script};
-use recovery::open;
+use journal_script::Script;
 use script_client::perform;
-use script_run::{AfterFailure, AnyHome, Fault, RunDevice, empty_disk, empty_log, run_device};
+use script_run::{AfterFailure, AnyHome, Fault, RunDevice, empty_log};
 use std::alloc::Global;
 use std::io;
 
@@ -28,16 +26,4 @@ pub fn calls_of_run(alloc: Global, script: &Script) -> Result<u64, Fault>
         &mut io::sink(),
     )?;
     Ok(performed.device.calls())
-}
-
-/// How many device calls the opening of an empty log with these measures makes.
-///
-/// # Errors
-///
-/// Those of `script_run::empty_disk`, and `Memory`.
-pub fn calls_of_opening(alloc: Global, measures: &Measures) -> Result<u64, JournalError> {
-    match open(alloc, run_device(empty_disk(alloc, measures)?, None, None)) {
-        Ok(opened) => Ok(opened.into_device().calls()),
-        Err((_, e)) => Err(e),
-    }
 }

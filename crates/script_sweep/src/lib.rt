@@ -16,7 +16,7 @@ mod place;
 mod sweeping;
 mod swept;
 
-pub use calls::{calls_of_opening, calls_of_run};
+pub use calls::calls_of_run;
 pub use counts::{Counts, FailureCounts, NotRight};
 pub use failing::sweep_failures;
 pub use script_run::{Attempt, Fault, OpenedImage, Stopped};

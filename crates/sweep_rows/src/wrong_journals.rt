@@ -8,8 +8,8 @@ use journal_model::{Area, JournalError};
 use journal_script::{Measures, Script};
 use recovery::{Opened, open};
 use script_client::{Performed, perform};
-use script_run::{AfterFailure, AnyHome, Record, empty_disk};
-use script_sweep::{Attempt, Fault, OpenedImage, Stopped, Swept, calls_of_opening, calls_of_run};
+use script_run::{AfterFailure, AnyHome, Record, empty_disk, run_device};
+use script_sweep::{Attempt, Fault, OpenedImage, Stopped, Swept, calls_of_run};
 use std::alloc::Global;
 use std::io;
 
@@ -245,6 +245,14 @@ fn call_behind_opening(
     match call {
         Some(call) => Ok(call.saturating_add(calls_of_opening(alloc, measures)?)),
         None => Ok(NEVER),
+    }
+}
+
+/// How many calls the opening of an empty log of these measures makes.
+fn calls_of_opening(alloc: Global, measures: &Measures) -> Result<u64, JournalError> {
+    match open(alloc, run_device(empty_disk(alloc, measures)?, None, None)) {
+        Ok(opened) => Ok(opened.into_device().calls()),
+        Err((_, e)) => Err(e),
     }
 }
 
