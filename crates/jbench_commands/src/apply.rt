@@ -6,6 +6,7 @@ ghost use Rattle.std.specs.Io.Buffered.{line_writer_contents};
 ghost use Rattle.std.specs.Io.KnownBytes.{Appends, Keeps};
 ghost use Rattle.journal_model.specs.Disk.{reading};
 ghost use Rattle.log_model.specs.Opening.{super_of};
+ghost use Rattle.block_device.specs.Call.{OnlyReads};
 ghost use Rattle.block_device.specs.State.{Stays};
 ghost use Rattle.script_client.specs.declared.performing.Ending.TheVariants.{Close, Stay};
 ghost use Rattle.script_client.specs.Ended.{IsEnded, IsLeftClosed};
@@ -223,8 +224,7 @@ fn measures_of<D: Device>(alloc: Global, device: &mut D) -> Result<Measures, Jou
 /// Reads and tests the superblock.
 fn read_super<D: Device>(alloc: Global, device: &mut D) -> Result<Super, JournalError>
     ensures fields { IfOk result (λ superblock. D.honest device.new → superblock ≡ super_of (reading (D.state device.old).disk)) }
-    ensures stays { Stays (D.state device.old) (D.state device.new) }
-    ensures honest { D.honest device.new → D.honest device.old }
+    ensures device { OnlyReads D.state D.honest device.old device.new }
 {
     let log_blocks = device.blocks(Area::Log);
     if log_blocks == 0 {
@@ -281,8 +281,7 @@ fn say_end<D: Device + Drop, W: Write>(
     ensures behind { SaysBehind D.state D.honest ending applied.left.device result.left.device applied.end result.end (W.contents out.old) (W.contents out.new) }
     ensures sealed { result.left.sealed ≡ applied.left.sealed }
     ensures acknowledged { result.left.acknowledged ≡ applied.left.acknowledged }
-    ensures stays { Stays (D.state applied.left.device) (D.state result.left.device) }
-    ensures honest { D.honest result.left.device → D.honest applied.left.device }
+    ensures device { OnlyReads D.state D.honest applied.left.device result.left.device }
 {
     match ending {
         Ending::Stay => applied,
@@ -299,8 +298,7 @@ fn say_close<D: Device + Drop, W: Write>(
     ensures behind { SaysBehind D.state D.honest Close applied.left.device result.left.device applied.end result.end (W.contents out.old) (W.contents out.new) }
     ensures sealed { result.left.sealed ≡ applied.left.sealed }
     ensures acknowledged { result.left.acknowledged ≡ applied.left.acknowledged }
-    ensures stays { Stays (D.state applied.left.device) (D.state result.left.device) }
-    ensures honest { D.honest result.left.device → D.honest applied.left.device }
+    ensures device { OnlyReads D.state D.honest applied.left.device result.left.device }
 {
     if applied.end.is_err() {
         return applied;
@@ -317,8 +315,7 @@ fn say_closed<D: Device + Drop, W: Write>(
     ensures said { OnOk result.end (D.honest result.left.device → SaysNext (D.state applied.left.device) (W.contents out.old) (W.contents out.new)) }
     ensures sealed { result.left.sealed ≡ applied.left.sealed }
     ensures acknowledged { result.left.acknowledged ≡ applied.left.acknowledged }
-    ensures stays { Stays (D.state applied.left.device) (D.state result.left.device) }
-    ensures honest { D.honest result.left.device → D.honest applied.left.device }
+    ensures device { OnlyReads D.state D.honest applied.left.device result.left.device }
 {
     let Applied { left, end: _ } = applied;
     let mut left = left;
@@ -333,8 +330,7 @@ fn write_closed<D: Device, W: Write>(
     out: &mut W,
 ) -> Result<(), script_client::Fault>
     ensures said { OnOk result (D.honest device.new → SaysNext (D.state device.old) (W.contents out.old) (W.contents out.new)) }
-    ensures stays { Stays (D.state device.old) (D.state device.new) }
-    ensures honest { D.honest device.new → D.honest device.old }
+    ensures device { OnlyReads D.state D.honest device.old device.new }
 {
     let superblock = read_super(alloc, device)?;
     write_next(superblock.s_sequence, out)?;

@@ -1,11 +1,11 @@
 -- An image that is written to another device.
-use Rattle.std.specs.Prelude.{◌≡◌, ◌≢◌, ◌⊎◌, ℕ, ◌<◌, Bool, false, [], Option}
+use Rattle.std.specs.Prelude.{◌≡◌, ◌≢◌, ◌⊎◌, ℕ, ◌<◌, Bool, false, [], Option, Result}
 use Rattle.journal_model.specs.declared.number.Area.{Area}
 use Rattle.journal_model.specs.declared.refusal.JournalError.{JournalError}
 use Rattle.journal_model.specs.declared.refusal.JournalError.TheVariants.{Device}
 use Rattle.journal_model.specs.Disk.{Disk, same_area}
 use Rattle.block_device.specs.Memory.{MemState, state_of}
-use Rattle.block_device.specs.State.{DeviceState, IsFailure, Stays, blocks_in}
+use Rattle.block_device.specs.State.{CountsFaults, DeviceState, IsFailure, Stays, blocks_in}
 use Rattle.journal_model.specs.Transaction.{History}
 use Rattle.journal_script.specs.declared.script.NamedBlocks.{NamedBlocks}
 use Rattle.journal_script.specs.declared.script.Script.{Script}
@@ -26,6 +26,12 @@ IsOnlyRead old new = (new.shape ≡ old.shape) × (new.calls ≡ old.calls) × (
 pub record HasCopied (area : Area) (k : ℕ) (image old new : Disk) : Type 0 where
   pub copied : (n : ℕ) → n < k → (new area n).reads ≡ (image area n).reads
   pub others : (a : Area) (n : ℕ) → same_area area a ≡ false → new a n ≡ old a n
+
+-- calls of a device were made up to the first that failed, if one did, which this answers; the device keeps its shape
+pub record CallsUntilFailure {A T E : Type 0} (state : A → DeviceState) (Honest : A → Type 0) (result : Result T E) (old new : A) : Type 0 where
+  pub shape : (state new).shape ≡ (state old).shape
+  pub faults : CountsFaults result (state old) (state new)
+  pub honest : Honest new → Honest old
 
 -- why an image is not copied: the device is of another shape, and it was not touched; or the device failed, or memory ran out
 abbrev pub CopyRefused : MemState → DeviceState → DeviceState → JournalError → Type 0

@@ -3,8 +3,8 @@ ghost use Rattle.std.specs.Prelude.{◌≡◌, ◌<◌, ◌↔◌, ◌⊎◌, le
 ghost use Rattle.std.specs.BTreeSet.{keys};
 ghost use Rattle.journal_model.specs.Disk.{written};
 ghost use Rattle.block_device.specs.Memory.{state_of};
-ghost use Rattle.block_device.specs.State.{CountsFaults, blocks_in};
-ghost use Rattle.script_run.specs.Copying.{CopyRefused, HasCopied, IsCopiedRun, IsCopy, IsCopyTried, IsOnlyRead, IsTriedRun};
+ghost use Rattle.block_device.specs.State.{blocks_in};
+ghost use Rattle.script_run.specs.Copying.{CallsUntilFailure, CopyRefused, HasCopied, IsCopiedRun, IsCopy, IsCopyTried, IsOnlyRead, IsTriedRun};
 ghost use Rattle.script_run.specs.Left.{IsLeftVerdict};
 
 use crate::running::{Left, end_of_run, judge_left};
@@ -105,9 +105,7 @@ fn copy_areas<D: Device>(
     requires shape { (D.state to.old).shape ≡ image.old.shape }
     ensures same { IsOnlyRead image.old image.new }
     ensures copy { OnOk result (IsCopy image.old (D.state to.new)) }
-    ensures faults { CountsFaults result (D.state to.old) (D.state to.new) }
-    ensures shape { (D.state to.new).shape ≡ (D.state to.old).shape }
-    ensures honest { D.honest to.new → D.honest to.old }
+    ensures device { CallsUntilFailure D.state D.honest result to.old to.new }
 {
     copy_area(image, to, Area::Log, block)?;
     copy_area(image, to, Area::Home, block)?;
@@ -126,9 +124,7 @@ fn copy_area<D: Device>(
     requires shape { (D.state to.old).shape ≡ image.old.shape }
     ensures same { IsOnlyRead image.old image.new }
     ensures copied { OnOk result (HasCopied area (blocks_in image.old.shape area) (state_of image.old).disk (D.state to.old).disk (D.state to.new).disk) }
-    ensures faults { CountsFaults result (D.state to.old) (D.state to.new) }
-    ensures shape { (D.state to.new).shape ≡ (D.state to.old).shape }
-    ensures honest { D.honest to.new → D.honest to.old }
+    ensures device { CallsUntilFailure D.state D.honest result to.old to.new }
 {
     for n in 0..image.blocks(area) {
         copy_block(image, to, area, n, block)?;
@@ -149,9 +145,7 @@ fn copy_block<D: Device>(
     requires there { n < blocks_in image.old.shape area }
     ensures same { IsOnlyRead image.old image.new }
     ensures copied { OnOk result ((D.state to.new).disk ≡ written (D.state to.old).disk area n ((state_of image.old).disk area n).reads) }
-    ensures faults { CountsFaults result (D.state to.old) (D.state to.new) }
-    ensures shape { (D.state to.new).shape ≡ (D.state to.old).shape }
-    ensures honest { D.honest to.new → D.honest to.old }
+    ensures device { CallsUntilFailure D.state D.honest result to.old to.new }
 {
     image.read(area, n, block)?;
     to.write(area, n, block)

@@ -26,7 +26,7 @@ returns-in-Err-clause-left g c = λ honest. only-read (g.D.Device.state c.args.d
 pub returns-clause-left : goal.returns-clause-left
 returns-clause-left g c = λ honest.
     behind-reads (g.D.Device.state c.args.device) (g.D.Device.state c.prepare.new.device) (g.D.Device.state c.in-Err-open.device) (g.D.Device.state c.refuse.new.device) c.in-Ok.ensures.stays
-    (c.in-Err-open.ensures.moments (c.refuse.ensures.honest honest)) c.refuse.ensures.stays
+    (c.in-Err-open.ensures.moments (c.refuse.ensures.device.honest honest)) c.refuse.ensures.device.stays
 
 -- what was done is left
 pub returns-in-Ok-open-clause-left : goal.returns-in-Ok-open-clause-left

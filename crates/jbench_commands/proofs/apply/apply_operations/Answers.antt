@@ -5,24 +5,24 @@ use Rattle.jbench_commands.proofs.apply.apply_operations.Goals as goal
 pub returns-in-Ok-clause-ended : goal.returns-in-Ok-clause-ended
 returns-in-Ok-clause-ended g c = λ honest.
     rw (c.say_end.ensures.sealed, c.say_end.ensures.acknowledged)
-    (ended-stays c.say_end.ensures.stays (c.in-Ok.ensures.ended (c.say_end.ensures.honest honest)))
+    (ended-stays c.say_end.ensures.device.stays (c.in-Ok.ensures.ended (c.say_end.ensures.device.honest honest)))
 
 -- so it is closed still
 pub returns-in-Ok-clause-closed : goal.returns-in-Ok-clause-closed
 returns-in-Ok-clause-closed g c = λ ending.
     rw c.say_end.ensures.sealed
-    (behind-closed _ c.say_end.ensures.behind ending c.say_end.ensures.stays c.say_end.ensures.honest (c.in-Ok.ensures.closed ending))
+    (behind-closed _ c.say_end.ensures.behind ending c.say_end.ensures.device.stays c.say_end.ensures.device.honest (c.in-Ok.ensures.closed ending))
 
 -- and its superblock says the number
 pub returns-in-Ok-clause-says : goal.returns-in-Ok-clause-says
 returns-in-Ok-clause-says g c = λ ending.
-    behind-next _ c.say_end.ensures.behind ending c.say_end.ensures.stays c.say_end.ensures.honest (c.in-Ok.ensures.closed ending)
+    behind-next _ c.say_end.ensures.behind ending c.say_end.ensures.device.stays c.say_end.ensures.device.honest (c.in-Ok.ensures.closed ending)
 
 -- a journal that stays is as it was left
 pub returns-in-Ok-clause-stays : goal.returns-in-Ok-clause-stays
 returns-in-Ok-clause-stays g c = λ ending honest.
     rw (c.say_end.ensures.sealed, c.say_end.ensures.acknowledged)
-    (behind-stays c.say_end.ensures.behind ending (c.in-Ok.ensures.stays ending (c.say_end.ensures.honest honest)))
+    (behind-stays c.say_end.ensures.behind ending (c.in-Ok.ensures.stays ending (c.say_end.ensures.device.honest honest)))
 
 -- the operations, and what is said behind them
 pub returns-in-Ok-clause-operated : goal.returns-in-Ok-clause-operated
@@ -31,10 +31,10 @@ returns-in-Ok-clause-operated g c = record {
   applied = c.in-Ok.applied.end;
   said = _;
   does = rw (c.say_end.ensures.sealed, c.say_end.ensures.acknowledged) c.in-Ok.ensures.outcomes;
-  stays = c.say_end.ensures.stays;
+  stays = c.say_end.ensures.device.stays;
   behind = c.say_end.ensures.behind;
 }
 
 -- reads were honest at the opening
 pub returns-in-Ok-clause-honest : goal.returns-in-Ok-clause-honest
-returns-in-Ok-clause-honest g c = λ honest. c.in-Ok.ensures.honest (c.say_end.ensures.honest honest)
+returns-in-Ok-clause-honest g c = λ honest. c.in-Ok.ensures.honest (c.say_end.ensures.device.honest honest)
