@@ -1,5 +1,6 @@
 //! What the commands of the program say of real files, and of readers and writers that fail. All else that they say is in rows
 //! of the program `journal_rows`.
+use file_device::UnknownContents;
 use jbench_commands::obeying::obey;
 use jbench_words::fault::Status;
 use jbench_words::words::parse;
@@ -50,7 +51,7 @@ fn said(rt: &HostRuntime, line: &'static str) -> Result<String, Fail> {
     let mut err = Vec::new(rt.alloc());
     match parse(rt.alloc(), &words) {
         Ok(words) => {
-            let status = obey(rt, &words, &mut out, &mut err)?;
+            let status = obey(rt, UnknownContents, &words, &mut out, &mut err)?;
             text_of(rt.alloc(), &out, &err, status)
         }
         Err(_) => Err(Fail::new("words are refused")),

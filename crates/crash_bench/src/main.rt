@@ -3,6 +3,7 @@
 //! here they are given the program's words, and standard output and error.
 #![tactic(auto)]
 
+use file_device::UnknownContents;
 use jbench_commands::obeying::obey;
 use jbench_words::fault::{Status, refuse_file, refuse_rest};
 use jbench_words::{arguments, words};
@@ -47,7 +48,7 @@ fn obey_words(rt: &HostRuntime) -> io::Result<Status> {
                 path,
                 io::Error::from(ErrorKind::InvalidFilename),
             ),
-            None => obey(rt, &words, io::writer(rt), rt.stderr()),
+            None => obey(rt, UnknownContents, &words, io::writer(rt), rt.stderr()),
         },
         Err(e) => words::answer(&e, &mut io::writer(rt), &mut rt.stderr()),
     }

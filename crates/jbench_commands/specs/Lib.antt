@@ -1,5 +1,4 @@
 pub mod Applying
-pub mod Making
 pub mod Obeying
 pub mod Runs
 pub mod Sweeps

@@ -1,5 +1,5 @@
 -- What was done where a command ends with 0, as the words tell it.
-use Rattle.std.specs.Prelude.{◌≡◌, ⊤, ℕ, ◌<◌, Bool, true, false, List, [], Option}
+use Rattle.std.specs.Prelude.{◌≡◌, ⊤, ℕ, ◌<◌, Bool, true, false, List, Option}
 use Rattle.journal_model.specs.Disk.{reading}
 use Rattle.journal_model.specs.Transaction.{History}
 use Rattle.block_device.specs.State.{DeviceState}
@@ -8,23 +8,17 @@ use Rattle.log_dump.specs.Dumping.{HasDump, shape_of}
 use Rattle.script_client.specs.Ended.{IsLeftClosed}
 use Rattle.commit_times.specs.Closed.{IsLeftClosed as IsBenchClosed}
 use Rattle.jbench_words.specs.declared.words.ApplyWords.{ApplyWords}
+use Rattle.jbench_words.specs.declared.words.FormatWords.{FormatWords}
 use Rattle.jbench_words.specs.declared.words.Words.{Words}
 use Rattle.jbench_words.specs.declared.words.Words.TheVariants.{Run, Sweep, Check, Format, Dump, Show, Recover, Upgrade, Apply, Bench}
 use Rattle.jbench_logs.specs.Apart.{AreApart}
+use Rattle.jbench_logs.specs.Cleared.{cleared, log_cleared}
 use Rattle.jbench_logs.specs.Done.{HasUpgraded, IsFoundOut, IsMade, IsRecovered, IsRecoveredBefore}
 use Rattle.jbench_logs.specs.Over.{IsOver}
 use Rattle.jbench_logs.specs.declared.regular.RegularFile.{RegularFile}
 use Rattle.jbench_commands.specs.Applying.{IsDoneTo, after_told, ending_told}
 use Rattle.jbench_commands.specs.Runs.{HasRun, HasTaken, runs_told}
 use Rattle.jbench_commands.specs.Sweeps.{HasSwept}
-
--- nothing is known of what the files hold
-abbrev pub anything : FileContents
-anything = record { first = λ _ _. record { reads = []; others = [] }; failed_write_reads = false }
-
--- a device over files, and its state
-abbrev pub state_of_files : FileState → DeviceState
-state_of_files device = file_state anything device
 
 -- the device has a log in one file, and its home area in another
 pub record IsOverTwo (device : FileState) : Type 0 where
@@ -33,12 +27,12 @@ pub record IsOverTwo (device : FileState) : Type 0 where
   pub apart : AreApart log home
   pub over : IsOver log.file home.file device
 
--- this was done to a device over such files, where its reads were honest
-pub record IsDoneOver (Over : FileState → Type 0) (Did : DeviceState → DeviceState → Type 0) : Type 0 where
+-- this was done to a device over such files, which held this at first, where its reads were honest
+pub record IsDoneOver (first : FileContents) (Over : FileState → Type 0) (Did : DeviceState → DeviceState → Type 0) : Type 0 where
   pub old : FileState
   pub over : Over old
   pub new : FileState
-  pub did : HasAgreed anything new → Did (state_of_files old) (state_of_files new)
+  pub did : HasAgreed first new → Did (file_state first old) (file_state first new)
 
 -- any device over files
 abbrev pub IsOverAny : FileState → Type 0
@@ -50,37 +44,46 @@ Recovers true before_damage old new = IsFoundOut before_damage old
 Recovers false true old new = IsRecoveredBefore old new
 Recovers false false old new = IsRecovered old new
 
+-- what `format` did to a device over two files: they were cleared, or with a home area that is kept the log alone was, and a log was made
+-- on them
+abbrev pub to_format : (keep_home : Bool) → FileContents → FileContents
+to_format true first = log_cleared first
+to_format false first = cleared first
+
+abbrev pub IsFormatDone : FileContents → FormatWords → Type 0
+IsFormatDone first words =
+    IsDoneOver (to_format words.keep_home first) IsOverTwo (λ old new. IsMade words.measures.log_blocks words.measures.uuid words.measures.wide old new)
+
 -- what `apply` did to a device over two files: all operations of its script's text were applied, and the journal was closed, where it was
 -- not told to stay
-pub record IsAppliedOver (words : ApplyWords) (contents : Option (List ℕ)) : Type 0 where
+pub record IsAppliedOver (first : FileContents) (words : ApplyWords) (contents : Option (List ℕ)) : Type 0 where
   pub text : Option (List ℕ)
   pub old : FileState
   pub over : IsOverTwo old
   pub left : FileState
   pub sealed : History
   pub shown : Option ℕ
-  pub done : IsDoneTo state_of_files (HasAgreed anything) old text (after_told words.keep_going) (ending_told words.stay) left sealed shown contents
-  pub closed : words.stay ≡ false → HasAgreed anything left → IsLeftClosed (state_of_files left) sealed
+  pub done : IsDoneTo (file_state first) (HasAgreed first) old text (after_told words.keep_going) (ending_told words.stay) left sealed shown contents
+  pub closed : words.stay ≡ false → HasAgreed first left → IsLeftClosed (file_state first left) sealed
 
 -- what `bench` left of its device
-pub record IsBenchDone : Type 0 where
+pub record IsBenchDone (first : FileContents) : Type 0 where
   pub left : FileState
-  pub closed : HasAgreed anything left → IsBenchClosed (state_of_files left)
+  pub closed : HasAgreed first left → IsBenchClosed (file_state first left)
 
--- What was done by the command that the words name, whose output has these contents at first. Of files nothing is known: a script is one
--- of some text.
-abbrev pub HasObeyed : (contents : Option (List ℕ)) → Words → Type 0
-HasObeyed contents (Run words) = (text : Option (List ℕ)) × HasRun (runs_told words.image) text words true
-HasObeyed contents (Sweep words) = (text : Option (List ℕ)) × HasSwept text words.fails 0
-HasObeyed contents (Check path) = (text : Option (List ℕ)) × HasTaken text
-HasObeyed contents (Format words) =
-    IsDoneOver IsOverTwo (λ old new. IsMade words.measures.log_blocks words.measures.uuid words.measures.wide old new)
-HasObeyed contents (Dump path) = IsDoneOver IsOverAny (λ old new. HasDump (shape_of old) (reading old.disk))
-HasObeyed contents (Show path) = ⊤
-HasObeyed contents (Recover words) = IsDoneOver IsOverTwo (Recovers words.dry_run words.before_damage)
-HasObeyed contents (Upgrade path) = IsDoneOver IsOverAny HasUpgraded
-HasObeyed contents (Apply words) = IsAppliedOver words contents
-HasObeyed contents (Bench words) = IsBenchDone
+-- What was done by the command that the words name, over files of a log that held this at first, whose output has these contents at
+-- first. Of other files nothing is known: a script is one of some text.
+abbrev pub HasObeyed : (first : FileContents) → (contents : Option (List ℕ)) → Words → Type 0
+HasObeyed first contents (Run words) = (text : Option (List ℕ)) × HasRun (runs_told words.image) text words true
+HasObeyed first contents (Sweep words) = (text : Option (List ℕ)) × HasSwept text words.fails 0
+HasObeyed first contents (Check path) = (text : Option (List ℕ)) × HasTaken text
+HasObeyed first contents (Format words) = IsFormatDone first words
+HasObeyed first contents (Dump path) = IsDoneOver first IsOverAny (λ old new. HasDump (shape_of old) (reading old.disk))
+HasObeyed first contents (Show path) = ⊤
+HasObeyed first contents (Recover words) = IsDoneOver first IsOverTwo (Recovers words.dry_run words.before_damage)
+HasObeyed first contents (Upgrade path) = IsDoneOver first IsOverAny HasUpgraded
+HasObeyed first contents (Apply words) = IsAppliedOver first words contents
+HasObeyed first contents (Bench words) = IsBenchDone first
 
 -- a command ends with 2 where a sweep counted an opening that was not right; no other does
 abbrev pub HasFoundWrong : Words → Type 0

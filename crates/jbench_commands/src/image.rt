@@ -1,6 +1,7 @@
 //! The files that take the image of a run.
 use crate::run::MakeImage;
-use jbench_logs::{LogFiles, LogPair, make_device};
+use file_device::{FileDevice, UnknownContents};
+use jbench_logs::{Cleared, LogPair, make_device};
 use journal_script::Measures;
 use std::alloc::Global;
 use std::io;
@@ -15,11 +16,11 @@ pub struct ImageFiles {
 }
 
 impl MakeImage for ImageFiles {
-    type Device = LogFiles;
+    type Device = FileDevice<Cleared<UnknownContents>>;
 
-    fn make(self, measures: &Measures) -> io::Result<LogFiles> {
+    fn make(self, measures: &Measures) -> io::Result<FileDevice<Cleared<UnknownContents>>> {
         let ImageFiles { alloc, files } = self;
-        match make_device(alloc, measures, files) {
+        match make_device(alloc, UnknownContents, measures, files) {
             Ok(device) => Ok(device),
             Err(unmade) => Err(unmade.error),
         }

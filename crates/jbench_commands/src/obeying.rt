@@ -3,9 +3,9 @@ ghost use Rattle.std.specs.Prelude.{◌≡◌, ◌≢◌, ◌↔◌, ◌<◌, �
 ghost use Rattle.journal_model.specs.Disk.{reading};
 ghost use Rattle.log_dump.specs.Dumping.{HasDump, shape_of};
 ghost use Rattle.jbench_words.specs.declared.fault.Status.TheVariants.{Fine, Refused, VerdictFalse};
+ghost use Rattle.jbench_logs.specs.Cleared.{cleared, log_cleared};
 ghost use Rattle.jbench_logs.specs.Done.{HasUpgraded, IsMade};
-ghost use Rattle.jbench_commands.specs.Making.{KeepsHome};
-ghost use Rattle.jbench_commands.specs.Obeying.{HasFoundWrong, HasObeyed, IsAppliedOver, IsBenchDone, IsDoneOver, IsOverAny, IsOverTwo, Recovers};
+ghost use Rattle.jbench_commands.specs.Obeying.{HasFoundWrong, HasObeyed, IsAppliedOver, IsBenchDone, IsDoneOver, IsFormatDone, IsOverAny, IsOverTwo, Recovers};
 ghost use Rattle.jbench_commands.specs.Runs.{HasRun, HasTaken, runs_told};
 ghost use Rattle.jbench_commands.specs.Sweeps.{HasSwept};
 
@@ -13,11 +13,11 @@ use crate::image::ImageFiles;
 use crate::progress::Progress;
 use crate::{apply, check, run, sweep};
 use commit_times::bench;
-use file_device::UnknownContents;
+use file_device::{Contents, FileDevice};
 use jbench_logs::{
-    KeptPair, LogFiles, LogPair, RegularFile, Unmade, Unopened, device_of, device_to_read,
-    home_bytes, logs, make_device, make_log_device, open_log, open_log_to_write, open_or_make_log,
-    open_or_make_pair, open_pair, open_pair_to_read, open_script, open_to_read, recovering, show,
+    LogPair, RegularFile, device_of, device_to_read, home_bytes, logs, make_device,
+    make_log_device, open_log, open_log_to_write, open_or_make_log, open_or_make_pair, open_pair,
+    open_pair_to_read, open_script, open_to_read, recovering, show,
 };
 use jbench_words::fault::{Status, refuse_file};
 use jbench_words::words::{
@@ -26,27 +26,28 @@ use jbench_words::words::{
 use std::io;
 use std::io::Write;
 
-/// Does what the words tell.
-pub fn obey<W: Write + Drop, E: Write + Drop>(
+/// Does what the words tell. `contents` says what is supposed of the files of a log.
+pub fn obey<C: Contents, W: Write + Drop, E: Write + Drop>(
     rt: &HostRuntime,
+    contents: C,
     words: &Words<'_>,
     out: W,
     err: E,
 ) -> io::Result<Status>
-    ensures done { IfOk result (λ status. status ≡ Fine → HasObeyed (W.contents out) words.now) }
+    ensures done { IfOk result (λ status. status ≡ Fine → HasObeyed C.contents (W.contents out) words.now) }
     ensures wrong { IfOk result (λ status. status ≡ VerdictFalse → HasFoundWrong words.now) }
 {
     match words {
         Words::Run(words) => run_file(rt, words, out, err),
         Words::Sweep(words) => sweep_file(rt, words, out, err),
         Words::Check(path) => check_file(rt, path, out, err),
-        Words::Format(words) => format_files(rt, words, out, err),
-        Words::Dump(path) => dump_file(rt, path, out, err),
-        Words::Show(path) => show_file(rt, path, out, err),
-        Words::Recover(words) => recover_files(rt, words, out, err),
-        Words::Upgrade(path) => upgrade_file(rt, path, out, err),
-        Words::Apply(words) => apply_files(rt, words, out, err),
-        Words::Bench(words) => bench_files(rt, words, out, err),
+        Words::Format(words) => format_files(rt, contents, words, out, err),
+        Words::Dump(path) => dump_file(rt, contents, path, out, err),
+        Words::Show(path) => show_file(rt, contents, path, out, err),
+        Words::Recover(words) => recover_files(rt, contents, words, out, err),
+        Words::Upgrade(path) => upgrade_file(rt, contents, path, out, err),
+        Words::Apply(words) => apply_files(rt, contents, words, out, err),
+        Words::Bench(words) => bench_files(rt, contents, words, out, err),
     }
 }
 
@@ -133,69 +134,76 @@ fn check_file<W: Write + Drop, E: Write + Drop>(
     }
 }
 
-/// Makes an empty log of two files, both of which are opened before either is changed.
-fn format_files<W: Write + Drop, E: Write + Drop>(
+/// Makes an empty log of two files, or beside a home area that is kept. Both files are opened before either is changed.
+fn format_files<C: Contents, W: Write + Drop, E: Write + Drop>(
     rt: &HostRuntime,
+    contents: C,
     words: &FormatWords<'_>,
     out: W,
     err: E,
 ) -> io::Result<Status>
-    ensures done { IfOk result (λ status. status ≡ Fine → IsDoneOver IsOverTwo (λ old new. IsMade words.now.measures.log_blocks words.now.measures.uuid words.now.measures.wide old new)) }
+    ensures done { IfOk result (λ status. status ≡ Fine → IsFormatDone C.contents words.now) }
+    ensures other { IfOk result (λ status. status ≢ Fine → status ≡ Refused) }
+{
+    if words.keep_home {
+        format_log(rt, contents, words, out, err)
+    } else {
+        format_both(rt, contents, words, out, err)
+    }
+}
+
+/// Makes an empty log of two files, both of which are cleared.
+fn format_both<C: Contents, W: Write + Drop, E: Write + Drop>(
+    rt: &HostRuntime,
+    contents: C,
+    words: &FormatWords<'_>,
+    out: W,
+    err: E,
+) -> io::Result<Status>
+    ensures done { IfOk result (λ status. status ≡ Fine → IsDoneOver (cleared C.contents) IsOverTwo (λ old new. IsMade words.now.measures.log_blocks words.now.measures.uuid words.now.measures.wide old new)) }
     ensures other { IfOk result (λ status. status ≢ Fine → status ≡ Refused) }
 {
     let mut err = err;
-    let files = match open_to_format(rt, words) {
+    let files = match open_or_make_pair(rt, words.paths, None) {
         Ok(files) => files,
         Err(unopened) => return refuse_file(&mut err, unopened.path, unopened.error),
     };
-    match make_formatted(rt, words, files) {
+    match make_device(rt.alloc(), contents, &words.measures, files) {
         Ok(device) => format_device(words, device, out, err),
         Err(unmade) => refuse_file(&mut err, unmade.path(words.paths), unmade.error),
     }
 }
 
-/// The files of a log that is to be made.
-#[derive(Drop)]
-enum ToMake {
-    /// Both are made anew.
-    Both(LogPair),
-    /// The home area is kept.
-    LogAlone(KeptPair),
-}
-
-/// Opens the files of a log that is to be made, or of one that is made beside a home area that is kept, as the words tell.
-fn open_to_format<'a>(rt: &HostRuntime, words: &FormatWords<'a>) -> Result<ToMake, Unopened<'a>>
-    ensures { IfOk result (λ files. words.now.keep_home ≡ true → KeepsHome files) }
-{
-    if words.keep_home {
-        let files = open_or_make_log(rt, words.paths, home_bytes(&words.measures))?;
-        return Ok(ToMake::LogAlone(files));
-    }
-    Ok(ToMake::Both(open_or_make_pair(rt, words.paths, None)?))
-}
-
-/// Gives these files the lengths of a log that is to be made. A home area that is kept stays as it is.
-fn make_formatted(
+/// Makes an empty log beside a home area that is kept, as it is.
+fn format_log<C: Contents, W: Write + Drop, E: Write + Drop>(
     rt: &HostRuntime,
+    contents: C,
     words: &FormatWords<'_>,
-    files: ToMake,
-) -> Result<LogFiles, Unmade>
-    ensures { IfOk result IsOverTwo }
+    out: W,
+    err: E,
+) -> io::Result<Status>
+    ensures done { IfOk result (λ status. status ≡ Fine → IsDoneOver (log_cleared C.contents) IsOverTwo (λ old new. IsMade words.now.measures.log_blocks words.now.measures.uuid words.now.measures.wide old new)) }
+    ensures other { IfOk result (λ status. status ≢ Fine → status ≡ Refused) }
 {
-    match files {
-        ToMake::Both(files) => make_device(rt.alloc(), &words.measures, files),
-        ToMake::LogAlone(files) => make_log_device(rt.alloc(), &words.measures, files),
+    let mut err = err;
+    let files = match open_or_make_log(rt, words.paths, home_bytes(&words.measures)) {
+        Ok(files) => files,
+        Err(unopened) => return refuse_file(&mut err, unopened.path, unopened.error),
+    };
+    match make_log_device(rt.alloc(), contents, &words.measures, files) {
+        Ok(device) => format_device(words, device, out, err),
+        Err(unmade) => refuse_file(&mut err, unmade.path(words.paths), unmade.error),
     }
 }
 
 /// Makes an empty log on this device.
-fn format_device<W: Write + Drop, E: Write + Drop>(
+fn format_device<C: Contents, W: Write + Drop, E: Write + Drop>(
     words: &FormatWords<'_>,
-    device: LogFiles,
+    device: FileDevice<C>,
     out: W,
     err: E,
 ) -> io::Result<Status>
-    ensures made { IfOk result (λ status. status ≡ Fine → IsOverTwo device → IsDoneOver IsOverTwo (λ old new. IsMade words.now.measures.log_blocks words.now.measures.uuid words.now.measures.wide old new)) }
+    ensures made { IfOk result (λ status. status ≡ Fine → IsOverTwo device → IsDoneOver C.contents IsOverTwo (λ old new. IsMade words.now.measures.log_blocks words.now.measures.uuid words.now.measures.wide old new)) }
     ensures other { IfOk result (λ status. status ≢ Fine → status ≡ Refused) }
 {
     let mut device = device;
@@ -203,38 +211,39 @@ fn format_device<W: Write + Drop, E: Write + Drop>(
 }
 
 /// Opens a log in two files, both of which are opened before either is read; or says what that would do.
-fn recover_files<W: Write + Drop, E: Write + Drop>(
+fn recover_files<C: Contents, W: Write + Drop, E: Write + Drop>(
     rt: &HostRuntime,
+    contents: C,
     words: &RecoverWords<'_>,
     out: W,
     err: E,
 ) -> io::Result<Status>
-    ensures done { IfOk result (λ status. status ≡ Fine → IsDoneOver IsOverTwo (Recovers words.now.dry_run words.now.before_damage)) }
+    ensures done { IfOk result (λ status. status ≡ Fine → IsDoneOver C.contents IsOverTwo (Recovers words.now.dry_run words.now.before_damage)) }
     ensures other { IfOk result (λ status. status ≢ Fine → status ≡ Refused) }
 {
     if words.dry_run {
-        return plan_files(rt, words, out, err);
+        return plan_files(rt, contents, words, out, err);
     }
     let mut err = err;
     let files = match open_pair(rt, words.paths) {
         Ok(files) => files,
         Err(unopened) => return refuse_file(&mut err, unopened.path, unopened.error),
     };
-    match device_of(rt.alloc(), UnknownContents, files) {
+    match device_of(rt.alloc(), contents, files) {
         Ok(device) => recover_device(rt, words, device, out, err),
         Err(e) => refuse_file(&mut err, words.paths.log, e),
     }
 }
 
 /// Opens the log on this device, or says what that would do.
-fn recover_device<W: Write + Drop, E: Write + Drop>(
+fn recover_device<C: Contents, W: Write + Drop, E: Write + Drop>(
     rt: &HostRuntime,
     words: &RecoverWords<'_>,
-    device: LogFiles,
+    device: FileDevice<C>,
     out: W,
     err: E,
 ) -> io::Result<Status>
-    ensures done { IfOk result (λ status. status ≡ Fine → IsOverTwo device → IsDoneOver IsOverTwo (Recovers words.now.dry_run words.now.before_damage)) }
+    ensures done { IfOk result (λ status. status ≡ Fine → IsOverTwo device → IsDoneOver C.contents IsOverTwo (Recovers words.now.dry_run words.now.before_damage)) }
     ensures other { IfOk result (λ status. status ≢ Fine → status ≡ Refused) }
 {
     let mut out = out;
@@ -251,13 +260,14 @@ fn recover_device<W: Write + Drop, E: Write + Drop>(
 }
 
 /// Says what an opening of a log in two files would do. Both are opened to be read alone.
-fn plan_files<W: Write + Drop, E: Write + Drop>(
+fn plan_files<C: Contents, W: Write + Drop, E: Write + Drop>(
     rt: &HostRuntime,
+    contents: C,
     words: &RecoverWords<'_>,
     out: W,
     err: E,
 ) -> io::Result<Status>
-    ensures done { IfOk result (λ status. status ≡ Fine → IsDoneOver IsOverTwo (Recovers words.now.dry_run words.now.before_damage)) }
+    ensures done { IfOk result (λ status. status ≡ Fine → IsDoneOver C.contents IsOverTwo (Recovers words.now.dry_run words.now.before_damage)) }
     ensures other { IfOk result (λ status. status ≢ Fine → status ≡ Refused) }
 {
     let mut err = err;
@@ -265,20 +275,21 @@ fn plan_files<W: Write + Drop, E: Write + Drop>(
         Ok(files) => files,
         Err(unopened) => return refuse_file(&mut err, unopened.path, unopened.error),
     };
-    match device_to_read(rt.alloc(), UnknownContents, files) {
+    match device_to_read(rt.alloc(), contents, files) {
         Ok(device) => recover_device(rt, words, device, out, err),
         Err(e) => refuse_file(&mut err, words.paths.log, e),
     }
 }
 
 /// Does the operations of a script over a log in two files. All three files are opened before any is read.
-fn apply_files<W: Write + Drop, E: Write + Drop>(
+fn apply_files<C: Contents, W: Write + Drop, E: Write + Drop>(
     rt: &HostRuntime,
+    contents: C,
     words: &ApplyWords<'_>,
     out: W,
     err: E,
 ) -> io::Result<Status>
-    ensures done { IfOk result (λ status. status ≡ Fine → IsAppliedOver words.now (W.contents out)) }
+    ensures done { IfOk result (λ status. status ≡ Fine → IsAppliedOver C.contents words.now (W.contents out)) }
     ensures other { IfOk result (λ status. status ≢ Fine → status ≡ Refused) }
 {
     let mut err = err;
@@ -287,25 +298,26 @@ fn apply_files<W: Write + Drop, E: Write + Drop>(
         Err(unopened) => return refuse_file(&mut err, unopened.path, unopened.error),
     };
     match open_script(rt, words.script, &files) {
-        Ok(script) => apply_opened(rt, words, files, script, out, err),
+        Ok(script) => apply_opened(rt, contents, words, files, script, out, err),
         Err(e) => refuse_file(&mut err, words.script, e),
     }
 }
 
 /// Does the operations of the script in this file over a log in these.
-fn apply_opened<W: Write + Drop, E: Write + Drop>(
+fn apply_opened<C: Contents, W: Write + Drop, E: Write + Drop>(
     rt: &HostRuntime,
+    contents: C,
     words: &ApplyWords<'_>,
     files: LogPair,
     script: RegularFile,
     out: W,
     err: E,
 ) -> io::Result<Status>
-    ensures done { IfOk result (λ status. status ≡ Fine → IsAppliedOver words.now (W.contents out)) }
+    ensures done { IfOk result (λ status. status ≡ Fine → IsAppliedOver C.contents words.now (W.contents out)) }
     ensures other { IfOk result (λ status. status ≢ Fine → status ≡ Refused) }
 {
     let mut err = err;
-    match device_of(rt.alloc(), UnknownContents, files) {
+    match device_of(rt.alloc(), contents, files) {
         Ok(device) => {
             let done = apply::apply(rt.alloc(), words, device, script.into_file(), out, err)?;
             Ok(status_of_all(&done))
@@ -337,13 +349,14 @@ fn status_of<T>(done: &Option<T>) -> Status
 }
 
 /// Commits transactions to a log in two files, both of which are opened before either is read.
-fn bench_files<W: Write + Drop, E: Write + Drop>(
+fn bench_files<C: Contents, W: Write + Drop, E: Write + Drop>(
     rt: &HostRuntime,
+    contents: C,
     words: &BenchWords<'_>,
     out: W,
     err: E,
 ) -> io::Result<Status>
-    ensures done { IfOk result (λ status. status ≡ Fine → IsBenchDone) }
+    ensures done { IfOk result (λ status. status ≡ Fine → IsBenchDone C.contents) }
     ensures other { IfOk result (λ status. status ≢ Fine → status ≡ Refused) }
 {
     let mut err = err;
@@ -351,7 +364,7 @@ fn bench_files<W: Write + Drop, E: Write + Drop>(
         Ok(files) => files,
         Err(unopened) => return refuse_file(&mut err, unopened.path, unopened.error),
     };
-    match device_of(rt.alloc(), UnknownContents, files) {
+    match device_of(rt.alloc(), contents, files) {
         Ok(device) => {
             let progress = Progress::new(rt);
             let done = bench::bench(rt.alloc(), words, device, rt, progress, out, err)?;
@@ -362,42 +375,45 @@ fn bench_files<W: Write + Drop, E: Write + Drop>(
 }
 
 /// Prints the log in a file.
-fn dump_file<W: Write + Drop, E: Write + Drop>(
+fn dump_file<C: Contents, W: Write + Drop, E: Write + Drop>(
     rt: &HostRuntime,
+    contents: C,
     path: &str,
     out: W,
     err: E,
 ) -> io::Result<Status>
-    ensures done { IfOk result (λ status. status ≡ Fine → IsDoneOver IsOverAny (λ old new. HasDump (shape_of old) (reading old.disk))) }
+    ensures done { IfOk result (λ status. status ≡ Fine → IsDoneOver C.contents IsOverAny (λ old new. HasDump (shape_of old) (reading old.disk))) }
     ensures other { IfOk result (λ status. status ≢ Fine → status ≡ Refused) }
 {
     let mut err = err;
-    match open_log(rt.alloc(), rt, path) {
+    match open_log(rt.alloc(), contents, rt, path) {
         Ok(mut device) => logs::dump(rt.alloc(), path, &mut device, out, err),
         Err(e) => refuse_file(&mut err, path, e),
     }
 }
 
 /// Gives the empty log in a file block numbers of 64 bits.
-fn upgrade_file<W: Write + Drop, E: Write + Drop>(
+fn upgrade_file<C: Contents, W: Write + Drop, E: Write + Drop>(
     rt: &HostRuntime,
+    contents: C,
     path: &str,
     out: W,
     err: E,
 ) -> io::Result<Status>
-    ensures done { IfOk result (λ status. status ≡ Fine → IsDoneOver IsOverAny HasUpgraded) }
+    ensures done { IfOk result (λ status. status ≡ Fine → IsDoneOver C.contents IsOverAny HasUpgraded) }
     ensures other { IfOk result (λ status. status ≢ Fine → status ≡ Refused) }
 {
     let mut err = err;
-    match open_log_to_write(rt.alloc(), rt, path) {
+    match open_log_to_write(rt.alloc(), contents, rt, path) {
         Ok(mut device) => logs::upgrade(rt.alloc(), path, &mut device, out, err),
         Err(e) => refuse_file(&mut err, path, e),
     }
 }
 
 /// Prints the superblock of the log in a file.
-fn show_file<W: Write + Drop, E: Write + Drop>(
+fn show_file<C: Contents, W: Write + Drop, E: Write + Drop>(
     rt: &HostRuntime,
+    contents: C,
     path: &str,
     out: W,
     err: E,
@@ -405,7 +421,7 @@ fn show_file<W: Write + Drop, E: Write + Drop>(
     ensures other { IfOk result (λ status. status ≢ Fine → status ≡ Refused) }
 {
     let mut err = err;
-    match open_log(rt.alloc(), rt, path) {
+    match open_log(rt.alloc(), contents, rt, path) {
         Ok(mut device) => show::show(rt.alloc(), path, &mut device, out, err),
         Err(e) => refuse_file(&mut err, path, e),
     }

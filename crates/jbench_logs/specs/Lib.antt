@@ -1,4 +1,5 @@
 pub mod Apart
+pub mod Cleared
 pub mod Done
 pub mod Over
 pub mod Said

@@ -8,7 +8,7 @@ use crate::locked::{take, take_shared};
 use crate::pairs::{HomeFile, KeptPair, LogFile, LogPair, ReadPair};
 use crate::ready::{ReadyLog, number_at};
 use crate::regular::{open_there, open_to_read};
-use file_device::{Contents, FileDevice, UnknownContents, WriteLock};
+use file_device::{Contents, FileDevice, WriteLock};
 use jbench_words::words::LogPaths;
 use journal_model::Area;
 use journal_script::{Measures, is_block_size};
@@ -18,8 +18,26 @@ use std::io;
 use std::io::ErrorKind;
 use std::os::unix::fs::FileExt;
 
-/// A device over the files of a log, which may hold anything.
-pub type LogFiles = FileDevice<UnknownContents>;
+/// What is supposed of files that were cleared: that they hold zeros, durably. `make_device` alone says so of its two files.
+#[derive(Drop)]
+pub struct Cleared<C: Contents>(C);
+
+impl<C: Contents> Contents for Cleared<C> {
+    ghost use Rattle.jbench_logs.specs.Cleared.{cleared};
+
+    ghost contents = { cleared C.contents };
+}
+
+/// What is supposed of a log that was cleared, and of the home area beside it: that the log holds zeros, durably, and the home area what
+/// it held. `make_log_device` alone says so of its two files.
+#[derive(Drop)]
+pub struct LogCleared<C: Contents>(C);
+
+impl<C: Contents> Contents for LogCleared<C> {
+    ghost use Rattle.jbench_logs.specs.Cleared.{log_cleared};
+
+    ghost contents = { log_cleared C.contents };
+}
 
 /// Where the superblock says how many bytes a block has.
 const BLOCK_SIZE_PLACE: u64 = 0x0c;
@@ -60,8 +78,17 @@ impl Unmade {
 /// # Errors
 ///
 /// There is no regular file of this path, it can't be read, or another program writes it.
-pub fn open_log<R: Files<File = File>>(alloc: Global, rt: &R, path: &str) -> io::Result<LogFiles> {
-    log_in(alloc, take_shared(open_to_read(rt, path)?)?.into_file())
+pub fn open_log<C: Contents, R: Files<File = File>>(
+    alloc: Global,
+    contents: C,
+    rt: &R,
+    path: &str,
+) -> io::Result<FileDevice<C>> {
+    log_in(
+        alloc,
+        contents,
+        take_shared(open_to_read(rt, path)?)?.into_file(),
+    )
 }
 
 /// Opens a log to be read and written, and takes the lock of a writer. A block has as many bytes as for `open_log`. Its superblock is
@@ -70,21 +97,22 @@ pub fn open_log<R: Files<File = File>>(alloc: Global, rt: &R, path: &str) -> io:
 /// # Errors
 ///
 /// There is no regular file of this path, it can't be read, written or synced, or another program has it.
-pub fn open_log_to_write<R: Files<File = File>>(
+pub fn open_log_to_write<C: Contents, R: Files<File = File>>(
     alloc: Global,
+    contents: C,
     rt: &R,
     path: &str,
-) -> io::Result<LogFiles> {
+) -> io::Result<FileDevice<C>> {
     let log = ReadyLog::with_superblock(take(rt, path, open_there(rt, path)?)?)?;
-    log_in(alloc, log.into_file())
+    log_in(alloc, contents, log.into_file())
 }
 
 /// The log that a file holds.
-fn log_in(alloc: Global, file: File) -> io::Result<LogFiles>
+fn log_in<C: Contents>(alloc: Global, contents: C, file: File) -> io::Result<FileDevice<C>>
     ensures { IfOk result (λ device. (device.log_file ≡ file) × (device.home_file ≡ None)) }
 {
     let size = block_size_of(&file)?;
-    Ok(FileDevice::new(alloc, UnknownContents, size, file, None)?)
+    Ok(FileDevice::new(alloc, contents, size, file, None)?)
 }
 
 /// A device over the files of a log and of its home area, of which `contents` says what is supposed. A block has as many bytes
@@ -142,7 +170,12 @@ fn device_over<C: Contents>(
 ///
 /// A block can't have so many bytes, and both files are as they were; or a file can't be made so long, filled or synced, and what
 /// both held may be lost.
-pub fn make_device(alloc: Global, measures: &Measures, files: LogPair) -> Result<LogFiles, Unmade>
+pub fn make_device<C: Contents>(
+    alloc: Global,
+    contents: C,
+    measures: &Measures,
+    files: LogPair,
+) -> Result<FileDevice<Cleared<C>>, Unmade>
     ensures { IfOk result (IsOver files.log.file.file files.home.file.file) }
 {
     let (log, home) = files.into_files();
@@ -150,7 +183,7 @@ pub fn make_device(alloc: Global, measures: &Measures, files: LogPair) -> Result
     if let Err(error) = clear_and_fill(alloc, home.file(), home_bytes(measures)) {
         return Err(Unmade::of(Area::Home, error));
     }
-    device_in(alloc, size, log, home)
+    device_in(alloc, Cleared(contents), size, log, home)
 }
 
 /// Makes the file of a log as long as these measures say, all zeros, durably, and a device of it and of the home area's file, which
@@ -159,16 +192,17 @@ pub fn make_device(alloc: Global, measures: &Measures, files: LogPair) -> Result
 /// # Errors
 ///
 /// A block can't have so many bytes, and the log is as it was; or it can't be made so long or synced, and what it held may be lost.
-pub fn make_log_device(
+pub fn make_log_device<C: Contents>(
     alloc: Global,
+    contents: C,
     measures: &Measures,
     files: KeptPair,
-) -> Result<LogFiles, Unmade>
+) -> Result<FileDevice<LogCleared<C>>, Unmade>
     ensures { IfOk result (IsOver files.pair.log.file.file files.pair.home.file.file) }
 {
     let (log, home) = files.into_pair().into_files();
     let (size, log) = clear_log(measures, log)?;
-    device_in(alloc, size, log, home)
+    device_in(alloc, LogCleared(contents), size, log, home)
 }
 
 /// How many bytes the home area of these measures has, or 2^64 - 1 where it has more.
@@ -197,12 +231,18 @@ fn clear_log(measures: &Measures, log: LogFile<WriteLock>) -> Result<(usize, Rea
 }
 
 /// A device over these files, in blocks of so many bytes.
-fn device_in(alloc: Global, size: usize, log: ReadyLog, home: HomeFile) -> Result<LogFiles, Unmade>
+fn device_in<C: Contents>(
+    alloc: Global,
+    contents: C,
+    size: usize,
+    log: ReadyLog,
+    home: HomeFile,
+) -> Result<FileDevice<C>, Unmade>
     requires { IsBlockSize size }
     ensures { IfOk result (IsOver log.file home.file) }
 {
     let (log, home) = (log.into_file(), home.into_file());
-    match FileDevice::new(alloc, UnknownContents, size, log, Some(home)) {
+    match FileDevice::new(alloc, contents, size, log, Some(home)) {
         Ok(device) => Ok(device),
         Err(e) => Err(Unmade::of(e.area, e.error)),
     }

@@ -24,8 +24,8 @@ pub mod show;
 pub mod watched;
 
 pub use devices::{
-    LogFiles, Unmade, device_of, device_to_read, home_bytes, make_device, make_log_device,
-    open_log, open_log_to_write,
+    Cleared, LogCleared, Unmade, device_of, device_to_read, home_bytes, make_device,
+    make_log_device, open_log, open_log_to_write,
 };
 pub use locked::LockedFile;
 pub use pairs::{

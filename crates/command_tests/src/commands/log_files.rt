@@ -1,7 +1,8 @@
 //! The commands `format` and `dump`, over files.
 use super::text_of;
+use file_device::{FileDevice, UnknownContents};
 use jbench_logs::logs::{dump, format};
-use jbench_logs::{LogFiles, make_device, open_log, open_or_make_pair};
+use jbench_logs::{Cleared, make_device, open_log, open_or_make_pair};
 use jbench_words::words::LogPaths;
 use journal_script::{DEFAULTS, Measures};
 use std::alloc::Global;
@@ -10,7 +11,7 @@ use std::test::Fail;
 
 /// What `dump` says of the log in this file.
 fn dump_of(rt: &HostRuntime, log: &str) -> Result<String, Fail> {
-    let mut device = open_log(rt.alloc(), rt, log)?;
+    let mut device = open_log(rt.alloc(), UnknownContents, rt, log)?;
     let mut out = Vec::new(rt.alloc());
     let mut err = Vec::new(rt.alloc());
     let status = dump(rt.alloc(), "a.log", &mut device, &mut out, &mut err)?;
@@ -18,7 +19,11 @@ fn dump_of(rt: &HostRuntime, log: &str) -> Result<String, Fail> {
 }
 
 /// What `format` says of an empty log on this device.
-fn format_of(alloc: Global, measures: &Measures, device: LogFiles) -> Result<String, Fail> {
+fn format_of(
+    alloc: Global,
+    measures: &Measures,
+    device: FileDevice<Cleared<UnknownContents>>,
+) -> Result<String, Fail> {
     let mut device = device;
     let mut out = Vec::new(alloc);
     let mut err = Vec::new(alloc);
@@ -33,7 +38,7 @@ fn make(rt: &HostRuntime, measures: &Measures) -> Result<String, Fail> {
         home: "empty_home",
     };
     match open_or_make_pair(rt, paths, None) {
-        Ok(files) => match make_device(rt.alloc(), measures, files) {
+        Ok(files) => match make_device(rt.alloc(), UnknownContents, measures, files) {
             Ok(device) => format_of(rt.alloc(), measures, device),
             Err(unmade) => Err(Fail::from(unmade.error)),
         },

@@ -1,6 +1,8 @@
-use Rattle.std.proofs.lemmas.Result.{IfOk-weaker}
 use Rattle.jbench_commands.proofs.obeying.format_files.Goals as goal
 
--- over two files
-pub returns-in-Ok-make_formatted-clause-done : goal.returns-in-Ok-make_formatted-clause-done
-returns-in-Ok-make_formatted-clause-done g c = IfOk-weaker c.format_device.result _ _ (λ status made fine. made fine c.in-Ok-make_formatted.ensures) c.format_device.ensures.made
+-- as the words tell
+pub returns-then-words-clause-done : goal.returns-then-words-clause-done
+returns-then-words-clause-done g c = rw c.if-words.true c.format_log.ensures.done
+
+pub returns-else-words-clause-done : goal.returns-else-words-clause-done
+returns-else-words-clause-done g c = rw c.if-words.false c.format_both.ensures.done

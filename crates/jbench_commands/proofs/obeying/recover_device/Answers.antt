@@ -1,5 +1,5 @@
+use Rattle.file_device.specs.Files.{file_state}
 use Rattle.jbench_commands.proofs.Obeyed.{recovers}
-use Rattle.jbench_commands.specs.Obeying.{state_of_files}
 use Rattle.jbench_commands.proofs.obeying.recover_device.Goals as goal
 
 -- as the words tell
@@ -9,7 +9,7 @@ returns-clause-done g c = λ fine over. record {
   over = over;
   new = c.in_ok-status._device;
   did = λ honest.
-      recovers c.args.words.now.dry_run c.args.words.now.before_damage (state_of_files c.args.device) (state_of_files c.in_ok-status._device)
+      recovers c.args.words.now.dry_run c.args.words.now.before_damage (file_state g.C.Contents.contents c.args.device) (file_state g.C.Contents.contents c.in_ok-status._device)
       (λ dry before. c.in_ok-status.ensures.recovered dry before fine honest)
       (λ dry before. c.in_ok-status.ensures.before dry before fine honest)
       (λ dry. c.in_ok-status.ensures.planned dry fine honest);
