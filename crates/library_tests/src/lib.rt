@@ -11,6 +11,8 @@ mod example;
 #[cfg(test)]
 mod files;
 #[cfg(test)]
+mod four;
+#[cfg(test)]
 mod gathered;
 #[cfg(test)]
 mod held;

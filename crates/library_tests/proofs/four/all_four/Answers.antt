@@ -28,5 +28,5 @@ join-first-requires-send-F g c κs within =
     ) in
     param_send 1
     (lts.arg-0-1 g.row.J g.row.D g.row.K g.row.R g.J.laws g.D.laws g.K.laws g.R.laws g.J.JournalName g.J.JournalName-dict g.J.PartsName g.J.PartsName-dict g.J.MeetingName g.J.MeetingName-dict g.D.Device g.D.Device-dict
-    g.K.Record g.K.Record-dict g.R.Threads g.R.Threads-dict g.R.Wait g.R.Wait-dict κs)
+    g.K.Record g.K.Record-dict g.R.Threads g.R.Threads-dict g.R.Wait g.R.Wait-dict g.K.Destruct-dict κs)
     (arg_send _ exit.no _ (closure_send (108 ∷ 105 ∷ 98 ∷ 114 ∷ 97 ∷ 114 ∷ 121 ∷ 95 ∷ 116 ∷ 101 ∷ 115 ∷ 116 ∷ 115 ∷ 58 ∷ 58 ∷ 102 ∷ 111 ∷ 117 ∷ 114 ∷ 58 ∷ 58 ∷ 102 ∷ 110 ∷ 58 ∷ 58 ∷ 97 ∷ 108 ∷ 108 ∷ 95 ∷ 102 ∷ 111 ∷ 117 ∷ 114 ∷ 58 ∷ 58 ∷ 106 ∷ 111 ∷ 105 ∷ 110 ∷ 43 ∷ 97 ∷ 114 ∷ 103 ∷ 50 ∷ 43 ∷ 83 ∷ 101 ∷ 108 ∷ 102 ∷ []) (runtime ∷ shared ∷ seat ∷ seat ∷ []) all))

@@ -1,0 +1,351 @@
+//! Four threads write, read, revoke, write directly and audit over one journal, which is closed then: its record is judged as data,
+//! and the home area as the record says.
+ghost use Rattle.std.specs.Prelude.{◌≡◌};
+
+use block_device::{Device, MemDevice};
+use group_commit::{Parts, Record};
+use handle::{JournalName, Seat};
+use journal_model::{Area, BlockNo, HandleNo, JournalError, Op, Sealed, Step};
+use meeting::MeetingName;
+use parts::PartsName;
+use shared_journal::{Handle, Journal, LaidJournal, Ticket, lay};
+use std::alloc::Global;
+use std::marker::Brand;
+use std::process::Abort;
+use std::sync::Wait;
+use std::test::Fail;
+use std::thread::{self, Threads, join};
+
+/// How often all four run.
+const RUNS: u64 = 100;
+
+/// How many handles each thread has, one behind the other.
+const HANDLES: u8 = 6;
+
+/// How many handles all four have.
+const ALL_HANDLES: u64 = 24;
+
+/// How often a thread asks again where it was told to wait.
+const ASKS: u64 = 100_000;
+
+/// Blocks of the home area.
+const HOME_BLOCKS: u64 = 64;
+
+/// A block that all threads write.
+const SHARED: u64 = 40;
+
+/// The first of four blocks, each of which one thread writes directly.
+const DIRECT: u64 = 50;
+
+/// Takes a turn for whoever has to wait: of the commit, or of a round where the log is full. It answers whether that was refused for
+/// good.
+fn take_turn<J: JournalName + PartsName + MeetingName, D: Device, K: Record, R: Wait>(
+    rt: &R,
+    journal: &Journal<J, D, K>,
+) -> bool {
+    match journal.commit_turn(rt) {
+        Ok(_) => true,
+        Err(JournalError::NeedSpace) => journal.checkpoint_turn(rt).is_ok(),
+        Err(_) => false,
+    }
+}
+
+/// Starts a handle of three credits. Where there is no room for it, the running transaction is locked and turns are taken.
+fn start<'a, J: JournalName + PartsName + MeetingName, D: Device, K: Record, R: Wait>(
+    rt: &R,
+    journal: &'a Journal<J, D, K>,
+    seat: &mut Seat<J>,
+) -> Option<Handle<'a, J, K>> {
+    for _ in 0..ASKS {
+        match journal.try_start(rt, seat, 3) {
+            Ok(handle) => return Some(handle),
+            Err(JournalError::Full | JournalError::NotRunning) => {
+                if journal.lock(rt).is_err() || !take_turn(rt, journal) {
+                    return None;
+                }
+                thread::yield_now();
+            }
+            Err(_) => return None,
+        }
+    }
+    None
+}
+
+/// The steps of one handle: two blocks are written, of which one is this thread's own and is read again, and one is revoked. It
+/// answers whether each was done, and the own block read as it was written.
+fn touch<J: JournalName + PartsName + MeetingName, D: Device, K: Record, R: Wait>(
+    rt: &R,
+    journal: &Journal<J, D, K>,
+    handle: &mut Handle<'_, J, K>,
+    thread: u8,
+    round: u8,
+) -> bool {
+    let byte = thread.wrapping_mul(50).wrapping_add(round).wrapping_add(1);
+    let first = u64::from(thread).saturating_mul(8);
+    let own = BlockNo(first.saturating_add(u64::from(round % 3)));
+    let revoked = BlockNo(first.saturating_add(4));
+    let mut seen = [0; 1024];
+    journal.block_size() == 1024
+        && journal.write(rt, handle, own, &[byte; 1024]).is_ok()
+        && journal
+            .write(rt, handle, BlockNo(SHARED), &[byte; 1024])
+            .is_ok()
+        && journal.read(rt, handle, BlockNo(SHARED), &mut seen).is_ok()
+        && journal.read(rt, handle, own, &mut seen).is_ok()
+        && seen[1023] == byte
+        && journal.revoke(rt, handle, revoked).is_ok()
+}
+
+/// Takes turns until the ticket's transaction is committed, and looks with its receipt.
+fn see_through<J: JournalName + PartsName + MeetingName, D: Device, K: Record, R: Wait>(
+    rt: &R,
+    journal: &Journal<J, D, K>,
+    ticket: Ticket<J, K>,
+) -> bool {
+    let mut ticket = ticket;
+    if journal.request(rt, &mut ticket).is_err() {
+        return false;
+    }
+    for _ in 0..ASKS {
+        match journal.reach(ticket) {
+            Ok(receipt) => {
+                let mut receipt = receipt;
+                journal.audit(rt, &mut receipt);
+                return true;
+            }
+            Err(back) => ticket = back,
+        }
+        if !take_turn(rt, journal) {
+            return false;
+        }
+        thread::yield_now();
+    }
+    false
+}
+
+/// What one thread does: each of its handles writes, reads and revokes, and each second one is waited for; a block of its own is
+/// written directly. It answers whether all of it was done.
+fn work<J: JournalName + PartsName + MeetingName, D: Device, K: Record, R: Wait>(
+    rt: &R,
+    journal: &Journal<J, D, K>,
+    mut seat: Seat<J>,
+    thread: u8,
+) -> bool {
+    for round in 0..HANDLES {
+        let Some(mut handle) = start(rt, journal, &mut seat) else {
+            return false;
+        };
+        let touched = touch(rt, journal, &mut handle, thread, round);
+        let ticket = journal.stop(rt, handle);
+        if !touched || round % 2 == 1 && !see_through(rt, journal, ticket) {
+            return false;
+        }
+    }
+    let direct = BlockNo(DIRECT.saturating_add(u64::from(thread)));
+    journal.block_size() == 1024
+        && journal
+            .write_direct(rt, direct, &[thread.wrapping_add(1); 1024])
+            .is_ok()
+        && journal.sync_direct(rt).is_ok()
+}
+
+/// The first two threads at once.
+fn first_two<
+    J: JournalName + PartsName + MeetingName + Send + Sync,
+    D: Device + Send,
+    K: Record + Send,
+    R: Threads + Wait + Sync,
+>(rt: &R, journal: &Journal<J, D, K>, one: Seat<J>, two: Seat<J>) -> bool {
+    let (one, two) = join(
+        rt,
+        || -> bool { work(rt, journal, one, 0) },
+        || -> bool { work(rt, journal, two, 1) },
+    );
+    one && two
+}
+
+/// The last two.
+fn last_two<
+    J: JournalName + PartsName + MeetingName + Send + Sync,
+    D: Device + Send,
+    K: Record + Send,
+    R: Threads + Wait + Sync,
+>(rt: &R, journal: &Journal<J, D, K>, one: Seat<J>, two: Seat<J>) -> bool {
+    let (one, two) = join(
+        rt,
+        || -> bool { work(rt, journal, one, 2) },
+        || -> bool { work(rt, journal, two, 3) },
+    );
+    one && two
+}
+
+/// All four at once.
+fn all_four<
+    J: JournalName + PartsName + MeetingName + Send + Sync,
+    D: Device + Send,
+    K: Record + Send,
+    R: Threads + Wait + Sync,
+>(rt: &R, journal: &Journal<J, D, K>, seats: [Seat<J>; 4]) -> bool {
+    let [one, two, three, four] = seats;
+    let (first, last) = join(
+        rt,
+        || -> bool { first_two(rt, journal, one, two) },
+        || -> bool { last_two(rt, journal, three, four) },
+    );
+    first && last
+}
+
+/// The bytes that the last of these steps that is no read gave a block, where it wrote it.
+fn last_write(steps: &[Step], block: BlockNo) -> Option<&[u8]> {
+    let mut last = None;
+    for step in steps.iter() {
+        if step.block == block {
+            match &step.op {
+                Op::Write(bytes) => last = Some(bytes.bytes()),
+                Op::Revoke => last = None,
+                Op::Read(_) => {}
+            }
+        }
+    }
+    last
+}
+
+/// Whether a step that is a read behind these steps gave the bytes of the last write of its block, where one stands.
+fn is_true_read(before: &[Step], step: &Step) -> bool {
+    match (&step.op, last_write(before, step.block)) {
+        (Op::Read(seen), Some(bytes)) => bytes == seen.bytes(),
+        _ => true,
+    }
+}
+
+/// Whether each read of a transaction that comes behind a write of its block gave the bytes of the last write.
+fn is_legal(sealed: &Sealed) -> bool {
+    let steps = sealed.steps.as_slice();
+    let mut is_legal = true;
+    for place in 0..steps.len() {
+        is_legal = is_true_read(&steps[..place], &steps[place]) && is_legal;
+    }
+    is_legal
+}
+
+/// In how many of these transactions a handle stands, with how often it stands there.
+fn times(sealed: &[Sealed], handle: HandleNo) -> u64 {
+    let mut times: u64 = 0;
+    for transaction in sealed.iter() {
+        for other in transaction.handles.as_slice().iter() {
+            if *other == handle {
+                times = times.saturating_add(1);
+            }
+        }
+    }
+    times
+}
+
+/// Whether all handles of the threads stand in the record, each once, in transactions that are legal.
+fn is_whole(sealed: &[Sealed]) -> bool {
+    let mut handles: u64 = 0;
+    let mut is_whole = true;
+    for transaction in sealed.iter() {
+        is_whole = is_legal(transaction) && is_whole;
+        for handle in transaction.handles.as_slice().iter() {
+            is_whole = times(sealed, *handle) == 1 && is_whole;
+            handles = handles.saturating_add(1);
+        }
+    }
+    is_whole && handles == ALL_HANDLES
+}
+
+/// Whether one of these steps writes or revokes a block.
+fn touches(steps: &[Step], block: BlockNo) -> bool {
+    let mut touches = false;
+    for step in steps.iter() {
+        touches = touches || step.block == block && !matches!(step.op, Op::Read(_));
+    }
+    touches
+}
+
+/// The bytes of the last copy of a block in these transactions, where no revoke comes behind it.
+fn last_copy(sealed: &[Sealed], block: BlockNo) -> Option<&[u8]> {
+    let mut last = None;
+    for transaction in sealed.iter() {
+        let steps = transaction.steps.as_slice();
+        if touches(steps, block) {
+            last = last_write(steps, block);
+        }
+    }
+    last
+}
+
+/// Whether a block of the home area reads as the record says.
+fn is_home(device: &mut MemDevice, sealed: &[Sealed], block: BlockNo) -> bool {
+    let mut bytes = [0; 1024];
+    if device.block_size() != 1024 || device.read(Area::Home, block.0, &mut bytes).is_err() {
+        return false;
+    }
+    match last_copy(sealed, block) {
+        Some(copy) => copy == bytes.as_slice(),
+        None => u64::from(bytes[0]) == block.0.saturating_sub(DIRECT - 1),
+    }
+}
+
+/// Whether what a journal left is what four threads did over it.
+fn is_right(parts: Parts<MemDevice, Vec<Sealed>>) -> bool {
+    let Parts {
+        mut device,
+        sealed,
+        committed,
+    } = parts;
+    let mut is_right = committed == sealed.len() as u64 && is_whole(&sealed);
+    for block in 0..54 {
+        is_right = is_home(&mut device, &sealed, BlockNo(block)) && is_right;
+    }
+    is_right
+}
+
+/// Four threads over a journal, which is closed then.
+fn worked<J: JournalName + PartsName + MeetingName + Send + Sync, R: Threads + Wait + Abort + Sync>(
+    rt: &R,
+    laid: LaidJournal<MemDevice, Vec<Sealed>>,
+)
+    requires board { laid.board ≡ J.board }
+    requires parts { laid.parts ≡ J.parts }
+    requires meeting { laid.meeting ≡ J.meeting }
+    requires capacity { laid.capacity ≡ J.capacity }
+    requires block_size { laid.block_size ≡ J.block_size }
+{
+    let (journal, mut seat) = laid.named::<J>();
+    let (Some(one), Some(two), Some(three)) = (
+        journal.split_seat(&mut seat),
+        journal.split_seat(&mut seat),
+        journal.split_seat(&mut seat),
+    ) else {
+        panic!(rt; "there is no further seat")
+    };
+    assert!(rt; all_four(rt, &journal, [one, two, three, seat]));
+    let Ok(parts) = journal.close() else {
+        panic!(rt; "the close is refused")
+    };
+    assert!(rt; is_right(parts));
+}
+
+/// One run, over a ring that goes round several times.
+fn run<R: Threads + Wait + Abort + Sync>(rt: &R, alloc: Global) -> Result<(), JournalError> {
+    let mut device = MemDevice::new(alloc, 1024, 65, HOME_BLOCKS);
+    recovery::format(&mut device, 65, &[7; 16], false)?;
+    let Ok(opened) = recovery::open(alloc, device) else {
+        panic!(rt; "the log is refused")
+    };
+    let Ok(laid) = lay(alloc, opened) else {
+        panic!(rt; "the journal is refused")
+    };
+    worked::<Brand, _>(rt, laid);
+    Ok(())
+}
+
+#[test]
+fn four_threads_share_a_journal(rt: HostRuntime) -> Result<(), Fail> {
+    for _ in 0..RUNS {
+        run(&rt, rt.alloc())?;
+    }
+    Ok(())
+}
