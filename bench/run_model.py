@@ -242,6 +242,11 @@ class Journal:
         if ticket.tid == self.number:
             self.is_locked = True
 
+    def lock(self):
+        if self.handles:
+            self.is_locked = True
+        return self.number
+
     def turn(self):
         if self.calls:
             call, *words = self.calls.pop(0)
@@ -391,6 +396,9 @@ class Run:
     def do_request(self, name):
         self.journal.request(self.names[name])
         return "ok"
+
+    def do_lock(self):
+        return self.journal.lock()
 
     def do_turn(self):
         return self.journal.turn()

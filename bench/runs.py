@@ -54,7 +54,7 @@ MOST_IMAGE_BLOCKS = 1048576  # of the home area of an image in files
 class RandomScript:
     """A script that is no bad one. Its operations are drawn as phrases, each of one operation or several."""
 
-    MIXED = {"start": 5, "write": 12, "revoke": 4, "read": 4, "stop": 4, "request": 4, "turn": 8, "commit": 3, "ckturn": 6,
+    MIXED = {"start": 5, "write": 12, "revoke": 4, "read": 4, "stop": 4, "request": 4, "lock": 2, "turn": 8, "commit": 3, "ckturn": 6,
              "check": 1, "status": 2, "wait": 2, "direct": 4, "sync": 2, "transaction": 6, "reuse": 1, "extend": 4, "restart": 3}
     STEADY = {"transaction": 20, "read": 2, "commit": 2, "ckturn": 1, "status": 1, "wait": 1, "direct": 4, "sync": 2, "reuse": 3}
 
@@ -150,6 +150,9 @@ class RandomScript:
 
     def draw_request(self):
         self.add_with(("stopped",), "request")
+
+    def draw_lock(self):
+        self.ops.append(["lock"])
 
     def draw_status(self):
         self.add_with(("stopped",), "status")
@@ -282,7 +285,7 @@ BAD_OPERATIONS = (
     ["start", 10000, 1], ["start", -1, 1], ["start", 1.0, 1], ["start", "1", 1], ["start", True, 1], ["start", 1, 2**64],
     ["start", 1, -1], ["start", 1, 1.5], ["start", 1, None], ["start", 1], ["start", 1, 1, 1], ["start"], ["Start", 1, 1],
     ["turn", 1], ["commit", 1], ["ckturn", 1], ["check", 1], ["check", []], ["turns"], [1], [None], [["turn"]], [], {"turn": 1},
-    ["lock"], ["sync", 1], ["sync", []], ["direct"], ["direct", 1], ["direct", 1, 0], ["direct", 1, "0"], ["direct", 1, "0g"],
+    ["lock", 1], ["sync", 1], ["sync", []], ["direct"], ["direct", 1], ["direct", 1, 0], ["direct", 1, "0"], ["direct", 1, "0g"],
     ["direct", -1, "00"], ["direct", 1.0, "00"], ["direct", 2**64, "00"], ["direct", "1", "00"], ["direct", 1, "00", 1],
     ["direct", 1, "00" * 4097],
 )

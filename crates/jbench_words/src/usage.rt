@@ -82,6 +82,7 @@ A script is a JSON object with these keys, of which \"ops\" alone has to be ther
   [\"restart\", H, n]     the handle ends, and another one with n credits takes its name
   [\"stop\", H]           the handle ends
   [\"request\", H]        asks for the commit of its transaction
+  [\"lock\"]              the running transaction takes no further handles
   [\"turn\"]              takes one commit turn
   [\"commit\"]            takes commit turns until one has nothing to do, or waits for a handle that has not stopped
   [\"ckturn\"]            takes one checkpoint turn

@@ -2,7 +2,7 @@
 use Rattle.std.specs.Prelude.{ℕ, ◌++◌, List, [], Option, Some, None, codes}
 use Rattle.std.specs.Fmt.{decimal}
 use Rattle.journal_script.specs.declared.script.Operation.{Operation}
-use Rattle.journal_script.specs.declared.script.Operation.TheVariants.{Start, Write, Revoke, Read, Extend, Restart, Stop, Request, Turn, Commit, CheckpointTurn, Check, Status, Wait, WriteDirect, SyncDirect}
+use Rattle.journal_script.specs.declared.script.Operation.TheVariants.{Start, Write, Revoke, Read, Extend, Restart, Stop, Request, Lock, Turn, Commit, CheckpointTurn, Check, Status, Wait, WriteDirect, SyncDirect}
 
 -- the word that it begins with
 abbrev pub word_of : Operation → List ℕ
@@ -14,6 +14,7 @@ word_of (Extend name credits) = codes "extend"
 word_of (Restart name credits) = codes "restart"
 word_of (Stop name) = codes "stop"
 word_of (Request name) = codes "request"
+word_of Lock = codes "lock"
 word_of Turn = codes "turn"
 word_of Commit = codes "commit"
 word_of CheckpointTurn = codes "ckturn"
@@ -33,6 +34,7 @@ handle_in (Extend name credits) = Some name
 handle_in (Restart name credits) = Some name
 handle_in (Stop name) = Some name
 handle_in (Request name) = Some name
+handle_in Lock = None
 handle_in Turn = None
 handle_in Commit = None
 handle_in CheckpointTurn = None
@@ -52,6 +54,7 @@ number_in (Extend name credits) = Some credits
 number_in (Restart name credits) = Some credits
 number_in (Stop name) = None
 number_in (Request name) = None
+number_in Lock = None
 number_in Turn = None
 number_in Commit = None
 number_in CheckpointTurn = None

@@ -3,7 +3,7 @@ use Rattle.std.specs.Prelude.{◌≡◌, ℕ, ◌<◌, List, Option, Some, None,
 use Rattle.std.specs.BTreeSet.{keys}
 use Rattle.journal_script.specs.declared.script.NamedBlocks.{NamedBlocks}
 use Rattle.journal_script.specs.declared.script.Operation.{Operation}
-use Rattle.journal_script.specs.declared.script.Operation.TheVariants.{Start, Write, Revoke, Read, Extend, Restart, Stop, Request, Turn, Commit, CheckpointTurn, Check, Status, Wait, WriteDirect, SyncDirect}
+use Rattle.journal_script.specs.declared.script.Operation.TheVariants.{Start, Write, Revoke, Read, Extend, Restart, Stop, Request, Lock, Turn, Commit, CheckpointTurn, Check, Status, Wait, WriteDirect, SyncDirect}
 use Rattle.journal_script.specs.declared.script.Script.{Script}
 
 -- the block that an operation names, if it names one
@@ -17,6 +17,7 @@ block_in (Extend name credits) = None
 block_in (Restart name credits) = None
 block_in (Stop name) = None
 block_in (Request name) = None
+block_in Lock = None
 block_in Turn = None
 block_in Commit = None
 block_in CheckpointTurn = None
@@ -36,6 +37,7 @@ direct_in (Extend name credits) = None
 direct_in (Restart name credits) = None
 direct_in (Stop name) = None
 direct_in (Request name) = None
+direct_in Lock = None
 direct_in Turn = None
 direct_in Commit = None
 direct_in CheckpointTurn = None

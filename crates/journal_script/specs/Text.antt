@@ -10,7 +10,7 @@ use Rattle.journal_script.specs.declared.error.Key.{Key}
 use Rattle.journal_script.specs.declared.error.Key.TheVariants.{Operations, Block, Length, Home, Uuid, Wide}
 use Rattle.journal_script.specs.declared.measures.Measures.{Measures}
 use Rattle.journal_script.specs.declared.script.Operation.{Operation}
-use Rattle.journal_script.specs.declared.script.Operation.TheVariants.{Start, Write, Revoke, Read, Extend, Restart, Stop, Request, Turn, Commit, CheckpointTurn, Check, Status, Wait, WriteDirect, SyncDirect}
+use Rattle.journal_script.specs.declared.script.Operation.TheVariants.{Start, Write, Revoke, Read, Extend, Restart, Stop, Request, Lock, Turn, Commit, CheckpointTurn, Check, Status, Wait, WriteDirect, SyncDirect}
 
 -- the keys of a script
 abbrev pub key_name : Key → List ℕ
@@ -44,6 +44,7 @@ AreArguments (Extend name credits) values = values ≡ number_value name ∷ num
 AreArguments (Restart name credits) values = values ≡ number_value name ∷ number_value credits ∷ []
 AreArguments (Stop name) values = values ≡ number_value name ∷ []
 AreArguments (Request name) values = values ≡ number_value name ∷ []
+AreArguments Lock values = values ≡ []
 AreArguments Turn values = values ≡ []
 AreArguments Commit values = values ≡ []
 AreArguments CheckpointTurn values = values ≡ []

@@ -100,6 +100,8 @@ pub enum OperationName {
     Stop,
     /// `request`
     Request,
+    /// `lock`
+    Lock,
     /// `turn`
     Turn,
     /// `commit`
@@ -130,6 +132,7 @@ impl OperationName {
             "restart" => Some(OperationName::Restart),
             "stop" => Some(OperationName::Stop),
             "request" => Some(OperationName::Request),
+            "lock" => Some(OperationName::Lock),
             "turn" => Some(OperationName::Turn),
             "commit" => Some(OperationName::Commit),
             "ckturn" => Some(OperationName::CheckpointTurn),
@@ -153,6 +156,7 @@ impl OperationName {
             OperationName::Restart => r#"["restart", H, n]"#,
             OperationName::Stop => r#"["stop", H]"#,
             OperationName::Request => r#"["request", H]"#,
+            OperationName::Lock => r#"["lock"]"#,
             OperationName::Turn => r#"["turn"]"#,
             OperationName::Commit => r#"["commit"]"#,
             OperationName::CheckpointTurn => r#"["ckturn"]"#,

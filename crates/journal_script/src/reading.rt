@@ -393,6 +393,7 @@ fn plain_operation(name: &Value) -> Result<Operation, Unread>
     ensures arguments { IfOk result (λ operation. AreArguments operation []) }
 {
     match name.as_str() {
+        Some("lock") => Ok(Operation::Lock),
         Some("turn") => Ok(Operation::Turn),
         Some("commit") => Ok(Operation::Commit),
         Some("ckturn") => Ok(Operation::CheckpointTurn),

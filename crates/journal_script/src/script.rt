@@ -49,6 +49,8 @@ pub enum Operation {
     Stop(HandleName),
     /// Asks for the commit of a stopped handle's transaction.
     Request(HandleName),
+    /// Locks the running transaction.
+    Lock,
     /// Takes one commit turn.
     Turn,
     /// Takes commit turns until nothing is left to do.
@@ -125,7 +127,8 @@ impl Operation {
             | Operation::Request(handle)
             | Operation::Status(handle)
             | Operation::Wait(handle) => Some(*handle),
-            Operation::Turn
+            Operation::Lock
+            | Operation::Turn
             | Operation::Commit
             | Operation::CheckpointTurn
             | Operation::Check
@@ -199,6 +202,7 @@ impl Operation {
             Operation::Restart(..) => "restart",
             Operation::Stop(_) => "stop",
             Operation::Request(_) => "request",
+            Operation::Lock => "lock",
             Operation::Turn => "turn",
             Operation::Commit => "commit",
             Operation::CheckpointTurn => "ckturn",

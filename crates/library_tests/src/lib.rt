@@ -30,3 +30,5 @@ mod tables;
 mod threads;
 #[cfg(test)]
 mod touches;
+#[cfg(test)]
+mod waiting;

@@ -4,7 +4,7 @@ use Rattle.journal_model.specs.declared.refusal.JournalError.{JournalError}
 use Rattle.journal_model.specs.declared.refusal.JournalError.TheVariants.{Aborted, Memory}
 use Rattle.block_device.specs.State.{DeviceState}
 use Rattle.journal_script.specs.declared.script.Operation.{Operation}
-use Rattle.journal_script.specs.declared.script.Operation.TheVariants.{Start, Write, Revoke, Read, Extend, Restart, Stop, Request, Turn, Commit, CheckpointTurn, Check, Status, Wait, WriteDirect, SyncDirect}
+use Rattle.journal_script.specs.declared.script.Operation.TheVariants.{Start, Write, Revoke, Read, Extend, Restart, Stop, Request, Lock, Turn, Commit, CheckpointTurn, Check, Status, Wait, WriteDirect, SyncDirect}
 use Rattle.journal_world.specs.Front.FrontEvent.{RevokeBlock, WriteBlock}
 use Rattle.journal_world.specs.Journal.Event.{DirectSync, DirectWrite, FrontStep, ReadBlock}
 use Rattle.journal_front.specs.Front.{Spends, TouchRefused}
@@ -92,6 +92,7 @@ Touches state honest (Start name credits) outcome h left old new = ⊥
 Touches state honest (Restart name credits) outcome h left old new = ⊥
 Touches state honest (Stop name) outcome h left old new = ⊥
 Touches state honest (Request name) outcome h left old new = ⊥
+Touches state honest Lock outcome h left old new = ⊥
 Touches state honest Turn outcome h left old new = ⊥
 Touches state honest Commit outcome h left old new = ⊥
 Touches state honest CheckpointTurn outcome h left old new = ⊥
@@ -111,6 +112,7 @@ IsTouch (Start name credits) = ⊥
 IsTouch (Restart name credits) = ⊥
 IsTouch (Stop name) = ⊥
 IsTouch (Request name) = ⊥
+IsTouch Lock = ⊥
 IsTouch Turn = ⊥
 IsTouch Commit = ⊥
 IsTouch CheckpointTurn = ⊥
@@ -169,6 +171,12 @@ HasRequested state (Waited receipt) outcome old new = (new.names ≡ old.names) 
     (λ e. (e ≡ Aborted) × (old.client.journal.journal.engine.aborted ≡ true))
 HasRequested state Empty outcome old new = Skips outcome old new
 HasRequested state (Open h) outcome old new = Skips outcome old new
+
+-- the running transaction was locked, if a handle had joined it, and its number told; or the device has failed before
+abbrev pub Locks : {D : Type 0} → (D → DeviceState) → Outcome → JournalValue D → JournalValue D → Type 0
+Locks state outcome old new = OrRefused outcome
+    ((outcome ≡ Transaction old.journal.front.running.tid) × Requests state old.journal.front.running.tid old new)
+    (λ e. (e ≡ Aborted) × (old.journal.front.aborted ≡ true) × (new ≡ old))
 
 -- the most turns that are taken in a row
 abbrev pub most_turns : ℕ
@@ -285,6 +293,7 @@ HasDone state honest (Stop name) outcome old new =
     IsSameButJournal old.client new.client × HasStopped state name (stands_for old.names name) outcome old new
 HasDone state honest (Request name) outcome old new =
     IsSameButJournal old.client new.client × HasRequested state (stands_for old.names name) outcome old new
+HasDone state honest Lock outcome old new = IsSameButJournal old.client new.client × OnJournal (Locks state outcome) old new
 HasDone state honest Turn outcome old new = IsSameButJournal old.client new.client × OnJournal (TakesOneTurn state outcome) old new
 HasDone state honest Commit outcome old new = IsSameButJournal old.client new.client × OnJournal (TakesTurns state outcome) old new
 HasDone state honest CheckpointTurn outcome old new = IsSameButJournal old.client new.client × OnJournal (TakesOneCheckTurn state outcome) old new

@@ -287,6 +287,20 @@ impl<'a, D: Device + Drop, H: HomeFact> Client<'a, D, H> {
         self.journal.request(ticket)
     }
 
+    /// Locks the running transaction, and tells its number.
+    ///
+    /// # Errors
+    ///
+    /// `Aborted`.
+    pub fn lock(&mut self) -> Result<Tid, JournalError>
+        ensures current { IfOk result (λ tid. tid ≡ self.old.journal.journal.front.running.tid) }
+        ensures locks { OnOk result (Requests D.state self.old.journal.journal.front.running.tid self.old.journal self.new.journal) }
+        ensures err { IfErr result (λ e. IsRefusedAborted self.old e × (self.new.journal ≡ self.old.journal)) }
+        ensures rest { IsSameButJournal self.old self.new }
+    {
+        self.journal.lock()
+    }
+
     /// Takes one commit turn.
     ///
     /// # Errors

@@ -92,7 +92,7 @@ impl<'a, D: Device + Drop, H: HomeFact> Interpreter<'a, D, H> {
     ghost use Rattle.group_commit.specs.Close.{IsSealedInClose, closing};
     ghost use Rattle.script_client.specs.Ended.{IsEnded, IsLeftClosed, IsUnclosed, StopsHandles};
     ghost use Rattle.script_client.specs.Names.{stands_for};
-    ghost use Rattle.script_client.specs.Performed.{HasDone, HasRequested, HasRestarted, HasStatus, HasStopped, HasTouched, HasWaited, IsBegun, IsTouch, OrRefused, ReadsBlock, StartsNamed, StartsNone, SyncsDirectly, TakesCheckTurns, TakesOneCheckTurn, TakesOneTurn, TakesTurns, TellsAgain, Touches, WaitsFor, WritesBlock, WritesDirectly};
+    ghost use Rattle.script_client.specs.Performed.{HasDone, HasRequested, HasRestarted, HasStatus, HasStopped, HasTouched, HasWaited, IsBegun, IsTouch, Locks, OrRefused, ReadsBlock, StartsNamed, StartsNone, SyncsDirectly, TakesCheckTurns, TakesOneCheckTurn, TakesOneTurn, TakesTurns, TellsAgain, Touches, WaitsFor, WritesBlock, WritesDirectly};
     ghost use Rattle.script_client.specs.Shown.{IsLeftOf, IsSameButJournal};
     ghost use Rattle.script_client.specs.Told.{IsLedTo};
 
@@ -139,6 +139,7 @@ impl<'a, D: Device + Drop, H: HomeFact> Interpreter<'a, D, H> {
             Operation::Restart(name, credits) => self.restart(*name, *credits),
             Operation::Stop(name) => self.stop(*name),
             Operation::Request(name) => self.request(*name),
+            Operation::Lock => self.lock(),
             Operation::Turn => self.turn(),
             Operation::Commit => self.commit(),
             Operation::CheckpointTurn => self.checkpoint_turn(),
@@ -335,6 +336,18 @@ impl<'a, D: Device + Drop, H: HomeFact> Interpreter<'a, D, H> {
             ),
             Some(Slot::Waited(_)) => Outcome::Done,
             _ => Outcome::Skipped,
+        }
+    }
+
+    /// Locks the running transaction.
+    fn lock(&mut self) -> Outcome
+        ensures rest { IsSameButJournal self.old.client self.new.client }
+        ensures done { Locks D.state result self.old.client.journal self.new.client.journal }
+        ensures slots { self.new.slots ≡ self.old.slots }
+    {
+        match self.client.lock() {
+            Ok(tid) => Outcome::Transaction(tid),
+            Err(e) => Outcome::Refused(e),
         }
     }
 

@@ -9,3 +9,4 @@ mod BehindMeeting
 mod Moments
 mod Refused
 mod TurnMoments
+mod Trying

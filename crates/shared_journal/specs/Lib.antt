@@ -5,3 +5,4 @@ pub mod Moments
 pub mod Refusals
 pub mod Known
 pub mod Turns
+pub mod Waiting

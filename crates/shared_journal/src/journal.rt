@@ -18,6 +18,7 @@ ghost use Rattle.shared_journal.specs.Moments.{AtOneMoment, JoinedThen, StoppedT
 ghost use Rattle.shared_journal.specs.Turns.{CheckTurnThen, RoundRefusedThen, RoundThen, StepRefusedThen, StepThen, TurnRefusedThen, TurnThen};
 ghost use Rattle.shared_journal.specs.Refusals.{CouldNotJoin, IsExtendRefusal, IsJoinRefusal, IsReadRefusal, IsTouchRefusal, MayHavePaid, StartRefused};
 
+use crate::changes::Changes;
 use crate::closing::close;
 use crate::locked::{Counters, Locked, Tally};
 use crate::open_handle::Handle;
@@ -44,6 +45,8 @@ pub struct Journal<
     meeting: SidesMeeting<J, D>,
     pub(crate) locked: Mutex<Locked<J, D, R>>,
     engine: Mutex<EngineSide<J, D>>,
+    /// What those who wait sleep on.
+    pub(crate) changes: Changes,
     block_size: usize,
     pub ghost block_is: { block_size ≡ J.block_size },
 }
@@ -63,6 +66,7 @@ impl<J: JournalName + PartsName + MeetingName, D: Device, R: Record> Journal<J, 
             meeting,
             locked: Mutex::new(locked),
             engine: Mutex::new(engine),
+            changes: Changes::new(),
             block_size,
         }
     }
@@ -103,7 +107,8 @@ impl<J: JournalName + PartsName + MeetingName, D: Device, R: Record> Journal<J, 
 
     /// Takes credits back that no handle was made of. It takes no lock, waits for nobody, and is never refused.
     pub fn give_back(&self, credits: Credits<J>) {
-        credits.give_back(&self.counters.pool)
+        credits.give_back(&self.counters.pool);
+        self.changes.tell();
     }
 
     /// The number of the last transaction that is told to be committed. It takes no lock.
@@ -123,7 +128,7 @@ impl<J: JournalName + PartsName + MeetingName, D: Device, R: Record> Journal<J, 
     }
 
     /// The receipt for a ticket whose transaction is committed, as far as the mark tells: it knows what the ticket knew. It takes no
-    /// lock, and waits for nobody: who waits takes commit turns, or lets others take them, and asks again.
+    /// lock, and waits for nobody: `wait` does.
     ///
     /// # Errors
     ///
@@ -264,14 +269,16 @@ impl<J: JournalName + PartsName + MeetingName, D: Device, R: Record> Journal<J, 
             return Ok(());
         }
         let mut engine = self.engine.lock(rt);
-        locked.read(
+        let done = locked.read(
             &self.counters,
             &self.meeting,
             &mut engine,
             handle,
             block,
             into,
-        )
+        );
+        self.changes.tell();
+        done
     }
 
     /// Writes a block of the home area directly, of one block of bytes, past the log. What was written is durable behind a
@@ -296,7 +303,9 @@ impl<J: JournalName + PartsName + MeetingName, D: Device, R: Record> Journal<J, 
     {
         let mut locked = self.locked.lock(rt);
         let mut engine = self.engine.lock(rt);
-        locked.write_direct(&self.counters, &self.meeting, &mut engine, block, bytes)
+        let written = locked.write_direct(&self.counters, &self.meeting, &mut engine, block, bytes);
+        self.changes.tell();
+        written
     }
 
     /// Flushes the home area, so that every direct write that answered Ok before is durable.
@@ -311,7 +320,9 @@ impl<J: JournalName + PartsName + MeetingName, D: Device, R: Record> Journal<J, 
     {
         let mut locked = self.locked.lock(rt);
         let mut engine = self.engine.lock(rt);
-        locked.sync_direct(&self.counters, &self.meeting, &mut engine)
+        let flushed = locked.sync_direct(&self.counters, &self.meeting, &mut engine);
+        self.changes.tell();
+        flushed
     }
 
     /// Ends a handle. Its credits that are left are given back. It always succeeds, after a device failure too.
@@ -320,7 +331,9 @@ impl<J: JournalName + PartsName + MeetingName, D: Device, R: Record> Journal<J, 
         ensures ticket { result ≡ record { ticket = fresh_ticket handle.entry.handle.number handle.entry.handle.tid; steps = handle.entry.steps; asked = false } }
         ensures stops { StoppedThen D.state handle.entry.handle }
     {
-        self.locked.lock(rt).stop(&self.counters, handle)
+        let ticket = self.locked.lock(rt).stop(&self.counters, handle);
+        self.changes.tell();
+        ticket
     }
 
     /// Takes the next step of committing: one device call of a commit, under the engine's lock alone; or the seal of a transaction that
@@ -389,6 +402,7 @@ impl<J: JournalName + PartsName + MeetingName, D: Device, R: Record> Journal<J, 
         let mut locked = self.locked.lock(rt);
         let mut engine = self.engine.lock(rt);
         locked.meet(&self.counters, &self.meeting, &mut engine);
+        self.changes.tell();
     }
 
     /// Both locks, for a seal.
@@ -398,7 +412,9 @@ impl<J: JournalName + PartsName + MeetingName, D: Device, R: Record> Journal<J, 
     {
         let mut locked = self.locked.lock(rt);
         let mut engine = self.engine.lock(rt);
-        locked.seal(&self.counters, &self.meeting, &mut engine)
+        let turn = locked.seal(&self.counters, &self.meeting, &mut engine);
+        self.changes.tell();
+        turn
     }
 
     /// Takes the next step of a checkpoint round: at most one device call, under the engine's lock alone. Where the device failed, both
@@ -470,7 +486,7 @@ impl<J: JournalName + PartsName + MeetingName, D: Device, R: Record> Journal<J, 
         self.locked.lock(rt).is_aborted()
     }
 
-    /// Grants `n` credits, and makes a handle of the running transaction with them.
+    /// Grants `n` credits, and makes a handle of the running transaction with them. It waits for no change: `start` does.
     ///
     /// # Errors
     ///
@@ -499,13 +515,14 @@ impl<J: JournalName + PartsName + MeetingName, D: Device, R: Record> Journal<J, 
         }
     }
 
-    /// Stops a handle, and makes a further one with `n` credits in its place, in the transaction that runs then.
+    /// Stops a handle, and makes a further one with `n` credits in its place, in the transaction that runs then. It waits for no change:
+    /// `restart` does.
     ///
     /// # Errors
     ///
     /// The handle is stopped all the same, and its ticket comes back; nothing else changes. Those of `try_start`.
     /// Source: journalling.rst (`journal_restart`).
-    pub fn restart<W: Wait>(
+    pub fn try_restart<W: Wait>(
         &self,
         rt: &W,
         handle: Handle<'_, J, R>,
@@ -550,6 +567,7 @@ impl<J: JournalName + PartsName + MeetingName, D: Device, R: Record> Journal<J, 
             meeting,
             locked,
             engine,
+            changes: _,
             block_size: _,
         } = self;
         Sole::of(counters, &meeting, locked.into_inner(), engine.into_inner())

@@ -5,9 +5,11 @@
 //! `locked` has those steps, and says what is true whenever the front's lock is free: all credits that the front holds lie in one
 //! value, and the number of the raiser is the mark. `journal` takes the locks, makes one of them, and hands on its answer; `closing`
 //! ends it.
-//! `locking` locks the running transaction, and `sole` is the journal once nobody shares it any longer.
+//! `locking` locks the running transaction, and `sole` is the journal once nobody shares it any longer. `waiting` has the calls that
+//! wait until others have gone on, who sleep on what `changes` counts.
 #![tactic(auto)]
 
+mod changes;
 mod closing;
 mod journal;
 mod known;
@@ -17,10 +19,15 @@ mod locking;
 mod open_handle;
 mod sole;
 mod stopped;
+mod waiting;
 
+pub use group_commit::{CheckTurn, Parts, Record, Turn};
+pub use handle::{Credits, JournalName, Seat, Status};
 pub use journal::Journal;
 pub use laid::{LaidJournal, lay};
 pub use locked::{Counters, Locked, Tally};
+pub use meeting::MeetingName;
 pub use open_handle::Handle;
+pub use parts::PartsName;
 pub use sole::Sole;
 pub use stopped::{Receipt, Ticket};

@@ -1,9 +1,10 @@
 //! A running transaction is locked: it takes no further handles from then on.
-ghost use Rattle.std.specs.Prelude.{◌≡◌, true, IfErr, IfOk};
+ghost use Rattle.std.specs.Prelude.{◌≡◌, true, IfErr, IfOk, OnOk};
 ghost use Rattle.journal_model.specs.declared.refusal.JournalError.TheVariants.{Aborted};
 ghost use Rattle.journal_steps.specs.Journal.{Requests};
 ghost use Rattle.journal_steps.specs.Values.{JournalValue};
 ghost use Rattle.shared_journal.specs.Moments.{AtOneMoment};
+ghost use Rattle.shared_journal.specs.Waiting.{LocksEntered};
 
 use crate::journal::Journal;
 use crate::locked::Locked;
@@ -32,6 +33,26 @@ impl<J: JournalName + PartsName + MeetingName, D: Device, R: Record> Locked<J, D
         self.journal.request_commit(tid)?;
         self.knowing.go_on(&mut self.recorded, self.journal.front());
         Ok(tid)
+    }
+
+    /// Locks the running transaction where it has an entry: its seal gives back the credits of its entries.
+    ///
+    /// # Errors
+    ///
+    /// `Aborted` after a device failure: nothing changes.
+    /// Source: fs/jbd2/transaction.c by behaviour (`wait_transaction_locked`).
+    pub fn lock_entered(&mut self) -> Result<(), JournalError>
+        ensures locks { OnOk result (LocksEntered D.state self.old self.new) }
+        ensures err { IfErr result (λ e. (e ≡ Aborted) × (self.old.journal.front.aborted ≡ true) × (self.new ≡ self.old)) }
+        ensures device { self.new.device ≡ self.old.device }
+    {
+        if self.journal.front().is_aborted() {
+            return Err(JournalError::Aborted);
+        }
+        if self.journal.front().entries() > 0 {
+            self.lock()?;
+        }
+        Ok(())
     }
 }
 

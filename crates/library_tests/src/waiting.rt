@@ -1,0 +1,245 @@
+//! Calls that wait, while another thread takes commit turns: for credits, for a seal, for a commit, and over a device that fails.
+ghost use Rattle.std.specs.Prelude.{◌≡◌};
+
+use block_device::{Device, MemDevice, StopAt};
+use group_commit::Turn;
+use handle::{JournalName, Seat};
+use journal_model::{BlockNo, JournalError, Tid};
+use meeting::MeetingName;
+use parts::PartsName;
+use shared_journal::{Handle, Journal, LaidJournal, lay};
+use std::alloc::Global;
+use std::marker::Brand;
+use std::process::Abort;
+use std::sync::Wait;
+use std::sync::atomic::{AtomicU64, Ordering};
+use std::test::Fail;
+use std::thread::{self, Threads, join};
+
+/// How many turns a thread takes before it gives up.
+const TURNS: u32 = 2_000_000;
+
+/// What is made of a journal before its clients come.
+enum Before {
+    /// The entries of the running transaction hold all credits.
+    Full,
+    /// The running transaction has an entry, takes no further handles, and is not sealed.
+    Locked,
+    /// A transaction is sealed, and the entries of the running one hold all credits.
+    Sealed,
+}
+
+/// Writes so many blocks through a handle.
+fn write_blocks<J: JournalName + PartsName + MeetingName, D: Device, R: Wait>(
+    rt: &R,
+    journal: &Journal<J, D>,
+    handle: &mut Handle<'_, J>,
+    blocks: u64,
+) -> Result<(), JournalError> {
+    if journal.block_size() != 1024 {
+        return Err(JournalError::BadBlockSize);
+    }
+    for block in 0..blocks {
+        journal.write(rt, handle, BlockNo(block), &[7; 1024])?;
+    }
+    Ok(())
+}
+
+/// Writes so many blocks through a handle of its own, that waits for nobody.
+fn fill<J: JournalName + PartsName + MeetingName, D: Device, R: Wait>(
+    rt: &R,
+    journal: &Journal<J, D>,
+    seat: &mut Seat<J>,
+    blocks: u64,
+) -> Result<(), JournalError> {
+    let mut handle = journal.try_start(rt, seat, blocks)?;
+    let written = write_blocks(rt, journal, &mut handle, blocks);
+    journal.stop(rt, handle);
+    written
+}
+
+/// Makes this of a new journal.
+fn prepare<J: JournalName + PartsName + MeetingName, D: Device, R: Wait>(
+    rt: &R,
+    journal: &Journal<J, D>,
+    seat: &mut Seat<J>,
+    before: &Before,
+) -> Result<(), JournalError> {
+    match before {
+        Before::Full => fill(rt, journal, seat, journal.capacity()),
+        Before::Locked => {
+            fill(rt, journal, seat, 1)?;
+            journal.lock(rt)?;
+            Ok(())
+        }
+        Before::Sealed => {
+            fill(rt, journal, seat, 1)?;
+            journal.lock(rt)?;
+            journal.commit_turn(rt)?;
+            fill(rt, journal, seat, journal.capacity())
+        }
+    }
+}
+
+/// Starts a handle with one credit, writes a block, restarts it with as many credits as there are, stops that, and waits for its receipt.
+/// It answers the transactions of both.
+fn go_through<J: JournalName + PartsName + MeetingName, D: Device, R: Wait>(
+    rt: &R,
+    journal: &Journal<J, D>,
+    mut seat: Seat<J>,
+) -> Result<(Tid, Tid), JournalError> {
+    let mut handle = journal.start(rt, &mut seat, 1)?;
+    let first = handle.tid();
+    let written = write_blocks(rt, journal, &mut handle, 1);
+    let mut ticket = match journal.restart(rt, handle, &mut seat, journal.capacity()) {
+        Ok(other) => journal.stop(rt, other),
+        Err((_, e)) => return Err(e),
+    };
+    written?;
+    journal.request(rt, &mut ticket)?;
+    match journal.wait(rt, ticket) {
+        Ok(receipt) => {
+            let mut receipt = receipt;
+            journal.audit(rt, &mut receipt);
+            Ok((first, receipt.tid()))
+        }
+        Err((_, e)) => Err(e),
+    }
+}
+
+/// Takes commit turns until the word is not 0. It answers whether it came to that.
+fn take_turns<J: JournalName + PartsName + MeetingName, D: Device, R: Wait>(
+    rt: &R,
+    journal: &Journal<J, D>,
+    done: &AtomicU64,
+) -> bool {
+    for _ in 0..TURNS {
+        if done.load(Ordering::SeqCst) != 0 {
+            return true;
+        }
+        if !matches!(journal.commit_turn(rt), Ok(Turn::Step | Turn::Sealed(_))) {
+            thread::yield_now();
+        }
+    }
+    false
+}
+
+/// The same, and tells that it is done.
+fn go_through_and_tell<J: JournalName + PartsName + MeetingName, D: Device, R: Wait>(
+    rt: &R,
+    journal: &Journal<J, D>,
+    seat: Seat<J>,
+    done: &AtomicU64,
+) -> Result<(Tid, Tid), JournalError> {
+    let gone = go_through(rt, journal, seat);
+    done.store(1, Ordering::SeqCst);
+    gone
+}
+
+/// One thread goes through, while another takes turns.
+fn go_through_beside_turns<
+    J: JournalName + PartsName + MeetingName + Send + Sync,
+    D: Device + Send,
+    R: Threads + Wait + Sync,
+>(rt: &R, journal: &Journal<J, D>, seat: Seat<J>) -> Result<(Tid, Tid), JournalError> {
+    let done = AtomicU64::new(0);
+    let (gone, turned) = join(
+        rt,
+        || -> Result<(Tid, Tid), JournalError> { go_through_and_tell(rt, journal, seat, &done) },
+        || -> bool { take_turns(rt, journal, &done) },
+    );
+    if turned {
+        gone
+    } else {
+        Err(JournalError::NotRunning)
+    }
+}
+
+/// Makes this of a new journal, where a start that waits for nobody is refused then, and has a thread go through, while another takes
+/// turns. It answers what came of that, and how many transactions are committed behind the close.
+fn waited<
+    J: JournalName + PartsName + MeetingName + Send + Sync,
+    D: Device + Drop + Send,
+    R: Threads + Wait + Abort + Sync,
+>(rt: &R, laid: LaidJournal<D>, before: &Before) -> (Result<(Tid, Tid), JournalError>, u64)
+    requires board { laid.board ≡ J.board }
+    requires parts { laid.parts ≡ J.parts }
+    requires meeting { laid.meeting ≡ J.meeting }
+    requires capacity { laid.capacity ≡ J.capacity }
+    requires block_size { laid.block_size ≡ J.block_size }
+{
+    let (journal, mut seat) = laid.named::<J>();
+    let Some(other) = journal.split_seat(&mut seat) else {
+        panic!(rt; "there is no further seat")
+    };
+    assert_eq!(rt; prepare(rt, &journal, &mut seat, before), Ok(()));
+    match journal.try_start(rt, &mut seat, 1) {
+        Ok(handle) => {
+            journal.stop(rt, handle);
+            panic!(rt; "there is nothing to wait for")
+        }
+        Err(e) => assert!(rt; matches!(e, JournalError::Full | JournalError::NotRunning)),
+    }
+    let gone = go_through_beside_turns(rt, &journal, other);
+    match journal.close() {
+        Ok(parts) => (gone, parts.committed),
+        Err((parts, _)) => (gone, parts.committed),
+    }
+}
+
+/// A device in memory with an empty log of 33 blocks: a transaction has six credits at most.
+fn formatted(alloc: Global) -> Result<MemDevice, Fail> {
+    let mut device = MemDevice::new(alloc, 1024, 33, 64);
+    recovery::format(&mut device, 33, &[7; 16], false)?;
+    Ok(device)
+}
+
+/// What comes of waits over a device, where this was made of its journal before.
+fn waited_over<D: Device + Drop + Send, R: Threads + Wait + Abort + Sync>(
+    rt: &R,
+    alloc: Global,
+    device: D,
+    before: &Before,
+) -> (Result<(Tid, Tid), JournalError>, u64) {
+    let Ok(opened) = recovery::open(alloc, device) else {
+        panic!(rt; "the log is refused")
+    };
+    let Ok(laid) = lay(alloc, opened) else {
+        panic!(rt; "the journal is refused")
+    };
+    waited::<Brand, _, _>(rt, laid, before)
+}
+
+/// A start locks the transaction whose entries hold the credits, and comes through behind its seal; so does a restart.
+#[test]
+fn a_start_waits_for_credits(rt: HostRuntime) -> Result<(), Fail> {
+    let (gone, committed) = waited_over(&rt, rt.alloc(), formatted(rt.alloc())?, &Before::Full);
+    assert_eq!(rt; gone, Ok((Tid(3), Tid(4))));
+    assert_eq!(rt; committed, 3);
+    Ok(())
+}
+
+/// A start waits for the seal of a locked transaction, though credits are left.
+#[test]
+fn a_start_waits_for_a_seal(rt: HostRuntime) -> Result<(), Fail> {
+    let (gone, committed) = waited_over(
+        &rt,
+        rt.alloc(),
+        formatted(rt.alloc())?,
+        &Before::Locked,
+        1,
+    );
+    assert_eq!(rt; gone, Ok((Tid(3), Tid(4))));
+    assert_eq!(rt; committed, 3);
+    Ok(())
+}
+
+/// The credits that a start waits for never come back, since the commit before fails; it is told so.
+#[test]
+fn a_start_ends_with_the_device(rt: HostRuntime) -> Result<(), Fail> {
+    let device = StopAt::new(formatted(rt.alloc())?, 1);
+    let (gone, committed) = waited_over(&rt, rt.alloc(), device, &Before::Sealed);
+    assert_eq!(rt; gone, Err(JournalError::Aborted));
+    assert_eq!(rt; committed, 0);
+    Ok(())
+}
