@@ -312,6 +312,24 @@ impl<D: Device, R: Record> Journal<D, R> {
         Ok(())
     }
 
+    /// Locks the running transaction, so that it can be sealed once its open handles have stopped: where a handle has joined it, it
+    /// takes no further ones. It answers the transaction's number, also where nobody has joined it and nothing changes.
+    ///
+    /// # Errors
+    ///
+    /// `Aborted` after a device failure: nothing changes.
+    /// Source: fs/jbd2/commit.c by behaviour (a transaction that is `T_LOCKED`).
+    pub fn lock(&mut self) -> Result<Tid, JournalError>
+        ensures current { IfOk result (λ tid. tid ≡ self.old.journal.front.running.tid) }
+        ensures locks { OnOk result (Requests D.state self.old.journal.front.running.tid self.old self.new) }
+        ensures err { IfErr result (λ e. (e ≡ Aborted) × (self.old.journal.front.aborted ≡ true) × (self.new ≡ self.old)) }
+        ensures device { self.new.device ≡ self.old.device }
+    {
+        let tid = self.front.tid();
+        self.request_commit(tid)?;
+        Ok(tid)
+    }
+
     /// Whether the ticket's transaction is committed, as far as the mark tells.
     pub fn status(&self, ticket: &Ticket, _seat: &mut Seat) -> Status
         ensures { StatusIs result ticket.now.tid self.now.journal.front }

@@ -279,7 +279,10 @@ fn last_copy(sealed: &[Sealed], block: BlockNo) -> Option<&[u8]> {
 /// Whether a block of the home area reads as the record says.
 fn is_home(device: &mut MemDevice, sealed: &[Sealed], block: BlockNo) -> bool {
     let mut bytes = [0; 1024];
-    if device.block_size() != 1024 || device.read(Area::Home, block.0, &mut bytes).is_err() {
+    if device.block_size() != 1024
+        || device.blocks(Area::Home) <= block.0
+        || device.read(Area::Home, block.0, &mut bytes).is_err()
+    {
         return false;
     }
     match last_copy(sealed, block) {
