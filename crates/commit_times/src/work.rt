@@ -3,7 +3,7 @@ ghost use Rattle.std.specs.Prelude.{◌≡◌, ◌≤◌, IfOk, OnOk, []};
 ghost use Rattle.commit_times.specs.Closed.{IsLeftClosed};
 
 use block_device::Device;
-use group_commit::{CheckTurn, Handle, Journal, Seat, Status, Ticket, Turn};
+use group_commit::{CheckTurn, Handle, Journal, Status, Ticket, Turn};
 use journal_model::{BlockNo, JournalError};
 use rand_core::{Rng, SeedableRng};
 use rand_xoshiro::Xoshiro256PlusPlus;
@@ -53,11 +53,10 @@ impl Plan {
     }
 }
 
-/// A journal on an opened log, and its caller's seat.
+/// A journal on an opened log.
 #[derive(Drop)]
 pub(crate) struct Work<D: Device> {
     journal: Journal<D>,
-    seat: Seat,
     /// The bytes of the block that was written last.
     bytes: Vec<u8>,
 }
@@ -70,10 +69,9 @@ impl<D: Device + Drop> Work<D> {
     /// `Memory`.
     pub(crate) fn new(alloc: Global, opened: Opened<D>) -> Result<Self, JournalError> {
         match Journal::new(alloc, opened) {
-            Ok((journal, seat)) => Ok(Work {
+            Ok(journal) => Ok(Work {
                 bytes: Vec::new(alloc),
                 journal,
-                seat,
             }),
             Err((_, e)) => Err(e),
         }
@@ -95,7 +93,7 @@ impl<D: Device + Drop> Work<D> {
 
     /// A handle with so many credits.
     fn start(&mut self, credits: u64) -> Result<Handle, JournalError> {
-        let credits = self.journal.reserve(&mut self.seat, credits)?;
+        let credits = self.journal.reserve(credits)?;
         match self.journal.try_join(credits) {
             Ok(handle) => Ok(handle),
             Err((credits, e)) => {
@@ -124,7 +122,7 @@ impl<D: Device + Drop> Work<D> {
         for _ in 0..MOST_TURNS {
             match self.journal.commit_turn() {
                 Ok(Turn::Committed(_)) => {
-                    if let Status::Committed = self.journal.status(ticket, &mut self.seat) {
+                    if let Status::Committed = self.journal.status(ticket) {
                         return Ok(());
                     }
                 }
@@ -158,11 +156,7 @@ impl<D: Device + Drop> Work<D> {
     pub(crate) fn close(self) -> Result<D, JournalError>
         ensures { IfOk result (λ device. D.honest device → IsLeftClosed (D.state device)) }
     {
-        let Work {
-            journal,
-            seat: _,
-            bytes: _,
-        } = self;
+        let Work { journal, bytes: _ } = self;
         if journal.has_open_handles() {
             return Err(JournalError::NotRunning);
         }

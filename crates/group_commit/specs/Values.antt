@@ -1,8 +1,8 @@
 -- What contracts see of tickets and receipts.
 use Rattle.std.specs.Prelude.{ℕ, ◌<◌, ◌≤◌}
 use Rattle.journal_world.specs.Front.{Front}
-use Rattle.group_commit.specs.declared.ticket.Status.{Status}
-use Rattle.group_commit.specs.declared.ticket.Status.TheVariants.{Committed as IsCommitted, Open}
+use Rattle.journal_model.specs.declared.status.Status.{Status}
+use Rattle.journal_model.specs.declared.status.Status.TheVariants.{Committed as IsCommitted, Open}
 
 -- a ticket or a receipt
 pub record TicketValue : Type 0 where

@@ -8,7 +8,7 @@ ghost use Rattle.journal_front.specs.Front.{ExtendRefused, IsOpenHandle, JoinRef
 ghost use Rattle.journal_steps.specs.Journal.{Does};
 
 use crate::journal::Journal;
-use crate::ticket::{Seat, Ticket};
+use crate::ticket::Ticket;
 use block_device::Device;
 use journal_front::{Credits, Handle, Record};
 use journal_model::JournalError;
@@ -22,19 +22,14 @@ impl<D: Device, R: Record> Journal<D, R> {
     /// as for `reserve`, `Aborted` after a device failure, `NotRunning` where the handle's transaction takes no further handles,
     /// and `NoCredit` where the handle is none of this journal's open ones.
     /// Source: journalling.rst (`journal_extend`).
-    pub fn extend(
-        &mut self,
-        handle: &mut Handle,
-        seat: &mut Seat,
-        n: u64,
-    ) -> Result<(), JournalError>
+    pub fn extend(&mut self, handle: &mut Handle, n: u64) -> Result<(), JournalError>
         ensures ok { OnOk result (Extends D.state handle.old.number n self.old self.new) }
         ensures open { OnOk result (IsOpenHandle self.new.journal.front handle.new) }
         ensures handle { OnOk result (handle.new ≡ record handle.old { left = handle.old.left + n }) }
         ensures err { IfErr result (λ e. ExtensionRefused self.old.journal.front handle.old n e × (self.new ≡ self.old) × (handle.new ≡ handle.old)) }
         ensures device { self.new.device ≡ self.old.device }
     {
-        match self.reserve(seat, n) {
+        match self.reserve(n) {
             Ok(credits) => self.give(handle, credits),
             Err(e) => Err(e),
         }
@@ -65,14 +60,14 @@ impl<D: Device, R: Record> Journal<D, R> {
     /// Nothing changes: where the credits were granted, they are given back. `TooMany` and `Full`, as for `reserve`; else those
     /// of `try_join`.
     /// Source: journalling.rst (`journal_start`).
-    pub fn try_start(&mut self, seat: &mut Seat, n: u64) -> Result<Handle, JournalError>
+    pub fn try_start(&mut self, n: u64) -> Result<Handle, JournalError>
         ensures ok { IfOk result (λ handle. Starts D.state n self.old self.new
             × (handle ≡ record { number = next_handle self.old.journal.front; tid = self.old.journal.front.running.tid; left = n })) }
         ensures open { IfOk result (IsOpenHandle self.new.journal.front) }
         ensures err { IfErr result (λ e. StartRefused self.old.journal.front n e × (self.new ≡ self.old)) }
         ensures device { self.new.device ≡ self.old.device }
     {
-        match self.reserve(seat, n) {
+        match self.reserve(n) {
             Ok(credits) => self.join_or_return(credits),
             Err(e) => Err(e),
         }
@@ -103,12 +98,7 @@ impl<D: Device, R: Record> Journal<D, R> {
     ///
     /// The handle is stopped all the same, and its ticket comes back; nothing else changes. Those of `try_start`.
     /// Source: journalling.rst (`journal_restart`).
-    pub fn restart(
-        &mut self,
-        handle: Handle,
-        seat: &mut Seat,
-        n: u64,
-    ) -> Result<Handle, (Ticket, JournalError)>
+    pub fn restart(&mut self, handle: Handle, n: u64) -> Result<Handle, (Ticket, JournalError)>
         ensures ok { IfOk result (λ other. Restarts D.state handle n self.old self.new
             × (other ≡ record { number = next_handle self.old.journal.front; tid = self.old.journal.front.running.tid; left = n })) }
         ensures open { IfOk result (IsOpenHandle self.new.journal.front) }
@@ -116,7 +106,7 @@ impl<D: Device, R: Record> Journal<D, R> {
         ensures device { self.new.device ≡ self.old.device }
     {
         let ticket = self.stop(handle);
-        match self.try_start(seat, n) {
+        match self.try_start(n) {
             Ok(other) => Ok(other),
             Err(e) => Err((ticket, e)),
         }

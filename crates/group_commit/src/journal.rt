@@ -23,10 +23,10 @@ ghost use Rattle.journal_front.specs.Front.{IsOpenHandle, JoinRefused, ReserveRe
 ghost use Rattle.group_commit.specs.Values.{StatusIs};
 
 use crate::close::finish;
-use crate::ticket::{Receipt, Seat, Status, Ticket};
+use crate::ticket::{Receipt, Ticket};
 use block_device::Device;
 use journal_front::{Credits, Front, Handle, Record};
-use journal_model::{BlockNo, History, JournalError, Sealed, Tid};
+use journal_model::{BlockNo, History, JournalError, Sealed, Status, Tid};
 use journal_steps::{CheckTurn, Turn, steps};
 use log_engine::Engine;
 use log_ring::Layout;
@@ -64,23 +64,23 @@ impl<D: Device, R: Record> Model for Journal<D, R> {
 }
 
 impl<D: Device, R: Record> Journal<D, R> {
-    /// A journal on an opened log, and the first seat.
+    /// A journal on an opened log.
     ///
     /// # Errors
     ///
     /// `Memory`: the opened log comes back.
-    pub fn new(alloc: Global, opened: Opened<D>) -> Result<(Self, Seat), (Opened<D>, JournalError)>
-        ensures fresh { IfOk result (λ r. IsFresh (D.state opened.device).shape opened.superblock opened.next r.0.journal) }
-        ensures device { IfOk result (λ r. r.0.device ≡ opened.device) }
+    pub fn new(alloc: Global, opened: Opened<D>) -> Result<Self, (Opened<D>, JournalError)>
+        ensures fresh { IfOk result (λ r. IsFresh (D.state opened.device).shape opened.superblock opened.next r.journal) }
+        ensures device { IfOk result (λ r. r.device ≡ opened.device) }
         ensures begins { IfOk result (λ r. D.honest opened.device → Begins (record {
           below = record {
-            shape = (D.state r.0.device).shape;
-            disk = (D.state r.0.device).disk;
+            shape = (D.state r.device).shape;
+            disk = (D.state r.device).disk;
             phase = Running;
-            epoch = Some (record { opening = (D.state opened.device).disk; engine = r.0.journal.engine; directs = []; pin = None });
+            epoch = Some (record { opening = (D.state opened.device).disk; engine = r.journal.engine; directs = []; pin = None });
             ended = [];
           };
-          told = record { front = r.0.journal.front; answered = [] };
+          told = record { front = r.journal.front; answered = [] };
           past = [];
         })) }
         ensures err { IfErr result (λ e. (e.0 ≡ opened) × (e.1 ≡ Memory)) }
@@ -90,7 +90,7 @@ impl<D: Device, R: Record> Journal<D, R> {
         let layout = engine.layout();
         let credits = Layout::capacity(layout, engine.ring_blocks());
         let front = Front::new(alloc, layout, engine.home_blocks(), credits, next);
-        Ok((Journal { front, engine }, Seat::new()))
+        Ok(Journal { front, engine })
     }
 
     /// A journal of a front and an engine that agree.
@@ -144,7 +144,7 @@ impl<D: Device, R: Record> Journal<D, R> {
     /// Nothing changes. `TooMany` where one transaction can never have so many, `Full` where the credits that are held
     /// leave fewer.
     /// Source: journalling.rst (`journal_start`).
-    pub fn reserve(&mut self, _seat: &mut Seat, n: u64) -> Result<Credits, JournalError>
+    pub fn reserve(&mut self, n: u64) -> Result<Credits, JournalError>
         ensures ok { IfOk result (λ credits. (credits ≡ n) × Does D.state self.old (FrontStep (Reserve n)) self.new) }
         ensures err { IfErr result (λ e. ReserveRefused self.old.journal.front n e × (self.new ≡ self.old)) }
         ensures device { self.new.device ≡ self.old.device }
@@ -331,7 +331,7 @@ impl<D: Device, R: Record> Journal<D, R> {
     }
 
     /// Whether the ticket's transaction is committed, as far as the mark tells.
-    pub fn status(&self, ticket: &Ticket, _seat: &mut Seat) -> Status
+    pub fn status(&self, ticket: &Ticket) -> Status
         ensures { StatusIs result ticket.now.tid self.now.journal.front }
     {
         if ticket.tid() <= self.front.mark() {
@@ -348,11 +348,7 @@ impl<D: Device, R: Record> Journal<D, R> {
     ///
     /// `Aborted` after a device failure: the ticket comes back.
     /// Source: fs/jbd2/journal.c by behaviour (`jbd2_log_wait_commit`).
-    pub fn wait(
-        &mut self,
-        ticket: Ticket,
-        _seat: &mut Seat,
-    ) -> Result<Receipt, (Ticket, JournalError)>
+    pub fn wait(&mut self, ticket: Ticket) -> Result<Receipt, (Ticket, JournalError)>
         requires { ticket.tid ≤ self.old.journal.front.mark }
         ensures ok { IfOk result (λ receipt. (receipt ≡ ticket) × (self.old.journal.front.aborted ≡ false)) }
         ensures err { IfErr result (λ e. (e.0 ≡ ticket) × (e.1 ≡ Aborted) × (self.old.journal.front.aborted ≡ true)) }

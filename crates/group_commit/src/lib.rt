@@ -9,7 +9,7 @@
 //! log is closed. How a journal keeps what it sealed is its caller's to choose (`Record`).
 //!
 //! Nobody but a journal has its front: so its credits and handles come of its own calls alone, and no transaction of it is sealed
-//! but by a turn or a close. Seats, tickets and receipts (`ticket`) are made by journals alone.
+//! but by a turn or a close. Tickets and receipts (`ticket`) are made by journals alone.
 #![tactic(auto)]
 
 mod close;
@@ -19,6 +19,7 @@ mod journal;
 mod ticket;
 
 pub use journal::{Journal, Parts};
+pub use journal_model::Status;
 pub use journal_front::{Credits, Front, Handle, Record};
 pub use journal_steps::{CheckTurn, Turn};
-pub use ticket::{Receipt, Seat, Status, Ticket};
+pub use ticket::{Receipt, Ticket};

@@ -1,19 +1,7 @@
-//! What callers hold of a journal beside credits and handles: seats, tickets and receipts. A journal alone makes them:
-//! `Journal::{new, stop, wait}`.
+//! What callers hold of a journal beside credits and handles: tickets and receipts. A journal alone makes them:
+//! `Journal::{stop, wait}`.
 use journal_model::{HandleNo, Tid};
 use std::marker::Model;
-
-/// One caller's place at the journal. It is handed to each call that looks at the credits or at the commit mark.
-#[derive(Debug, Drop)]
-pub struct Seat {
-    _place: (),
-}
-
-impl Seat {
-    pub(crate) fn new() -> Self {
-        Seat { _place: () }
-    }
-}
 
 /// What is left of a handle that stopped: it asks when the handle's transaction is committed.
 #[derive(Debug, Drop)]
@@ -92,13 +80,4 @@ impl Receipt {
     {
         self.tid
     }
-}
-
-/// Whether a handle's transaction is committed.
-#[derive(Clone, Copy, Debug, PartialEq, Eq)]
-pub enum Status {
-    /// The commit mark has come to its number: it is durable.
-    Committed,
-    /// Not yet, as far as the mark tells.
-    Open,
 }

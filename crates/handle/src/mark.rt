@@ -5,9 +5,9 @@ ghost use Rattle.handle.specs.Values.{Looks, StatusIs, fresh_ticket, loading_mar
 
 use crate::place::{JournalName, Place};
 use crate::seat::Seat;
-use crate::ticket::{Receipt, Status, Ticket};
+use crate::ticket::{Receipt, Ticket};
 use crate::words::Words;
-use journal_model::{HandleNo, Tid};
+use journal_model::{HandleNo, Status, Tid};
 use std::marker::{Model, PhantomData};
 
 /// The commit mark of a journal: the number of the last transaction that callers are told is committed. It never falls. Any

@@ -46,15 +46,6 @@ impl<J: JournalName> Model for Receipt<J> {
     ghost invariant = { λ r. r.ticket.tid ≤ r.ticket.seen };
 }
 
-/// Whether a handle's transaction is committed.
-#[derive(Clone, Copy, Debug, PartialEq, Eq)]
-pub enum Status {
-    /// The mark has come to its number.
-    Committed,
-    /// Not yet, as far as the mark tells.
-    Open,
-}
-
 impl<J: JournalName> Ticket<J> {
     pub(crate) fn of(handle: HandleNo, tid: Tid, place: Place) -> Ticket<J>
         requires { (place.table_id ≡ J.board) × (place.me.1 ≡ []) × IsIdle place.me.0 }

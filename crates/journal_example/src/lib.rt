@@ -8,7 +8,7 @@
 use anyhow::{Result, bail};
 use block_device::Device;
 use file_device::{FileDevice, UnknownContents, lock};
-use group_commit::{Handle, Journal, Receipt, Seat, Status, Ticket};
+use group_commit::{Handle, Journal, Receipt, Status, Ticket};
 use journal_model::{BlockNo, JournalError, Tid};
 use recovery::Opened;
 use std::alloc::Global;
@@ -40,10 +40,10 @@ pub struct Done {
 ///
 /// The first refusal that a call gave. What was committed by then comes back at the next opening.
 pub fn work<D: Device + Drop>(alloc: Global, device: D) -> Result<Done> {
-    let (mut journal, mut seat) = new_journal(alloc, format_and_open(alloc, device)?)?;
-    let ticket = change_two_blocks(alloc, &mut journal, &mut seat)?;
-    let tid = commit(&mut journal, &mut seat, ticket)?.tid();
-    let first = read_first(alloc, &mut journal, &mut seat, BlockNo(9))?;
+    let mut journal = new_journal(alloc, format_and_open(alloc, device)?)?;
+    let ticket = change_two_blocks(alloc, &mut journal)?;
+    let tid = commit(&mut journal, ticket)?.tid();
+    let first = read_first(alloc, &mut journal, BlockNo(9))?;
     let home = close(journal)?;
     Ok(Done { tid, first, home })
 }
@@ -90,8 +90,8 @@ fn format_and_open<D: Device + Drop>(alloc: Global, device: D) -> Result<Opened<
     }
 }
 
-/// A journal on an opened log, and its caller's seat.
-fn new_journal<D: Device + Drop>(alloc: Global, opened: Opened<D>) -> Result<(Journal<D>, Seat)> {
+/// A journal on an opened log.
+fn new_journal<D: Device + Drop>(alloc: Global, opened: Opened<D>) -> Result<Journal<D>> {
     match Journal::new(alloc, opened) {
         Ok(made) => Ok(made),
         Err((_, e)) => bail!("{e}"),
@@ -100,12 +100,8 @@ fn new_journal<D: Device + Drop>(alloc: Global, opened: Opened<D>) -> Result<(Jo
 
 /// Joins the running transaction with this many credits: one for each block that the handle will touch first. Where the journal
 /// has fewer left, commit and try again; where the transaction takes no further handles, commit it first.
-fn start<D: Device + Drop>(
-    journal: &mut Journal<D>,
-    seat: &mut Seat,
-    credits: u64,
-) -> Result<Handle, JournalError> {
-    let credits = journal.reserve(seat, credits)?;
+fn start<D: Device + Drop>(journal: &mut Journal<D>, credits: u64) -> Result<Handle, JournalError> {
+    let credits = journal.reserve(credits)?;
     match journal.try_join(credits) {
         Ok(handle) => Ok(handle),
         Err((credits, e)) => {
@@ -120,9 +116,8 @@ fn start<D: Device + Drop>(
 fn change_two_blocks<D: Device + Drop>(
     alloc: Global,
     journal: &mut Journal<D>,
-    seat: &mut Seat,
 ) -> Result<Ticket, JournalError> {
-    let mut handle = start(journal, seat, 2)?;
+    let mut handle = start(journal, 2)?;
     let ones = vec![in alloc; 0x11; journal.block_size()]?;
     journal.write(&mut handle, BlockNo(9), &ones)?;
     let twos = vec![in alloc; 0x22; journal.block_size()]?;
@@ -133,29 +128,21 @@ fn change_two_blocks<D: Device + Drop>(
 /// Asks for the commit of a ticket's transaction, and takes the commit turns that bring it: the seal, and one device call each. With
 /// the last one, a flush of the log, the transaction survives every stop. A turn may be refused `NeedSpace`, where the ring is too
 /// full: take checkpoint turns until one has released a transaction, and go on. This log is empty, so that can't be here.
-fn commit<D: Device + Drop>(
-    journal: &mut Journal<D>,
-    seat: &mut Seat,
-    ticket: Ticket,
-) -> Result<Receipt> {
+fn commit<D: Device + Drop>(journal: &mut Journal<D>, ticket: Ticket) -> Result<Receipt> {
     journal.request(&ticket)?;
     // The seal, then for two blocks: superblock, flush, descriptor, two copies, flush, commit block, flush.
     for _ in 0..9 {
         let _turn = journal.commit_turn()?;
     }
-    wait(journal, seat, ticket)
+    wait(journal, ticket)
 }
 
 /// The receipt for a transaction that is committed. It is what a caller who is told that its blocks are durable may rely on.
-fn wait<D: Device + Drop>(
-    journal: &mut Journal<D>,
-    seat: &mut Seat,
-    ticket: Ticket,
-) -> Result<Receipt> {
-    if let Status::Open = journal.status(&ticket, seat) {
+fn wait<D: Device + Drop>(journal: &mut Journal<D>, ticket: Ticket) -> Result<Receipt> {
+    if let Status::Open = journal.status(&ticket) {
         bail!("not committed");
     }
-    match journal.wait(ticket, seat) {
+    match journal.wait(ticket) {
         Ok(receipt) => Ok(receipt),
         Err((_, e)) => bail!("{e}"),
     }
@@ -166,10 +153,9 @@ fn wait<D: Device + Drop>(
 fn read_first<D: Device + Drop>(
     alloc: Global,
     journal: &mut Journal<D>,
-    seat: &mut Seat,
     block: BlockNo,
 ) -> Result<u8, JournalError> {
-    let mut handle = start(journal, seat, 0)?;
+    let mut handle = start(journal, 0)?;
     let mut bytes = vec![in alloc; 0; journal.block_size()]?;
     journal.read(&mut handle, block, &mut bytes)?;
     let _ticket = journal.stop(handle);

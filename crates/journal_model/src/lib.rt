@@ -12,6 +12,7 @@ mod list;
 mod log_layout;
 mod number;
 mod refusal;
+mod status;
 mod transaction;
 pub mod transaction_laws;
 
@@ -22,4 +23,5 @@ pub use list::Items;
 pub use log_layout::LogLayout;
 pub use number::{Area, BlockNo, HandleNo, Tid};
 pub use refusal::JournalError;
+pub use status::Status;
 pub use transaction::{Op, Sealed, Step};

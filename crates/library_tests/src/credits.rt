@@ -1,10 +1,8 @@
 //! Reserves and loads of one thread and of two, with answers worked out by hand.
 ghost use Rattle.std.specs.Prelude.{◌≡◌};
 
-use handle::{
-    CommitMark, CreditPool, Handle, JournalName, LaidBoard, Raiser, Seat, Status, Ticket, board,
-};
-use journal_model::{HandleNo, Tid};
+use handle::{CommitMark, CreditPool, Handle, JournalName, LaidBoard, Raiser, Seat, Ticket, board};
+use journal_model::{HandleNo, Status, Tid};
 use std::marker::Brand;
 use std::process::Abort;
 use std::sync::atomic::{AtomicU64, Ordering};

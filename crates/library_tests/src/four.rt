@@ -3,12 +3,11 @@
 ghost use Rattle.std.specs.Prelude.{◌≡◌};
 
 use block_device::{Device, MemDevice};
-use group_commit::{Parts, Record};
-use handle::{JournalName, Seat};
 use journal_model::{Area, BlockNo, HandleNo, JournalError, Op, Sealed, Step};
-use meeting::MeetingName;
-use parts::PartsName;
-use shared_journal::{Handle, Journal, LaidJournal, Ticket, lay};
+use shared_journal::{
+    Handle, Journal, JournalName, LaidJournal, MeetingName, Parts, PartsName, Record, Seat, Ticket,
+    lay,
+};
 use std::alloc::Global;
 use std::marker::Brand;
 use std::process::Abort;

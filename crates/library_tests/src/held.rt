@@ -2,12 +2,10 @@
 ghost use Rattle.std.specs.Prelude.{◌≡◌};
 
 use block_device::{Device, DeviceFault, MemDevice};
-use group_commit::Turn;
-use handle::{JournalName, Seat};
 use journal_model::{Area, BlockNo};
-use meeting::MeetingName;
-use parts::PartsName;
-use shared_journal::{Journal, LaidJournal, Ticket, lay};
+use shared_journal::{
+    Journal, JournalName, LaidJournal, MeetingName, PartsName, Seat, Ticket, Turn, lay,
+};
 use std::marker::Brand;
 use std::process::Abort;
 use std::sync::Wait;

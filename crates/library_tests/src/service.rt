@@ -7,11 +7,8 @@ mod refused;
 
 use block_device::{Device, FailOnce, MemDevice};
 use gates::{Meeting, Overtaking};
-use handle::JournalName;
 use journal_model::{Block, BlockNo, JournalError, Sealed, Tid};
-use meeting::MeetingName;
-use parts::PartsName;
-use shared_journal::{LaidJournal, Tally, lay};
+use shared_journal::{JournalName, LaidJournal, MeetingName, PartsName, Tally, lay};
 use std::alloc::{AllocError, Global};
 use std::marker::Brand;
 use std::process::Abort;

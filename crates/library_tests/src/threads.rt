@@ -4,12 +4,11 @@ ghost use Rattle.std.specs.Prelude.{◌≡◌};
 use crate::files::{holds, make_log, open_in, write_in};
 use block_device::{Device, MemDevice};
 use file_device::{FileDevice, UnknownContents};
-use group_commit::Turn;
-use handle::{JournalName, Seat, Status};
 use journal_model::BlockNo;
-use meeting::MeetingName;
-use parts::PartsName;
-use shared_journal::{Journal, LaidJournal, Tally, Ticket, lay};
+use shared_journal::{
+    Journal, JournalName, LaidJournal, MeetingName, PartsName, Seat, Status, Tally, Ticket, Turn,
+    lay,
+};
 use std::marker::Brand;
 use std::process::Abort;
 use std::sync::Wait;

@@ -2,12 +2,10 @@
 ghost use Rattle.std.specs.Prelude.{◌≡◌};
 
 use block_device::{Device, MemDevice, StopAt};
-use group_commit::Turn;
-use handle::{JournalName, Seat};
 use journal_model::{BlockNo, JournalError, Tid};
-use meeting::MeetingName;
-use parts::PartsName;
-use shared_journal::{Handle, Journal, LaidJournal, lay};
+use shared_journal::{
+    Handle, Journal, JournalName, LaidJournal, MeetingName, PartsName, Seat, Turn, lay,
+};
 use std::alloc::Global;
 use std::marker::Brand;
 use std::process::Abort;

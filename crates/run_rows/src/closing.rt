@@ -5,7 +5,7 @@ use block_device::{FailOnce, MemDevice, StopAt};
 use format_rows::RowError;
 use format_rows::telling::refusal_text;
 use format_rows::words::{cut, hex_byte, number};
-use group_commit::{Handle, Journal, Parts, Seat};
+use group_commit::{Handle, Journal, Parts};
 use journal_model::{BlockNo, JournalError, Sealed};
 use journal_script::NamedBlocks;
 use recovery::{Opened, format, open};
@@ -38,11 +38,10 @@ pub struct Closed {
     pub named: NamedBlocks,
 }
 
-/// A journal, the seat of its callers, and the home blocks that handles wrote.
+/// A journal, and the home blocks that handles wrote.
 #[derive(Drop)]
 struct User {
     journal: Journal<FaultyDevice, Vec<Sealed>>,
-    seat: Seat,
     named: NamedBlocks,
 }
 
@@ -52,10 +51,8 @@ struct User {
 ///
 /// `Unread` where a step is none, or can't be made; `Memory`.
 pub fn close_after(alloc: Global, fault: Fault, steps: &str) -> Result<Closed, RowError> {
-    let (journal, seat) = new_journal(alloc, fault)?;
     let mut user = User {
-        journal,
-        seat,
+        journal: new_journal(alloc, fault)?,
         named: NamedBlocks::none(alloc),
     };
     for step in steps.split(" | ") {
@@ -66,11 +63,7 @@ pub fn close_after(alloc: Global, fault: Fault, steps: &str) -> Result<Closed, R
 
 /// Closes a journal, of which all handles have stopped.
 fn close(alloc: Global, user: User) -> Result<Closed, RowError> {
-    let User {
-        journal,
-        seat: _,
-        named,
-    } = user;
+    let User { journal, named } = user;
     if journal.has_open_handles() {
         return Err(RowError::Unread);
     }
@@ -96,7 +89,7 @@ fn close(alloc: Global, user: User) -> Result<Closed, RowError> {
 fn new_journal(
     alloc: Global,
     fault: Fault,
-) -> Result<(Journal<FaultyDevice, Vec<Sealed>>, Seat), RowError> {
+) -> Result<Journal<FaultyDevice, Vec<Sealed>>, RowError> {
     let (stop, fail) = match fault {
         Fault::Stop(k) => (k, 0),
         Fault::Fail(0) => (0, 0),
@@ -160,7 +153,7 @@ fn write_and_stop(alloc: Global, user: &mut User, step: &str) -> Result<(), RowE
 
 /// A handle with two credits.
 fn new_handle(user: &mut User) -> Result<Handle, RowError> {
-    let Ok(credits) = user.journal.reserve(&mut user.seat, 2) else {
+    let Ok(credits) = user.journal.reserve(2) else {
         return Err(RowError::Unread);
     };
     match user.journal.try_join(credits) {

@@ -17,8 +17,8 @@ use Rattle.journal_steps.specs.Direct.{DirectSyncRefused, DirectWriteRefused}
 use Rattle.journal_steps.specs.Journal.{CheckTurnDid, CheckTurnRefused, Does, NotesRead, ReadRefused, Requests, TurnDid, TurnRefused}
 use Rattle.journal_steps.specs.Values.{JournalValue}
 use Rattle.group_commit.specs.Extension.{EndsHandle, Extends, ExtensionRefused, RestartRefused, Restarts, StartRefused, Starts}
-use Rattle.group_commit.specs.declared.ticket.Status.{Status as TicketStatus}
-use Rattle.group_commit.specs.declared.ticket.Status.TheVariants.{Committed as IsCommitted, Open as IsOpen}
+use Rattle.journal_model.specs.declared.status.Status.{Status as TicketStatus}
+use Rattle.journal_model.specs.declared.status.Status.TheVariants.{Committed as IsCommitted, Open as IsOpen}
 use Rattle.group_commit.specs.Values.{TicketValue}
 use Rattle.script_client.specs.declared.outcome.Outcome.{Outcome}
 use Rattle.script_client.specs.declared.outcome.Outcome.TheVariants.{Begins, CheckTurn as CameToCheckTurn, Committed, Done, Open as StillOpen, Refused, Skipped, Transaction, Turn as CameToTurn}

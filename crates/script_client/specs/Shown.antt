@@ -8,8 +8,8 @@ use Rattle.journal_world.specs.Front.{Front, next_handle}
 use Rattle.journal_world.specs.Journal.{IsFresh}
 use Rattle.journal_front.specs.Values.{HandleValue}
 use Rattle.recovery.specs.Values.{OpenedValue}
-use Rattle.group_commit.specs.declared.ticket.Status.{Status}
-use Rattle.group_commit.specs.declared.ticket.Status.TheVariants.{Committed as IsCommitted, Open as IsOpen}
+use Rattle.journal_model.specs.declared.status.Status.{Status}
+use Rattle.journal_model.specs.declared.status.Status.TheVariants.{Committed as IsCommitted, Open as IsOpen}
 use Rattle.group_commit.specs.Values.{TicketValue}
 use Rattle.journal_script.specs.declared.script.Operation.{Operation}
 use Rattle.script_client.specs.declared.client.Waited.{Waited}

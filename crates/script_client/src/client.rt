@@ -12,7 +12,7 @@ ghost use Rattle.journal_steps.specs.Direct.{DirectSyncRefused, DirectWriteRefus
 ghost use Rattle.journal_steps.specs.Journal.{CheckTurnDid, CheckTurnRefused, Does, NotesRead, ReadRefused, Requests, TurnDid, TurnRefused};
 
 use block_device::Device;
-use group_commit::{CheckTurn, Handle, Journal, Parts, Receipt, Seat, Status, Ticket, Turn};
+use group_commit::{CheckTurn, Handle, Journal, Parts, Receipt, Status, Ticket, Turn};
 use journal_model::{BlockNo, JournalError, Sealed, Tid};
 use journal_script::Operation;
 use recovery::Opened;
@@ -54,7 +54,6 @@ impl HomeFact for ZeroHome {
 #[derive(Drop)]
 pub struct Client<'a, D: Device, H: HomeFact> {
     journal: Journal<D, Vec<Sealed>>,
-    seat: Seat,
     operations: &'a [Operation],
     /// The greatest transaction that a wait or a status answered committed.
     acknowledged: Option<Tid>,
@@ -113,9 +112,8 @@ impl<'a, D: Device + Drop, H: HomeFact> Client<'a, D, H> {
         ensures err { IfErr result (λ e. (e.0 ≡ opened) × (e.1 ≡ Memory)) }
     {
         match Journal::new(alloc, opened) {
-            Ok((journal, seat)) => Ok(Client {
+            Ok(journal) => Ok(Client {
                 journal,
-                seat,
                 operations,
                 acknowledged: None,
                 of: PhantomData,
@@ -148,7 +146,7 @@ impl<'a, D: Device + Drop, H: HomeFact> Client<'a, D, H> {
         ensures err { IfErr result (λ e. StartRefused self.old.journal.journal.front credits e × (self.new.journal ≡ self.old.journal)) }
         ensures rest { IsSameButJournal self.old self.new }
     {
-        self.journal.try_start(&mut self.seat, credits)
+        self.journal.try_start(credits)
     }
 
     /// Writes a block through a handle.
@@ -245,7 +243,7 @@ impl<'a, D: Device + Drop, H: HomeFact> Client<'a, D, H> {
         ensures err { IfErr result (λ e. ExtensionRefused self.old.journal.journal.front handle.old credits e × (self.new.journal ≡ self.old.journal) × (handle.new ≡ handle.old)) }
         ensures rest { IsSameButJournal self.old self.new }
     {
-        self.journal.extend(handle, &mut self.seat, credits)
+        self.journal.extend(handle, credits)
     }
 
     /// Ends a handle, and makes another one in its place.
@@ -262,7 +260,7 @@ impl<'a, D: Device + Drop, H: HomeFact> Client<'a, D, H> {
         ensures err { IfErr result (λ e. (e.0 ≡ ticket_of handle) × RestartRefused D.state handle credits self.old.journal self.new.journal e.1) }
         ensures rest { IsSameButJournal self.old self.new }
     {
-        self.journal.restart(handle, &mut self.seat, credits)
+        self.journal.restart(handle, credits)
     }
 
     /// Ends a handle.
@@ -339,7 +337,7 @@ impl<'a, D: Device + Drop, H: HomeFact> Client<'a, D, H> {
         ensures status { StatusIs result ticket.now.tid self.old.journal.journal.front }
         ensures shown { IsShown result ticket.now.tid self.old self.new }
     {
-        let status = self.journal.status(ticket, &mut self.seat);
+        let status = self.journal.status(ticket);
         if matches!(status, Status::Committed) {
             self.acknowledge(ticket.tid());
         }
@@ -362,7 +360,7 @@ impl<'a, D: Device + Drop, H: HomeFact> Client<'a, D, H> {
     pub fn wait(&mut self, ticket: Ticket) -> Waited
         ensures { IsWaited result ticket self.old self.new }
     {
-        match self.journal.status(&ticket, &mut self.seat) {
+        match self.journal.status(&ticket) {
             Status::Committed => self.wait_for(ticket),
             Status::Open => Waited::Open(ticket),
         }
@@ -373,7 +371,7 @@ impl<'a, D: Device + Drop, H: HomeFact> Client<'a, D, H> {
         requires { ticket.tid ≤ self.old.journal.journal.front.mark }
         ensures { IsWaited result ticket self.old self.new }
     {
-        match self.journal.wait(ticket, &mut self.seat) {
+        match self.journal.wait(ticket) {
             Ok(receipt) => {
                 self.acknowledge(receipt.tid());
                 Waited::Committed(receipt)
@@ -400,7 +398,6 @@ impl<'a, D: Device + Drop, H: HomeFact> Client<'a, D, H> {
     {
         let Client {
             journal,
-            seat: _,
             operations: _,
             acknowledged,
             of: PhantomData,
@@ -421,7 +418,6 @@ impl<'a, D: Device + Drop, H: HomeFact> Client<'a, D, H> {
     {
         let Client {
             journal,
-            seat: _,
             operations: _,
             acknowledged,
             of: PhantomData,

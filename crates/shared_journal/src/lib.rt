@@ -22,8 +22,9 @@ mod stopped;
 mod waiting;
 
 pub use group_commit::{CheckTurn, Parts, Record, Turn};
-pub use handle::{Credits, JournalName, Seat, Status};
+pub use handle::{Credits, JournalName, Seat};
 pub use journal::Journal;
+pub use journal_model::Status;
 pub use laid::{LaidJournal, lay};
 pub use locked::{Counters, Locked, Tally};
 pub use meeting::MeetingName;

@@ -8,12 +8,9 @@ ghost use Rattle.std.specs.Prelude.{◌≡◌};
 
 use anyhow::{Result, bail};
 use block_device::Device;
-use handle::JournalName;
 use journal_model::{Block, BlockNo, History, JournalError, Sealed};
-use meeting::MeetingName;
-use parts::PartsName;
 use recovery::Opened;
-use shared_journal::{LaidJournal, lay};
+use shared_journal::{JournalName, LaidJournal, MeetingName, PartsName, lay};
 use std::alloc::{AllocError, Global};
 use std::marker::Brand;
 use std::sync::Wait;

@@ -10,12 +10,8 @@ use crate::plan::{HandlePlan, Touch};
 use crate::worker::{Kick, Shared};
 use block_device::Device;
 use crossbeam_channel::Sender;
-use group_commit::Record;
-use handle::{JournalName, Seat};
 use journal_model::{BlockNo, JournalError};
-use meeting::MeetingName;
-use parts::PartsName;
-use shared_journal::{Handle, Receipt, Ticket};
+use shared_journal::{Handle, JournalName, MeetingName, PartsName, Receipt, Record, Seat, Ticket};
 use std::alloc::Global;
 use std::sync::Wait;
 

@@ -2,11 +2,8 @@
 ghost use Rattle.std.specs.Prelude.{◌≡◌, ◌++◌, [], ◌∷◌, OnOk};
 
 use block_device::Device;
-use group_commit::{Parts, Record};
-use handle::JournalName;
 use journal_model::{JournalError, Tid};
-use parts::PartsName;
-use shared_journal::{Receipt, Tally};
+use shared_journal::{JournalName, Parts, PartsName, Receipt, Record, Tally};
 use std::alloc::AllocError;
 
 /// What came of one handle of a client.
