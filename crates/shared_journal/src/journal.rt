@@ -506,6 +506,11 @@ impl<J: JournalName + PartsName + MeetingName, D: Device, R: Record> Journal<J, 
         match self.reserve(seat, n) {
             Ok(credits) => match self.try_join(rt, credits) {
                 Ok(handle) => Ok(handle),
+                // the seal of the locked transaction wakes those who wait: waking them here would wake each other for nothing
+                Err((credits, JournalError::NotRunning)) => {
+                    credits.give_back(&self.counters.pool);
+                    Err(JournalError::NotRunning)
+                }
                 Err((credits, e)) => {
                     self.give_back(credits);
                     Err(e)
