@@ -1,11 +1,11 @@
 //! The journal that threads share: its calls take `&self`, and those that are steps take the lock.
-ghost use Rattle.std.specs.Prelude.{◌≡◌, ◌+◌, ◌<◌, ◌≤◌, ◌++◌, [], ◌∷◌, true, false, length, IfErr, IfOk, IfSome, MatchResult, OnOk};
+ghost use Rattle.std.specs.Prelude.{◌≡◌, ◌+◌, ◌<◌, ◌≤◌, ◌++◌, [], ◌∷◌, true, false, length, IfErr, IfOk, IfSome, MatchOption, MatchResult, OnOk};
 ghost use Rattle.journal_model.specs.declared.refusal.JournalError.TheVariants.{Aborted};
 ghost use Rattle.journal_model.specs.Transaction.{entries};
 ghost use Rattle.journal_world.specs.Front.FrontEvent.{RevokeBlock, WriteBlock};
 ghost use Rattle.journal_world.specs.Front.{read_step, reserving, revoke_step, transactions, write_step};
 ghost use Rattle.journal_world.specs.Journal.Event.{DirectSync, DirectWrite, FrontStep, ReadBlock};
-ghost use Rattle.handle.specs.Values.{Grants, Looks, LooksAgain, ReserveRefused, StatusIs, fresh_ticket, loading_credits, loading_mark};
+ghost use Rattle.handle.specs.Values.{Grants, Halves, Looks, LooksAgain, ReserveRefused, StatusIs, fresh_ticket, loading_credits, loading_mark};
 ghost use Rattle.journal_front.specs.Front.{ExtendRefused, IsOpenHandle, Spends, TouchRefused};
 ghost use Rattle.journal_steps.specs.Direct.{DirectSyncRefused, DirectWriteRefused, MayWriteDirectly};
 ghost use Rattle.journal_steps.specs.Journal.{Does, NotesRead, ReadRefused, Requests};
@@ -88,7 +88,9 @@ impl<J: JournalName + PartsName + MeetingName, D: Device, R: Record> Journal<J, 
     // Without a lock
 
     /// One more seat, of half of this one's allotment. None where that is 1.
-    pub fn split_seat(&self, seat: &mut Seat<J>) -> Option<Seat<J>> {
+    pub fn split_seat(&self, seat: &mut Seat<J>) -> Option<Seat<J>>
+        ensures { MatchOption result ((seat.old.allotment ≡ 1) × (seat.new ≡ seat.old)) (λ other. (1 < seat.old.allotment) × Halves seat.old seat.new other) }
+    {
         seat.split(&self.counters.pool)
     }
 
