@@ -142,7 +142,7 @@ impl<F: Drop> Opened<'_, F> {
 
     /// The file, whose name is durable.
     fn keep(self, named: &Named) -> F
-        ensures { result ≡ self.file }
+        ensures { result ≡ self.entry.file }
     {
         let Opened { file, made } = self;
         match made {
@@ -355,7 +355,7 @@ fn locked<'a, R: Files<File = File>>(
     path: &str,
     opened: Opened<'a, RegularFile>,
 ) -> io::Result<Opened<'a, LockedFile<WriteLock>>>
-    ensures { IfOk result (λ locked. locked.file.file ≡ opened.file) }
+    ensures { IfOk result (λ locked. locked.file.file ≡ opened.entry.file) }
 {
     let Opened { file, made } = opened;
     match take(rt, path, file) {

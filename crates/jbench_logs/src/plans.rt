@@ -1,5 +1,6 @@
 //! The command `recover --dry-run`, over devices: says what an opening would do, and writes nothing.
 ghost use Rattle.std.specs.Prelude.{◌≡◌, ◌≢◌, IfErr, IfOk, true, false};
+ghost use Rattle.block_device.specs.Call.{OnlyReads};
 ghost use Rattle.block_device.specs.State.{Stays};
 ghost use Rattle.jbench_words.specs.declared.fault.Status.TheVariants.{Fine, Refused};
 ghost use Rattle.jbench_logs.specs.Done.{IsFoundOut, IsPlanOf, IsRefusalOf, IsRefusedBy};
