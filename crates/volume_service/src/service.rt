@@ -52,6 +52,7 @@ impl Service {
         ensures stand { IfOk result (λ o. (k : ℕ) (c : _) → k < vec_len o.clients →
             All (λ e. IfSome e.receipt (Stands o.parts.committed (R.transactions o.parts.sealed))) (slice_index_or o.clients.items k c).handles.items) }
         ensures left { IfOk result (λ o. IsLeftBy D.state D.honest o.parts.device (R.transactions o.parts.sealed) o.parts.committed) }
+        ensures err { IfErr result ServeRefused }
     {
         match serve(rt, alloc, &journal, seat, plans, gate) {
             Ok(served) => Ok(ended(journal, served)),

@@ -62,7 +62,7 @@ fn seats<J: JournalName + PartsName + MeetingName, D: Device, R: Record>(
 /// # Errors
 ///
 /// `Memory` where a list, a channel or a thread can't be had, `TooMany` where there are more plans than seats can be split off (1,022): the
-/// clients that were started have ended.
+/// clients that were started have ended. There is no other: what a client is refused stands in its outcome.
 pub fn serve<
     'x,
     J: JournalName + PartsName + MeetingName + Send + Sync,
@@ -81,6 +81,7 @@ pub fn serve<
     ensures all { IfOk result (λ o. vec_len o.clients ≡ length plans.now) }
     ensures followed { IfOk result (λ o. (k : ℕ) (c : _) (p : _) → k < length plans.now → IfNone (slice_index_or o.clients.items k c).refusal
         (AllZip (λ h e. Came h e.tid e.receipt) (slice_index_or plans.now k p).items (slice_index_or o.clients.items k c).handles.items)) }
+    ensures err { IfErr result ServeRefused }
 {
     let mut seats = seats(alloc, journal, seat, plans.len().saturating_add(2))?;
     let (Some(mine), Some(committers)) = (seats.pop_front(), seats.pop_front()) else {
@@ -120,6 +121,7 @@ fn run_all<
     ensures all { IfOk result (λ clients. vec_len clients ≡ length plans.now) }
     ensures followed { IfOk result (λ clients. (k : ℕ) (c : _) (p : _) → k < length plans.now → IfNone (slice_index_or clients.items k c).refusal
         (AllZip (λ h e. Came h e.tid e.receipt) (slice_index_or plans.now k p).items (slice_index_or clients.items k c).handles.items)) }
+    ensures err { IfErr result ServeRefused }
 {
     thread::scope(thread::scope_env(), rt, |scope| {
         run_in(rt, scope, alloc, shared, seat, seats, plans)
@@ -147,6 +149,7 @@ fn run_in<
     ensures all { IfOk result (λ clients. vec_len clients ≡ length plans.now) }
     ensures followed { IfOk result (λ clients. (k : ℕ) (c : _) (p : _) → k < length plans.now → IfNone (slice_index_or clients.items k c).refusal
         (AllZip (λ h e. Came h e.tid e.receipt) (slice_index_or plans.now k p).items (slice_index_or clients.items k c).handles.items)) }
+    ensures err { IfErr result ServeRefused }
 {
     let (kicks, kicked) = bounded(alloc, MOST_KICKS)?;
     let (rounds, asked) = bounded(alloc, MOST_ROUNDS)?;
@@ -186,7 +189,9 @@ fn start_workers<
     scope: &'s Scope<'s, E>,
     committer: Committer<'s, J, D, R, G>,
     checkpointer: Checkpointer<'s, J, D, R, G>,
-) -> Result<(), JournalError> {
+) -> Result<(), JournalError>
+    ensures { IfErr result ServeRefused }
+{
     start_committer(rt, scope, committer)?;
     start_checkpointer(rt, scope, checkpointer)
 }
@@ -200,11 +205,9 @@ fn start_committer<
     R: Record + Send,
     G: Gate + Sync,
     W: Wait + Sync,
->(
-    rt: &'s W,
-    scope: &'s Scope<'s, E>,
-    worker: Committer<'s, J, D, R, G>,
-) -> Result<(), JournalError> {
+>(rt: &'s W, scope: &'s Scope<'s, E>, worker: Committer<'s, J, D, R, G>) -> Result<(), JournalError>
+    ensures { IfErr result ServeRefused }
+{
     match scope.spawn(move || worker.run(rt)) {
         Ok(_) => Ok(()),
         Err(_) => Err(JournalError::Memory),
@@ -224,7 +227,9 @@ fn start_checkpointer<
     rt: &'s W,
     scope: &'s Scope<'s, E>,
     worker: Checkpointer<'s, J, D, R, G>,
-) -> Result<(), JournalError> {
+) -> Result<(), JournalError>
+    ensures { IfErr result ServeRefused }
+{
     match scope.spawn(move || worker.run(rt)) {
         Ok(_) => Ok(()),
         Err(_) => Err(JournalError::Memory),
@@ -252,6 +257,7 @@ fn start_all<
     ensures all { IfOk result (λ running. vec_len running ≡ length plans.now) }
     ensures each { IfOk result (λ running. (k : ℕ) (h : _) (p : _) → k < length plans.now →
         (slice_index_or running.items k h).promise.0.now ≡ (slice_index_or plans.now k p).items) }
+    ensures err { IfErr result ServeRefused }
 {
     let mut seats = seats;
     let mut running = Vec::new(alloc);
@@ -289,7 +295,8 @@ fn start_client<
     client: Client<'s, J, D, R, G>,
     plan: &'s [HandlePlan],
 ) -> Result<PromisedHandle<ClientOutcome<J, R>, FollowsPlan<'s>>, JournalError>
-    ensures { IfOk result (λ thread. thread.promise.0.now ≡ plan.now) }
+    ensures follows { IfOk result (λ thread. thread.promise.0.now ≡ plan.now) }
+    ensures err { IfErr result ServeRefused }
 {
     match scope.spawn_with(FollowsPlan(plan), move || client.run(rt, alloc, plan)) {
         Ok(thread) => Ok(thread),

@@ -8,6 +8,7 @@ use Rattle.std.specs.Prelude.{[], ◌∷◌}
 use Rattle.shared_journal.proofs.Sent.{closure_send}
 use Rattle.volume_service.specs.contracts.worker.Committer as Committer
 use Rattle.volume_service.proofs.Sending.{committer_send}
+use Rattle.volume_service.specs.Plan.ServeRefused.{NoMemory}
 use Rattle.volume_service.proofs.threads.start_committer.Lts as lts
 use Rattle.volume_service.proofs.threads.start_committer.Goals as goal
 
@@ -26,3 +27,7 @@ spawn-requires-send-F g c κs within =
     (lts.arg-0-1 g.row.E g.row.J g.row.D g.row.R g.row.G g.row.W g.E.laws g.J.laws g.D.laws g.R.laws g.G.laws g.W.laws g.J.JournalName g.J.JournalName-dict g.J.PartsName g.J.PartsName-dict g.J.MeetingName g.J.MeetingName-dict
     g.D.Device g.D.Device-dict g.R.Record g.R.Record-dict g.G.Gate g.G.Gate-dict g.W.Wait g.W.Wait-dict g.R.Destruct-dict κs)
     (arg_send _ exit.no _ (closure_send (118 ∷ 111 ∷ 108 ∷ 117 ∷ 109 ∷ 101 ∷ 95 ∷ 115 ∷ 101 ∷ 114 ∷ 118 ∷ 105 ∷ 99 ∷ 101 ∷ 58 ∷ 58 ∷ 116 ∷ 104 ∷ 114 ∷ 101 ∷ 97 ∷ 100 ∷ 115 ∷ 58 ∷ 58 ∷ 102 ∷ 110 ∷ 58 ∷ 58 ∷ 115 ∷ 116 ∷ 97 ∷ 114 ∷ 116 ∷ 95 ∷ 99 ∷ 111 ∷ 109 ∷ 109 ∷ 105 ∷ 116 ∷ 116 ∷ 101 ∷ 114 ∷ 58 ∷ 58 ∷ 115 ∷ 112 ∷ 97 ∷ 119 ∷ 110 ∷ 43 ∷ 83 ∷ 101 ∷ 108 ∷ 102 ∷ []) (worker ∷ runtime ∷ []) all))
+
+-- no thread can be had
+pub returns : goal.returns
+returns g c = NoMemory
