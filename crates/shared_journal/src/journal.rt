@@ -41,7 +41,7 @@ pub struct Journal<
     D: Device,
     R: Record = History<Sealed>,
 > {
-    counters: Counters<J>,
+    pub(crate) counters: Counters<J>,
     meeting: SidesMeeting<J, D>,
     pub(crate) locked: Mutex<Locked<J, D, R>>,
     engine: Mutex<EngineSide<J, D>>,
@@ -505,20 +505,12 @@ impl<J: JournalName + PartsName + MeetingName, D: Device, R: Record> Journal<J, 
         ensures joins { IfOk result (λ handle. JoinedThen D.state n handle.handle) }
         ensures err { IfErr result (StartRefused D J.capacity n seat.old seat.new) }
     {
-        match self.reserve(seat, n) {
-            Ok(credits) => match self.try_join(rt, credits) {
-                Ok(handle) => Ok(handle),
-                // the seal of the locked transaction wakes those who wait: waking them here would wake each other for nothing
-                Err((credits, JournalError::NotRunning)) => {
-                    credits.give_back(&self.counters.pool);
-                    Err(JournalError::NotRunning)
-                }
-                Err((credits, e)) => {
-                    self.give_back(credits);
-                    Err(e)
-                }
-            },
-            Err(e) => Err(e),
+        match self.try_quietly(rt, seat, n) {
+            Ok(handle) => Ok(handle),
+            Err(e) => {
+                self.changes.tell();
+                Err(e)
+            }
         }
     }
 

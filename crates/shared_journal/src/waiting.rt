@@ -5,6 +5,7 @@ ghost use Rattle.handle.specs.Values.{Grants, fresh_ticket};
 ghost use Rattle.journal_steps.specs.Values.{JournalValue};
 ghost use Rattle.shared_journal.specs.Known.{LooksOn};
 ghost use Rattle.shared_journal.specs.Moments.{AtOneMoment, JoinedThen, StoppedThen};
+ghost use Rattle.shared_journal.specs.Refusals.{StartRefused};
 ghost use Rattle.shared_journal.specs.Waiting.{BehindTries, LocksEntered, NotStarted, TriesAgain};
 
 use crate::journal::Journal;
@@ -57,6 +58,7 @@ impl<J: JournalName + PartsName + MeetingName, D: Device, R: Record> Journal<J, 
     }
 
     /// One try of a start: none where it is to be made again, once something has changed.
+    #[tactic(auto, using(crate::proofs::Trying::again_full, crate::proofs::Trying::again_locked, crate::proofs::Trying::ends_full, crate::proofs::Trying::ends))]
     fn try_once<W: Wait>(
         &self,
         rt: &W,
@@ -68,13 +70,39 @@ impl<J: JournalName + PartsName + MeetingName, D: Device, R: Record> Journal<J, 
         ensures again { IfOk result (λ found. IfNone found (TriesAgain D.state J.capacity n seat.old seat.new)) }
         ensures err { IfErr result (NotStarted D J.capacity n seat.old seat.new) }
     {
-        match self.try_start(rt, seat, n) {
+        match self.try_quietly(rt, seat, n) {
             Ok(handle) => Ok(Some(handle)),
-            Err(JournalError::Full) => match self.lock_entered(rt) {
-                Ok(()) => Ok(None),
-                Err(e) => Err(e),
+            Err(e) => match e {
+                JournalError::Full => match self.lock_entered(rt) {
+                    Ok(()) => Ok(None),
+                    Err(failed) => Err(failed),
+                },
+                JournalError::NotRunning => Ok(None),
+                _ => Err(e),
             },
-            Err(JournalError::NotRunning) => Ok(None),
+        }
+    }
+
+    /// `try_start`, but a refusal wakes nobody: who waits would wake itself, and others who wait, for nothing. What it held for a moment may
+    /// have had another caller refused, who then waits for the next change.
+    pub(crate) fn try_quietly<W: Wait>(
+        &self,
+        rt: &W,
+        seat: &mut Seat<J>,
+        n: u64,
+    ) -> Result<Handle<'_, J, R>, JournalError>
+        ensures ok { IfOk result (λ handle. (handle.handle.left ≡ n) × (handle.steps ≡ []) × Grants J.capacity n seat.old seat.new) }
+        ensures joins { IfOk result (λ handle. JoinedThen D.state n handle.handle) }
+        ensures err { IfErr result (StartRefused D J.capacity n seat.old seat.new) }
+    {
+        match self.reserve(seat, n) {
+            Ok(credits) => match self.try_join(rt, credits) {
+                Ok(handle) => Ok(handle),
+                Err((credits, e)) => {
+                    credits.give_back(&self.counters.pool);
+                    Err(e)
+                }
+            },
             Err(e) => Err(e),
         }
     }

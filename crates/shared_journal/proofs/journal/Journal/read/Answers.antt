@@ -38,37 +38,37 @@ returns-then-held-clause-reads g c =
 pub returns-clause-reads : goal.returns-clause-reads
 returns-clause-reads g c =
     let state = g.D.Device.state in
-    let new = c.read.new.self in
-    let v = c.read.new.into in
+    let new = c.read-done.new.self in
+    let v = c.read-done.new.into in
     let same : c.read_held.new.handle ≡ c.args.handle.now = (c.in_ok-held.ensures.none c.if-held.false).0 in
-    on-met state c.deref_mut-2.result.now c.deref_mut-3.result.now new c.read.result _ _
+    on-met state c.deref_mut-2.result.now c.deref_mut-3.result.now new c.read-done.result _ _
     (λ mid did.
     let here =
     subst (λ (k : HandleKnown). NotesRead state mid k.handle c.args.block v new
-    × (g.D.Device.honest c.read.new.engine.device → Does state mid (ReadBlock k.handle.number c.args.block v) new)) same did in
-    (here.0, λ honest. here.1 (subst (λ (e : EngineValue g.row.D.Denot). g.D.Device.honest e.device) (sym c.read.ensures.engine) honest)))
-    c.read.ensures.ok
+    × (g.D.Device.honest c.read-done.new.engine.device → Does state mid (ReadBlock k.handle.number c.args.block v) new)) same did in
+    (here.0, λ honest. here.1 (subst (λ (e : EngineValue g.row.D.Denot). g.D.Device.honest e.device) (sym c.read-done.ensures.engine) honest)))
+    c.read-done.ensures.ok
 
 -- and the cause of its refusal
 pub returns-clause-why : goal.returns-clause-why
 returns-clause-why g c =
     let state = g.D.Device.state in
     let same : c.read_held.new.handle ≡ c.args.handle.now = (c.in_ok-held.ensures.none c.if-held.false).0 in
-    IfErr-weaker c.read.result _ _
+    IfErr-weaker c.read-done.result _ _
     (λ e m. record {
       old = m.mid;
-      new = c.read.new.self;
-      did = subst (λ (k : HandleKnown). ReadRefused state m.mid k.handle c.args.block c.read.new.self e) same m.did;
-    }) c.read.ensures.err
+      new = c.read-done.new.self;
+      did = subst (λ (k : HandleKnown). ReadRefused state m.mid k.handle c.args.block c.read-done.new.self e) same m.did;
+    }) c.read-done.ensures.err
 
 -- which is one of those that it may answer
 pub returns-clause-err : goal.returns-clause-err
 returns-clause-err g c =
     let state = g.D.Device.state in
     let old = c.deref_mut-2.result.now in
-    let new = c.read.new.self in
+    let new = c.read-done.new.self in
     let h = c.read_held.new.handle.handle in
     let same : c.read_held.new.handle ≡ c.args.handle.now = (c.in_ok-held.ensures.none c.if-held.false).0 in
-    IfErr-weaker c.read.result _ _ (λ e why. (reads-met state old c.deref_mut-3.result.now new h c.args.block e c.read.ensures.«open» why.0, why.1 ∙ same))
-    (err-both c.read.result (λ e. MeetsAnd state old c.deref_mut-3.result.now (λ (mid : JournalValue g.row.D.Denot). ReadRefused state mid h c.args.block new e))
-    (λ e. c.read.new.handle ≡ c.read_held.new.handle) c.read.ensures.err c.read.ensures.same)
+    IfErr-weaker c.read-done.result _ _ (λ e why. (reads-met state old c.deref_mut-3.result.now new h c.args.block e c.read-done.ensures.«open» why.0, why.1 ∙ same))
+    (err-both c.read-done.result (λ e. MeetsAnd state old c.deref_mut-3.result.now (λ (mid : JournalValue g.row.D.Denot). ReadRefused state mid h c.args.block new e))
+    (λ e. c.read-done.new.handle ≡ c.read_held.new.handle) c.read-done.ensures.err c.read-done.ensures.same)
