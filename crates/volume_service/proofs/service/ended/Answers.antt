@@ -1,4 +1,4 @@
-use Rattle.std.proofs.Common.{◌≡◌, ◌<◌, ◌≤◌, ℕ, List, length, slice_index_or, vec_len, sym, subst, arith}
+use Rattle.std.proofs.Common.{◌≡◌, ◌<◌, ◌≤◌, ℕ, List, length, slice_index_or, vec_len, sym, ◌∙◌, ap, subst, arith}
 use Rattle.std.specs.Prelude.{All, IfSome}
 use Rattle.std.proofs.lemmas.List.{with_items_is}
 use Rattle.journal_world.proofs.Batches.{same-length}
@@ -55,6 +55,8 @@ returns-clause-left g c = record {
   device_is = c.into_parts.ensures.device;
   sealed_is = c.into_parts.ensures.sealed;
   committed_is = c.into_parts.ensures.committed;
+  agrees = c.recall_invariant.ensures.agrees;
+  shape = c.recall_invariant.ensures.shape ∙ ap (λ (device : g.row.D.Denot). (g.D.Device.state device).shape) (sym c.into_parts.ensures.device);
   opens =
       subst (λ (device : g.row.D.Denot). g.D.Device.honest device → OpensNow c.confirm-journal.result.journal (g.D.Device.state device).disk) (sym c.into_parts.ensures.device)
       c.into_parts.ensures.opens;
