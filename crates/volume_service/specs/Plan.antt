@@ -30,11 +30,16 @@ pub record IsOfTicket (old new : TicketKnown) : Type 0 where
   pub tid : new.ticket.tid ≡ old.ticket.tid
   pub steps : new.steps ≡ old.steps
 
--- this came of a handle that did what its plan says, in this transaction: its client has a receipt where it was to wait, of a handle
--- of this transaction that made just the steps of its plan
-pub data Came (plan : HandlePlan) (tid : ℕ) (receipt : Option TicketKnown) : Type 0 where
-  Awaited : (r : TicketKnown) → plan.waits ≡ true → receipt ≡ Some r → r.ticket.tid ≡ tid → r.steps ≡ planned_steps r.ticket.handle plan → Came plan tid receipt
-  Unawaited : plan.waits ≡ false → receipt ≡ None → Came plan tid receipt
+-- it is of a handle of this transaction, which made just the steps of its plan
+pub record DidPlan (plan : HandlePlan) (tid : ℕ) (known : TicketKnown) : Type 0 where
+  pub tid_is : known.ticket.tid ≡ tid
+  pub steps_are : known.steps ≡ planned_steps known.ticket.handle plan
+
+-- this came of a handle that did what its plan says, in this transaction: its client has a receipt of such a handle where it was to
+-- wait, and else its ticket
+pub data Came (plan : HandlePlan) (tid : ℕ) (receipt ticket : Option TicketKnown) : Type 0 where
+  Awaited : (r : TicketKnown) → plan.waits ≡ true → receipt ≡ Some r → DidPlan plan tid r → Came plan tid receipt ticket
+  Unawaited : (t : TicketKnown) → plan.waits ≡ false → receipt ≡ None → ticket ≡ Some t → DidPlan plan tid t → Came plan tid receipt ticket
 
 -- the ticket of a handle that has stopped behind these further steps
 pub record StopsAs (handle : HandleKnown) (ticket : TicketKnown) (steps : List Step) : Type 0 where
@@ -42,10 +47,10 @@ pub record StopsAs (handle : HandleKnown) (ticket : TicketKnown) (steps : List S
   pub tid : ticket.ticket.tid ≡ handle.handle.tid
   pub steps_are : ticket.steps ≡ handle.steps ++ steps
 
--- whose handle's ticket this is has its receipt, where the plan says that it waits, and else none
-pub data Follows (plan : HandlePlan) (ticket : TicketKnown) (receipt : Option TicketKnown) : Type 0 where
-  HasWaited : (r : TicketKnown) → plan.waits ≡ true → receipt ≡ Some r → IsOfTicket ticket r → Follows plan ticket receipt
-  GoesOn : plan.waits ≡ false → receipt ≡ None → Follows plan ticket receipt
+-- whose handle's ticket this is has its receipt, where the plan says that it waits, and else keeps the ticket
+pub data Follows (plan : HandlePlan) (ticket : TicketKnown) (receipt kept : Option TicketKnown) : Type 0 where
+  HasWaited : (r : TicketKnown) → plan.waits ≡ true → receipt ≡ Some r → IsOfTicket ticket r → Follows plan ticket receipt kept
+  GoesOn : plan.waits ≡ false → receipt ≡ None → kept ≡ Some ticket → Follows plan ticket receipt kept
 
 -- a list has one item more at its end, of which this holds
 pub record Adds {A : Type 0} (old new : List A) (P : A → Type 0) : Type 0 where

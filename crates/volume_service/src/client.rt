@@ -48,7 +48,7 @@ impl<'s, J: JournalName + PartsName + MeetingName, D: Device, R: Record, G: Gate
         alloc: Global,
         plan: &[HandlePlan],
     ) -> ClientOutcome<J, R>
-        ensures { IfNone result.refusal (AllZip (λ h o. Came h o.tid o.receipt) plan.now result.handles.items) }
+        ensures { IfNone result.refusal (AllZip (λ h o. Came h o.tid o.receipt o.ticket) plan.now result.handles.items) }
     {
         let mut client = self;
         let mut done = ClientOutcome {
@@ -73,7 +73,7 @@ impl<'s, J: JournalName + PartsName + MeetingName, D: Device, R: Record, G: Gate
         done: &mut ClientOutcome<J, R>,
     ) -> Result<(), JournalError>
         requires { done.old.handles.items ≡ [] }
-        ensures handles { OnOk result (AllZip (λ h o. Came h o.tid o.receipt) plan.now done.new.handles.items) }
+        ensures handles { OnOk result (AllZip (λ h o. Came h o.tid o.receipt o.ticket) plan.now done.new.handles.items) }
         ensures refusal { done.new.refusal ≡ done.old.refusal }
     {
         for handle in plan {
@@ -89,19 +89,27 @@ impl<'s, J: JournalName + PartsName + MeetingName, D: Device, R: Record, G: Gate
         plan: &HandlePlan,
         done: &mut ClientOutcome<J, R>,
     ) -> Result<(), JournalError>
-        ensures handles { OnOk result (Adds done.old.handles.items done.new.handles.items (λ o. Came plan.now o.tid o.receipt)) }
+        ensures handles { OnOk result (Adds done.old.handles.items done.new.handles.items (λ o. Came plan.now o.tid o.receipt o.ticket)) }
         ensures refusal { done.new.refusal ≡ done.old.refusal }
     {
         done.make_room()?;
         let handle = self.start(rt, plan.credits)?;
         let tid = handle.tid();
         match self.see_through(rt, handle, plan) {
-            Ok(receipt) => {
-                done.note(HandleOutcome { tid, receipt })?;
+            Ok((receipt, ticket)) => {
+                done.note(HandleOutcome {
+                    tid,
+                    receipt,
+                    ticket,
+                })?;
                 Ok(())
             }
             Err(e) => {
-                done.note(HandleOutcome { tid, receipt: None })?;
+                done.note(HandleOutcome {
+                    tid,
+                    receipt: None,
+                    ticket: None,
+                })?;
                 Err(e)
             }
         }
@@ -113,9 +121,9 @@ impl<'s, J: JournalName + PartsName + MeetingName, D: Device, R: Record, G: Gate
         rt: &W,
         handle: Handle<'s, J, R>,
         plan: &HandlePlan,
-    ) -> Result<Option<Receipt<J, R>>, JournalError>
+    ) -> Result<(Option<Receipt<J, R>>, Option<Ticket<J, R>>), JournalError>
         requires { handle.steps ≡ [] }
-        ensures { IfOk result (Came plan.now handle.entry.handle.tid) }
+        ensures { IfOk result (λ kept. Came plan.now handle.entry.handle.tid kept.0 kept.1) }
     {
         let ticket = self.use_up(rt, handle, &plan.touches)?;
         self.follow(rt, ticket, plan)
@@ -247,8 +255,8 @@ impl<'s, J: JournalName + PartsName + MeetingName, D: Device, R: Record, G: Gate
         ticket
     }
 
-    /// Waits for a stopped handle's receipt where the plan says so. The worker that commits is woken in any case: it may wait for this
-    /// handle to stop.
+    /// Waits for a stopped handle's receipt where the plan says so, and else keeps its ticket. The worker that commits is woken in any case:
+    /// it may wait for this handle to stop.
     ///
     /// # Errors
     ///
@@ -258,15 +266,15 @@ impl<'s, J: JournalName + PartsName + MeetingName, D: Device, R: Record, G: Gate
         rt: &W,
         ticket: Ticket<J, R>,
         plan: &HandlePlan,
-    ) -> Result<Option<Receipt<J, R>>, JournalError>
-        ensures { IfOk result (λ receipt. Follows plan.now ticket receipt) }
+    ) -> Result<(Option<Receipt<J, R>>, Option<Ticket<J, R>>), JournalError>
+        ensures { IfOk result (λ kept. Follows plan.now ticket kept.0 kept.1) }
     {
         if plan.waits {
             let receipt = self.wait(rt, ticket)?;
-            Ok(Some(receipt))
+            Ok((Some(receipt), None))
         } else {
             self.kick(rt, Kick::Stopped)?;
-            Ok(None)
+            Ok((None, Some(ticket)))
         }
     }
 

@@ -3,7 +3,7 @@ ghost use Rattle.std.specs.Prelude.{◌≡◌, ◌++◌, [], ◌∷◌, OnOk};
 
 use block_device::Device;
 use journal_model::{JournalError, Tid};
-use shared_journal::{JournalName, Parts, PartsName, Receipt, Record, Tally};
+use shared_journal::{JournalName, Parts, PartsName, Receipt, Record, Tally, Ticket};
 use std::alloc::AllocError;
 
 /// What came of one handle of a client.
@@ -13,12 +13,15 @@ pub struct HandleOutcome<J: JournalName + PartsName, R: Record> {
     pub tid: Tid,
     /// Its receipt, where the client waited for it.
     pub receipt: Option<Receipt<J, R>>,
+    /// Its ticket, where the plan says that the client does not wait: it may be asked for its receipt later.
+    pub ticket: Option<Ticket<J, R>>,
 }
 
 /// What came of one client.
 #[derive(Drop)]
 pub struct ClientOutcome<J: JournalName + PartsName, R: Record> {
-    /// Of each handle that it started and stopped, in their order; of one that it did not wait to the end for there is no receipt.
+    /// Of each handle that it started and stopped, in their order; of one that it did not wait to the end for there is no receipt, and of one
+    /// that was refused something no ticket either.
     pub handles: Vec<HandleOutcome<J, R>>,
     /// Why it ended before its plan did.
     pub refusal: Option<JournalError>,

@@ -48,7 +48,7 @@ impl Service {
     ) -> Result<Outcome<J, D, R>, JournalError>
         ensures all { IfOk result (λ o. vec_len o.clients ≡ length plans.now) }
         ensures followed { IfOk result (λ o. (k : ℕ) (c : _) (p : _) → k < length plans.now → IfNone (slice_index_or o.clients.items k c).refusal
-            (AllZip (λ h e. Came h e.tid e.receipt) (slice_index_or plans.now k p).items (slice_index_or o.clients.items k c).handles.items)) }
+            (AllZip (λ h e. Came h e.tid e.receipt e.ticket) (slice_index_or plans.now k p).items (slice_index_or o.clients.items k c).handles.items)) }
         ensures stand { IfOk result (λ o. (k : ℕ) (c : _) → k < vec_len o.clients →
             All (λ e. IfSome e.receipt (Stands o.parts.committed (R.transactions o.parts.sealed))) (slice_index_or o.clients.items k c).handles.items) }
         ensures left { IfOk result (λ o. IsLeftBy D.state D.honest o.parts.device (R.transactions o.parts.sealed) o.parts.committed) }

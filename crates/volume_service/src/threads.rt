@@ -31,7 +31,7 @@ const MOST_ROUNDS: usize = 2;
 struct FollowsPlan<'p>(&'p [HandlePlan]);
 
 impl<'p, J: JournalName + PartsName, R: Record> Promise<ClientOutcome<J, R>> for FollowsPlan<'p> {
-    ghost kept_by = { λ p r. IfNone r.refusal (AllZip (λ h o. Came h o.tid o.receipt) p.0.now r.handles.items) };
+    ghost kept_by = { λ p r. IfNone r.refusal (AllZip (λ h o. Came h o.tid o.receipt o.ticket) p.0.now r.handles.items) };
 }
 
 /// As many seats as are wanted, of allotments that differ by few; fewer where no further seat can be split off.
@@ -80,7 +80,7 @@ pub fn serve<
 ) -> Result<Served<J, R>, JournalError>
     ensures all { IfOk result (λ o. vec_len o.clients ≡ length plans.now) }
     ensures followed { IfOk result (λ o. (k : ℕ) (c : _) (p : _) → k < length plans.now → IfNone (slice_index_or o.clients.items k c).refusal
-        (AllZip (λ h e. Came h e.tid e.receipt) (slice_index_or plans.now k p).items (slice_index_or o.clients.items k c).handles.items)) }
+        (AllZip (λ h e. Came h e.tid e.receipt e.ticket) (slice_index_or plans.now k p).items (slice_index_or o.clients.items k c).handles.items)) }
     ensures err { IfErr result ServeRefused }
 {
     let mut seats = seats(alloc, journal, seat, plans.len().saturating_add(2))?;
@@ -120,7 +120,7 @@ fn run_all<
 ) -> Result<Vec<ClientOutcome<J, R>>, JournalError>
     ensures all { IfOk result (λ clients. vec_len clients ≡ length plans.now) }
     ensures followed { IfOk result (λ clients. (k : ℕ) (c : _) (p : _) → k < length plans.now → IfNone (slice_index_or clients.items k c).refusal
-        (AllZip (λ h e. Came h e.tid e.receipt) (slice_index_or plans.now k p).items (slice_index_or clients.items k c).handles.items)) }
+        (AllZip (λ h e. Came h e.tid e.receipt e.ticket) (slice_index_or plans.now k p).items (slice_index_or clients.items k c).handles.items)) }
     ensures err { IfErr result ServeRefused }
 {
     thread::scope(thread::scope_env(), rt, |scope| {
@@ -148,7 +148,7 @@ fn run_in<
 ) -> Result<Vec<ClientOutcome<J, R>>, JournalError>
     ensures all { IfOk result (λ clients. vec_len clients ≡ length plans.now) }
     ensures followed { IfOk result (λ clients. (k : ℕ) (c : _) (p : _) → k < length plans.now → IfNone (slice_index_or clients.items k c).refusal
-        (AllZip (λ h e. Came h e.tid e.receipt) (slice_index_or plans.now k p).items (slice_index_or clients.items k c).handles.items)) }
+        (AllZip (λ h e. Came h e.tid e.receipt e.ticket) (slice_index_or plans.now k p).items (slice_index_or clients.items k c).handles.items)) }
     ensures err { IfErr result ServeRefused }
 {
     let (kicks, kicked) = bounded(alloc, MOST_KICKS)?;

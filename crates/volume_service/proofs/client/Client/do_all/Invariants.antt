@@ -7,6 +7,6 @@ use Rattle.volume_service.proofs.client.Client.do_all.Given as goal
 abbrev pub invariant-loop-handle : goal.invariant-loop-handle
 invariant-loop-handle g l =
     record {
-      handles : AllZip (λ h o. Came h o.tid o.receipt) (take l.handle-index l.plan) l.done.handles.items;
+      handles : AllZip (λ h o. Came h o.tid o.receipt o.ticket) (take l.handle-index l.plan) l.done.handles.items;
       refusal : l.done.refusal ≡ l.initial.done.refusal;
     }

@@ -9,4 +9,4 @@ use Rattle.volume_service.proofs.client.Client.see_through.Goals as goal
 pub returns : goal.returns
 returns g c =
     let stops = subst (λ (ts : List Touch). StopsAs c.args.handle c.in_ok-ticket.ticket (map (touch_step c.args.handle.handle.number) ts)) c.deref.ensures.value c.in_ok-ticket.ensures in
-    IfOk-weaker c.follow.result _ _ (λ receipt follows. came c.args.plan.now c.args.handle c.in_ok-ticket.ticket receipt c.requires stops follows) c.follow.ensures
+    IfOk-weaker c.follow.result _ _ (λ kept follows. came c.args.plan.now c.args.handle c.in_ok-ticket.ticket kept.0 kept.1 c.requires stops follows) c.follow.ensures

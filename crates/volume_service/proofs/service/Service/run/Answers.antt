@@ -12,6 +12,6 @@ returns-in-Ok-clause-followed g c = λ k x p less.
     let there : k < vec_len c.in-Ok.served.clients = omega (arith, less, c.in-Ok.ensures.all) in
     let same = c.ended.ensures.same k x x there in
     let plan = (slice_index_or c.args.plans.now k p).items in
-    subst (λ (why : Option JournalError). IfNone why (AllZip (λ h e. Came h e.tid e.receipt) plan (slice_index_or c.ended.result.clients.items k x).handles.items)) (sym same.1)
-    (subst (λ (es : List (HandleOutcome g.row.J.Denot g.row.R.Denot)). IfNone (slice_index_or c.in-Ok.served.clients.items k x).refusal (AllZip (λ h e. Came h e.tid e.receipt) plan es)) (sym same.0)
+    subst (λ (why : Option JournalError). IfNone why (AllZip (λ h e. Came h e.tid e.receipt e.ticket) plan (slice_index_or c.ended.result.clients.items k x).handles.items)) (sym same.1)
+    (subst (λ (es : List (HandleOutcome g.row.J.Denot g.row.R.Denot)). IfNone (slice_index_or c.in-Ok.served.clients.items k x).refusal (AllZip (λ h e. Came h e.tid e.receipt e.ticket) plan es)) (sym same.0)
     (c.in-Ok.ensures.followed k x p less))
