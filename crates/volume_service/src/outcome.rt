@@ -3,7 +3,7 @@ ghost use Rattle.std.specs.Prelude.{◌≡◌, ◌++◌, [], ◌∷◌, OnOk};
 
 use block_device::Device;
 use journal_model::{JournalError, Tid};
-use shared_journal::{JournalName, Parts, PartsName, Receipt, Record, Tally, Ticket};
+use shared_journal::{JournalName, Parts, PartsName, Receipt, Record, Seat, Tally, Ticket};
 use std::alloc::AllocError;
 
 /// What came of one handle of a client.
@@ -34,6 +34,8 @@ pub struct Served<J: JournalName + PartsName, R: Record> {
     pub clients: Vec<ClientOutcome<J, R>>,
     /// Taken once all clients had ended.
     pub tally: Tally,
+    /// The seat that took it, for what its owner does next.
+    pub seat: Seat<J>,
 }
 
 /// What came of clients, and of their journal.

@@ -77,7 +77,11 @@ fn ended<J: JournalName + PartsName + MeetingName, D: Device + Drop, R: Record>(
         All (λ e. IfSome e.receipt (Stands result.parts.committed (R.transactions result.parts.sealed))) (slice_index_or result.clients.items k c).handles.items }
     ensures left { IsLeftBy D.state D.honest result.parts.device (R.transactions result.parts.sealed) result.parts.committed }
 {
-    let Served { mut clients, tally } = served;
+    let Served {
+        mut clients,
+        tally,
+        seat: _,
+    } = served;
     let journal = confirm(journal, &mut clients);
     journal.recall_invariant();
     Outcome {

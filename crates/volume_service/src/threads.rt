@@ -79,6 +79,7 @@ pub fn serve<
     gate: &'x G,
 ) -> Result<Served<J, R>, JournalError>
     ensures all { IfOk result (λ o. vec_len o.clients ≡ length plans.now) }
+    ensures tally { IfOk result (λ o. o.tally.word ≡ o.seat.credit_found) }
     ensures followed { IfOk result (λ o. (k : ℕ) (c : _) (p : _) → k < length plans.now → IfNone (slice_index_or o.clients.items k c).refusal
         (AllZip (λ h e. Came h e.tid e.receipt e.ticket) (slice_index_or plans.now k p).items (slice_index_or o.clients.items k c).handles.items)) }
     ensures err { IfErr result ServeRefused }
@@ -99,7 +100,11 @@ pub fn serve<
     let clients = run_all(rt, alloc, &shared, committers, seats, plans)?;
     let mut mine = mine;
     let tally = journal.tally(rt, &mut mine);
-    Ok(Served { clients, tally })
+    Ok(Served {
+        clients,
+        tally,
+        seat: mine,
+    })
 }
 
 /// Runs the threads.
