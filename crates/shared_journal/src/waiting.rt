@@ -107,30 +107,6 @@ impl<J: JournalName + PartsName + MeetingName, D: Device, R: Record> Journal<J, 
         }
     }
 
-    /// `try_start`, but a refusal wakes nobody: who waits would wake itself, and others who wait, for nothing. What it held for a moment may
-    /// have had another caller refused, who then waits for the next change.
-    pub(crate) fn try_quietly<W: Wait>(
-        &self,
-        rt: &W,
-        seat: &mut Seat<J>,
-        n: u64,
-    ) -> Result<Handle<'_, J, R>, JournalError>
-        ensures ok { IfOk result (λ handle. (handle.handle.left ≡ n) × (handle.steps ≡ []) × Grants J.capacity n seat.old seat.new) }
-        ensures joins { IfOk result (λ handle. JoinedThen D.state n handle.handle) }
-        ensures err { IfErr result (StartRefused D J.capacity n seat.old seat.new) }
-    {
-        match self.reserve(seat, n) {
-            Ok(credits) => match self.try_join(rt, credits) {
-                Ok(handle) => Ok(handle),
-                Err((credits, e)) => {
-                    credits.give_back(&self.counters.pool);
-                    Err(e)
-                }
-            },
-            Err(e) => Err(e),
-        }
-    }
-
     /// Locks the running transaction where it has an entry.
     ///
     /// # Errors
