@@ -220,13 +220,7 @@ fn a_start_waits_for_credits(rt: HostRuntime) -> Result<(), Fail> {
 /// A start waits for the seal of a locked transaction, though credits are left.
 #[test]
 fn a_start_waits_for_a_seal(rt: HostRuntime) -> Result<(), Fail> {
-    let (gone, committed) = waited_over(
-        &rt,
-        rt.alloc(),
-        formatted(rt.alloc())?,
-        &Before::Locked,
-        1,
-    );
+    let (gone, committed) = waited_over(&rt, rt.alloc(), formatted(rt.alloc())?, &Before::Locked);
     assert_eq!(rt; gone, Ok((Tid(3), Tid(4))));
     assert_eq!(rt; committed, 3);
     Ok(())

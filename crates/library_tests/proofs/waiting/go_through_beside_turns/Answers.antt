@@ -16,8 +16,8 @@ use Rattle.library_tests.proofs.waiting.go_through_beside_turns.Lts as lts
 use Rattle.library_tests.proofs.waiting.go_through_beside_turns.Goals as goal
 
 -- a closure that holds a journal, a seat and a word may go to another thread
-pub join-first-requires-send-F : goal.join-first-requires-send-F
-join-first-requires-send-F g c κs within =
+pub join-gone-requires-send-F : goal.join-gone-requires-send-F
+join-gone-requires-send-F g c κs within =
     let runtime = (shr_ref_field (record { mir = named 6; lft = κs.1.1.1.1.1.1.0 }) (param 2 g.row.R) tt).row in
     let journal = Journal.the_row (param 0 g.row.J) (param 1 g.row.D) (History.the_row Sealed.the_row) g.J.JournalName g.J.PartsName g.J.MeetingName g.D.Device kept.ghosts in
     let shared = (shr_ref_field (record { mir = named 7; lft = κs.1.1.1.1.1.1.1.0 }) journal tt).row in
