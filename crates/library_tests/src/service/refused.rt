@@ -63,6 +63,8 @@ fn laid_again<R: Abort>(
 /// The first byte of a block of home.
 fn first_byte<R: Abort>(rt: &R, device: &mut MemDevice, block: u64) -> u8 {
     let mut bytes = [0; BLOCK_SIZE];
+    assert!(rt; device.block_size() == BLOCK_SIZE);
+    assert!(rt; block < device.blocks(Area::Home));
     assert!(rt; device.read(Area::Home, block, &mut bytes).is_ok());
     bytes[0]
 }
