@@ -1,8 +1,7 @@
 #!/usr/bin/env -S python3 -B
 """Each request for memory of `jbench` refused in turn: no answer but that of the call that was refused may be another one.
 
-usage: refused_memory.py [--program PATH] [--tests PATH] [COUNT [SEED]]
-    the rows below, and so many random scripts (default: 0, from seed 1)
+usage: refused_memory.py [--program PATH] [COUNT [SEED]]     the rows below, and so many random scripts (default: 0, from seed 1)
 
 A wrapper of the C library's malloc and realloc (refused_memory.c) refuses one request of the program, for each of its requests in turn. The scripts are the rows below, in which each operation that can be refused for want of memory is made again at
 once, and behind it starts try how many credits are held: one of just those that are left, and one of one more. Of the program that is
@@ -14,12 +13,8 @@ refused request K
   a front of the row's lines and `jbench: refusal 1 Memory` or `2 Device`;
 - `apply` does what killed_apply.py asks of one that is killed: the lines of the model up to the refusal, files as they are behind one of
   the model's writes, and `recover` brings home all that was committed and nothing else;
-- `recover`, which opens a log, `format`, `upgrade`, `dump`, `show` and `check` come to what they come to with ample memory, or are
-  refused; a `recover` that is refused has left both files as they were; and the same command made again, with ample memory, does all.
-
-Clients in threads are a test of `library_tests`, which looks at what came of them itself: one that was refused Memory ended alone, with
-its handle stopped, and what is left opens to all receipts. Which request is the Kth depends on how the threads run, so each K is tried a
-few times. This is done where --tests names the built tests of that crate, as `rt test` and `rt ci` leave them in its `out/`.
+- `recover`, `format`, `upgrade`, `dump`, `show` and `check` come to what they come to with ample memory, or are refused; a `recover` that
+  is refused has left both files as they were; and the same command made again, with ample memory, does all.
 
 It writes a line for each of these, with how many requests there were and how many answers were false, names each false answer, and ends
 with status 1 where there is one. The program is `./jbench`, which is built first, or the one at PATH. Run it by hand; it needs glibc,
@@ -42,8 +37,6 @@ from runs import Difference, RandomScript, count_and_seed, first_difference, pro
 HERE = Path(__file__).resolve().parent
 NEVER = 1_000_000  # a device call that no script comes to: behind a failed call the script goes on
 MEMORY, DEVICE = "jbench: refusal 1 Memory\n", "jbench: refusal 2 Device\n"
-CLIENTS = "service::refused::a_client_without_memory_ends_alone"  # the test of clients in threads
-TIMES = 4  # how often each of its requests is refused
 
 
 # ---- the rows
@@ -225,13 +218,13 @@ class Refuser:
         done = subprocess.run([str(word) for word in (self.program, *words)], capture_output=True, text=True, env=environment, timeout=60)
         return done.returncode, done.stdout, done.stderr
 
-    def each(self, name, words, judge, before=lambda: None, times=1):
-        """Refuses each request of the program in turn, so many times. `judge` says what it came to, or raises what is false."""
+    def each(self, name, words, judge, before=lambda: None):
+        """Refuses each request of the program in turn. `judge` says what it came to, or raises what is false."""
         before()
         self.jbench(words)
         count, cases = int(self.counted.read_text()), Counter()
         false = 0
-        for refused in list(range(1, count + 1)) * times:
+        for refused in range(1, count + 1):
             before()
             try:
                 cases[judge(*self.jbench(words, refused))] += 1
@@ -276,36 +269,6 @@ def judge_row(refuser, name, operations):
     kinds = Counter(wanted.operations[place][0] for place in seen)
     print(f"  refused and made again: {', '.join(f'{kind} {times}' for kind, times in sorted(kinds.items()))}")
     return set(kinds)
-
-
-# ---- clients in threads
-
-
-def judge_clients(refuser, tests):
-    """Runs of the test of clients: it passes, whichever request is refused. With ample memory nothing is refused."""
-    clients = Refuser(tests, refuser.folder)
-    cases = {
-        "": "of the clients' making or of a thread",
-        "refused=0 None\n": "as with ample memory",
-        "refused=1 Some(Memory)\n": "a client is refused",
-        "refused=1 Some(Aborted)\n": "a device call fails",
-        "refused=2 Some(Aborted)\n": "a device call fails",
-    }
-
-    def judge(status, output, messages):
-        told, _, ended = output.rpartition("\ntest result: ")
-        if (status, messages, ended) != (0, "", "ok\n") or told not in cases:
-            differ((status, output, messages))
-        return cases[told]
-
-    if judge(*clients.jbench([CLIENTS])) != "as with ample memory":
-        differ("clients are refused with ample memory")
-    seen = clients.each("clients in threads", [CLIENTS], judge, times=TIMES)
-    if not seen["a client is refused"]:
-        clients.false += 1
-        print("never refused: a client")
-    refuser.requests += clients.requests
-    refuser.false += clients.false
 
 
 # ---- over files
@@ -412,7 +375,6 @@ def random_script(draw):
 
 def main(words):
     program, words = program_of(words)
-    tests, words = (Path(words[1]).resolve(), words[2:]) if words[:1] == ["--tests"] else (None, words)
     count, seed = count_and_seed(words, 0)
     with tempfile.TemporaryDirectory() as folder:
         refuser = Refuser(program, Path(folder))
@@ -421,8 +383,6 @@ def main(words):
             refuser.false += 1
             print(f"never refused: {missing}")
         judge_commands(refuser)
-        if tests:
-            judge_clients(refuser, tests)
         draw = random.Random(seed)
         for number in range(count):
             script = Script([], False)
