@@ -1,5 +1,5 @@
 //! Why calls are refused, and the number of each refusal.
-use std::alloc::AllocError;
+use std::alloc::{AllocError, AllocFailed};
 use std::error::Error;
 use std::fmt;
 
@@ -103,6 +103,18 @@ impl From<AllocError> for JournalError {
     ghost from_gives = { λ _ e. e ≡ Memory };
 
     fn from(_e: AllocError) -> Self {
+        JournalError::Memory
+    }
+}
+
+/// So that `list.push(value)?` answers `Memory`. The value that found no room is dropped.
+impl<T: Drop> From<AllocFailed<T>> for JournalError {
+    ghost use Rattle.std.specs.Prelude.{◌≡◌};
+    ghost use Rattle.journal_model.specs.declared.refusal.JournalError.TheVariants.{Memory};
+
+    ghost from_gives = { λ _ e. e ≡ Memory };
+
+    fn from(_e: AllocFailed<T>) -> Self {
         JournalError::Memory
     }
 }
