@@ -3,3 +3,4 @@ mod Closed
 mod Extending
 mod Finishing
 mod Leading
+mod Committing

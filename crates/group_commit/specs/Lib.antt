@@ -1,3 +1,4 @@
 pub mod Close
 pub mod Extension
 pub mod Values
+pub mod AllTurns

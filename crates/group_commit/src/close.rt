@@ -35,7 +35,9 @@ pub(crate) fn finish<D: Device, R: Record>(journal: &mut Journal<D, R>) -> Resul
 }
 
 /// Seals the running transaction, which a handle has joined, and commits it.
-fn seal_last<D: Device, R: Record>(journal: &mut Journal<D, R>) -> Result<(), JournalError>
+pub(crate) fn seal_last<D: Device, R: Record>(
+    journal: &mut Journal<D, R>,
+) -> Result<(), JournalError>
     requires running { journal.old.journal.engine.aborted ≡ false }
     requires idle { journal.old.journal.engine.stage ≡ Idle }
     requires joined { 0 < length journal.old.journal.front.running.handles }
@@ -54,7 +56,9 @@ fn seal_last<D: Device, R: Record>(journal: &mut Journal<D, R>) -> Result<(), Jo
 }
 
 /// Takes the steps that are left of the commit that is under way.
-fn finish_commit<D: Device, R: Record>(journal: &mut Journal<D, R>) -> Result<(), JournalError>
+pub(crate) fn finish_commit<D: Device, R: Record>(
+    journal: &mut Journal<D, R>,
+) -> Result<(), JournalError>
     requires { journal.old.journal.engine.aborted ≡ false }
     ensures ok { OnOk result (Went D.state journal.old journal.new) }
     ensures idle { OnOk result (journal.new.journal.engine.stage ≡ Idle) }
@@ -86,7 +90,9 @@ fn make_room<D: Device, R: Record>(journal: &mut Journal<D, R>) -> Result<(), Jo
 }
 
 /// Takes the steps of checkpoint rounds until all that is committed is released.
-fn release_all<D: Device, R: Record>(journal: &mut Journal<D, R>) -> Result<(), JournalError>
+pub(crate) fn release_all<D: Device, R: Record>(
+    journal: &mut Journal<D, R>,
+) -> Result<(), JournalError>
     requires { journal.old.journal.engine.aborted ≡ false }
     ensures ok { OnOk result (Went D.state journal.old journal.new) }
     ensures released { OnOk result (NothingToRelease journal.new.journal.engine) }

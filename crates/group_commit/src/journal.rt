@@ -18,6 +18,7 @@ ghost use Rattle.log_engine.specs.Close.{IsAllReleased};
 ghost use Rattle.log_engine.specs.Left.{commit_calls};
 ghost use Rattle.journal_steps.specs.Journal.{Agrees, CheckTurnDid, CheckTurnRefused, Does, FitsQuarter, HasRoomFor, IsDuringCheckTurn, IsDuringTurn, LeavesFewerRounds, NotesRead, OpensNow, OpensOver, ReadRefused, Requests, SealIsDue, TurnDid, TurnRefused};
 ghost use Rattle.journal_steps.specs.Values.{together};
+ghost use Rattle.group_commit.specs.AllTurns.{IsReadyToSeal};
 ghost use Rattle.group_commit.specs.Close.{CloseDid, CloseRefused, EndsWith, SealRefused, closing, locked_journal};
 ghost use Rattle.journal_front.specs.Front.{IsOpenHandle, JoinRefused, ReserveRefused, Spends, TouchRefused};
 ghost use Rattle.group_commit.specs.Values.{StatusIs};
@@ -455,6 +456,13 @@ impl<D: Device, R: Record> Journal<D, R> {
         ensures { IsTrue result ↔ (0 < length self.now.journal.front.running.handles) }
     {
         self.front.has_joined()
+    }
+
+    /// Whether the running transaction takes no further handles, and all of its handles have stopped.
+    pub(crate) fn is_ready(&self) -> bool
+        ensures { IsTrue result ↔ IsReadyToSeal self.now.journal.front }
+    {
+        self.front.is_locked() && !self.front.has_open_handles()
     }
 
     /// Whether the ring has as many free blocks as the running transaction needs.

@@ -8,7 +8,7 @@
 use anyhow::{Result, bail};
 use block_device::Device;
 use file_device::{FileDevice, UnknownContents, lock};
-use group_commit::{Handle, Journal, Receipt, Status, Ticket};
+use group_commit::{Journal, Receipt, Ticket};
 use journal_model::{BlockNo, JournalError, Tid};
 use recovery::Opened;
 use std::alloc::Global;
@@ -98,26 +98,14 @@ fn new_journal<D: Device + Drop>(alloc: Global, opened: Opened<D>) -> Result<Jou
     }
 }
 
-/// Joins the running transaction with this many credits: one for each block that the handle will touch first. Where the journal
-/// has fewer left, commit and try again; where the transaction takes no further handles, commit it first.
-fn start<D: Device + Drop>(journal: &mut Journal<D>, credits: u64) -> Result<Handle, JournalError> {
-    let credits = journal.reserve(credits)?;
-    match journal.try_join(credits) {
-        Ok(handle) => Ok(handle),
-        Err((credits, e)) => {
-            journal.give_back(credits);
-            Err(e)
-        }
-    }
-}
-
 /// Changes blocks 9 and 10 through one handle: after any stop both changes are there, or neither is. Nothing is written to the
-/// device yet: both blocks lie in memory, as a part of the running transaction.
+/// device yet: both blocks lie in memory, as a part of the running transaction. A handle has a credit for each block that it will touch
+/// first. Where the journal has fewer left (`Full`), or its running transaction takes no further handles (`NotRunning`), commit first.
 fn change_two_blocks<D: Device + Drop>(
     alloc: Global,
     journal: &mut Journal<D>,
 ) -> Result<Ticket, JournalError> {
-    let mut handle = start(journal, 2)?;
+    let mut handle = journal.try_start(2)?;
     let ones = vec![in alloc; 0x11; journal.block_size()]?;
     journal.write(&mut handle, BlockNo(9), &ones)?;
     let twos = vec![in alloc; 0x22; journal.block_size()]?;
@@ -125,24 +113,10 @@ fn change_two_blocks<D: Device + Drop>(
     Ok(journal.stop(handle))
 }
 
-/// Asks for the commit of a ticket's transaction, and takes the commit turns that bring it: the seal, and one device call each. With
-/// the last one, a flush of the log, the transaction survives every stop. A turn may be refused `NeedSpace`, where the ring is too
-/// full: take checkpoint turns until one has released a transaction, and go on. This log is empty, so that can't be here.
+/// Commits a ticket's transaction: takes its commit turns, one device call each, and makes room in the log first where it is too full.
+/// Behind that it survives every stop; the receipt is what a caller who is told that its blocks are durable may rely on.
 fn commit<D: Device + Drop>(journal: &mut Journal<D>, ticket: Ticket) -> Result<Receipt> {
-    journal.request(&ticket)?;
-    // The seal, then for two blocks: superblock, flush, descriptor, two copies, flush, commit block, flush.
-    for _ in 0..9 {
-        let _turn = journal.commit_turn()?;
-    }
-    wait(journal, ticket)
-}
-
-/// The receipt for a transaction that is committed. It is what a caller who is told that its blocks are durable may rely on.
-fn wait<D: Device + Drop>(journal: &mut Journal<D>, ticket: Ticket) -> Result<Receipt> {
-    if let Status::Open = journal.status(&ticket) {
-        bail!("not committed");
-    }
-    match journal.wait(ticket) {
+    match journal.commit(ticket) {
         Ok(receipt) => Ok(receipt),
         Err((_, e)) => bail!("{e}"),
     }
@@ -155,7 +129,7 @@ fn read_first<D: Device + Drop>(
     journal: &mut Journal<D>,
     block: BlockNo,
 ) -> Result<u8, JournalError> {
-    let mut handle = start(journal, 0)?;
+    let mut handle = journal.try_start(0)?;
     let mut bytes = vec![in alloc; 0; journal.block_size()]?;
     journal.read(&mut handle, block, &mut bytes)?;
     let _ticket = journal.stop(handle);

@@ -1,0 +1,10 @@
+use Rattle.std.proofs.Common.{refl, subst, ℕ}
+use Rattle.group_commit.specs.AllTurns.{CommitRefused}
+use Rattle.group_commit.proofs.journal.Journal.commit.Goals as goal
+
+-- the ticket comes back
+pub returns-in-Err-clause-err : goal.returns-in-Err-clause-err
+returns-in-Err-clause-err g c = (
+  refl,
+  subst (λ (tid : ℕ). CommitRefused g.D.Device.state tid c.args.self.now c.commit_through.new.self c.in-Err.e) c.tid.ensures c.in-Err.ensures.err,
+)

@@ -1,0 +1,13 @@
+use Rattle.std.proofs.Common.{refl, sym, ◌∙◌}
+use Rattle.group_commit.specs.AllTurns.{ReleaseRefused}
+use Rattle.group_commit.proofs.Committing.{release-failed}
+use Rattle.group_commit.proofs.journal.Journal.release_all.Goals as goal
+
+-- the device failed before
+pub returns-then-is_aborted-clause-err : goal.returns-then-is_aborted-clause-err
+returns-then-is_aborted-clause-err g c = ReleaseRefused.ReleaseAborted (sym c.is_aborted.ensures ∙ c.if-is_aborted.true) refl
+
+-- it failed in a round
+pub returns-clause-err : goal.returns-clause-err
+returns-clause-err g c =
+    release-failed g.D.Device.state c.release_all.result _ _ (sym c.is_aborted.ensures ∙ c.if-is_aborted.false) c.release_all.ensures.err

@@ -1,0 +1,119 @@
+//! Calls that take turns until none is left to take: those of commits, and those of checkpoint rounds.
+ghost use Rattle.std.specs.Prelude.{◌≡◌, ◌≤◌, false, IfErr, IfOk, OnOk};
+ghost use Rattle.journal_world.specs.declared.stage.Stage.TheVariants.{Idle};
+ghost use Rattle.log_epochs.specs.EngineWorld.Phase.{Running};
+ghost use Rattle.group_commit.specs.AllTurns.{CommitRefused, CommitsAll, ReleaseRefused};
+ghost use Rattle.group_commit.specs.Close.{CloseRefused, ComesTo, Went};
+ghost use Rattle.journal_steps.specs.Journal.{NothingToRelease};
+
+use crate::close::{finish_commit, release_all, seal_last};
+use crate::journal::Journal;
+use crate::ticket::{Receipt, Ticket};
+use block_device::Device;
+use journal_front::Record;
+use journal_model::{JournalError, Tid};
+
+impl<D: Device, R: Record> Journal<D, R> {
+    /// Commits the transaction of a ticket: asks for that, and takes all turns that there are, as `commit_all`. The ticket becomes its
+    /// receipt.
+    ///
+    /// # Errors
+    ///
+    /// The ticket comes back. Those of `commit_all`, with what each leaves; and `NotRunning` where all turns were taken and the
+    /// transaction is not committed, since another handle of it has not stopped: it takes no further ones, and is committed by this
+    /// call once they have. (So is a ticket of another journal answered.)
+    /// Source: fs/jbd2/journal.c by behaviour (`jbd2_complete_transaction`).
+    pub fn commit(&mut self, ticket: Ticket) -> Result<Receipt, (Ticket, JournalError)>
+        ensures ok { IfOk result (λ receipt. (receipt ≡ ticket) × (ticket.tid ≤ self.new.journal.front.mark)) }
+        ensures err { IfErr result (λ e. (e.0 ≡ ticket) × CommitRefused D.state ticket.tid self.old self.new e.1) }
+        ensures path { ComesTo self.old.journal (D.state self.old.device).disk self.new.journal (D.state self.new.device).disk Running }
+        ensures shape { (D.state self.new.device).shape ≡ (D.state self.old.device).shape }
+        ensures honest { D.honest self.new.device → D.honest self.old.device }
+    {
+        match self.commit_through(ticket.tid()) {
+            Ok(()) => Ok(Receipt::new(ticket.handle(), ticket.tid())),
+            Err(e) => Err((ticket, e)),
+        }
+    }
+
+    /// Asks for the commit of the transaction with this number, and takes all turns that there are.
+    fn commit_through(&mut self, tid: Tid) -> Result<(), JournalError>
+        ensures ok { OnOk result (tid ≤ self.new.journal.front.mark) }
+        ensures err { IfErr result (CommitRefused D.state tid self.old self.new) }
+        ensures path { ComesTo self.old.journal (D.state self.old.device).disk self.new.journal (D.state self.new.device).disk Running }
+        ensures shape { (D.state self.new.device).shape ≡ (D.state self.old.device).shape }
+        ensures honest { D.honest self.new.device → D.honest self.old.device }
+    {
+        self.request_commit(tid)?;
+        let mark = self.commit_all()?;
+        if mark.0 < tid.0 {
+            return Err(JournalError::NotRunning);
+        }
+        Ok(())
+    }
+
+    /// Commits all that can be: takes the steps that are left of the commit that is under way; then, where the running transaction takes
+    /// no further handles and all of its handles have stopped, seals it, behind checkpoint rounds where the ring has no room for it, and
+    /// commits it. It answers the number of the last transaction that is told to be committed.
+    ///
+    /// # Errors
+    ///
+    /// What was sealed and committed by then stays so. `Aborted` after a device failure: nothing was done. `Device` where the device
+    /// failed: the journal is aborted, until the device is opened again. `Memory` where it ran out for the seal: the transaction stays
+    /// as it is, and all before it are committed.
+    /// Source: fs/jbd2/journal.c by behaviour (`jbd2_journal_flush` up to its checkpoint).
+    pub fn commit_all(&mut self) -> Result<Tid, JournalError>
+        ensures mark { IfOk result (λ tid. tid ≡ self.new.journal.front.mark) }
+        ensures ok { OnOk result (CommitsAll D.state self.old self.new) }
+        ensures idle { OnOk result (self.new.journal.engine.stage ≡ Idle) }
+        ensures err { IfErr result (λ e. CloseRefused D.state self.old self.new.device self.new.journal.front.sealed self.new.journal.engine.committed e) }
+        ensures path { ComesTo self.old.journal (D.state self.old.device).disk self.new.journal (D.state self.new.device).disk Running }
+        ensures shape { (D.state self.new.device).shape ≡ (D.state self.old.device).shape }
+        ensures honest { D.honest self.new.device → D.honest self.old.device }
+    {
+        if self.is_aborted() {
+            return Err(JournalError::Aborted);
+        }
+        finish_commit(self)?;
+        commit_ready(self)?;
+        Ok(self.mark())
+    }
+
+    /// Takes checkpoint turns until all that is committed is home, and its blocks of the ring are free.
+    ///
+    /// # Errors
+    ///
+    /// `Aborted` after a device failure: nothing was done. `Device` where the device failed: the journal is aborted, until the device
+    /// is opened again; what was written home by then is.
+    /// Source: fs/jbd2/checkpoint.c by behaviour (`jbd2_log_do_checkpoint`).
+    pub fn release_all(&mut self) -> Result<(), JournalError>
+        ensures ok { OnOk result (Went D.state self.old self.new) }
+        ensures released { OnOk result (NothingToRelease self.new.journal.engine) }
+        ensures free { OnOk result (self.new.journal.engine.start ≡ self.new.journal.engine.tail) }
+        ensures err { IfErr result (ReleaseRefused D.state self.old self.new) }
+        ensures honest { D.honest self.new.device → D.honest self.old.device }
+    {
+        if self.is_aborted() {
+            return Err(JournalError::Aborted);
+        }
+        release_all(self)
+    }
+}
+
+/// Seals the running transaction where it is ready for that, and commits it.
+fn commit_ready<D: Device, R: Record>(journal: &mut Journal<D, R>) -> Result<(), JournalError>
+    requires running { journal.old.journal.engine.aborted ≡ false }
+    requires idle { journal.old.journal.engine.stage ≡ Idle }
+    ensures ok { OnOk result (CommitsAll D.state journal.old journal.new) }
+    ensures idle { OnOk result (journal.new.journal.engine.stage ≡ Idle) }
+    ensures err { IfErr result (λ e. CloseRefused D.state journal.old journal.new.device journal.new.journal.front.sealed journal.new.journal.engine.committed e) }
+    ensures path { ComesTo journal.old.journal (D.state journal.old.device).disk journal.new.journal (D.state journal.new.device).disk Running }
+    ensures shape { (D.state journal.new.device).shape ≡ (D.state journal.old.device).shape }
+    ensures honest { D.honest journal.new.device → D.honest journal.old.device }
+{
+    journal.recall_invariant();
+    if !journal.is_ready() {
+        return Ok(());
+    }
+    seal_last(journal)
+}
