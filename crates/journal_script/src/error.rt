@@ -30,6 +30,43 @@ pub enum BadScript {
     Disagrees(Key),
     /// It has this operation, which is none or can't stand there.
     Operation(BadOperation),
+    /// It lacks its list of clients, or that is none: it has none or too many of them, one of them is no list, or their operations are too
+    /// many.
+    Clients,
+    /// A client of it has an operation that is none or can't stand there, or ends too early.
+    Client(BadClient),
+}
+
+/// An operation of a client that is none, or can't stand where it stands.
+#[derive(Clone, Copy)]
+pub struct BadClient {
+    /// The client's number, from 1 on.
+    pub client: usize,
+    /// The number of the operation among the client's, from 1 on.
+    pub number: usize,
+    /// What is wrong with it.
+    pub fault: ClientFault,
+}
+
+/// What is wrong with an operation of a client.
+#[derive(Clone, Copy)]
+pub enum ClientFault {
+    /// It has none of the forms of operations.
+    Form,
+    /// Home has no such block.
+    NoBlock,
+    /// A handle is open.
+    IsOpen,
+    /// No handle is open.
+    NotOpen,
+    /// A transaction of the log never has so many credits.
+    TooManyCredits,
+    /// The handle touches more blocks than it has credits.
+    TooFewCredits,
+    /// It follows no stop of a handle that is not waited for yet.
+    NothingToWaitFor,
+    /// The client ends with an open handle.
+    StaysOpen,
 }
 
 /// A key of a script.
@@ -258,7 +295,38 @@ impl fmt::Display for BadScript {
             ),
             BadScript::Disagrees(key) => write!(f, "key {:?}: the device has another", key.name()),
             BadScript::Operation(bad) => bad.fmt(f),
+            BadScript::Clients => f.write_str(
+                "key \"clients\": a list of 1 to 64 lists with at most 100000 operations is wanted",
+            ),
+            BadScript::Client(bad) => bad.fmt(f),
         }
+    }
+}
+
+impl fmt::Display for BadClient {
+    fn fmt<W: fmt::Write>(&self, f: &mut fmt::Formatter<W>) -> fmt::Result {
+        write!(
+            f,
+            "client {} operation {}: {}",
+            self.client, self.number, self.fault
+        )
+    }
+}
+
+impl fmt::Display for ClientFault {
+    fn fmt<W: fmt::Write>(&self, f: &mut fmt::Formatter<W>) -> fmt::Result {
+        f.write_str(match self {
+            ClientFault::Form => {
+                r#"["start", n], ["write", b, hex], ["revoke", b], ["stop"] or ["wait"] is wanted"#
+            }
+            ClientFault::NoBlock => "home has no such block",
+            ClientFault::IsOpen => "a handle is open",
+            ClientFault::NotOpen => "no handle is open",
+            ClientFault::TooManyCredits => "a transaction of this log has fewer credits",
+            ClientFault::TooFewCredits => "its handle touches more blocks than it has credits",
+            ClientFault::NothingToWaitFor => "it does not follow a stop",
+            ClientFault::StaysOpen => "a handle is open at the end",
+        })
     }
 }
 

@@ -23,7 +23,7 @@ const TOLD_BYTES: usize = 100;
 
 /// Why a value is no operation.
 #[derive(Clone, Copy)]
-enum Unread {
+pub(crate) enum Unread {
     /// It is none.
     Bad(OperationFault),
     /// Memory ran out.
@@ -220,7 +220,7 @@ fn text_of(alloc: Global, value: Option<&Value>) -> Result<String, AllocError> {
 }
 
 /// The value of a JSON text.
-fn read_value(alloc: Global, text: &[u8]) -> Result<Value, ScriptError>
+pub(crate) fn read_value(alloc: Global, text: &[u8]) -> Result<Value, ScriptError>
     ensures { IfOk result (λ value. read_text text.now ≡ Some (view value)) }
 {
     match Value::from_slice(alloc, text) {
@@ -231,7 +231,7 @@ fn read_value(alloc: Global, text: &[u8]) -> Result<Value, ScriptError>
 }
 
 /// The measures of a script's device.
-fn read_measures(alloc: Global, value: &Value) -> Result<Measures, ScriptError>
+pub(crate) fn read_measures(alloc: Global, value: &Value) -> Result<Measures, ScriptError>
     ensures limited { IfOk result (λ measures. AreLimited measures) }
     ensures agrees { IfOk result (λ measures. AgreesWith (view value.now) measures) }
     ensures defaults { IfOk result (λ measures. IsDefaultElse (view value.now) measures) }
@@ -536,7 +536,7 @@ fn digits_of(value: &Value) -> Result<&str, Unread>
 }
 
 /// The bytes of a hex text, at most so many.
-fn bytes_of(alloc: Global, value: &Value, most: usize) -> Result<Vec<u8>, Unread>
+pub(crate) fn bytes_of(alloc: Global, value: &Value, most: usize) -> Result<Vec<u8>, Unread>
     ensures most { IfOk result (λ bytes. length bytes.items ≤ most) }
     ensures hex { IfOk result (λ bytes. IsHexOf bytes.items (view value.now)) }
 {

@@ -1,0 +1,571 @@
+//! Scripts of clients: what each client does, handle by handle, and whether a journal of these measures can serve it.
+ghost use Rattle.std.specs.Prelude.{◌≡◌, ◌≤◌, ◌<◌, ◌-◌, ◌++◌, ℕ, [], ◌∷◌, All, Contains, IfOk, OnOk, Some, codes, length, map, min, sum_by, vec_len};
+ghost use Rattle.std.specs.BTreeSet.{keys};
+ghost use Rattle.std.specs.List.{AllZip};
+ghost use Rattle.log_model.specs.Room.{IsCapacity};
+ghost use Rattle.serde_json.specs.Find.{as_str, get};
+ghost use Rattle.serde_json.specs.View.{view};
+ghost use Rattle.journal_script.specs.Clients.{AreClientArguments, CanBeServed, HasClients, AreServable, HasTouched, HasTouchedAll, IsClient, IsClientOperation, IsClientScriptOf, IsOfBlock, IsServable, client_operations, client_word, handles_of, layout_of, open_part, so_far, touched, waits_of};
+ghost use Rattle.journal_script.specs.declared.clients.ClientOperation.{ClientOperation};
+ghost use Rattle.journal_script.specs.declared.clients.ClientOperation.TheVariants.{Start, Stop, Touches, Wait};
+ghost use Rattle.journal_script.specs.Measures.{AreLimited};
+ghost use Rattle.journal_script.specs.Text.{AgreesWith, IsDefaultElse, list_value, number_value};
+
+use crate::error::{BadClient, BadScript, ClientFault, ScriptError};
+use crate::measures::Measures;
+use crate::reading::{Unread, bytes_of, read_measures, read_value};
+use crate::script::MOST_OPERATIONS;
+use journal_model::{BlockNo, LogLayout};
+use log_ring::Layout;
+use serde_json::{Map, Value};
+use std::alloc::{AllocError, AllocFailed, Global};
+use std::collections::BTreeSet;
+
+/// The most clients of a script.
+pub const MOST_CLIENTS: usize = 64;
+
+/// The key of the clients.
+const CLIENTS: &str = "clients";
+
+/// The keys of a script of clients.
+const KEYS: [&str; 6] = ["block", "length", "home", "uuid", "wide", CLIENTS];
+
+/// What a client's handle does with a home block.
+#[derive(Drop)]
+pub enum ClientTouch {
+    /// Writes it: these bytes, and zeros behind them.
+    Write(BlockNo, Vec<u8>),
+    /// Revokes it: no copy of it so far is to come back.
+    Revoke(BlockNo),
+}
+
+/// One handle of a client, from its start to its stop.
+#[derive(Drop)]
+pub struct ClientHandle {
+    /// The credits that it asks for.
+    pub credits: u64,
+    /// What it does, in order.
+    pub touches: Vec<ClientTouch>,
+    /// Whether the client then waits until it is committed.
+    pub waits: bool,
+}
+
+/// Clients, and the measures of the device that they share.
+#[derive(Drop)]
+pub struct ClientScript {
+    /// The measures of their device.
+    pub measures: Measures,
+    /// The handles of each, in order.
+    pub clients: Vec<Vec<ClientHandle>>,
+}
+
+/// One operation of a client.
+#[derive(Drop)]
+pub enum ClientOperation {
+    /// Starts a handle with so many credits.
+    Start(u64),
+    /// Writes or revokes a block.
+    Touches(ClientTouch),
+    /// Stops the handle.
+    Stop,
+    /// Waits until the handle that stopped is committed.
+    Wait,
+}
+
+/// Why an operation of a client is none, or can't stand where it stands.
+#[derive(Clone, Copy)]
+enum Unfit {
+    /// For this.
+    Bad(ClientFault),
+    /// Memory ran out.
+    Memory,
+}
+
+impl From<AllocError> for Unfit {
+    fn from(_e: AllocError) -> Unfit {
+        Unfit::Memory
+    }
+}
+
+impl<T: Drop> From<AllocFailed<T>> for Unfit {
+    fn from(_e: AllocFailed<T>) -> Unfit {
+        Unfit::Memory
+    }
+}
+
+/// What a client's handles may do: on a device of these measures, with so many credits at most.
+#[derive(Clone, Copy)]
+struct Limits {
+    block_size: usize,
+    home_blocks: u64,
+    capacity: u64,
+}
+
+/// A handle that has not stopped yet.
+#[derive(Drop)]
+struct OpenHandle {
+    /// The credits that it asks for.
+    credits: u64,
+    /// What it does so far.
+    touches: Vec<ClientTouch>,
+}
+
+/// The handles of one client as they are read.
+#[derive(Drop)]
+struct Reading {
+    /// Those that have stopped.
+    handles: Vec<ClientHandle>,
+    /// The one that is open.
+    open: Option<OpenHandle>,
+}
+
+impl ClientTouch {
+    /// The block that it touches.
+    pub fn block(&self) -> BlockNo
+        ensures { result ≡ touched self.now }
+    {
+        match self {
+            ClientTouch::Write(block, _) | ClientTouch::Revoke(block) => *block,
+        }
+    }
+}
+
+impl ClientScript {
+    /// How many handles the clients start.
+    pub fn handles(&self) -> usize
+        ensures { result ≡ min (sum_by length (handles_of self.now)) usize.MAX }
+    {
+        let mut count = 0usize;
+        for client in &self.clients {
+            count = count.saturating_add(client.len());
+        }
+        count
+    }
+
+    /// How many of these they wait for.
+    pub fn waits(&self) -> usize
+        ensures { result ≡ min (sum_by waits_of (handles_of self.now)) usize.MAX }
+    {
+        let mut count = 0usize;
+        for client in &self.clients {
+            count = count.saturating_add(waits_of(client));
+        }
+        count
+    }
+
+    /// The home blocks that the clients touch.
+    pub fn blocks(&self, alloc: Global) -> Result<BTreeSet<u64>, AllocError>
+        ensures { IfOk result (λ blocks. All (λ handles. HasTouchedAll handles (keys blocks)) (handles_of self.now)) }
+    {
+        let mut blocks = BTreeSet::new(alloc);
+        for client in &self.clients {
+            note_client(client, &mut blocks)?;
+        }
+        Ok(blocks)
+    }
+}
+
+/// How many handles are waited for.
+fn waits_of(client: &[ClientHandle]) -> usize
+    ensures { result ≡ waits_of client.now }
+{
+    client.iter().filter(|handle| handle.waits).count()
+}
+
+/// Notes the blocks of a client.
+fn note_client(client: &[ClientHandle], blocks: &mut BTreeSet<u64>) -> Result<(), AllocError>
+    ensures keeps { OnOk result ((b : ℕ) → Contains (keys blocks.old) b → Contains (keys blocks.new) b) }
+    ensures notes { OnOk result (HasTouchedAll client.now (keys blocks.new)) }
+{
+    for handle in client {
+        note_blocks(&handle.touches, blocks)?;
+    }
+    Ok(())
+}
+
+/// Notes the blocks of touches.
+fn note_blocks(touches: &[ClientTouch], blocks: &mut BTreeSet<u64>) -> Result<(), AllocError>
+    ensures keeps { OnOk result ((b : ℕ) → Contains (keys blocks.old) b → Contains (keys blocks.new) b) }
+    ensures notes { OnOk result (HasTouched touches.now (keys blocks.new)) }
+{
+    for touch in touches {
+        note_block(touch.block(), blocks)?;
+    }
+    Ok(())
+}
+
+/// Notes a block.
+fn note_block(block: BlockNo, blocks: &mut BTreeSet<u64>) -> Result<(), AllocError>
+    ensures keeps { OnOk result ((b : ℕ) → Contains (keys blocks.old) b → Contains (keys blocks.new) b) }
+    ensures notes { OnOk result (Contains (keys blocks.new) block) }
+{
+    blocks.insert(block.0)?;
+    Ok(())
+}
+
+/// Reads a script of clients.
+///
+/// # Errors
+///
+/// `BadScript` where it is no JSON object with the key `clients`, a list of 1 to 64 lists with at most 100,000 operations in all, and at
+/// will the keys of a script of `run` that speak of its device, and with no other key; where an operation has another form than
+/// `["start", n]`, `["write", b, hex]`, `["revoke", b]`, `["stop"]` or `["wait"]`; where a handle is started while another is open,
+/// blocks are touched or a handle is stopped while none is, or a `wait` does not follow a `stop`; where a client ends with an open
+/// handle; where a handle asks for more credits than a transaction of this log can have, or for fewer than it touches blocks; or where
+/// home has no such block. `Memory`.
+pub fn read_clients(alloc: Global, text: &[u8]) -> Result<ClientScript, ScriptError>
+    ensures measures { IfOk result (λ script. AreLimited script.measures) }
+    ensures some { IfOk result (λ script. 0 < vec_len script.clients) }
+    ensures few { IfOk result (λ script. vec_len script.clients ≤ 64) }
+    ensures text { IfOk result (IsClientScriptOf text.now) }
+    ensures servable { IfOk result CanBeServed }
+{
+    let value = read_value(alloc, text)?;
+    match value.as_object() {
+        Some(members) => read_client_members(alloc, &value, members),
+        None => Err(ScriptError::BadScript(BadScript::NoObject)),
+    }
+}
+
+/// Fails where an object has another key than a script of clients.
+fn require_client_keys(alloc: Global, members: &Map<String, Value>) -> Result<(), ScriptError> {
+    for (name, _) in members.iter() {
+        if !is_client_key(name.as_str()) {
+            let name = String::from_str(alloc, name.as_str())?;
+            return Err(ScriptError::BadScript(BadScript::UnknownKey(name)));
+        }
+    }
+    Ok(())
+}
+
+/// Whether a script of clients may have this key.
+fn is_client_key(name: &str) -> bool {
+    for key in KEYS {
+        if key == name {
+            return true;
+        }
+    }
+    false
+}
+
+/// The script of an object with these members.
+fn read_client_members(
+    alloc: Global,
+    value: &Value,
+    members: &Map<String, Value>,
+) -> Result<ClientScript, ScriptError>
+    ensures measures { IfOk result (λ script. AreLimited script.measures) }
+    ensures some { IfOk result (λ script. 0 < vec_len script.clients) }
+    ensures few { IfOk result (λ script. vec_len script.clients ≤ 64) }
+    ensures has { IfOk result (λ script. HasClients (view value.now) (handles_of script)) }
+    ensures agrees { IfOk result (λ script. AgreesWith (view value.now) script.measures) }
+    ensures defaults { IfOk result (λ script. IsDefaultElse (view value.now) script.measures) }
+    ensures servable { IfOk result CanBeServed }
+{
+    require_client_keys(alloc, members)?;
+    let measures = read_measures(alloc, value)?;
+    let lists = lists_of(value)?;
+    let clients = read_all(alloc, lists, limits_of(&measures))?;
+    Ok(ClientScript { measures, clients })
+}
+
+/// What handles may do on a device of these measures.
+fn limits_of(measures: &Measures) -> Limits
+    requires { AreLimited measures.now }
+    ensures home { result.home_blocks ≡ measures.now.home_blocks }
+    ensures capacity { IsCapacity (layout_of measures.now) (measures.now.log_blocks - 1) result.capacity }
+{
+    let layout = if measures.wide {
+        LogLayout::wide(measures.block_size)
+    } else {
+        LogLayout::narrow(measures.block_size)
+    };
+    Limits {
+        block_size: measures.block_size,
+        home_blocks: measures.home_blocks,
+        capacity: Layout::capacity(layout, u64::from(measures.log_blocks - 1)),
+    }
+}
+
+/// The lists of a script's clients.
+fn lists_of(value: &Value) -> Result<&[Value], ScriptError>
+    ensures some { IfOk result (λ lists. 0 < length lists.now) }
+    ensures few { IfOk result (λ lists. length lists.now ≤ 64) }
+    ensures listed { IfOk result (λ lists. get (codes "clients") (view value.now) ≡ Some (list_value (map view lists.now))) }
+{
+    let Some(clients) = value.get(CLIENTS) else {
+        return Err(ScriptError::BadScript(BadScript::Clients));
+    };
+    match clients.as_array() {
+        Some(list) if !list.is_empty() && list.len() <= MOST_CLIENTS => Ok(list.as_slice()),
+        _ => Err(ScriptError::BadScript(BadScript::Clients)),
+    }
+}
+
+/// The handles of all clients.
+fn read_all(
+    alloc: Global,
+    lists: &[Value],
+    limits: Limits,
+) -> Result<Vec<Vec<ClientHandle>>, ScriptError>
+    ensures count { IfOk result (λ clients. vec_len clients ≡ length lists.now) }
+    ensures are { IfOk result (λ clients. AllZip IsClient (map (λ c. c.items) clients.items) (map view lists.now)) }
+    ensures servable { IfOk result (λ clients. All (All (IsServable limits.capacity limits.home_blocks)) (map (λ c. c.items) clients.items)) }
+{
+    let mut clients = Vec::with_capacity(alloc, lists.len())?;
+    let mut left = MOST_OPERATIONS;
+    for list in lists {
+        let operations = operations_in(list, left)?;
+        left -= operations.len();
+        let handles = read_client(alloc, operations, clients.len(), limits)?;
+        clients.push(handles)?;
+    }
+    Ok(clients)
+}
+
+/// The list of a client, which has so many operations at most.
+fn operations_in(list: &Value, most: usize) -> Result<&[Value], ScriptError>
+    ensures few { IfOk result (λ operations. length operations.now ≤ most) }
+    ensures is { IfOk result (λ operations. view list.now ≡ list_value (map view operations.now)) }
+{
+    match list.as_array() {
+        Some(operations) if operations.len() <= most => Ok(operations.as_slice()),
+        _ => Err(ScriptError::BadScript(BadScript::Clients)),
+    }
+}
+
+/// The handles of the client at this place.
+fn read_client(
+    alloc: Global,
+    operations: &[Value],
+    client: usize,
+    limits: Limits,
+) -> Result<Vec<ClientHandle>, ScriptError>
+    ensures are { IfOk result (λ handles. AllZip IsClientOperation (client_operations handles.items) (map view operations.now)) }
+    ensures servable { IfOk result (λ handles. All (IsServable limits.capacity limits.home_blocks) handles.items) }
+{
+    let mut reading = Reading {
+        handles: Vec::new(alloc),
+        open: None,
+    };
+    for place in 0..operations.len() {
+        match read_next(alloc, &operations[place], limits, reading) {
+            Ok(next) => reading = next,
+            Err(e) => return Err(bad_client(client, place, e)),
+        }
+    }
+    match reading.open {
+        None => Ok(reading.handles),
+        Some(_) => Err(bad_client(client, operations.len(), Unfit::Bad(ClientFault::StaysOpen))),
+    }
+}
+
+/// The fault of an operation at this place of the list of the client at that place.
+fn bad_client(client: usize, place: usize, unfit: Unfit) -> ScriptError {
+    match unfit {
+        Unfit::Bad(fault) => ScriptError::BadScript(BadScript::Client(BadClient {
+            client: client.saturating_add(1),
+            number: place.saturating_add(1),
+            fault,
+        })),
+        Unfit::Memory => ScriptError::Memory,
+    }
+}
+
+/// Reads one operation more.
+fn read_next(
+    alloc: Global,
+    value: &Value,
+    limits: Limits,
+    reading: Reading,
+) -> Result<Reading, Unfit>
+    requires { AreServable limits.capacity limits.home_blocks reading }
+    ensures servable { IfOk result (AreServable limits.capacity limits.home_blocks) }
+    ensures more { IfOk result (λ next. (operation : ClientOperation) × IsClientOperation operation (view value.now) × (so_far next ≡ so_far reading ++ operation ∷ [])) }
+{
+    match read_operation(alloc, value, limits)? {
+        ClientOperation::Start(credits) => started(alloc, reading, credits, limits),
+        ClientOperation::Touches(touch) => touched_by(reading, touch, limits),
+        ClientOperation::Stop => stopped(alloc, reading, limits),
+        ClientOperation::Wait => awaited(reading, limits),
+    }
+}
+
+/// A handle is open that has these credits.
+fn started(alloc: Global, reading: Reading, credits: u64, limits: Limits) -> Result<Reading, Unfit>
+    requires { AreServable limits.capacity limits.home_blocks reading }
+    ensures servable { IfOk result (AreServable limits.capacity limits.home_blocks) }
+    ensures more { IfOk result (λ next. so_far next ≡ so_far reading ++ Start credits ∷ []) }
+{
+    if reading.open.is_some() {
+        return Err(Unfit::Bad(ClientFault::IsOpen));
+    }
+    if credits > limits.capacity {
+        return Err(Unfit::Bad(ClientFault::TooManyCredits));
+    }
+    Ok(Reading {
+        handles: reading.handles,
+        open: Some(OpenHandle {
+            credits,
+            touches: Vec::new(alloc),
+        }),
+    })
+}
+
+/// The open handle touches a block more.
+fn touched_by(reading: Reading, touch: ClientTouch, limits: Limits) -> Result<Reading, Unfit>
+    requires servable { AreServable limits.capacity limits.home_blocks reading }
+    requires there { touched touch < limits.home_blocks }
+    ensures servable { IfOk result (AreServable limits.capacity limits.home_blocks) }
+    ensures more { IfOk result (λ next. so_far next ≡ so_far reading ++ Touches touch ∷ []) }
+{
+    let Reading { handles, open } = reading;
+    let Some(mut handle) = open else {
+        return Err(Unfit::Bad(ClientFault::NotOpen));
+    };
+    handle.touches.push(touch)?;
+    Ok(Reading {
+        handles,
+        open: Some(handle),
+    })
+}
+
+/// The open handle has stopped.
+fn stopped(alloc: Global, reading: Reading, limits: Limits) -> Result<Reading, Unfit>
+    requires { AreServable limits.capacity limits.home_blocks reading }
+    ensures servable { IfOk result (AreServable limits.capacity limits.home_blocks) }
+    ensures more { IfOk result (λ next. so_far next ≡ so_far reading ++ Stop ∷ []) }
+{
+    let Reading { mut handles, open } = reading;
+    let Some(handle) = open else {
+        return Err(Unfit::Bad(ClientFault::NotOpen));
+    };
+    let mut blocks = BTreeSet::new(alloc);
+    note_blocks(&handle.touches, &mut blocks)?;
+    if blocks.len() as u64 > handle.credits {
+        return Err(Unfit::Bad(ClientFault::TooFewCredits));
+    }
+    handles.push(ClientHandle {
+        credits: handle.credits,
+        touches: handle.touches,
+        waits: false,
+    })?;
+    Ok(Reading {
+        handles,
+        open: None,
+    })
+}
+
+/// The handle that has stopped is waited for.
+fn awaited(reading: Reading, limits: Limits) -> Result<Reading, Unfit>
+    requires { AreServable limits.capacity limits.home_blocks reading }
+    ensures servable { IfOk result (AreServable limits.capacity limits.home_blocks) }
+    ensures more { IfOk result (λ next. so_far next ≡ so_far reading ++ Wait ∷ []) }
+{
+    let Reading { mut handles, open } = reading;
+    if open.is_some() {
+        return Err(Unfit::Bad(ClientFault::IsOpen));
+    }
+    match handles.pop() {
+        Some(mut handle) if !handle.waits => {
+            handle.waits = true;
+            handles.push(handle)?;
+            Ok(Reading {
+                handles,
+                open: None,
+            })
+        }
+        _ => Err(Unfit::Bad(ClientFault::NothingToWaitFor)),
+    }
+}
+
+/// An operation of a client: a list of its name and what it is about.
+fn read_operation(alloc: Global, value: &Value, limits: Limits) -> Result<ClientOperation, Unfit>
+    ensures is { IfOk result (λ operation. IsClientOperation operation (view value.now)) }
+    ensures there { IfOk result (IsOfBlock limits.home_blocks) }
+{
+    let Some(words) = value.as_array() else {
+        return Err(Unfit::Bad(ClientFault::Form));
+    };
+    match words.as_slice() {
+        [name] => plain_operation(name),
+        [name, number] => number_operation(name, number, limits),
+        [name, block, hex] => write_operation(alloc, name, block, hex, limits),
+        _ => Err(Unfit::Bad(ClientFault::Form)),
+    }
+}
+
+/// An operation that is a name alone.
+fn plain_operation(name: &Value) -> Result<ClientOperation, Unfit>
+    ensures named { IfOk result (λ operation. as_str (view name.now) ≡ Some (client_word operation)) }
+    ensures arguments { IfOk result (λ operation. AreClientArguments operation []) }
+    ensures there { IfOk result (IsOfBlock 0) }
+{
+    match name.as_str() {
+        Some("stop") => Ok(ClientOperation::Stop),
+        Some("wait") => Ok(ClientOperation::Wait),
+        _ => Err(Unfit::Bad(ClientFault::Form)),
+    }
+}
+
+/// An operation of a number: of credits, or of a block.
+fn number_operation(name: &Value, number: &Value, limits: Limits) -> Result<ClientOperation, Unfit>
+    ensures named { IfOk result (λ operation. as_str (view name.now) ≡ Some (client_word operation)) }
+    ensures arguments { IfOk result (λ operation. AreClientArguments operation (view number.now ∷ [])) }
+    ensures there { IfOk result (IsOfBlock limits.home_blocks) }
+{
+    match name.as_str() {
+        Some("start") => Ok(ClientOperation::Start(whole_number(number)?)),
+        Some("revoke") => {
+            let block = block_of(number, limits)?;
+            Ok(ClientOperation::Touches(ClientTouch::Revoke(block)))
+        }
+        _ => Err(Unfit::Bad(ClientFault::Form)),
+    }
+}
+
+/// A write of a block.
+fn write_operation(
+    alloc: Global,
+    name: &Value,
+    block: &Value,
+    hex: &Value,
+    limits: Limits,
+) -> Result<ClientOperation, Unfit>
+    ensures named { IfOk result (λ operation. as_str (view name.now) ≡ Some (client_word operation)) }
+    ensures arguments { IfOk result (λ operation. AreClientArguments operation (view block.now ∷ view hex.now ∷ [])) }
+    ensures there { IfOk result (IsOfBlock limits.home_blocks) }
+{
+    let Some("write") = name.as_str() else {
+        return Err(Unfit::Bad(ClientFault::Form));
+    };
+    let block = block_of(block, limits)?;
+    match bytes_of(alloc, hex, limits.block_size) {
+        Ok(bytes) => Ok(ClientOperation::Touches(ClientTouch::Write(block, bytes))),
+        Err(Unread::Memory) => Err(Unfit::Memory),
+        Err(Unread::Bad(_)) => Err(Unfit::Bad(ClientFault::Form)),
+    }
+}
+
+/// A whole number from 0 to 2^64 - 1.
+fn whole_number(value: &Value) -> Result<u64, Unfit>
+    ensures { IfOk result (λ number. view value.now ≡ number_value number) }
+{
+    match value.as_u64() {
+        Some(number) => Ok(number),
+        None => Err(Unfit::Bad(ClientFault::Form)),
+    }
+}
+
+/// The number of a block of home.
+fn block_of(value: &Value, limits: Limits) -> Result<BlockNo, Unfit>
+    ensures is { IfOk result (λ block. view value.now ≡ number_value block) }
+    ensures there { IfOk result (λ block. block < limits.home_blocks) }
+{
+    let number = whole_number(value)?;
+    if number < limits.home_blocks {
+        Ok(BlockNo(number))
+    } else {
+        Err(Unfit::Bad(ClientFault::NoBlock))
+    }
+}
