@@ -1,6 +1,6 @@
 -- Clients, with one more operation, touch or handle.
 use Rattle.std.proofs.Common.{◌∙◌, sym, ap, subst, Vec, Global}
-use Rattle.std.specs.Prelude.{◌≡◌, ℕ, ◌+◌, ◌<◌, ◌++◌, List, [], ◌∷◌, Result, Ok, Err, IfOk, true, get_or, length, map, take, All, Contains}
+use Rattle.std.specs.Prelude.{◌≡◌, ℕ, ◌+◌, ◌<◌, ◌++◌, List, [], ◌∷◌, Result, Ok, Err, Some, IfOk, true, get_or, length, map, take, All, Contains}
 use Rattle.std.specs.List.{AllZip}
 use Rattle.std.proofs.lemmas.List.{map-append, take_more}
 use Rattle.std.proofs.lemmas.List.Elements.{All-more, All-push, All-weaker}
