@@ -221,6 +221,9 @@ pub(crate) fn words_of<'a>(alloc: Global, matches: &ArgMatches<'a>) -> Result<Wo
     if let Some(check) = matches.subcommand_matches("check") {
         return Ok(Words::Check(check.get_str("script").unwrap_or("")));
     }
+    if let Some(threads) = matches.subcommand_matches("threads") {
+        return Ok(Words::Threads(threads.get_str("script").unwrap_or("")));
+    }
     if let Some(format) = matches.subcommand_matches("format") {
         return format_words(alloc, format).map(Words::Format);
     }

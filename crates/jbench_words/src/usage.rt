@@ -32,6 +32,7 @@ script is.
 sweep SCRIPT [--fail]: runs a script with a stop at each of its writes and judges what each leaves; with --fail also once for each
 device call, which fails.
 check SCRIPT: says whether a script is good, and why it is not.
+threads SCRIPT: runs the clients of a script, each in a thread of its own, over one journal, and judges what came of them.
 format LOG HOME [--block B] [--length M] [--home N] [--uuid DIGITS] [--wide] [--keep-home]: two files become an empty log of M
 blocks (default: 33) and a home area of N zero blocks (default: 64), of B bytes each (default: 1024), or only the first does.
 dump LOG: prints the log in a file.
@@ -192,6 +193,40 @@ error 'jbench: bad script: ' with the key, or the number of the operation from 1
 Exit status: 0 the script is good; 1 it is not, or the words or the file were refused.
 
 Example: jbench check examples/two_blocks.json",
+    words: &[Word {
+        name: "script",
+        value: "SCRIPT",
+        is_option: false,
+        help: "The file that holds the script",
+    }],
+};
+
+/// The command `threads`.
+pub(crate) const THREADS: Usage = Usage {
+    name: "threads",
+    about: "Runs the clients of a script, each in a thread of its own over one journal, and judges what came of them",
+    after_help: "\
+The journal lies over a disk in memory. A thread of its own commits, so that the handles of several clients come to one commit, and
+another one writes home. Once all clients have ended it prints 'clients N', 'handles N' and 'receipts N', how many clients, starts and
+waits the script has, and four verdicts, each 'ok' or 'false':
+  verdict credits   the credits that are held are those of the entries of the running transaction
+  verdict receipts  each handle that was waited for stands in the record, in a committed transaction
+  verdict order     the transactions of a client's handles never fall
+  verdict recovery  a stop then leaves what opens to each transaction that was waited for, with the blocks that it wrote
+A client that is refused something ends, and 'jbench: client I refused N Name' says so on standard error; nothing is judged then.
+
+A script is a JSON object with the key \"clients\", a list of 1 to 64 lists with at most 100,000 operations in all, and at will the
+keys \"block\", \"length\", \"home\", \"uuid\" and \"wide\" of a script of run. The operations of a client, which has one
+handle at a time:
+  [\"start\", n]       a handle with n credits: as many as blocks that it touches, at most what a transaction can have
+  [\"write\", b, hex]  home block b becomes these bytes, at most a block, and zeros behind them
+  [\"revoke\", b]      home block b is revoked: no copy of it so far is to come back
+  [\"stop\"]           the handle ends; each that is started has to
+  [\"wait\"]           behind a stop: the client goes on once that handle's transaction is committed
+
+Exit status: 0 done, all verdicts ok; 1 refused: the words, the file, the script, or a client; 2 a verdict is false.
+
+Example: jbench threads examples/two_clients.json",
     words: &[Word {
         name: "script",
         value: "SCRIPT",
@@ -502,8 +537,8 @@ Example: jbench bench log home --seconds 10 --copies 4",
 };
 
 /// The commands, as the help names them.
-pub(crate) const COMMANDS: [&Usage; 10] = [
-    &RUN, &SWEEP, &CHECK, &FORMAT, &DUMP, &SHOW, &RECOVER, &UPGRADE, &APPLY, &BENCH,
+pub(crate) const COMMANDS: [&Usage; 11] = [
+    &RUN, &SWEEP, &CHECK, &THREADS, &FORMAT, &DUMP, &SHOW, &RECOVER, &UPGRADE, &APPLY, &BENCH,
 ];
 
 /// What the command of this name is, if there is one.

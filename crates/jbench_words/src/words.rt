@@ -22,6 +22,8 @@ pub enum Words<'a> {
     Sweep(SweepWords<'a>),
     /// To say whether the script in this file is good.
     Check(&'a str),
+    /// To run the clients of the script in this file in threads.
+    Threads(&'a str),
     /// To make an empty log.
     Format(FormatWords<'a>),
     /// To print the log in this file.
