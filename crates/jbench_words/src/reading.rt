@@ -207,6 +207,7 @@ fn bench_words<'a>(matches: &ArgMatches<'a>) -> Result<BenchWords<'a>, Wanted> {
         seconds: number_of(matches, "seconds", (1, 86_400), Wanted::Seconds)?,
         transactions: number_of(matches, "transactions", (1, u64::MAX), Wanted::Transactions)?,
         copies: copies.unwrap_or(COPIES),
+        threads: number_of(matches, "threads", (1, 64), Wanted::Threads)?,
     })
 }
 

@@ -42,7 +42,8 @@ where that is told also those of a damaged log; or says what it would do.
 upgrade LOG: gives the empty log in a file block numbers of 64 bits.
 apply LOG HOME SCRIPT [--stay] [--keep-going]: opens the log in a file, and does the operations of a script over it and its home
 area.
-bench LOG HOME [--seconds N] [--transactions N] [--copies K]: opens the log in a file, and tells how long transactions take.
+bench LOG HOME [--seconds N] [--transactions N] [--copies K] [--threads N]: opens the log in a file, and tells how long transactions
+take.
 
 Exit status: 0 done, 1 refused (words, file, script, refusal), 2 a verdict is false.
 
@@ -494,6 +495,11 @@ HOME: of K parts of HOME of the same length a block each, at places that the gen
 these blocks held is lost. Where the ring has no room for a transaction a checkpoint round comes first. The journal is closed at the
 end.
 
+With --threads N clients do so at once over one journal, one of them from each of the seeds 1 to N, each in a thread but the first. One
+that waits commits the transaction that all have joined by then, with no worker between; then it takes a part of a round once half of
+the ring may be taken. --transactions is for all of them together. A line more tells how many commits there were, and how many
+handles each had.
+
 It prints how many transactions and blocks were durable, in which time from the opened log to the last commit, and how many a second;
 the nanoseconds that a commit took, from its request until it was durable with the rounds that it needed: the median, what 99 of 100
 did not exceed, and the most; and how many reads, writes and flushes of one block each area got, those of the opening and of the close too. On
@@ -532,6 +538,12 @@ Example: jbench bench log home --seconds 10 --copies 4",
             value: "K",
             is_option: true,
             help: "Blocks of a transaction, at least 1 [default: 4]",
+        },
+        Word {
+            name: "threads",
+            value: "N",
+            is_option: true,
+            help: "Let N clients commit at once, 1 to 64, each in a thread of its own [default: one, in no thread]",
         },
     ],
 };

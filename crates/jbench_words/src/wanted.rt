@@ -35,6 +35,8 @@ pub(crate) enum Wanted {
     Transactions,
     /// A number of blocks behind `--copies`.
     Copies,
+    /// A number of clients behind `--threads`.
+    Threads,
     /// A command.
     Command,
     /// Memory.
@@ -72,6 +74,7 @@ fn line_of(wanted: Wanted) -> &'static str {
             "invalid value for '--transactions <N>': a number from 1 on is wanted"
         }
         Wanted::Copies => "invalid value for '--copies <K>': a number from 1 on is wanted",
+        Wanted::Threads => "invalid value for '--threads <N>': 1 to 64 is wanted",
         Wanted::Command => "a command is wanted",
         Wanted::Memory => "memory is wanted",
     }

@@ -63,6 +63,8 @@ pub struct BenchWords<'a> {
     pub transactions: Option<u64>,
     /// How many blocks each transaction writes.
     pub copies: u64,
+    /// How many clients work in threads of their own, where that is told: else one works in no thread.
+    pub threads: Option<u64>,
 }
 
 impl BenchWords<'_> {
