@@ -1,11 +1,12 @@
-//! A handle of the next transaction writes and reads while a device write of a commit is held.
+//! A handle writes and reads while a device write of a commit, or of a checkpoint round, is held, and another thread waits for the engine.
 ghost use Rattle.std.specs.Prelude.{◌≡◌};
 
 use block_device::{Device, DeviceFault, MemDevice};
 use journal_model::{Area, BlockNo};
 use shared_journal::{
-    Journal, JournalName, LaidJournal, MeetingName, PartsName, Seat, Ticket, Turn, lay,
+    CheckTurn, Journal, JournalName, LaidJournal, MeetingName, PartsName, Seat, Ticket, Turn, lay,
 };
+use std::alloc::Global;
 use std::marker::Brand;
 use std::process::Abort;
 use std::sync::Wait;
@@ -15,6 +16,9 @@ use std::thread::{self, Threads, join};
 
 /// How often a thread looks before it gives up.
 const LOOKS: u32 = 2_000_000;
+
+/// How often it lets others go on, so that who has asked for the engine's lock waits for it.
+const PAUSES: u32 = 10_000;
 
 /// Looks until the word is not 0. It answers whether it came to that.
 fn is_set(word: &AtomicU64) -> bool {
@@ -27,24 +31,28 @@ fn is_set(word: &AtomicU64) -> bool {
     false
 }
 
-/// May hold a write of the log for a while. It waits for nobody without a limit.
+/// May hold a write for a while. It waits for nobody without a limit.
 trait Gate {
-    /// A write of the log is about to be made.
-    fn pass(&self);
+    /// A write of this area is about to be made.
+    fn pass(&self, area: Area);
 }
 
-/// Holds the first write of the log until somebody has written meanwhile, or gives up.
+/// Holds the first write of an area until somebody has written meanwhile, or gives up.
 #[derive(Drop)]
 struct Overtaking {
+    area: Area,
     held: AtomicU64,
+    asked: AtomicU64,
     written: AtomicU64,
     given_up: AtomicU64,
 }
 
 impl Overtaking {
-    fn new() -> Overtaking {
+    fn new(area: Area) -> Overtaking {
         Overtaking {
+            area,
             held: AtomicU64::new(0),
+            asked: AtomicU64::new(0),
             written: AtomicU64::new(0),
             given_up: AtomicU64::new(0),
         }
@@ -52,20 +60,23 @@ impl Overtaking {
 }
 
 impl Gate for Overtaking {
-    fn pass(&self) {
-        if self.held.fetch_add(1, Ordering::SeqCst) == 0 && !is_set(&self.written) {
+    fn pass(&self, area: Area) {
+        if area != self.area || self.held.fetch_add(1, Ordering::SeqCst) != 0 {
+            return;
+        }
+        if !is_set(&self.written) {
             self.given_up.store(1, Ordering::SeqCst);
         }
     }
 }
 
 impl<G: Gate> Gate for &G {
-    fn pass(&self) {
-        (**self).pass()
+    fn pass(&self, area: Area) {
+        (**self).pass(area)
     }
 }
 
-/// A device each of whose calls is one of the device behind it. A write of the log passes the gate first.
+/// A device each of whose calls is one of the device behind it. A write passes the gate first.
 #[derive(Drop)]
 struct HeldDevice<D, G> {
     device: D,
@@ -82,9 +93,7 @@ impl<D: Device, G: Gate> Device for HeldDevice<D, G> {
     }
 
     fn write(&mut self, area: Area, n: u64, bytes: &[u8]) -> Result<(), DeviceFault> {
-        if area == Area::Log {
-            self.gate.pass();
-        }
+        self.gate.pass(area);
         self.device.write(area, n, bytes)
     }
 
@@ -144,12 +153,53 @@ fn commit_one<J: JournalName + PartsName + MeetingName, D: Device, R: Wait>(
     false
 }
 
-/// Writes one block through a handle of its own, and reads it, and then the one that is being committed: the front holds both. It answers
-/// whether it read what was written.
+/// The same, and takes turns of checkpoint rounds until nothing is left to be written home.
+fn commit_and_checkpoint<J: JournalName + PartsName + MeetingName, D: Device, R: Wait>(
+    rt: &R,
+    journal: &Journal<J, D>,
+    seat: Seat<J>,
+) -> bool {
+    if !commit_one(rt, journal, seat) {
+        return false;
+    }
+    for _ in 0..1000 {
+        match journal.checkpoint_turn(rt) {
+            Ok(CheckTurn::Idle) => return true,
+            Ok(_) => {}
+            Err(_) => return false,
+        }
+    }
+    false
+}
+
+/// Once a write is held, reads a block of home of which the front holds no copy, and so waits for the engine. It answers whether it read.
+fn read_home<J: JournalName + PartsName + MeetingName, D: Device, R: Wait>(
+    rt: &R,
+    journal: &Journal<J, D>,
+    mut seat: Seat<J>,
+    held: &AtomicU64,
+    asked: &AtomicU64,
+) -> bool {
+    if journal.block_size() != 1024 || !is_set(held) {
+        return false;
+    }
+    let Ok(mut handle) = journal.try_start(rt, &mut seat, 0) else {
+        return false;
+    };
+    let mut bytes = [1; 1024];
+    asked.store(1, Ordering::SeqCst);
+    let read = journal.read(rt, &mut handle, BlockNo(20), &mut bytes);
+    journal.stop(rt, handle);
+    read.is_ok() && bytes[0] == 0
+}
+
+/// Writes one block through a handle of its own, and reads it, and then the one that is being committed, if there is one: the front holds
+/// both. It answers whether it read what was written.
 fn write_and_read<J: JournalName + PartsName + MeetingName, D: Device, R: Wait>(
     rt: &R,
     journal: &Journal<J, D>,
     mut seat: Seat<J>,
+    committing: Option<BlockNo>,
 ) -> bool {
     if journal.block_size() != 1024 {
         return false;
@@ -161,38 +211,72 @@ fn write_and_read<J: JournalName + PartsName + MeetingName, D: Device, R: Wait>(
     let mut bytes = [0; 1024];
     let read = journal.read(rt, &mut handle, BlockNo(9), &mut bytes);
     let newest = bytes[0];
-    let read_other = journal.read(rt, &mut handle, BlockNo(3), &mut bytes);
+    let read_other = match committing {
+        Some(block) => journal.read(rt, &mut handle, block, &mut bytes).is_ok() && bytes[0] == 7,
+        None => true,
+    };
     journal.stop(rt, handle);
-    wrote.is_ok() && read.is_ok() && newest == 8 && read_other.is_ok() && bytes[0] == 7
+    wrote.is_ok() && read.is_ok() && newest == 8 && read_other
 }
 
-/// Once a write of the log is held, writes one block and reads, and lets the held one go. It answers whether that was done.
+/// Once a write is held, and another thread waits for the engine, writes one block and reads, and lets the held one go. It answers whether
+/// that was done.
 fn overtake<J: JournalName + PartsName + MeetingName, D: Device, R: Wait>(
     rt: &R,
     journal: &Journal<J, D>,
     seat: Seat<J>,
     gate: &Overtaking,
 ) -> bool {
-    if !is_set(&gate.held) {
+    if !is_set(&gate.held) || !is_set(&gate.asked) {
         return false;
     }
-    let done = write_and_read(rt, journal, seat);
+    for _ in 0..PAUSES {
+        thread::yield_now();
+    }
+    let committing = match gate.area {
+        Area::Log => Some(BlockNo(3)),
+        Area::Home => None,
+    };
+    let done = write_and_read(rt, journal, seat, committing);
     gate.written.store(1, Ordering::SeqCst);
     done
 }
 
-/// One thread commits, and another writes while the commit's first write is held.
+/// One thread reads a block that needs the engine, and another overtakes it.
+fn read_and_overtake<
+    J: JournalName + PartsName + MeetingName + Send + Sync,
+    D: Device + Send,
+    R: Threads + Wait + Sync,
+>(
+    rt: &R,
+    journal: &Journal<J, D>,
+    one: Seat<J>,
+    two: Seat<J>,
+    held: &AtomicU64,
+    asked: &AtomicU64,
+    gate: &Overtaking,
+) -> bool {
+    let (read, written) = join(
+        rt,
+        || -> bool { read_home(rt, journal, one, held, asked) },
+        || -> bool { overtake(rt, journal, two, gate) },
+    );
+    read && written
+}
+
+/// One thread commits and writes home, and two others read and write while one of its writes is held.
 fn commit_and_overtake<
     J: JournalName + PartsName + MeetingName + Send + Sync,
     D: Device + Send,
     R: Threads + Wait + Sync,
->(rt: &R, journal: &Journal<J, D>, one: Seat<J>, two: Seat<J>, gate: &Overtaking) -> bool {
-    let (committed, written) = join(
+>(rt: &R, journal: &Journal<J, D>, seats: [Seat<J>; 3], gate: &Overtaking) -> bool {
+    let [one, two, three] = seats;
+    let (committed, overtaken) = join(
         rt,
-        || -> bool { commit_one(rt, journal, one) },
-        || -> bool { overtake(rt, journal, two, gate) },
+        || -> bool { commit_and_checkpoint(rt, journal, one) },
+        || -> bool { read_and_overtake(rt, journal, two, three, &gate.held, &gate.asked, gate) },
     );
-    committed && written
+    committed && overtaken
 }
 
 /// The write of the next transaction does not wait for the one that is held. It answers how many transactions are sealed at the end.
@@ -212,21 +296,24 @@ fn overtaken<
     else {
         panic!(rt; "there is no further seat")
     };
-    assert!(rt; commit_and_overtake(rt, &journal, one, two, gate));
+    assert!(rt; commit_and_overtake(rt, &journal, [one, two, seat], gate));
     let Ok(parts) = journal.close() else {
         panic!(rt; "the close is refused")
     };
     parts.committed
 }
 
-/// Under one lock for front and engine, or where a read always took both, it would wait for the held write, and the gate would give up.
-#[test]
-fn a_handle_writes_while_a_commit_is_held(rt: HostRuntime) -> Result<(), Fail> {
-    let mut device = MemDevice::new(rt.alloc(), 1024, 1024, 4096);
+/// The first write of an area is held until a handle has written, and the gate does not give up.
+fn is_overtaken<R: Threads + Wait + Abort + Sync>(
+    rt: &R,
+    alloc: Global,
+    area: Area,
+) -> Result<(), Fail> {
+    let mut device = MemDevice::new(alloc, 1024, 1024, 4096);
     recovery::format(&mut device, 1024, &[7; 16], false)?;
-    let gate = Overtaking::new();
+    let gate = Overtaking::new(area);
     let Ok(opened) = recovery::open(
-        rt.alloc(),
+        alloc,
         HeldDevice {
             device,
             gate: &gate,
@@ -234,12 +321,25 @@ fn a_handle_writes_while_a_commit_is_held(rt: HostRuntime) -> Result<(), Fail> {
     ) else {
         panic!(rt; "the log is refused")
     };
-    let Ok(laid) = lay(rt.alloc(), opened) else {
+    let Ok(laid) = lay(alloc, opened) else {
         panic!(rt; "the journal is refused")
     };
-    let committed = overtaken::<Brand, _, _>(&rt, laid, &gate);
+    let committed = overtaken::<Brand, _, _>(rt, laid, &gate);
     assert_eq!(rt; committed, 2);
     assert!(rt; gate.held.load(Ordering::SeqCst) != 0);
     assert_eq!(rt; gate.given_up.load(Ordering::SeqCst), 0);
     Ok(())
+}
+
+/// Under one lock for front and engine, or where a read always took both, or where one that needs both waited for the engine's while it
+/// held the front's, it would wait for the held write, and the gate would give up.
+#[test]
+fn a_handle_writes_while_a_commit_is_held(rt: HostRuntime) -> Result<(), Fail> {
+    is_overtaken(&rt, rt.alloc(), Area::Log)
+}
+
+/// The same of a write of a checkpoint round.
+#[test]
+fn a_handle_writes_while_a_checkpoint_is_held(rt: HostRuntime) -> Result<(), Fail> {
+    is_overtaken(&rt, rt.alloc(), Area::Home)
 }

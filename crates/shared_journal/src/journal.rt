@@ -10,6 +10,7 @@ ghost use Rattle.journal_front.specs.Front.{ExtendRefused, IsOpenHandle, Spends,
 ghost use Rattle.journal_steps.specs.Direct.{DirectSyncRefused, DirectWriteRefused, MayWriteDirectly};
 ghost use Rattle.journal_steps.specs.Journal.{Does, NotesRead, ReadRefused, Requests};
 ghost use Rattle.journal_steps.specs.Values.{JournalValue};
+ghost use Rattle.journal_sides.specs.Sides.{HeldReadDid};
 ghost use Rattle.group_commit.specs.Extension.{Extends};
 ghost use Rattle.own_steps.specs.Own.{BearsOut};
 ghost use Rattle.shared_journal.specs.Ends.{AtTheEnd, IsClosedWell, IsNotClosed};
@@ -36,6 +37,9 @@ use std::sync::{Mutex, Wait};
 
 /// A journal that any number of threads share by reference. It has to be ended by `close` or `into_single`, since it holds credits:
 /// a value of this type can't be dropped.
+///
+/// Who takes both locks takes the engine's first: nobody waits for it while they hold the front's. So a call on the front waits for no
+/// device call of a commit or of a checkpoint round, also where others wait for the engine.
 pub struct Journal<
     J: JournalName + PartsName + MeetingName,
     D: Device,
@@ -265,12 +269,53 @@ impl<J: JournalName + PartsName + MeetingName, D: Device, R: Record> Journal<J, 
         ensures untouched { IfErr result (λ e. into.new ≡ into.old) }
         ensures length { length into.new ≡ length into.old }
     {
-        let mut locked = self.locked.lock(rt);
-        let held = locked.read_held(handle, block, into)?;
+        let held = self.read_front(rt, handle, block, into)?;
         if held {
             return Ok(());
         }
+        self.read_both(rt, handle, block, into)
+    }
+
+    /// The same of a block of which the front holds a copy, under the front's lock alone. It answers whether there is one; else nothing
+    /// changes.
+    fn read_front<W: Wait>(
+        &self,
+        rt: &W,
+        handle: &mut Handle<'_, J, R>,
+        block: BlockNo,
+        into: &mut [u8],
+    ) -> Result<bool, JournalError>
+        requires { length into.old ≡ J.block_size }
+        ensures ok { IfOk result (λ held. AtOneMoment (HeldReadDid D.state held handle.old.handle block into.new)) }
+        ensures steps { IfOk result (λ held. held ≡ true → handle.new ≡ record handle.old { steps = handle.old.steps ++ read_step handle.old.handle.number block into.new ∷ [] }) }
+        ensures none { IfOk result (λ held. held ≡ false → (handle.new ≡ handle.old) × (into.new ≡ into.old)) }
+        ensures err { IfErr result (λ e. IsReadRefusal e × (handle.new ≡ handle.old)) }
+        ensures why { IfErr result (λ e. AtOneMoment (λ (old new : JournalValue D). ReadRefused D.state old handle.old.handle block new e)) }
+        ensures untouched { IfErr result (λ e. into.new ≡ into.old) }
+        ensures length { length into.new ≡ length into.old }
+    {
+        self.locked.lock(rt).read_held(handle, block, into)
+    }
+
+    /// The same of any block, under both locks.
+    fn read_both<W: Wait>(
+        &self,
+        rt: &W,
+        handle: &mut Handle<'_, J, R>,
+        block: BlockNo,
+        into: &mut [u8],
+    ) -> Result<(), JournalError>
+        requires { length into.old ≡ J.block_size }
+        ensures reads { OnOk result (AtOneMoment (λ (old new : JournalValue D). NotesRead D.state old handle.old.handle block into.new new
+            × (D.honest new.device → Does D.state old (ReadBlock handle.old.handle.number block into.new) new))) }
+        ensures steps { OnOk result (handle.new ≡ record handle.old { steps = handle.old.steps ++ read_step handle.old.handle.number block into.new ∷ [] }) }
+        ensures err { IfErr result (λ e. IsReadRefusal e × (handle.new ≡ handle.old)) }
+        ensures why { IfErr result (λ e. AtOneMoment (λ (old new : JournalValue D). ReadRefused D.state old handle.old.handle block new e)) }
+        ensures untouched { IfErr result (λ e. into.new ≡ into.old) }
+        ensures length { length into.new ≡ length into.old }
+    {
         let mut engine = self.engine.lock(rt);
+        let mut locked = self.locked.lock(rt);
         let done = locked.read(
             &self.counters,
             &self.meeting,
@@ -303,8 +348,8 @@ impl<J: JournalName + PartsName + MeetingName, D: Device, R: Record> Journal<J, 
         ensures writes { OnOk result (AtOneMoment (λ (old new : JournalValue D). MayWriteDirectly old.journal block × Does D.state old (DirectWrite block bytes.now) new)) }
         ensures why { IfErr result (λ e. AtOneMoment (λ (old new : JournalValue D). DirectWriteRefused D.state old block bytes.now new e)) }
     {
-        let mut locked = self.locked.lock(rt);
         let mut engine = self.engine.lock(rt);
+        let mut locked = self.locked.lock(rt);
         let written = locked.write_direct(&self.counters, &self.meeting, &mut engine, block, bytes);
         self.changes.tell();
         written
@@ -320,8 +365,8 @@ impl<J: JournalName + PartsName + MeetingName, D: Device, R: Record> Journal<J, 
         ensures syncs { OnOk result (AtOneMoment (λ (old new : JournalValue D). Does D.state old DirectSync new)) }
         ensures why { IfErr result (λ e. AtOneMoment (λ (old new : JournalValue D). DirectSyncRefused D.state old new e)) }
     {
-        let mut locked = self.locked.lock(rt);
         let mut engine = self.engine.lock(rt);
+        let mut locked = self.locked.lock(rt);
         let flushed = locked.sync_direct(&self.counters, &self.meeting, &mut engine);
         self.changes.tell();
         flushed
@@ -339,8 +384,8 @@ impl<J: JournalName + PartsName + MeetingName, D: Device, R: Record> Journal<J, 
     }
 
     /// Takes the next step of committing: one device call of a commit, under the engine's lock alone; or the seal of a transaction that
-    /// takes no further handles and has no open one, under the front's lock and then the engine's, which calls no device. Behind the last
-    /// step of a commit, and where the device failed, both locks are taken for a moment, so that the front knows of it.
+    /// takes no further handles and has no open one, under both locks, which calls no device. Behind the last step of a commit, and where
+    /// the device failed, both locks are taken for a moment, so that the front knows of it.
     ///
     /// # Errors
     ///
@@ -401,8 +446,8 @@ impl<J: JournalName + PartsName + MeetingName, D: Device, R: Record> Journal<J, 
 
     /// Both locks for a moment: the front learns what the engine did alone.
     fn meet<W: Wait>(&self, rt: &W) {
-        let mut locked = self.locked.lock(rt);
         let mut engine = self.engine.lock(rt);
+        let mut locked = self.locked.lock(rt);
         locked.meet(&self.counters, &self.meeting, &mut engine);
         self.changes.tell();
     }
@@ -412,8 +457,8 @@ impl<J: JournalName + PartsName + MeetingName, D: Device, R: Record> Journal<J, 
         ensures ok { IfOk result (λ turn. IfSome turn (TurnThen D.state)) }
         ensures why { IfErr result (TurnRefusedThen D.state) }
     {
-        let mut locked = self.locked.lock(rt);
         let mut engine = self.engine.lock(rt);
+        let mut locked = self.locked.lock(rt);
         let turn = locked.seal(&self.counters, &self.meeting, &mut engine);
         self.changes.tell();
         turn

@@ -1,4 +1,4 @@
-use Rattle.library_tests.proofs.held.a_handle_writes_while_a_commit_is_held.Given as goal
+use Rattle.library_tests.proofs.held.is_overtaken.Given as goal
 
 -- the names are those of the laid journal
 abbrev pub ghosts-overtaken-J-JournalName : goal.ghosts-overtaken-J-JournalName
