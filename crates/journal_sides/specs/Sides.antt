@@ -86,6 +86,11 @@ abbrev pub SealDid : {D : Type 0} → (D → DeviceState) → Option Turn → Jo
 SealDid state None old new = IsCommitting old.journal × (new ≡ old)
 SealDid state (Some turn) old new = (old.journal.engine.stage ≡ Idle) × TurnDid state turn old new
 
+-- the front holds a copy of the block
+pub record HoldsCopy (f : Front) (b : ℕ) : Type 0 where
+  pub copy : List ℕ
+  pub last : last_effect b (unfinished f) ≡ Some (Copy copy)
+
 -- what a read at the front did: it saw the copy that the front holds; or the front holds none of a whole block, and nothing was done
 abbrev pub HeldReadDid : {D : Type 0} → (D → DeviceState) → Bool → HandleValue → ℕ → List ℕ → JournalValue D → JournalValue D → Type 0
 HeldReadDid state true h b v old new = Does state old (ReadBlock h.number b v) new × NotesRead state old h b v new

@@ -6,7 +6,7 @@ ghost use Rattle.journal_model.specs.Transaction.{last_effect};
 ghost use Rattle.journal_world.specs.Front.{IsOpen, reading_block, unfinished};
 ghost use Rattle.journal_front.specs.Front.{MayStep};
 ghost use Rattle.journal_steps.specs.Journal.{NoCopy, ReadRefused};
-ghost use Rattle.journal_sides.specs.Sides.{HeldReadDid};
+ghost use Rattle.journal_sides.specs.Sides.{HeldReadDid, HoldsCopy};
 
 use crate::front_side::FrontSide;
 use block_device::Device;
@@ -22,6 +22,7 @@ use meeting::MeetingName;
 fn held_copy<R: Record>(front: &Front<R>, block: BlockNo) -> Result<Option<Block>, JournalError>
     ensures ok { IfOk result (λ copy. last_effect block (unfinished front.now) ≡ option_map Copy copy) }
     ensures err { IfErr result (NoCopy front.now block) }
+    ensures memory { IfErr result (λ e. e ≡ Memory → HoldsCopy front.now block) }
 {
     match front.newest(block) {
         Some(Entry::Copy(copy)) => Ok(Some(copy.try_clone()?)),
@@ -64,7 +65,7 @@ impl<J: MeetingName, D: Device, R: Record> FrontSide<J, D, R> {
     /// The first that applies; nothing changes. `Aborted` after a device failure that the front knows of; `BadBlock` where home has no
     /// such block, or its number is not below 2^32 (in a log with numbers of 64 bits 2^48); `NoCredit` where the handle is none of this
     /// journal's open ones; `Revoked` where the block's last entry in the transactions that are not committed is a revoke; `Memory`
-    /// where it ran out for the step.
+    /// where it ran out for the step, so only of a block of which the front holds a copy.
     /// Source: journalling.rst (handles see the running transaction).
     pub fn read_held(
         &mut self,
@@ -76,6 +77,7 @@ impl<J: MeetingName, D: Device, R: Record> FrontSide<J, D, R> {
         ensures ok { IfOk result (λ held. HeldReadDid D.state held handle.now block into.new self.old self.new) }
         ensures none { IfOk result (λ held. held ≡ false → into.new ≡ into.old) }
         ensures err { IfErr result (λ e. ReadRefused D.state self.old handle.now block self.new e × (self.new ≡ self.old) × (into.new ≡ into.old)) }
+        ensures memory { IfErr result (λ e. e ≡ Memory → HoldsCopy self.old.journal.front block) }
         ensures device { self.new.device ≡ self.old.device }
         ensures length { length into.new ≡ length into.old }
     {
