@@ -16,7 +16,7 @@ ghost use Rattle.own_steps.specs.Own.{BearsOut};
 ghost use Rattle.shared_journal.specs.Ends.{AtTheEnd, IsClosedWell, IsNotClosed};
 ghost use Rattle.shared_journal.specs.Known.{own_of_ticket};
 ghost use Rattle.shared_journal.specs.Moments.{AtOneMoment, JoinedThen, StoppedThen};
-ghost use Rattle.shared_journal.specs.Turns.{CheckTurnThen, RoundRefusedThen, RoundThen, StepRefusedThen, StepThen, TurnRefusedThen, TurnThen};
+ghost use Rattle.shared_journal.specs.Turns.{CheckTurnThen, FailureKnownThen, MetThen, RefusalTold, RoundRefusedThen, RoundThen, StepRefusedThen, StepThen, ToldThen, TurnRefusedThen, TurnThen, TurnTold};
 ghost use Rattle.shared_journal.specs.Refusals.{CouldNotJoin, IsExtendRefusal, IsJoinRefusal, IsReadRefusal, IsTouchRefusal, MayHavePaid, StartRefused};
 
 use crate::changes::Changes;
@@ -394,7 +394,9 @@ impl<J: JournalName + PartsName + MeetingName, D: Device, R: Record> Journal<J, 
     /// Source: fs/jbd2/commit.c by behaviour.
     pub fn commit_turn<W: Wait>(&self, rt: &W) -> Result<Turn, JournalError>
         ensures ok { IfOk result (TurnThen D.state) }
+        ensures told { IfOk result (TurnTold D) }
         ensures why { IfErr result (TurnRefusedThen D.state) }
+        ensures known { IfErr result (RefusalTold D) }
     {
         for _ in rt.forever() {
             match self.next_turn(rt) {
@@ -409,12 +411,14 @@ impl<J: JournalName + PartsName + MeetingName, D: Device, R: Record> Journal<J, 
     /// The same once: none where another thread has sealed a transaction between a look at the engine and the seal.
     fn next_turn<W: Wait>(&self, rt: &W) -> Result<Option<Turn>, JournalError>
         ensures ok { IfOk result (λ turn. IfSome turn (TurnThen D.state)) }
+        ensures told { IfOk result (λ turn. IfSome turn (TurnTold D)) }
         ensures why { IfErr result (TurnRefusedThen D.state) }
+        ensures known { IfErr result (RefusalTold D) }
     {
         let progress = match self.step(rt) {
             Ok(progress) => progress,
             Err(e) => {
-                self.meet(rt);
+                self.tell_failure(rt);
                 return Err(e);
             }
         };
@@ -422,7 +426,7 @@ impl<J: JournalName + PartsName + MeetingName, D: Device, R: Record> Journal<J, 
             Progress::Idle => self.seal(rt),
             Progress::Step => Ok(Some(Turn::Step)),
             Progress::Done(tid) => {
-                self.meet(rt);
+                self.tell_commit(rt, tid);
                 Ok(Some(Turn::Committed(tid)))
             }
         }
@@ -444,18 +448,50 @@ impl<J: JournalName + PartsName + MeetingName, D: Device, R: Record> Journal<J, 
         self.engine.lock(rt).checkpoint_step(&self.meeting)
     }
 
-    /// Both locks for a moment: the front learns what the engine did alone.
-    fn meet<W: Wait>(&self, rt: &W) {
+    /// Both locks for a moment: the front learns what the engine did alone. It answers the mark, and whether the device has failed, as the
+    /// front knows it then.
+    fn meet<W: Wait>(&self, rt: &W) -> (Tid, bool)
+        ensures { MetThen D result.0 result.1 }
+    {
         let mut engine = self.engine.lock(rt);
         let mut locked = self.locked.lock(rt);
-        locked.meet(&self.counters, &self.meeting, &mut engine);
+        let met = locked.meet(&self.counters, &self.meeting, &mut engine);
         self.changes.tell();
+        met
+    }
+
+    /// Has both sides meet until the front tells that this transaction is committed. Where it is, they meet once.
+    fn tell_commit<W: Wait>(&self, rt: &W, tid: Tid)
+        ensures { ToldThen D tid }
+    {
+        for _ in rt.forever() {
+            let (mark, _) = self.meet(rt);
+            if tid.0 <= mark.0 {
+                return;
+            }
+        }
+        unreachable!()
+    }
+
+    /// Has both sides meet until the front knows that the device has failed. Where it has, they meet once.
+    fn tell_failure<W: Wait>(&self, rt: &W)
+        ensures { FailureKnownThen D }
+    {
+        for _ in rt.forever() {
+            let (_, failed) = self.meet(rt);
+            if failed {
+                return;
+            }
+        }
+        unreachable!()
     }
 
     /// Both locks, for a seal.
     fn seal<W: Wait>(&self, rt: &W) -> Result<Option<Turn>, JournalError>
         ensures ok { IfOk result (λ turn. IfSome turn (TurnThen D.state)) }
+        ensures told { IfOk result (λ turn. IfSome turn (TurnTold D)) }
         ensures why { IfErr result (TurnRefusedThen D.state) }
+        ensures known { IfErr result (RefusalTold D) }
     {
         let mut engine = self.engine.lock(rt);
         let mut locked = self.locked.lock(rt);
@@ -474,11 +510,12 @@ impl<J: JournalName + PartsName + MeetingName, D: Device, R: Record> Journal<J, 
     pub fn checkpoint_turn<W: Wait>(&self, rt: &W) -> Result<CheckTurn, JournalError>
         ensures ok { IfOk result (CheckTurnThen D.state) }
         ensures why { IfErr result (RoundRefusedThen D.state) }
+        ensures known { IfErr result (λ _. FailureKnownThen D) }
     {
         let progress = match self.round(rt) {
             Ok(progress) => progress,
             Err(e) => {
-                self.meet(rt);
+                self.tell_failure(rt);
                 return Err(e);
             }
         };
@@ -600,7 +637,9 @@ impl<J: JournalName + PartsName + MeetingName, D: Device, R: Record> Journal<J, 
             (λ parts. IsClosedWell D.state D.honest old parts.device (R.transactions parts.sealed) parts.committed)
             (λ e. IsNotClosed D.state D.honest old e.0.device (R.transactions e.0.sealed) e.0.committed e.1)) }
     {
-        close(self.into_single())
+        let journal = self.into_single();
+        journal.recall_invariant();
+        close(journal)
     }
 
     /// The journal and all that lies beside it, once nobody shares it any longer: front and engine have met for the last time. No handle

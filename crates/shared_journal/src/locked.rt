@@ -1,6 +1,6 @@
 //! What lies under the lock, and the steps that are made there.
 ghost use Rattle.std.specs.Prelude.{◌≡◌, ◌+◌, ◌-◌, ◌≤◌, ◌++◌, [], ◌∷◌, length, true, false, IfErr, IfOk, OnOk};
-ghost use Rattle.journal_model.specs.declared.refusal.JournalError.TheVariants.{Aborted};
+ghost use Rattle.journal_model.specs.declared.refusal.JournalError.TheVariants.{Aborted, Memory};
 ghost use Rattle.journal_model.specs.Transaction.{entries};
 ghost use Rattle.block_device.specs.State.{MakesAtMostOneCall};
 ghost use Rattle.journal_world.specs.Front.{next_handle, read_step, reserving, revoke_step, transactions, write_step};
@@ -13,7 +13,7 @@ ghost use Rattle.group_commit.specs.Extension.{Extends, Starts};
 ghost use Rattle.journal_front.specs.Front.{ExtendRefused, IsOpenHandle, JoinRefused, Spends, TouchRefused};
 ghost use Rattle.journal_steps.specs.Journal.{Does, NotesRead, ReadRefused, Requests, TurnRefused};
 ghost use Rattle.journal_steps.specs.Values.{JournalValue};
-ghost use Rattle.journal_sides.specs.Sides.{HeldReadDid, Meets, MeetsAnd, SealDid, engine_of};
+ghost use Rattle.journal_sides.specs.Sides.{HeldReadDid, HoldsCopy, Meets, MeetsAnd, SealDid, engine_of};
 ghost use Rattle.own_steps.specs.Own.{BearsOut};
 ghost use Rattle.shared_journal.specs.Known.{own_of_ticket};
 
@@ -23,7 +23,7 @@ use crate::stopped::{Receipt, Ticket};
 use block_device::Device;
 use group_commit::{Record, Turn};
 use handle::{CommitMark, CreditPool, Credits, Handle as Place, JournalName, Raiser, Seat};
-use journal_model::{BlockNo, History, JournalError, Sealed};
+use journal_model::{BlockNo, History, JournalError, Sealed, Tid};
 use journal_sides::{EngineSide, FrontSide, SidesMeeting};
 use meeting::MeetingName;
 use parts::PartsName;
@@ -270,6 +270,7 @@ impl<J: JournalName + PartsName + MeetingName, D: Device, R: Record> Locked<J, D
         ensures steps { IfOk result (λ held. held ≡ true → handle.new ≡ record handle.old { steps = handle.old.steps ++ read_step handle.old.handle.number block into.new ∷ [] }) }
         ensures none { IfOk result (λ held. held ≡ false → (handle.new ≡ handle.old) × (into.new ≡ into.old)) }
         ensures err { IfErr result (λ e. ReadRefused D.state self.old handle.old.handle block self.new e × (self.new ≡ self.old) × (handle.new ≡ handle.old)) }
+        ensures memory { IfErr result (λ e. e ≡ Memory → HoldsCopy self.old.journal.front block) }
         ensures untouched { IfErr result (λ e. into.new ≡ into.old) }
         ensures length { length into.new ≡ length into.old }
     {
@@ -409,20 +410,23 @@ impl<J: JournalName + PartsName + MeetingName, D: Device, R: Record> Locked<J, D
     }
 
     /// The front meets the engine, and catches up with it, as `journal_sides::meet`; where that has committed a transaction, the mark
-    /// is raised.
+    /// is raised. It answers the mark, and whether the device has failed, as the front knows it then.
     pub fn meet(
         &mut self,
         counters: &Counters<J>,
         meeting: &SidesMeeting<J, D>,
         engine: &mut EngineSide<J, D>,
-    )
+    ) -> (Tid, bool)
         ensures engine { engine.new ≡ engine.old }
         ensures met { Meets D.state self.old engine.old self.new }
+        ensures mark { result.0 ≡ self.new.journal.front.mark }
+        ensures failed { result.1 ≡ self.new.journal.front.aborted }
     {
         journal_sides::meet(meeting, &mut self.journal, engine);
         self.knowing.go_on(&mut self.recorded, self.journal.front());
         let told = self.journal.mark();
         counters.mark.raise(&mut self.raiser, told);
+        (told, self.journal.is_aborted())
     }
 
     /// Seals the transaction that takes no further handles and has no open one, as `journal_sides::seal`: none where another transaction
