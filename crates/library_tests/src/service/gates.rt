@@ -49,9 +49,10 @@ impl Gate for Meeting {
     }
 }
 
-/// Holds the first write of the log until a handle has written a block meanwhile.
+/// Holds the first write of the log until a handle has written a block meanwhile, and the second handle until that write is held.
 #[derive(Drop)]
 pub(crate) struct Overtaking {
+    opened: AtomicU64,
     held: AtomicU64,
     written: AtomicU64,
     given_up: AtomicU64,
@@ -60,6 +61,7 @@ pub(crate) struct Overtaking {
 impl Overtaking {
     pub(crate) fn new() -> Overtaking {
         Overtaking {
+            opened: AtomicU64::new(0),
             held: AtomicU64::new(0),
             written: AtomicU64::new(0),
             given_up: AtomicU64::new(0),
@@ -90,7 +92,11 @@ impl Gate for Overtaking {
                     self.written.store(1, Ordering::SeqCst);
                 }
             }
-            Point::Opened(_) => {}
+            Point::Opened(_) => {
+                if self.opened.fetch_add(1, Ordering::SeqCst) == 1 && !comes_to(&self.held, 1) {
+                    self.given_up.store(1, Ordering::SeqCst);
+                }
+            }
         }
     }
 }
