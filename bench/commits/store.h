@@ -8,7 +8,12 @@
 /* Makes a new store in this folder. */
 void open_store(const char *folder);
 
-/* Changes these blocks, of which none stands twice, to these bytes; all of them are durable when it comes back. */
+/* A thread begins to use the store, and ends: threads are counted from 0. */
+void open_client(int number);
+void close_client(void);
+
+/* Changes these blocks, of which none stands twice, to these bytes; all of them are durable when it comes back. Threads
+ * call it at once. */
 void commit_blocks(const uint32_t *blocks, int count, const unsigned char *bytes);
 
 void close_store(void);
