@@ -17,12 +17,37 @@ use std::io;
 use std::io::Write;
 use std::time::{Clock, Duration, Instant};
 
+/// The seed of the places that are drawn.
+pub(crate) const SEED: u64 = 1;
+
 /// What was done, and how long it took.
 #[derive(Drop)]
-struct Done {
-    tally: Tally,
+pub(crate) struct Done {
+    pub(crate) tally: Tally,
     /// From the opened log to the last commit.
-    taken: Duration,
+    pub(crate) taken: Duration,
+}
+
+impl Done {
+    /// Nothing.
+    pub(crate) fn new(alloc: Global) -> Done {
+        Done {
+            tally: Tally::new(alloc),
+            taken: Duration::ZERO,
+        }
+    }
+
+    /// This and what another client has done.
+    ///
+    /// # Errors
+    ///
+    /// `Memory`.
+    pub(crate) fn and(self, other: Done) -> Result<Done, JournalError> {
+        let mut done = self;
+        done.tally.add_all(&other.tally)?;
+        done.taken = done.taken.max(other.taken);
+        Ok(done)
+    }
 }
 
 /// Opens the log of a device, commits transactions one by one as the words tell, each with the given number of copies, and closes the journal; then
@@ -65,7 +90,7 @@ fn do_and_say<D: Device + Drop, C: Clock, H: Watch, W: Write>(
 ) -> Result<D, Fault>
     ensures { IfOk result (λ device. D.honest device → IsLeftClosed (D.state device)) }
 {
-    let mut plan = Plan::new(words.copies, device.blocks(Area::Home))?;
+    let mut plan = Plan::new(words.copies, device.blocks(Area::Home), SEED)?;
     let work = open(alloc, Counted::new(device))?;
     let (done, device) = do_all(alloc, words, work, &mut plan, clock, watch)?;
     say(words, done, &device, out)?;
@@ -217,7 +242,7 @@ fn a_second(count: u64, taken: Duration) -> u128 {
 }
 
 /// Says what the transactions took, and which calls the device got.
-fn say<D, W: Write>(
+pub(crate) fn say<D, W: Write>(
     words: &BenchWords<'_>,
     done: Done,
     device: &Counted<D>,

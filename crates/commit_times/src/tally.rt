@@ -1,6 +1,7 @@
 //! How long commits took.
 ghost use Rattle.std.specs.Prelude.{◌≡◌};
 
+use journal_model::JournalError;
 use std::alloc::{AllocFailed, Global};
 use std::time::Duration;
 
@@ -26,6 +27,16 @@ impl Tally {
     pub(crate) fn add(&mut self, taken: Duration) -> Result<(), AllocFailed<u64>> {
         let nanoseconds = u64::try_from(taken.as_nanos()).unwrap_or(u64::MAX);
         self.nanoseconds.push(nanoseconds)
+    }
+
+    /// These commits too.
+    ///
+    /// # Errors
+    ///
+    /// Memory ran out.
+    pub(crate) fn add_all(&mut self, others: &Tally) -> Result<(), JournalError> {
+        self.nanoseconds.extend_from_slice(&others.nanoseconds)?;
+        Ok(())
     }
 
     /// How many commits there were.

@@ -10,9 +10,6 @@ use rand_xoshiro::Xoshiro256PlusPlus;
 use recovery::Opened;
 use std::alloc::Global;
 
-/// Where the block numbers begin.
-const SEED: u64 = 1;
-
 /// More turns than a commit can take: each is the seal, a round or one device call, and there are few more of these than ring blocks,
 /// of which a log has fewer than 1,048,576.
 const MOST_TURNS: u32 = 2_000_000;
@@ -27,24 +24,29 @@ pub(crate) struct Plan {
 }
 
 impl Plan {
-    /// Transactions of so many blocks of a home area that has this many.
+    /// Transactions of so many blocks of a home area that has this many, at places that are drawn from a seed.
     ///
     /// # Errors
     ///
     /// `TooMany` where it has fewer.
-    pub(crate) fn new(copies: u64, home_blocks: u64) -> Result<Plan, JournalError> {
+    pub(crate) fn new(copies: u64, home_blocks: u64, seed: u64) -> Result<Plan, JournalError> {
         match home_blocks.checked_div(copies) {
             Some(part) if part > 0 => Ok(Plan {
                 copies,
                 part,
-                generator: Xoshiro256PlusPlus::seed_from_u64(SEED),
+                generator: Xoshiro256PlusPlus::seed_from_u64(seed),
             }),
             _ => Err(JournalError::TooMany),
         }
     }
 
+    /// How many blocks each transaction has.
+    pub(crate) fn copies(&self) -> u64 {
+        self.copies
+    }
+
     /// The block that is written in this part, and the byte that fills it.
-    fn draw(&mut self, number: u64) -> (BlockNo, u8) {
+    pub(crate) fn draw(&mut self, number: u64) -> (BlockNo, u8) {
         let drawn = self.generator.next_u64();
         let place = drawn.checked_rem(self.part).unwrap_or(0);
         let block = number.saturating_mul(self.part).saturating_add(place);
@@ -157,11 +159,23 @@ impl<D: Device + Drop> Work<D> {
         ensures { IfOk result (λ device. D.honest device → IsLeftClosed (D.state device)) }
     {
         let Work { journal, bytes: _ } = self;
-        if journal.has_open_handles() {
-            return Err(JournalError::NotRunning);
-        }
-        closed(journal)
+        close(journal)
     }
+}
+
+/// Closes a journal: all that was sealed, and the running transaction where a handle has joined it, is home, and the log is clean. The
+/// device comes back.
+///
+/// # Errors
+///
+/// `NotRunning` where a handle is open; those of a close.
+pub(crate) fn close<D: Device + Drop>(journal: Journal<D>) -> Result<D, JournalError>
+    ensures { IfOk result (λ device. D.honest device → IsLeftClosed (D.state device)) }
+{
+    if journal.has_open_handles() {
+        return Err(JournalError::NotRunning);
+    }
+    closed(journal)
 }
 
 /// Closes a journal that has no open handle. The device comes back.

@@ -4,19 +4,21 @@
 #![tactic(auto)]
 
 use file_device::UnknownContents;
-use jbench_commands::obeying::obey;
+use jbench_commands::obeying::obey_with_threads;
 use jbench_words::fault::{Status, refuse_file, refuse_rest};
 use jbench_words::{arguments, words};
 use std::fs::File;
 use std::io::ErrorKind;
 use std::process::ExitCode;
+use std::sync::Wait;
+use std::thread::Threads;
 use std::{fs, io};
 
 /// A file that holds nothing.
 const NOTHING: &str = "/dev/null";
 
 fn main(rt: HostRuntime) -> ExitCode {
-    match jbench(&rt) {
+    match jbench(&rt, &rt) {
         Ok(status) => ExitCode::from(status),
         Err(e) => ExitCode::from(refuse_rest(&mut rt.stderr(), e)),
     }
@@ -33,13 +35,13 @@ fn hold_streams(rt: &HostRuntime) -> io::Result<(File, File, File)> {
 }
 
 /// Obeys the words that the program was called with, while the standard streams are held.
-fn jbench(rt: &HostRuntime) -> io::Result<Status> {
+fn jbench<T: Threads + Wait + Sync>(rt: &HostRuntime, threads: &T) -> io::Result<Status> {
     let _held = hold_streams(rt)?;
-    obey_words(rt)
+    obey_words(rt, threads)
 }
 
 /// Reads the words that the program was called with, and obeys them.
-fn obey_words(rt: &HostRuntime) -> io::Result<Status> {
+fn obey_words<T: Threads + Wait + Sync>(rt: &HostRuntime, threads: &T) -> io::Result<Status> {
     let arguments = arguments::read(rt, rt.alloc())?;
     match words::parse(rt.alloc(), arguments.words()) {
         Ok(words) => match arguments.no_text() {
@@ -48,7 +50,14 @@ fn obey_words(rt: &HostRuntime) -> io::Result<Status> {
                 path,
                 io::Error::from(ErrorKind::InvalidFilename),
             ),
-            None => obey(rt, UnknownContents, &words, io::writer(rt), rt.stderr()),
+            None => obey_with_threads(
+                rt,
+                threads,
+                UnknownContents,
+                &words,
+                io::writer(rt),
+                rt.stderr(),
+            ),
         },
         Err(e) => words::answer(&e, &mut io::writer(rt), &mut rt.stderr()),
     }

@@ -19,14 +19,42 @@ use jbench_logs::{
     make_log_device, open_log, open_log_to_write, open_or_make_log, open_or_make_pair, open_pair,
     open_pair_to_read, open_script, open_to_read, recovering, show,
 };
-use jbench_words::fault::{Status, refuse_file};
+use jbench_words::fault::{self, Fault, Status, refuse_file};
 use jbench_words::words::{
     ApplyWords, BenchWords, FormatWords, RecoverWords, RunWords, SweepWords, Words,
 };
+use journal_model::JournalError;
 use std::io;
 use std::io::Write;
+use std::sync::Wait;
+use std::thread::Threads;
 
-/// Does what the words tell. `contents` says what is supposed of the files of a log.
+/// Does what the words tell, with threads for the clients of `bench`: only these wait for one another. `contents` says what is supposed of
+/// the files of a log.
+pub fn obey_with_threads<
+    T: Threads + Wait + Sync,
+    C: Contents + Send,
+    W: Write + Drop,
+    E: Write + Drop,
+>(
+    rt: &HostRuntime,
+    threads: &T,
+    contents: C,
+    words: &Words<'_>,
+    out: W,
+    err: E,
+) -> io::Result<Status>
+    ensures done { IfOk result (λ status. status ≡ Fine → HasObeyed C.contents (W.contents out) words.now) }
+    ensures wrong { IfOk result (λ status. status ≡ VerdictFalse → HasFoundWrong words.now) }
+{
+    match words {
+        Words::Bench(words) => bench_files_with_threads(rt, threads, contents, words, out, err),
+        _ => obey(rt, contents, words, out, err),
+    }
+}
+
+/// Does what the words tell. `contents` says what is supposed of the files of a log. There is no thread to be had here, so clients of
+/// `bench` are refused as for want of memory.
 pub fn obey<C: Contents, W: Write + Drop, E: Write + Drop>(
     rt: &HostRuntime,
     contents: C,
@@ -360,6 +388,10 @@ fn bench_files<C: Contents, W: Write + Drop, E: Write + Drop>(
     ensures other { IfOk result (λ status. status ≢ Fine → status ≡ Refused) }
 {
     let mut err = err;
+    if words.threads.is_some() {
+        let fault = Fault::Refused(JournalError::Memory);
+        return fault::refuse(&mut err, words.paths.log, &fault);
+    }
     let files = match open_pair(rt, words.paths) {
         Ok(files) => files,
         Err(unopened) => return refuse_file(&mut err, unopened.path, unopened.error),
@@ -368,6 +400,51 @@ fn bench_files<C: Contents, W: Write + Drop, E: Write + Drop>(
         Ok(device) => {
             let progress = Progress::new(rt);
             let done = bench::bench(rt.alloc(), words, device, rt, progress, out, err)?;
+            Ok(status_of(&done))
+        }
+        Err(e) => refuse_file(&mut err, words.paths.log, e),
+    }
+}
+
+/// Commits transactions to a log in two files, by clients in threads of their own where the words tell of any.
+fn bench_files_with_threads<
+    T: Threads + Wait + Sync,
+    C: Contents + Send,
+    W: Write + Drop,
+    E: Write + Drop,
+>(
+    rt: &HostRuntime,
+    threads: &T,
+    contents: C,
+    words: &BenchWords<'_>,
+    out: W,
+    err: E,
+) -> io::Result<Status>
+    ensures done { IfOk result (λ status. status ≡ Fine → IsBenchDone C.contents) }
+    ensures other { IfOk result (λ status. status ≢ Fine → status ≡ Refused) }
+{
+    let Some(clients) = words.threads else {
+        return bench_files(rt, contents, words, out, err);
+    };
+    let mut err = err;
+    let files = match open_pair(rt, words.paths) {
+        Ok(files) => files,
+        Err(unopened) => return refuse_file(&mut err, unopened.path, unopened.error),
+    };
+    match device_of(rt.alloc(), contents, files) {
+        Ok(device) => {
+            let progress = Progress::new(rt);
+            let done = commit_times::threads::bench(
+                threads,
+                rt,
+                rt.alloc(),
+                words,
+                clients,
+                device,
+                progress,
+                out,
+                err,
+            )?;
             Ok(status_of(&done))
         }
         Err(e) => refuse_file(&mut err, words.paths.log, e),

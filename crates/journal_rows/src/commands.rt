@@ -313,6 +313,9 @@ fn told_bench(alloc: Global, words: &BenchWords<'_>) -> Result<String, AllocErro
     if let Some(transactions) = words.transactions {
         write!(text, ", {transactions} transactions")?;
     }
+    if let Some(threads) = words.threads {
+        write!(text, ", {threads} threads")?;
+    }
     Ok(text)
 }
 

@@ -29,6 +29,8 @@ mod tables;
 #[cfg(test)]
 mod threads;
 #[cfg(test)]
+mod timed;
+#[cfg(test)]
 mod touches;
 #[cfg(test)]
 mod waiting;

@@ -1,0 +1,2 @@
+-- The lemmas of this crate: none above it cites them.
+mod Sending

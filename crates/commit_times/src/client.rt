@@ -1,0 +1,254 @@
+//! A client: one thread with a seat of its own, which makes one durable change after the other.
+ghost use Rattle.std.specs.Prelude.{◌≤◌, IfOk};
+
+use crate::bench::Done;
+use crate::leader::{Bells, Rounds, lead};
+use crate::work::Plan;
+use block_device::Device;
+use jbench_words::fault::Fault;
+use jbench_words::words::BenchWords;
+use journal_model::{BlockNo, JournalError};
+use shared_journal::{Handle, Journal, JournalName, MeetingName, PartsName, Receipt, Seat, Ticket};
+use std::alloc::Global;
+use std::sync::atomic::{AtomicU64, Ordering};
+use std::sync::{Mutex, Wait};
+use std::time::{Clock, Duration, Instant};
+
+/// What all clients share.
+#[derive(Drop)]
+pub(crate) struct Shared<'s, J: JournalName + PartsName + MeetingName, D: Device, C> {
+    /// What tells the time.
+    pub(crate) clock: &'s C,
+    /// The journal.
+    pub(crate) journal: &'s Journal<J, D>,
+    /// Who has it takes the turns.
+    pub(crate) turns: Mutex<Rounds>,
+    /// What the others wait for.
+    pub(crate) bells: Bells,
+    /// When the work began.
+    pub(crate) begun: Instant,
+    /// The most transactions, all clients together.
+    pub(crate) most: u64,
+    /// The time behind which no further transaction is begun, where there is one.
+    pub(crate) most_time: Option<Duration>,
+    /// How many transactions were begun, or refused because there were enough.
+    pub(crate) started: AtomicU64,
+    /// How many are durable.
+    pub(crate) durable: AtomicU64,
+    /// 1 once a client has met a refusal: the others end too.
+    pub(crate) refused: AtomicU64,
+}
+
+impl<'s, J: JournalName + PartsName + MeetingName, D: Device, C> Shared<'s, J, D, C> {
+    /// What clients share that begin now.
+    pub(crate) fn new(
+        clock: &'s C,
+        journal: &'s Journal<J, D>,
+        words: &BenchWords<'_>,
+        begun: Instant,
+    ) -> Self {
+        Shared {
+            clock,
+            journal,
+            turns: Mutex::new(Rounds::new()),
+            bells: Bells::new(),
+            begun,
+            most: words.most_transactions(),
+            most_time: words.most_time(),
+            started: AtomicU64::new(0),
+            durable: AtomicU64::new(0),
+            refused: AtomicU64::new(0),
+        }
+    }
+
+    /// No client begins a further transaction.
+    pub(crate) fn end(&self) {
+        self.refused.store(1, Ordering::SeqCst);
+    }
+}
+
+/// A client.
+#[derive(Drop)]
+pub(crate) struct Client<'s, J: JournalName + PartsName + MeetingName, D: Device, C> {
+    /// What all share.
+    pub(crate) shared: &'s Shared<'s, J, D, C>,
+    /// Its own seat.
+    pub(crate) seat: Seat<J>,
+    /// What it writes.
+    pub(crate) plan: Plan,
+    /// The bytes of the block that it wrote last.
+    pub(crate) bytes: Vec<u8>,
+    /// What it has done.
+    pub(crate) done: Done,
+}
+
+impl<'s, J: JournalName + PartsName + MeetingName, D: Device, C: Clock> Client<'s, J, D, C> {
+    /// A client that has done nothing yet.
+    pub(crate) fn new(
+        alloc: Global,
+        shared: &'s Shared<'s, J, D, C>,
+        seat: Seat<J>,
+        plan: Plan,
+    ) -> Self {
+        Client {
+            shared,
+            seat,
+            plan,
+            bytes: Vec::new(alloc),
+            done: Done::new(alloc),
+        }
+    }
+
+    /// Makes durable changes until there are as many as are wanted, or the time is over, or a client was refused something.
+    ///
+    /// # Errors
+    ///
+    /// The clock can't be read; memory ran out; those of a start, a write, a commit turn and a checkpoint turn. No handle is left
+    /// open, and the other clients end too.
+    pub(crate) fn run<W: Wait>(self, rt: &W) -> Result<Done, Fault> {
+        let mut client = self;
+        for _ in rt.forever() {
+            if client.is_over() {
+                break;
+            }
+            client.one_more(rt)?;
+        }
+        Ok(client.into_done())
+    }
+
+    /// What it has done.
+    pub(crate) fn into_done(self) -> Done {
+        let Client {
+            shared: _,
+            seat: _,
+            plan: _,
+            bytes: _,
+            done,
+        } = self;
+        done
+    }
+
+    /// Whether it is to begin no further transaction. Where it is not, one is counted as begun.
+    pub(crate) fn is_over(&self) -> bool {
+        let late = self
+            .shared
+            .most_time
+            .is_some_and(|most| self.done.taken >= most);
+        late || self.shared.refused.load(Ordering::SeqCst) != 0
+            || self.shared.started.fetch_add(1, Ordering::SeqCst) >= self.shared.most
+    }
+
+    /// Makes a durable change, and notes how long its commit took.
+    pub(crate) fn one_more<W: Wait>(&mut self, rt: &W) -> Result<(), Fault> {
+        match self.timed(rt) {
+            Ok(_) => {
+                self.shared.durable.fetch_add(1, Ordering::SeqCst);
+                Ok(())
+            }
+            Err(fault) => {
+                self.shared.end();
+                Err(fault)
+            }
+        }
+    }
+
+    /// Makes a durable change, and notes how long its commit took. Its receipt comes back: it is durable.
+    fn timed<W: Wait>(&mut self, rt: &W) -> Result<Receipt<J>, Fault>
+        ensures { IfOk result (λ receipt. receipt.ticket.tid ≤ receipt.ticket.seen) }
+    {
+        let ticket = self.change(rt)?;
+        let asked = now(self.shared.clock)?;
+        let receipt = self.wait(rt, ticket)?;
+        let committed = now(self.shared.clock)?;
+        self.note(asked, committed)?;
+        Ok(receipt)
+    }
+
+    /// Notes a commit that was asked for and came at these times.
+    fn note(&mut self, asked: Instant, committed: Instant) -> Result<(), Fault> {
+        self.done.tally.add(committed.duration_since(asked))?;
+        self.done.taken = committed.duration_since(self.shared.begun);
+        Ok(())
+    }
+
+    /// Writes the blocks of the next transaction through one handle, which stops then, also where a write is refused.
+    fn change<W: Wait>(&mut self, rt: &W) -> Result<Ticket<J>, JournalError> {
+        let mut handle = self.start(rt)?;
+        let written = self.write_all(rt, &mut handle);
+        let ticket = self.shared.journal.stop(rt, handle);
+        self.shared.bells.stopped.ring();
+        written?;
+        Ok(ticket)
+    }
+
+    /// A handle with as many credits as it is to write blocks. It waits while the running transaction takes no handles, and while
+    /// others hold the credits; where nobody takes turns then, it does.
+    fn start<W: Wait>(&mut self, rt: &W) -> Result<Handle<'s, J>, JournalError> {
+        let shared = self.shared;
+        for _ in rt.forever() {
+            let heard = shared.bells.sealed.heard();
+            match shared
+                .journal
+                .try_start(rt, &mut self.seat, self.plan.copies())
+            {
+                Ok(handle) => return Ok(handle),
+                Err(JournalError::Full | JournalError::NotRunning) => {}
+                Err(e) => return Err(e),
+            }
+            if !lead(rt, shared.journal, &shared.turns, &shared.bells)? {
+                shared.bells.sealed.sleep(rt, heard);
+            }
+        }
+        unreachable!()
+    }
+
+    /// Writes the blocks of a transaction.
+    fn write_all<W: Wait>(
+        &mut self,
+        rt: &W,
+        handle: &mut Handle<'s, J>,
+    ) -> Result<(), JournalError> {
+        for number in 0..self.plan.copies() {
+            let (block, fill) = self.plan.draw(number);
+            self.write(rt, handle, block, fill)?;
+        }
+        Ok(())
+    }
+
+    /// Writes a block that is filled with one byte.
+    fn write<W: Wait>(
+        &mut self,
+        rt: &W,
+        handle: &mut Handle<'s, J>,
+        block: BlockNo,
+        fill: u8,
+    ) -> Result<(), JournalError> {
+        self.bytes.resize(self.shared.journal.block_size(), 0)?;
+        self.bytes.fill(fill);
+        self.shared.journal.write(rt, handle, block, &self.bytes)
+    }
+
+    /// Waits until a ticket's transaction is committed. Who finds that nobody takes turns takes them.
+    fn wait<W: Wait>(&mut self, rt: &W, ticket: Ticket<J>) -> Result<Receipt<J>, JournalError>
+        ensures { IfOk result (λ receipt. receipt.ticket.tid ≤ receipt.ticket.seen) }
+    {
+        let shared = self.shared;
+        let mut ticket = ticket;
+        for _ in rt.forever() {
+            let heard = shared.bells.committed.heard();
+            match shared.journal.reach(ticket) {
+                Ok(receipt) => return Ok(receipt),
+                Err(back) => ticket = back,
+            }
+            if !lead(rt, shared.journal, &shared.turns, &shared.bells)? {
+                shared.bells.committed.sleep(rt, heard);
+            }
+        }
+        unreachable!()
+    }
+}
+
+/// The time of the clock, from its own start.
+pub(crate) fn now<C: Clock>(clock: &C) -> Result<Instant, Fault> {
+    Instant::now(clock).map_err(Fault::of_clock)
+}

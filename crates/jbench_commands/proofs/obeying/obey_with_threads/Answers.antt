@@ -1,0 +1,10 @@
+use Rattle.jbench_commands.proofs.Ending.{never-wrong}
+use Rattle.jbench_commands.proofs.obeying.obey_with_threads.Goals as goal
+
+-- the command that the words name was done
+pub returns-in-Bench-clause-done : goal.returns-in-Bench-clause-done
+returns-in-Bench-clause-done g c = rw c.in-Bench.is c.bench_files_with_threads.ensures.done
+
+-- it does not end with 2
+pub returns-in-Bench-clause-wrong : goal.returns-in-Bench-clause-wrong
+returns-in-Bench-clause-wrong g c = rw c.in-Bench.is (never-wrong c.bench_files_with_threads.result c.bench_files_with_threads.ensures.other)
