@@ -1,7 +1,7 @@
 -- What a client does, and what comes of it where it is refused nothing.
 use Rattle.std.specs.Prelude.{◌≡◌, ◌++◌, ℕ, true, false, List, [], ◌∷◌, map, Option, Some, None}
 use Rattle.journal_model.specs.declared.refusal.JournalError.{JournalError}
-use Rattle.journal_model.specs.declared.refusal.JournalError.TheVariants.{Memory, TooMany}
+use Rattle.journal_model.specs.declared.refusal.JournalError.TheVariants.{Aborted, BadBlock, Memory, NoCredit, SequenceEnd, TooMany}
 use Rattle.journal_model.specs.declared.transaction.Step.{Step}
 use Rattle.journal_world.specs.Front.{revoke_step, write_step}
 use Rattle.shared_journal.specs.Known.{HandleKnown, TicketKnown}
@@ -57,6 +57,16 @@ pub record Adds {A : Type 0} (old new : List A) (P : A → Type 0) : Type 0 wher
   pub one : A
   pub holds : P one
   pub added : new ≡ old ++ one ∷ []
+
+-- why a client ends before its plan does: no transaction can ever have so many credits; the device failed; no number is left; home has
+-- no such block, or the bytes are not as many as a block has; a first touch found no credit left; or memory ran out
+pub data IsClientRefusal : JournalError → Type 0 where
+  TooManyCredits : IsClientRefusal TooMany
+  AfterFailure : IsClientRefusal Aborted
+  NoNumber : IsClientRefusal SequenceEnd
+  NoSuchBlock : IsClientRefusal BadBlock
+  WithoutCredit : IsClientRefusal NoCredit
+  WithoutMemory : IsClientRefusal Memory
 
 -- why no clients were run to their ends: a list, a channel or a thread can't be had; or there are more plans than seats
 pub data ServeRefused : JournalError → Type 0 where

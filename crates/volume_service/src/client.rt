@@ -1,8 +1,8 @@
 //! A client: one thread with a seat of its own, and one handle at a time.
-ghost use Rattle.std.specs.Prelude.{◌≡◌, [], ◌∷◌, map, IfNone, IfOk, OnOk};
+ghost use Rattle.std.specs.Prelude.{◌≡◌, [], ◌∷◌, map, IfErr, IfNone, IfOk, IfSome, OnOk};
 ghost use Rattle.std.specs.List.{AllZip};
 ghost use Rattle.journal_world.specs.Front.{write_step};
-ghost use Rattle.volume_service.specs.Plan.{Adds, Came, Follows, Gains, IsOfTicket, StopsAs, touch_step};
+ghost use Rattle.volume_service.specs.Plan.{Adds, Came, Follows, Gains, IsClientRefusal, IsOfTicket, StopsAs, touch_step};
 
 use crate::gate::{Gate, Point};
 use crate::outcome::{ClientOutcome, HandleOutcome};
@@ -48,7 +48,8 @@ impl<'s, J: JournalName + PartsName + MeetingName, D: Device, R: Record, G: Gate
         alloc: Global,
         plan: &[HandlePlan],
     ) -> ClientOutcome<J, R>
-        ensures { IfNone result.refusal (AllZip (λ h o. Came h o.tid o.receipt o.ticket) plan.now result.handles.items) }
+        ensures followed { IfNone result.refusal (AllZip (λ h o. Came h o.tid o.receipt o.ticket) plan.now result.handles.items) }
+        ensures refused { IfSome result.refusal IsClientRefusal }
     {
         let mut client = self;
         let mut done = ClientOutcome {
@@ -75,6 +76,7 @@ impl<'s, J: JournalName + PartsName + MeetingName, D: Device, R: Record, G: Gate
         requires { done.old.handles.items ≡ [] }
         ensures handles { OnOk result (AllZip (λ h o. Came h o.tid o.receipt o.ticket) plan.now done.new.handles.items) }
         ensures refusal { done.new.refusal ≡ done.old.refusal }
+        ensures err { IfErr result IsClientRefusal }
     {
         for handle in plan {
             self.do_one(rt, handle, done)?;
@@ -91,6 +93,7 @@ impl<'s, J: JournalName + PartsName + MeetingName, D: Device, R: Record, G: Gate
     ) -> Result<(), JournalError>
         ensures handles { OnOk result (Adds done.old.handles.items done.new.handles.items (λ o. Came plan.now o.tid o.receipt o.ticket)) }
         ensures refusal { done.new.refusal ≡ done.old.refusal }
+        ensures err { IfErr result IsClientRefusal }
     {
         done.make_room()?;
         let handle = self.start(rt, plan.credits)?;
@@ -123,7 +126,8 @@ impl<'s, J: JournalName + PartsName + MeetingName, D: Device, R: Record, G: Gate
         plan: &HandlePlan,
     ) -> Result<(Option<Receipt<J, R>>, Option<Ticket<J, R>>), JournalError>
         requires { handle.steps ≡ [] }
-        ensures { IfOk result (λ kept. Came plan.now handle.entry.handle.tid kept.0 kept.1) }
+        ensures ok { IfOk result (λ kept. Came plan.now handle.entry.handle.tid kept.0 kept.1) }
+        ensures err { IfErr result IsClientRefusal }
     {
         let ticket = self.use_up(rt, handle, &plan.touches)?;
         self.follow(rt, ticket, plan)
@@ -134,8 +138,10 @@ impl<'s, J: JournalName + PartsName + MeetingName, D: Device, R: Record, G: Gate
     /// # Errors
     ///
     /// `TooMany`; `Aborted` after a device failure, also one that comes while it waits; `SequenceEnd`; `Memory`.
+    #[tactic(auto, using(crate::proofs::Causes::of_start))]
     fn start<W: Wait>(&mut self, rt: &W, credits: u64) -> Result<Handle<'s, J, R>, JournalError>
-        ensures { IfOk result (λ handle. (handle.handle.left ≡ credits) × (handle.steps ≡ [])) }
+        ensures ok { IfOk result (λ handle. (handle.handle.left ≡ credits) × (handle.steps ≡ [])) }
+        ensures err { IfErr result IsClientRefusal }
     {
         let shared = self.shared;
         for _ in rt.forever() {
@@ -145,9 +151,11 @@ impl<'s, J: JournalName + PartsName + MeetingName, D: Device, R: Record, G: Gate
                     shared.gate.pass(Point::Opened(self.number));
                     return Ok(handle);
                 }
-                Err(JournalError::Full) => self.ask_for_credits(rt)?,
-                Err(JournalError::NotRunning) => self.kick(rt, Kick::Stopped)?,
-                Err(e) => return Err(e),
+                Err(e) => match e {
+                    JournalError::Full => self.ask_for_credits(rt)?,
+                    JournalError::NotRunning => self.kick(rt, Kick::Stopped)?,
+                    _ => return Err(e),
+                },
             }
             shared.moved.sleep(rt, heard);
         }
@@ -159,7 +167,10 @@ impl<'s, J: JournalName + PartsName + MeetingName, D: Device, R: Record, G: Gate
     /// # Errors
     ///
     /// `Aborted` after a device failure: they never come back.
-    fn ask_for_credits<W: Wait>(&mut self, rt: &W) -> Result<(), JournalError> {
+    #[tactic(auto, using(crate::proofs::Causes::after_failure))]
+    fn ask_for_credits<W: Wait>(&mut self, rt: &W) -> Result<(), JournalError>
+        ensures err { IfErr result IsClientRefusal }
+    {
         if self.shared.journal.is_aborted(rt) {
             return Err(JournalError::Aborted);
         }
@@ -174,7 +185,8 @@ impl<'s, J: JournalName + PartsName + MeetingName, D: Device, R: Record, G: Gate
         handle: Handle<'s, J, R>,
         touches: &[Touch],
     ) -> Result<Ticket<J, R>, JournalError>
-        ensures { IfOk result (λ ticket. StopsAs handle.entry ticket (map (touch_step handle.entry.handle.number) touches.now)) }
+        ensures ok { IfOk result (λ ticket. StopsAs handle.entry ticket (map (touch_step handle.entry.handle.number) touches.now)) }
+        ensures err { IfErr result IsClientRefusal }
     {
         let mut handle = handle;
         let touched = self.touch_all(rt, &mut handle, touches);
@@ -195,7 +207,8 @@ impl<'s, J: JournalName + PartsName + MeetingName, D: Device, R: Record, G: Gate
         handle: &mut Handle<'s, J, R>,
         touches: &[Touch],
     ) -> Result<(), JournalError>
-        ensures { OnOk result (Gains handle.old handle.new (map (touch_step handle.old.handle.number) touches.now)) }
+        ensures ok { OnOk result (Gains handle.old handle.new (map (touch_step handle.old.handle.number) touches.now)) }
+        ensures err { IfErr result IsClientRefusal }
     {
         for touch in touches {
             self.touch(rt, handle, touch)?;
@@ -204,13 +217,15 @@ impl<'s, J: JournalName + PartsName + MeetingName, D: Device, R: Record, G: Gate
     }
 
     /// Makes a touch.
+    #[tactic(auto, using(crate::proofs::Causes::of_touch))]
     fn touch<W: Wait>(
         &mut self,
         rt: &W,
         handle: &mut Handle<'s, J, R>,
         touch: &Touch,
     ) -> Result<(), JournalError>
-        ensures { OnOk result (Gains handle.old handle.new (touch_step handle.old.handle.number touch.now ∷ [])) }
+        ensures ok { OnOk result (Gains handle.old handle.new (touch_step handle.old.handle.number touch.now ∷ [])) }
+        ensures err { IfErr result IsClientRefusal }
     {
         match touch {
             Touch::Write(block, bytes) => {
@@ -230,6 +245,7 @@ impl<'s, J: JournalName + PartsName + MeetingName, D: Device, R: Record, G: Gate
     /// # Errors
     ///
     /// Those of a write; `BadBlock` also where there are not as many bytes as a block has.
+    #[tactic(auto, using(crate::proofs::Causes::no_block, crate::proofs::Causes::of_touch))]
     fn write<W: Wait>(
         &mut self,
         rt: &W,
@@ -237,7 +253,8 @@ impl<'s, J: JournalName + PartsName + MeetingName, D: Device, R: Record, G: Gate
         block: BlockNo,
         bytes: &[u8],
     ) -> Result<(), JournalError>
-        ensures { OnOk result (Gains handle.old handle.new (write_step handle.old.handle.number block bytes.now ∷ [])) }
+        ensures ok { OnOk result (Gains handle.old handle.new (write_step handle.old.handle.number block bytes.now ∷ [])) }
+        ensures err { IfErr result IsClientRefusal }
     {
         if bytes.len() != self.shared.journal.block_size() {
             return Err(JournalError::BadBlock);
@@ -267,7 +284,8 @@ impl<'s, J: JournalName + PartsName + MeetingName, D: Device, R: Record, G: Gate
         ticket: Ticket<J, R>,
         plan: &HandlePlan,
     ) -> Result<(Option<Receipt<J, R>>, Option<Ticket<J, R>>), JournalError>
-        ensures { IfOk result (λ kept. Follows plan.now ticket kept.0 kept.1) }
+        ensures ok { IfOk result (λ kept. Follows plan.now ticket kept.0 kept.1) }
+        ensures err { IfErr result IsClientRefusal }
     {
         if plan.waits {
             let receipt = self.wait(rt, ticket)?;
@@ -283,8 +301,10 @@ impl<'s, J: JournalName + PartsName + MeetingName, D: Device, R: Record, G: Gate
     /// # Errors
     ///
     /// `Aborted` after a device failure.
+    #[tactic(auto, using(crate::proofs::Causes::after_failure))]
     fn wait<W: Wait>(&mut self, rt: &W, ticket: Ticket<J, R>) -> Result<Receipt<J, R>, JournalError>
-        ensures { IfOk result (λ receipt. IsOfTicket ticket receipt) }
+        ensures ok { IfOk result (λ receipt. IsOfTicket ticket receipt) }
+        ensures err { IfErr result IsClientRefusal }
     {
         self.kick(rt, Kick::Commit(ticket.tid()))?;
         let mut ticket = ticket;
@@ -307,7 +327,10 @@ impl<'s, J: JournalName + PartsName + MeetingName, D: Device, R: Record, G: Gate
     /// # Errors
     ///
     /// `Memory`. (That nobody receives any longer can't come: the worker lives as long as a client.)
-    fn kick<W: Wait>(&self, rt: &W, kick: Kick) -> Result<(), JournalError> {
+    #[tactic(auto, using(crate::proofs::Causes::no_memory))]
+    fn kick<W: Wait>(&self, rt: &W, kick: Kick) -> Result<(), JournalError>
+        ensures err { IfErr result IsClientRefusal }
+    {
         match self.kicks.send(rt, kick) {
             Ok(()) => Ok(()),
             Err(_) => Err(JournalError::Memory),

@@ -23,7 +23,7 @@ pub struct ClientOutcome<J: JournalName + PartsName, R: Record> {
     /// Of each handle that it started and stopped, in their order; of one that it did not wait to the end for there is no receipt, and of one
     /// that was refused something no ticket either.
     pub handles: Vec<HandleOutcome<J, R>>,
-    /// Why it ended before its plan did.
+    /// Why it ended before its plan did: `TooMany`, `Aborted`, `SequenceEnd`, `BadBlock`, `NoCredit` or `Memory`.
     pub refusal: Option<JournalError>,
 }
 

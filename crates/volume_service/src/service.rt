@@ -5,7 +5,7 @@ ghost use Rattle.journal_world.specs.Front.{transactions};
 ghost use Rattle.own_steps.specs.Own.{BearsOut};
 ghost use Rattle.shared_journal.specs.Known.{own_of_ticket};
 ghost use Rattle.volume_service.specs.Ending.{IsLeftBy, Stands};
-ghost use Rattle.volume_service.specs.Plan.{Came, ServeRefused};
+ghost use Rattle.volume_service.specs.Plan.{Came, IsClientRefusal, ServeRefused};
 
 use crate::gate::Gate;
 use crate::outcome::{ClientOutcome, HandleOutcome, Outcome, Served};
@@ -49,6 +49,7 @@ impl Service {
         ensures all { IfOk result (λ o. vec_len o.clients ≡ length plans.now) }
         ensures followed { IfOk result (λ o. (k : ℕ) (c : _) (p : _) → k < length plans.now → IfNone (slice_index_or o.clients.items k c).refusal
             (AllZip (λ h e. Came h e.tid e.receipt e.ticket) (slice_index_or plans.now k p).items (slice_index_or o.clients.items k c).handles.items)) }
+        ensures refused { IfOk result (λ o. (k : ℕ) (c : _) → k < length plans.now → IfSome (slice_index_or o.clients.items k c).refusal IsClientRefusal) }
         ensures stand { IfOk result (λ o. (k : ℕ) (c : _) → k < vec_len o.clients →
             All (λ e. IfSome e.receipt (Stands o.parts.committed (R.transactions o.parts.sealed))) (slice_index_or o.clients.items k c).handles.items) }
         ensures left { IfOk result (λ o. IsLeftBy D.state D.honest o.parts.device (R.transactions o.parts.sealed) o.parts.committed) }

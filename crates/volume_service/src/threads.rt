@@ -1,7 +1,7 @@
 //! Starts the threads, and joins them.
-ghost use Rattle.std.specs.Prelude.{◌≡◌, ℕ, ◌<◌, length, slice_index_or, vec_len, IfErr, IfNone, IfOk};
+ghost use Rattle.std.specs.Prelude.{◌≡◌, ℕ, ◌<◌, length, slice_index_or, vec_len, IfErr, IfNone, IfOk, IfSome};
 ghost use Rattle.std.specs.List.{AllZip};
-ghost use Rattle.volume_service.specs.Plan.{Came, ServeRefused};
+ghost use Rattle.volume_service.specs.Plan.{Came, IsClientRefusal, ServeRefused};
 
 use crate::bell::Bell;
 use crate::client::Client;
@@ -26,12 +26,13 @@ const MOST_KICKS: usize = 64;
 /// How many rounds may be asked for: one that has not begun, whoever asks.
 const MOST_ROUNDS: usize = 2;
 
-/// What a client's thread promises: where it was refused nothing, each handle of this plan came to what the plan says.
+/// What a client's thread promises: where it was refused nothing, each handle of this plan came to what the plan says; and it ends for no
+/// other cause than those of a client.
 #[derive(Clone, Copy)]
 struct FollowsPlan<'p>(&'p [HandlePlan]);
 
 impl<'p, J: JournalName + PartsName, R: Record> Promise<ClientOutcome<J, R>> for FollowsPlan<'p> {
-    ghost kept_by = { λ p r. IfNone r.refusal (AllZip (λ h o. Came h o.tid o.receipt o.ticket) p.0.now r.handles.items) };
+    ghost kept_by = { λ p r. IfNone r.refusal (AllZip (λ h o. Came h o.tid o.receipt o.ticket) p.0.now r.handles.items) × IfSome r.refusal IsClientRefusal };
 }
 
 /// As many seats as are wanted, of allotments that differ by few; fewer where no further seat can be split off.
@@ -82,6 +83,7 @@ pub fn serve<
     ensures tally { IfOk result (λ o. o.tally.word ≡ o.seat.credit_found) }
     ensures followed { IfOk result (λ o. (k : ℕ) (c : _) (p : _) → k < length plans.now → IfNone (slice_index_or o.clients.items k c).refusal
         (AllZip (λ h e. Came h e.tid e.receipt e.ticket) (slice_index_or plans.now k p).items (slice_index_or o.clients.items k c).handles.items)) }
+    ensures refused { IfOk result (λ o. (k : ℕ) (c : _) → k < length plans.now → IfSome (slice_index_or o.clients.items k c).refusal IsClientRefusal) }
     ensures err { IfErr result ServeRefused }
 {
     let mut seats = seats(alloc, journal, seat, plans.len().saturating_add(2))?;
@@ -126,6 +128,7 @@ fn run_all<
     ensures all { IfOk result (λ clients. vec_len clients ≡ length plans.now) }
     ensures followed { IfOk result (λ clients. (k : ℕ) (c : _) (p : _) → k < length plans.now → IfNone (slice_index_or clients.items k c).refusal
         (AllZip (λ h e. Came h e.tid e.receipt e.ticket) (slice_index_or plans.now k p).items (slice_index_or clients.items k c).handles.items)) }
+    ensures refused { IfOk result (λ clients. (k : ℕ) (c : _) → k < length plans.now → IfSome (slice_index_or clients.items k c).refusal IsClientRefusal) }
     ensures err { IfErr result ServeRefused }
 {
     thread::scope(thread::scope_env(), rt, |scope| {
@@ -154,6 +157,7 @@ fn run_in<
     ensures all { IfOk result (λ clients. vec_len clients ≡ length plans.now) }
     ensures followed { IfOk result (λ clients. (k : ℕ) (c : _) (p : _) → k < length plans.now → IfNone (slice_index_or clients.items k c).refusal
         (AllZip (λ h e. Came h e.tid e.receipt e.ticket) (slice_index_or plans.now k p).items (slice_index_or clients.items k c).handles.items)) }
+    ensures refused { IfOk result (λ clients. (k : ℕ) (c : _) → k < length plans.now → IfSome (slice_index_or clients.items k c).refusal IsClientRefusal) }
     ensures err { IfErr result ServeRefused }
 {
     let (kicks, kicked) = bounded(alloc, MOST_KICKS)?;

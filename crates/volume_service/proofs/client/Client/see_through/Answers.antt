@@ -6,7 +6,7 @@ use Rattle.volume_service.proofs.Handles.{came}
 use Rattle.volume_service.proofs.client.Client.see_through.Goals as goal
 
 -- what came of the handle is what its plan says
-pub returns : goal.returns
-returns g c =
-    let stops = subst (λ (ts : List Touch). StopsAs c.args.handle c.in_ok-ticket.ticket (map (touch_step c.args.handle.handle.number) ts)) c.deref.ensures.value c.in_ok-ticket.ensures in
-    IfOk-weaker c.follow.result _ _ (λ kept follows. came c.args.plan.now c.args.handle c.in_ok-ticket.ticket kept.0 kept.1 c.requires stops follows) c.follow.ensures
+pub returns-clause-ok : goal.returns-clause-ok
+returns-clause-ok g c =
+    let stops = subst (λ (ts : List Touch). StopsAs c.args.handle c.in_ok-ticket.ticket (map (touch_step c.args.handle.handle.number) ts)) c.deref.ensures.value c.in_ok-ticket.ensures.ok in
+    IfOk-weaker c.follow.result _ _ (λ kept follows. came c.args.plan.now c.args.handle c.in_ok-ticket.ticket kept.0 kept.1 c.requires stops follows) c.follow.ensures.ok
