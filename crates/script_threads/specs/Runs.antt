@@ -1,0 +1,108 @@
+-- What came of the clients of a script that ran in threads.
+use Rattle.std.specs.Prelude.{◌≡◌, ⊤, ℕ, Bool, true, false, List, [], Option, Some, None, All, IfSome, Vec}
+use Rattle.std.specs.BTreeSet.{keys}
+use Rattle.std.specs.Global.{Global}
+use Rattle.std.specs.List.{AllZip}
+use Rattle.journal_model.specs.declared.transaction.Step.{Step}
+use Rattle.journal_model.specs.Transaction.{History}
+use Rattle.block_device.specs.Memory.{state_of}
+use Rattle.own_steps.specs.Own.{BearsOut, stopped_own}
+use Rattle.journal_script.specs.Clients.{HasTouchedAll, IsClientScriptOf, handles_of}
+use Rattle.journal_script.specs.declared.clients.ClientHandle.{ClientHandle}
+use Rattle.journal_script.specs.declared.clients.ClientScript.{ClientScript}
+use Rattle.journal_script.specs.declared.script.NamedBlocks.{NamedBlocks}
+use Rattle.shared_journal.specs.Known.{TicketKnown}
+use Rattle.volume_service.specs.Ending.{IsLeftBy}
+use Rattle.volume_service.specs.Plan.{planned_steps}
+use Rattle.volume_service.specs.declared.plan.HandlePlan.{HandlePlan}
+use Rattle.script_threads.specs.Plans.{script_steps}
+use Rattle.script_threads.specs.Verdicts.{AreAllTrue, AreVerdicts, Served, Told}
+use Rattle.script_threads.specs.declared.running.Ended.{Ended}
+use Rattle.script_threads.specs.declared.running.Ended.TheVariants.{Judged, Refused}
+use Rattle.script_threads.specs.declared.told.ToldHandle.{ToldHandle}
+use Rattle.script_threads.specs.declared.told.ToldReceipt.{ToldReceipt}
+use Rattle.script_threads.specs.declared.verdicts.Verdicts.{Verdicts}
+
+-- what a receipt names
+abbrev pub named_by : Option TicketKnown → Option ToldReceipt
+named_by None = None
+named_by (Some r) = Some (record { tid = r.ticket.tid; handle = r.ticket.handle })
+
+-- this was told of a handle of this transaction, with this receipt
+pub record IsTold (tid : ℕ) (receipt : Option TicketKnown) (told : ToldHandle) : Type 0 where
+  pub tid_is : told.tid ≡ tid
+  pub receipt_is : told.receipt ≡ named_by receipt
+
+-- A handle that was to make these steps and to be waited for has a receipt, of the transaction that it was told: the record, of which so
+-- many transactions are committed, bears out that the receipt's handle made just these steps, in that transaction, which is committed. One
+-- that was not to be waited for has none.
+pub data WasServed (committed : ℕ) (sealed : History) (waits : Bool) (steps : ℕ → List Step) (told : ToldHandle) : Type 0 where
+  Awaited : (r : ToldReceipt) → waits ≡ true → told.receipt ≡ Some r → r.tid ≡ told.tid → BearsOut committed sealed (stopped_own r.handle r.tid (steps r.handle)) →
+      WasServed committed sealed waits steps told
+  Unawaited : waits ≡ false → told.receipt ≡ None → WasServed committed sealed waits steps told
+
+-- so it was with each handle of these plans
+abbrev pub AreServed : ℕ → History → List (Vec HandlePlan Global) → Told → Type 0
+AreServed committed sealed plans clients =
+    AllZip (λ p ts. AllZip (λ h t. WasServed committed sealed h.waits (λ n. planned_steps n h) t) p.items ts.items) plans clients
+
+-- and with each handle of these clients of a script, on blocks of so many bytes
+abbrev pub AreServedOf : ℕ → ℕ → History → List (Vec ClientHandle Global) → Told → Type 0
+AreServedOf size committed sealed clients told =
+    AllZip (λ c ts. AllZip (λ h t. WasServed committed sealed h.waits (λ n. script_steps size n h) t) c.items ts.items) clients told
+
+-- a journal was left by its clients so, and these are the verdicts
+pub record AreJudged (plans : List (Vec HandlePlan Global)) (named : NamedBlocks) (v : Verdicts) : Type 0 where
+  pub served : Served
+  pub each : AreServed served.committed served.sealed plans served.clients
+  pub left : IsLeftBy state_of (λ d. Unit {0}) served.device served.sealed served.committed
+  pub verdicts : AreVerdicts served named v
+
+-- clients were refused something, or these are the verdicts
+abbrev pub IsEndedOn : List (Vec HandlePlan Global) → NamedBlocks → Ended → Type 0
+IsEndedOn plans named (Refused clients) = ⊤
+IsEndedOn plans named (Judged v) = AreJudged plans named v
+
+-- The clients of a script were served: each handle was, as the script says of it. These are the verdicts on what the journal told them,
+-- and on what it left, with each block that they touch.
+pub record IsRunOf (script : ClientScript) (v : Verdicts) : Type 0 where
+  pub served : Served
+  pub each : AreServedOf script.measures.block_size served.committed served.sealed script.clients.items served.clients
+  pub left : IsLeftBy state_of (λ d. Unit {0}) served.device served.sealed served.committed
+  pub named : NamedBlocks
+  pub names : All (λ handles. HasTouchedAll handles (keys named.blocks)) (handles_of script)
+  pub no_directs : keys named.directs ≡ []
+  pub verdicts : AreVerdicts served named v
+
+-- or one was refused something, and nothing is judged
+abbrev pub IsEnded : ClientScript → Ended → Type 0
+IsEnded script (Refused clients) = ⊤
+IsEnded script (Judged v) = IsRunOf script v
+
+-- they were, and all verdicts are true; or one is false
+pub record HasRunRight (script : ClientScript) : Type 0 where
+  pub v : Verdicts
+  pub run : IsRunOf script v
+  pub right : AreAllTrue v
+
+pub record HasRunWrong (script : ClientScript) : Type 0 where
+  pub v : Verdicts
+  pub run : IsRunOf script v
+  pub wrong : ¬ AreAllTrue v
+
+-- a script of clients is that of all that a reader had, where that is known
+pub record IsOfText (known : Option (List ℕ)) (script : ClientScript) : Type 0 where
+  pub text : List ℕ
+  pub whole : IfSome known (λ bytes. text ≡ bytes)
+  pub is : IsClientScriptOf text script
+
+-- such a script was run, and all verdicts are true, or one is false
+pub record HasServed (known : Option (List ℕ)) : Type 0 where
+  pub script : ClientScript
+  pub of_text : IsOfText known script
+  pub run : HasRunRight script
+
+pub record HasFoundFalse (known : Option (List ℕ)) : Type 0 where
+  pub script : ClientScript
+  pub of_text : IsOfText known script
+  pub run : HasRunWrong script

@@ -1,0 +1,151 @@
+//! The command `threads`: reads a script of clients, runs them in threads, and prints the verdicts.
+ghost use Rattle.std.specs.Prelude.{◌≡◌, IfOk, IfSome, Some};
+ghost use Rattle.jbench_words.specs.declared.fault.Status.TheVariants.{Fine, Refused, VerdictFalse};
+ghost use Rattle.script_threads.specs.Runs.{HasFoundFalse, HasRunRight, HasRunWrong, HasServed};
+ghost use Rattle.script_threads.specs.Verdicts.{AreAllTrue};
+
+use crate::running::{Ended, RefusedClient, run};
+use crate::verdicts::Verdicts;
+use jbench_words::fault::{self, Fault, Status};
+use journal_script::{ClientScript, ScriptError, read_clients};
+use std::alloc::Global;
+use std::io;
+use std::io::{Read, Write};
+use std::sync::Wait;
+use std::thread::Threads;
+
+/// Runs the clients of a script in threads, and prints how many clients, handles and receipts there are, and the verdicts. Where a client is
+/// refused something a line on `err` for each such client says what, and nothing else is printed; where the command can't go on, one
+/// line says why. `path` names the script's file.
+///
+/// # Errors
+///
+/// The output can't be written.
+pub fn threads<T: Threads + Wait + Sync, R: Read + Drop, W: Write + Drop, E: Write + Drop>(
+    rt: &T,
+    alloc: Global,
+    path: &str,
+    script: R,
+    out: W,
+    err: E,
+) -> io::Result<Status>
+    ensures done { IfOk result (λ status. status ≡ Fine → HasServed (R.remaining script)) }
+    ensures wrong { IfOk result (λ status. status ≡ VerdictFalse → HasFoundFalse (R.remaining script)) }
+{
+    let mut err = err;
+    match read_text(alloc, script) {
+        Ok(text) => serve_text(rt, alloc, path, &text, out, err),
+        Err(fault) => fault::refuse(&mut err, path, &fault),
+    }
+}
+
+/// Reads the bytes of a script to their end.
+fn read_text<R: Read + Drop>(alloc: Global, mut reader: R) -> Result<Vec<u8>, Fault>
+    ensures { IfOk result (λ text. IfSome (R.remaining reader) (λ bytes. text.items ≡ bytes)) }
+{
+    let mut text = Vec::new(alloc);
+    match reader.read_to_end(&mut text) {
+        Ok(_) => Ok(text),
+        Err(e) => Err(Fault::of_file(e)),
+    }
+}
+
+/// Runs the clients of the script that this text is, if it is one.
+fn serve_text<T: Threads + Wait + Sync, W: Write + Drop, E: Write + Drop>(
+    rt: &T,
+    alloc: Global,
+    path: &str,
+    text: &[u8],
+    out: W,
+    err: E,
+) -> io::Result<Status>
+    ensures done { IfOk result (λ status. status ≡ Fine → HasServed (Some text.now)) }
+    ensures wrong { IfOk result (λ status. status ≡ VerdictFalse → HasFoundFalse (Some text.now)) }
+{
+    let mut err = err;
+    match read_clients(alloc, text) {
+        Ok(script) => serve_script(rt, alloc, path, &script, out, err),
+        Err(ScriptError::BadScript(bad)) => {
+            writeln!(err, "jbench: bad script: {bad}")?;
+            Ok(Status::Refused)
+        }
+        Err(ScriptError::Memory) => {
+            fault::refuse(&mut err, path, &Fault::from(ScriptError::Memory))
+        }
+    }
+}
+
+/// Runs the clients of a script.
+fn serve_script<T: Threads + Wait + Sync, W: Write + Drop, E: Write + Drop>(
+    rt: &T,
+    alloc: Global,
+    path: &str,
+    script: &ClientScript,
+    out: W,
+    err: E,
+) -> io::Result<Status>
+    ensures done { IfOk result (λ status. status ≡ Fine → HasRunRight script.now) }
+    ensures wrong { IfOk result (λ status. status ≡ VerdictFalse → HasRunWrong script.now) }
+{
+    let mut err = err;
+    match run(rt, alloc, script) {
+        Ok(Ended::Refused(clients)) => tell_refused(&clients, err),
+        Ok(Ended::Judged(verdicts)) => tell_verdicts(script, &verdicts, out),
+        Err(e) => fault::refuse(&mut err, path, &Fault::Refused(e)),
+    }
+}
+
+/// Says of each client that was refused something what that was.
+fn tell_refused<E: Write + Drop>(clients: &[RefusedClient], err: E) -> io::Result<Status>
+    ensures { IfOk result (λ status. status ≡ Refused) }
+{
+    let mut err = err;
+    for client in clients {
+        let why = client.why;
+        writeln!(
+            err,
+            "jbench: client {} refused {} {why}",
+            client.number,
+            why.number()
+        )?;
+    }
+    Ok(Status::Refused)
+}
+
+/// Prints the counts and the verdicts.
+fn tell_verdicts<W: Write + Drop>(
+    script: &ClientScript,
+    verdicts: &Verdicts,
+    out: W,
+) -> io::Result<Status>
+    ensures fine { IfOk result (λ status. status ≡ Fine → AreAllTrue verdicts.now) }
+    ensures wrong { IfOk result (λ status. status ≡ VerdictFalse → ¬ AreAllTrue verdicts.now) }
+{
+    let mut out = out;
+    writeln!(out, "clients {}", script.clients.len())?;
+    writeln!(out, "handles {}", script.handles())?;
+    writeln!(out, "receipts {}", script.waits())?;
+    tell_verdict(&mut out, "credits", verdicts.credits)?;
+    tell_verdict(&mut out, "receipts", verdicts.receipts)?;
+    tell_verdict(&mut out, "order", verdicts.order)?;
+    tell_verdict(&mut out, "recovery", verdicts.recovery)?;
+    out.flush()?;
+    Ok(status_of(verdicts))
+}
+
+/// Prints a verdict.
+fn tell_verdict<W: Write>(out: &mut W, name: &str, right: bool) -> io::Result<()> {
+    writeln!(out, "verdict {name} {}", if right { "ok" } else { "false" })
+}
+
+/// How the command ends with these verdicts.
+fn status_of(verdicts: &Verdicts) -> Status
+    ensures fine { result ≡ Fine → AreAllTrue verdicts.now }
+    ensures wrong { result ≡ VerdictFalse → ¬ AreAllTrue verdicts.now }
+{
+    if verdicts.are_right() {
+        Status::Fine
+    } else {
+        Status::VerdictFalse
+    }
+}

@@ -1,0 +1,61 @@
+//! The verdict on what a stop leaves of the device.
+ghost use Rattle.std.specs.Prelude.{◌≡◌, ◌≢◌, ◌↔◌, [], IfOk, IsTrue, false};
+ghost use Rattle.journal_model.specs.declared.refusal.JournalError.TheVariants.{Device, Memory};
+ghost use Rattle.journal_model.specs.declared.number.Area.TheVariants.{Home};
+ghost use Rattle.journal_model.specs.Disk.{reading};
+ghost use Rattle.log_model.specs.Opening.{numbered_below};
+ghost use Rattle.block_device.specs.Memory.{state_of};
+ghost use Rattle.script_run.specs.Verdict.{IsRight};
+ghost use Rattle.script_threads.specs.Verdicts.{IsRecovered};
+
+use block_device::MemDevice;
+use journal_model::JournalError;
+use journal_script::NamedBlocks;
+use script_run::{OpenedImage, Record, open_image};
+use std::alloc::Global;
+
+/// Whether what a stop leaves of a device, with no write that was not flushed, opens to all that was acknowledged, with each of these
+/// blocks as that leaves it.
+///
+/// # Errors
+///
+/// `Memory`, and `Device` where memory ran out for the device.
+pub(crate) fn recovers(
+    alloc: Global,
+    device: MemDevice,
+    recorded: &Record,
+    named: &NamedBlocks,
+) -> Result<bool, JournalError>
+    ensures { IfOk result (IsRecovered device recorded.now.sealed.items recorded.now.acknowledged named.now) }
+{
+    match open_image(alloc, device.crash(&[])) {
+        Ok(opened) => is_recovered(alloc, opened, recorded, named),
+        Err(e) => unopened(e),
+    }
+}
+
+/// The verdict where an image is not opened: it is false, unless there was no memory to open it.
+fn unopened(e: JournalError) -> Result<bool, JournalError>
+    ensures refused { IfOk result (λ right. (e ≢ Device) × (e ≢ Memory)) }
+    ensures wrong { IfOk result (λ right. right ≡ false) }
+{
+    match e {
+        JournalError::Memory | JournalError::Device => Err(e),
+        _ => Ok(false),
+    }
+}
+
+/// Whether an opening gave back all that was acknowledged, with each of these blocks as that leaves it.
+fn is_recovered(
+    alloc: Global,
+    opened: OpenedImage,
+    recorded: &Record,
+    named: &NamedBlocks,
+) -> Result<bool, JournalError>
+    ensures { IfOk result (λ right. IsTrue right ↔ IsRight recorded.now.sealed.items recorded.now.acknowledged named.now (numbered_below opened.report.ends_at recorded.now.sealed.items)
+        opened.device.shape.block_size (reading (state_of opened.device).disk Home)) }
+{
+    let n = recorded.count_below(opened.report.ends_at);
+    let mut device = opened.device;
+    recorded.judge(alloc, &mut device, named, n)
+}
