@@ -8,6 +8,7 @@ use std::alloc::{AllocError, Global};
 use std::str::from_utf8;
 use std::test::Fail;
 
+mod clients;
 mod damage;
 mod faults;
 mod locks;

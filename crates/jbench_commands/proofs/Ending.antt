@@ -26,7 +26,7 @@ ends-refused (Ok status) verdict other is = λ not.
     (λ (wrong : verdict ≡ Ok false). absurd (false≢true (subst (λ (r : Result Bool Fault). IfOk r (λ right. right ≡ true)) wrong is)))
     (other not)
 
--- no command but a sweep ends with 2
+-- no command but a sweep and clients in threads ends with 2
 abbrev IsWrong : Status → Type 0
 IsWrong Fine = ⊥
 IsWrong Refused = ⊥
@@ -37,6 +37,20 @@ never-wrong (Err e) other = tt
 never-wrong (Ok status) other = λ wrong.
     let refused : status ≡ Refused = other (λ (fine : status ≡ Fine). subst IsWrong (sym wrong ∙ fine) tt) in
     subst IsWrong (sym wrong ∙ refused) tt
+
+-- one that was refused ends with 1
+abbrev IsFine : Status → Type 0
+IsFine Fine = ⊤
+IsFine Refused = ⊥
+IsFine VerdictFalse = ⊥
+
+pub refused-not-fine : {E : Type 0} (P : Type 0) (end : Result Status E) → IfOk end (λ status. status ≡ Refused) → IfOk end (λ status. status ≡ Fine → P)
+refused-not-fine P (Err e) refused = tt
+refused-not-fine P (Ok status) refused = λ fine. absurd (subst IsFine (sym fine ∙ refused) tt)
+
+pub refused-not-wrong : {E : Type 0} (P : Type 0) (end : Result Status E) → IfOk end (λ status. status ≡ Refused) → IfOk end (λ status. status ≡ VerdictFalse → P)
+refused-not-wrong P (Err e) refused = tt
+refused-not-wrong P (Ok status) refused = λ wrong. absurd (subst IsWrong (sym wrong ∙ refused) tt)
 
 -- a script that was read is one of its text
 pub is-taken : {E : Type 0} (known : Option (List ℕ)) (text : List ℕ) (read : Result Script E) → IsWhole known text → IfOk read (λ script. IsScriptOf text script.operations.items script.measures)

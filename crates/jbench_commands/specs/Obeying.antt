@@ -10,7 +10,7 @@ use Rattle.commit_times.specs.Closed.{IsLeftClosed as IsBenchClosed}
 use Rattle.jbench_words.specs.declared.words.ApplyWords.{ApplyWords}
 use Rattle.jbench_words.specs.declared.words.FormatWords.{FormatWords}
 use Rattle.jbench_words.specs.declared.words.Words.{Words}
-use Rattle.jbench_words.specs.declared.words.Words.TheVariants.{Run, Sweep, Check, Format, Dump, Show, Recover, Upgrade, Apply, Bench}
+use Rattle.jbench_words.specs.declared.words.Words.TheVariants.{Run, Sweep, Check, Threads, Format, Dump, Show, Recover, Upgrade, Apply, Bench}
 use Rattle.jbench_logs.specs.Apart.{AreApart}
 use Rattle.jbench_logs.specs.Cleared.{cleared, log_cleared}
 use Rattle.jbench_logs.specs.Done.{HasUpgraded, IsFoundOut, IsMade, IsRecovered, IsRecoveredBefore}
@@ -19,6 +19,7 @@ use Rattle.jbench_logs.specs.declared.regular.RegularFile.{RegularFile}
 use Rattle.jbench_commands.specs.Applying.{IsDoneTo, after_told, ending_told}
 use Rattle.jbench_commands.specs.Runs.{HasRun, HasTaken, runs_told}
 use Rattle.jbench_commands.specs.Sweeps.{HasSwept}
+use Rattle.script_threads.specs.Runs.{HasFoundFalse, HasServed}
 
 -- the device has a log in one file, and its home area in another
 pub record IsOverTwo (device : FileState) : Type 0 where
@@ -77,6 +78,7 @@ abbrev pub HasObeyed : (first : FileContents) → (contents : Option (List ℕ))
 HasObeyed first contents (Run words) = (text : Option (List ℕ)) × HasRun (runs_told words.image) text words true
 HasObeyed first contents (Sweep words) = (text : Option (List ℕ)) × HasSwept text words.fails 0
 HasObeyed first contents (Check path) = (text : Option (List ℕ)) × HasTaken text
+HasObeyed first contents (Threads path) = (text : Option (List ℕ)) × HasServed text
 HasObeyed first contents (Format words) = IsFormatDone first words
 HasObeyed first contents (Dump path) = IsDoneOver first IsOverAny (λ old new. HasDump (shape_of old) (reading old.disk))
 HasObeyed first contents (Show path) = ⊤
@@ -85,11 +87,12 @@ HasObeyed first contents (Upgrade path) = IsDoneOver first IsOverAny HasUpgraded
 HasObeyed first contents (Apply words) = IsAppliedOver first words contents
 HasObeyed first contents (Bench words) = IsBenchDone first
 
--- a command ends with 2 where a sweep counted an opening that was not right; no other does
+-- a command ends with 2 where a sweep counted an opening that was not right, or a run in threads has a verdict that is false; no other does
 abbrev pub HasFoundWrong : Words → Type 0
 HasFoundWrong (Run words) = ⊥
 HasFoundWrong (Sweep words) = (text : Option (List ℕ)) × (count : ℕ) × HasSwept text words.fails count × (0 < count)
 HasFoundWrong (Check path) = ⊥
+HasFoundWrong (Threads path) = (text : Option (List ℕ)) × HasFoundFalse text
 HasFoundWrong (Format words) = ⊥
 HasFoundWrong (Dump path) = ⊥
 HasFoundWrong (Show path) = ⊥

@@ -8,6 +8,7 @@ ghost use Rattle.jbench_logs.specs.Done.{HasUpgraded, IsMade};
 ghost use Rattle.jbench_commands.specs.Obeying.{HasFoundWrong, HasObeyed, IsAppliedOver, IsBenchDone, IsDoneOver, IsFormatDone, IsOverAny, IsOverTwo, Recovers};
 ghost use Rattle.jbench_commands.specs.Runs.{HasRun, HasTaken, runs_told};
 ghost use Rattle.jbench_commands.specs.Sweeps.{HasSwept};
+ghost use Rattle.script_threads.specs.Runs.{HasFoundFalse, HasServed};
 
 use crate::image::ImageFiles;
 use crate::progress::Progress;
@@ -29,8 +30,8 @@ use std::io::Write;
 use std::sync::Wait;
 use std::thread::Threads;
 
-/// Does what the words tell, with threads for the clients of `bench`: only these wait for one another. `contents` says what is supposed of
-/// the files of a log.
+/// Does what the words tell, with threads for the clients of a script and of `bench`: only these wait for one another. `contents` says what
+/// is supposed of the files of a log.
 pub fn obey_with_threads<
     T: Threads + Wait + Sync,
     C: Contents + Send,
@@ -48,13 +49,14 @@ pub fn obey_with_threads<
     ensures wrong { IfOk result (λ status. status ≡ VerdictFalse → HasFoundWrong words.now) }
 {
     match words {
+        Words::Threads(path) => threads_file(rt, threads, path, out, err),
         Words::Bench(words) => bench_files_with_threads(rt, threads, contents, words, out, err),
         _ => obey(rt, contents, words, out, err),
     }
 }
 
-/// Does what the words tell. `contents` says what is supposed of the files of a log. There is no thread to be had here, so clients of
-/// `bench` are refused as for want of memory.
+/// Does what the words tell. `contents` says what is supposed of the files of a log. There is no thread to be had here, so clients are
+/// refused as for want of memory.
 pub fn obey<C: Contents, W: Write + Drop, E: Write + Drop>(
     rt: &HostRuntime,
     contents: C,
@@ -69,6 +71,7 @@ pub fn obey<C: Contents, W: Write + Drop, E: Write + Drop>(
         Words::Run(words) => run_file(rt, words, out, err),
         Words::Sweep(words) => sweep_file(rt, words, out, err),
         Words::Check(path) => check_file(rt, path, out, err),
+        Words::Threads(path) => refuse_threads(path, err),
         Words::Format(words) => format_files(rt, contents, words, out, err),
         Words::Dump(path) => dump_file(rt, contents, path, out, err),
         Words::Show(path) => show_file(rt, contents, path, out, err),
@@ -158,6 +161,32 @@ fn check_file<W: Write + Drop, E: Write + Drop>(
     let mut err = err;
     match open_to_read(rt, path) {
         Ok(file) => check::check(rt.alloc(), path, file.into_file(), out, err),
+        Err(e) => refuse_file(&mut err, path, e),
+    }
+}
+
+/// Says that no thread can be had.
+fn refuse_threads<E: Write + Drop>(path: &str, err: E) -> io::Result<Status>
+    ensures { IfOk result (λ status. status ≡ Refused) }
+{
+    let mut err = err;
+    fault::refuse(&mut err, path, &Fault::Refused(JournalError::Memory))
+}
+
+/// Runs the clients of the script in a file in threads.
+fn threads_file<T: Threads + Wait + Sync, W: Write + Drop, E: Write + Drop>(
+    rt: &HostRuntime,
+    threads: &T,
+    path: &str,
+    out: W,
+    err: E,
+) -> io::Result<Status>
+    ensures done { IfOk result (λ status. status ≡ Fine → (text : Option (List ℕ)) × HasServed text) }
+    ensures wrong { IfOk result (λ status. status ≡ VerdictFalse → (text : Option (List ℕ)) × HasFoundFalse text) }
+{
+    let mut err = err;
+    match open_to_read(rt, path) {
+        Ok(file) => script_threads::threads(threads, rt.alloc(), path, file.into_file(), out, err),
         Err(e) => refuse_file(&mut err, path, e),
     }
 }

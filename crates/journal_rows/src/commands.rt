@@ -10,6 +10,7 @@ use jbench_words::words::{
     ApplyWords, BenchWords, FormatWords, RecoverWords, RunWords, StopWords, SweepWords, Words,
     answer, parse,
 };
+use journal_script::ScriptError;
 use run_rows::scripts::measures_text;
 use run_rows::texts::{numbers_in, written};
 use std::alloc::{AllocError, Global};
@@ -74,6 +75,20 @@ fn check_script(alloc: Global, path: &str, script: &str) -> Result<String, RowEr
     match check::check(alloc, path, script.as_bytes(), &mut out, &mut err) {
         Ok(status) => text_of(alloc, &out, &err, status),
         Err(_) => Err(RowError::Memory),
+    }
+}
+
+/// A script of clients. Given: its text. Found: how many clients it has, and how many handles these start and wait for; or why it is none.
+pub fn clients(alloc: Global, given: &str) -> Result<String, RowError> {
+    match journal_script::read_clients(alloc, given.as_bytes()) {
+        Ok(script) => Ok(format!(in alloc;
+            "clients {} handles {} receipts {}",
+            script.clients.len(),
+            script.handles(),
+            script.waits()
+        )?),
+        Err(ScriptError::BadScript(bad)) => Ok(format!(in alloc; "bad script: {bad}")?),
+        Err(ScriptError::Memory) => Err(RowError::Memory),
     }
 }
 
@@ -202,6 +217,7 @@ fn told(alloc: Global, words: &Words<'_>) -> Result<String, RowError> {
         Words::Run(words) => Ok(told_run(alloc, words)?),
         Words::Sweep(words) => told_sweep(alloc, words),
         Words::Check(script) => Ok(format!(in alloc; "check {script}")?),
+        Words::Threads(script) => Ok(format!(in alloc; "threads {script}")?),
         Words::Format(words) => told_format(alloc, words),
         Words::Dump(log) => Ok(format!(in alloc; "dump {log}")?),
         Words::Show(log) => Ok(format!(in alloc; "show {log}")?),

@@ -52,6 +52,7 @@ fn found_of_command(alloc: Global, kind: &str, given: &str) -> Option<Found> {
     match kind {
         "bench" => Some(benches::bench(alloc, given)),
         "check" => Some(commands::check(alloc, given)),
+        "clients" => Some(commands::clients(alloc, given)),
         "format" => Some(commands::format(alloc, given)),
         "help" => Some(commands::help(alloc, given)),
         "recover" => Some(commands::recover(alloc, given)),

@@ -1,4 +1,4 @@
-use Rattle.jbench_commands.proofs.Ending.{never-wrong}
+use Rattle.jbench_commands.proofs.Ending.{never-wrong, refused-not-fine, refused-not-wrong}
 use Rattle.jbench_commands.proofs.obeying.obey.Goals as goal
 
 -- the command that the words name was done
@@ -29,7 +29,13 @@ returns-in-Apply-clause-done g c = rw c.in-Apply.is c.apply_files.ensures.done
 pub returns-in-Bench-clause-done : goal.returns-in-Bench-clause-done
 returns-in-Bench-clause-done g c = rw c.in-Bench.is c.bench_files.ensures.done
 
--- a sweep alone ends with 2
+-- clients are refused, and of the others a sweep alone ends with 2
+pub returns-in-Threads-clause-done : goal.returns-in-Threads-clause-done
+returns-in-Threads-clause-done g c = refused-not-fine _ c.refuse_threads.result c.refuse_threads.ensures
+
+pub returns-in-Threads-clause-wrong : goal.returns-in-Threads-clause-wrong
+returns-in-Threads-clause-wrong g c = refused-not-wrong _ c.refuse_threads.result c.refuse_threads.ensures
+
 pub returns-in-Run-clause-wrong : goal.returns-in-Run-clause-wrong
 returns-in-Run-clause-wrong g c = rw c.in-Run.is (never-wrong c.run_file.result c.run_file.ensures.other)
 

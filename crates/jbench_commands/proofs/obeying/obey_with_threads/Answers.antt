@@ -1,7 +1,14 @@
 use Rattle.jbench_commands.proofs.Ending.{never-wrong}
 use Rattle.jbench_commands.proofs.obeying.obey_with_threads.Goals as goal
 
--- the command that the words name was done
+-- clients ran in threads
+pub returns-in-Threads-clause-done : goal.returns-in-Threads-clause-done
+returns-in-Threads-clause-done g c = rw c.in-Threads.is c.threads_file.ensures.done
+
+pub returns-in-Threads-clause-wrong : goal.returns-in-Threads-clause-wrong
+returns-in-Threads-clause-wrong g c = rw c.in-Threads.is c.threads_file.ensures.wrong
+
+-- clients of a bench did
 pub returns-in-Bench-clause-done : goal.returns-in-Bench-clause-done
 returns-in-Bench-clause-done g c = rw c.in-Bench.is c.bench_files_with_threads.ensures.done
 
