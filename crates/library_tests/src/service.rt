@@ -3,6 +3,7 @@
 ghost use Rattle.std.specs.Prelude.{◌≡◌};
 
 mod gates;
+mod refused;
 
 use block_device::{Device, FailOnce, MemDevice};
 use gates::{Meeting, Overtaking};
@@ -156,11 +157,36 @@ fn run<
     requires capacity { laid.capacity ≡ J.capacity }
     requires block_size { laid.block_size ≡ J.block_size }
 {
-    let (journal, seat) = laid.named::<J>();
-    let Ok(outcome) = Service::run(rt, alloc, journal, seat, plans, gate) else {
+    let Ok(ended) = try_run::<J, D, G, R>(rt, alloc, laid, plans, gate) else {
         panic!(rt; "a thread is refused")
     };
-    summary_of(outcome)
+    ended
+}
+
+/// Runs clients over a laid journal. It answers what came of them, and the device, or why they were not run.
+fn try_run<
+    J: JournalName + PartsName + MeetingName + Send + Sync,
+    D: Device + Send + Drop,
+    G: Gate + Sync,
+    R: Threads + Wait + Sync,
+>(
+    rt: &R,
+    alloc: Global,
+    laid: LaidJournal<D, Vec<Sealed>>,
+    plans: &[Vec<HandlePlan>],
+    gate: &G,
+) -> Result<(Summary, D), JournalError>
+    requires board { laid.board ≡ J.board }
+    requires parts { laid.parts ≡ J.parts }
+    requires meeting { laid.meeting ≡ J.meeting }
+    requires capacity { laid.capacity ≡ J.capacity }
+    requires block_size { laid.block_size ≡ J.block_size }
+{
+    let (journal, seat) = laid.named::<J>();
+    match Service::run(rt, alloc, journal, seat, plans, gate) {
+        Ok(outcome) => Ok(summary_of(outcome)),
+        Err(e) => Err(e),
+    }
 }
 
 /// What came of clients, and their device.

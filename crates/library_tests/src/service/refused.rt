@@ -1,0 +1,121 @@
+//! Clients of whose run one request for memory may be refused, whichever it is. In the gate none is: `bench/refused_memory.py` runs this
+//! test once for each request, and refuses it.
+use super::{BLOCK_SIZE, LOG_BLOCKS, Summary, try_run, two_clients};
+use block_device::{Device, MemDevice};
+use journal_model::{Area, JournalError, Sealed, Tid};
+use recovery::Opened;
+use shared_journal::{LaidJournal, lay};
+use std::alloc::Global;
+use std::marker::Brand;
+use std::process::Abort;
+use std::test::Fail;
+use volume_service::OpenGate;
+
+/// Stops where a call was refused for anything but memory, its own or that of the device, which is in memory.
+fn want<R: Abort>(rt: &R, e: JournalError) {
+    assert!(rt; e == JournalError::Memory || e == JournalError::Device);
+}
+
+/// A device in memory with a new log. Where that is refused it is made again.
+fn formatted<R: Abort>(rt: &R, alloc: Global) -> MemDevice {
+    let mut device = MemDevice::new(alloc, BLOCK_SIZE, u64::from(LOG_BLOCKS), 64);
+    if let Err(e) = recovery::format(&mut device, LOG_BLOCKS, &[7; 16], false) {
+        want(rt, e);
+        assert!(rt; recovery::format(&mut device, LOG_BLOCKS, &[7; 16], false).is_ok());
+    }
+    device
+}
+
+/// Opens a log. Where that is refused the device comes back, and it is opened again.
+fn opened<R: Abort>(rt: &R, alloc: Global, device: MemDevice) -> Opened<MemDevice> {
+    let device = match recovery::open(alloc, device) {
+        Ok(opened) => return opened,
+        Err((device, e)) => {
+            want(rt, e);
+            device
+        }
+    };
+    let Ok(opened) = recovery::open(alloc, device) else {
+        panic!(rt; "a log is refused once more")
+    };
+    opened
+}
+
+/// Lays a journal on a log. Where that is refused the log comes back, and it is laid again.
+fn laid_again<R: Abort>(
+    rt: &R,
+    alloc: Global,
+    opened: Opened<MemDevice>,
+) -> LaidJournal<MemDevice, Vec<Sealed>> {
+    let opened = match lay(alloc, opened) {
+        Ok(laid) => return laid,
+        Err((opened, e)) => {
+            assert!(rt; e == JournalError::Memory);
+            opened
+        }
+    };
+    let Ok(laid) = lay(alloc, opened) else {
+        panic!(rt; "a journal is refused once more")
+    };
+    laid
+}
+
+/// The first byte of a block of home.
+fn first_byte<R: Abort>(rt: &R, device: &mut MemDevice, block: u64) -> u8 {
+    let mut bytes = [0; BLOCK_SIZE];
+    assert!(rt; device.block_size() == BLOCK_SIZE);
+    assert!(rt; block < device.blocks(Area::Home));
+    assert!(rt; device.read(Area::Home, block, &mut bytes).is_ok());
+    bytes[0]
+}
+
+/// Looks at what came of two clients. Where neither was refused anything each has two receipts. One that was refused Memory ended alone:
+/// the other has its two. Where the device failed both may have ended with Aborted. No credit is held but those of entries: so no handle
+/// is open.
+fn judge<R: Abort>(rt: &R, summary: &Summary) {
+    match summary.why {
+        None => assert_eq!(rt; (summary.handles, summary.receipts), (4, 4)),
+        Some(JournalError::Memory) => {
+            assert!(rt; summary.refused == 1 && summary.receipts >= 2);
+        }
+        Some(e) => assert!(rt; e == JournalError::Aborted),
+    }
+    assert!(rt; summary.tally.word == summary.tally.entries);
+}
+
+/// Looks at what a stop then leaves. It opens to each transaction of which a client has a receipt, and the last writes of a client that
+/// was refused nothing are there: of the first one 2 in block 3, of the second one 3 in block 4 and 4 in block 3.
+fn judge_left<R: Abort>(rt: &R, alloc: Global, summary: &Summary, device: MemDevice) {
+    let opened = opened(rt, alloc, device.crash(&[]));
+    let acknowledged = summary.acknowledged.unwrap_or(Tid(0));
+    assert!(rt; opened.report().ends_at > u64::from(acknowledged.0));
+    let mut device = opened.into_device();
+    let third = first_byte(rt, &mut device, 3);
+    let fourth = first_byte(rt, &mut device, 4);
+    let is_last = third == 2 || third == 4;
+    match summary.why {
+        None => assert!(rt; is_last && fourth == 3),
+        Some(JournalError::Memory) => assert!(rt; is_last || third == 1 && fourth == 3),
+        Some(_) => {}
+    }
+}
+
+/// It prints how many clients were refused something, and what, once both were run.
+#[test]
+fn a_client_without_memory_ends_alone(rt: HostRuntime) -> Result<(), Fail> {
+    let alloc = rt.alloc();
+    let Ok(plans) = two_clients(alloc) else {
+        return Ok(());
+    };
+    let opened = opened(&rt, alloc, formatted(&rt, alloc));
+    let laid = laid_again(&rt, alloc, opened);
+    match try_run::<Brand, _, _, _>(&rt, alloc, laid, &plans, &OpenGate) {
+        Ok((summary, device)) => {
+            judge(&rt, &summary);
+            judge_left(&rt, alloc, &summary, device);
+            println!(rt; "refused={} {:?}", summary.refused, summary.why)?;
+        }
+        Err(e) => assert!(&rt; e == JournalError::Memory),
+    }
+    Ok(())
+}
