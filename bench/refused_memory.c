@@ -1,6 +1,6 @@
 /* Wraps the requests for memory of a program that is linked to glibc 2.34 or later (-shared -fPIC -O2 -nostdlib, loaded by LD_PRELOAD).
  *
- * REFUSED=K     request K of all, from 1, is refused
+ * REFUSED=K     request K of all, from 1, is refused; a new thread, whose stack is memory too, is a request of no bytes
  * CALLS=PATH    a line for each request, and for each call that writes to a file or brings one to its disk, in their order
  * COUNT=PATH    how many requests there were, once the program ends: by its return, or by _exit
  *
@@ -16,6 +16,7 @@ typedef long off_t;
 #define NEW_FILE (01 | 0100 | 01000) /* to write, created, cut to nothing */
 #define APPENDED (02000 | 02000000)  /* at its end, and closed by another program */
 #define NO_MEMORY 12
+#define NO_THREAD 11
 
 void *dlsym(void *where, const char *name);
 char *getenv(const char *name);
@@ -90,6 +91,12 @@ void *malloc(size_t size)
 void *realloc(void *block, size_t size)
 {
     return is_refused(size) ? 0 : __libc_realloc(block, size);
+}
+
+int pthread_create(unsigned long *thread, const void *attributes, void *(*run)(void *), void *given)
+{
+    int (*real)(unsigned long *, const void *, void *(*)(void *), void *) = dlsym(NEXT, "pthread_create");
+    return is_refused(0) ? NO_THREAD : real(thread, attributes, run, given);
 }
 
 ssize_t write(int file, const void *bytes, size_t length)

@@ -1,11 +1,13 @@
 #!/usr/bin/env -S python3 -B
 """Each request for memory of `jbench` refused in turn: no answer but that of the call that was refused may be another one.
 
-usage: refused_memory.py [--program PATH] [COUNT [SEED]]     the rows below, and so many random scripts (default: 0, from seed 1)
+usage: refused_memory.py [--program PATH] [--tests PATH] [COUNT [SEED]]
+    the rows below, and so many random scripts (default: 0, from seed 1)
 
-A wrapper of the C library's malloc and realloc (refused_memory.c) refuses one request of the program, for each of its requests in turn. The scripts are the rows below, in which each operation that can be refused for want of memory is made again at
-once, and behind it starts try how many credits are held: one of just those that are left, and one of one more. Of the program that is
-refused request K
+A wrapper of the C library's malloc and realloc (refused_memory.c) refuses one request of the program, for each of its requests in turn; a
+new thread is a request too.
+The scripts are the rows below, in which each operation that can be refused for want of memory is made again at once, and behind it
+starts try how many credits are held: one of just those that are left, and one of one more. Of the program that is refused request K
 
 - `run` prints the lines of a separate model (run_model.py) in which one operation is refused `1 Memory`, the one behind it answers what
   that one would have, and every other line is as in the row, with the verdict ok; or those of a run of which one device call fails, for
@@ -13,12 +15,17 @@ refused request K
   a front of the row's lines and `jbench: refusal 1 Memory` or `2 Device`;
 - `apply` does what killed_apply.py asks of one that is killed: the lines of the model up to the refusal, files as they are behind one of
   the model's writes, and `recover` brings home all that was committed and nothing else;
-- `recover`, `format`, `upgrade`, `dump`, `show` and `check` come to what they come to with ample memory, or are refused; a `recover` that
-  is refused has left both files as they were; and the same command made again, with ample memory, does all.
+- `recover`, which opens a log, `format`, `upgrade`, `dump`, `show` and `check` come to what they come to with ample memory, or are
+  refused; a `recover` that is refused has left both files as they were; and the same command made again, with ample memory, does all.
 
-It writes a line for each of these, with how many requests there were and how many answers were false, names each false answer, and ends
-with status 1 where there is one. The program is `./jbench`, which is built first, or the one at PATH. Run it by hand; it needs glibc,
-and a C compiler or the kit's, and takes some minutes.
+Clients in threads are a test of `library_tests`, which looks at what came of them itself: one that was refused Memory ended alone, with
+its handle stopped, and what is left opens to all receipts. Which request is the Kth depends on how the threads run, so each K is tried a
+few times. This is done where --tests names the built tests of that crate, as `rt test` and `rt ci` leave them in its `out/`.
+
+It writes a line for each of these, with how many requests there were and how many answers were false, and names each false answer. The
+last line is `N passed, M failed`, which counts these lines; where one failed the status is 1. The program is `./jbench`, which is built
+first, or the one at PATH. `./test` calls it behind `rt ci`, with what that built. It needs glibc of Linux on x86-64, and the kit's C
+compiler, or the system's where no kit is there; it takes less than a processor minute, and some more of waiting where others work too.
 """
 import json
 import os
@@ -37,6 +44,8 @@ from runs import Difference, RandomScript, count_and_seed, first_difference, pro
 HERE = Path(__file__).resolve().parent
 NEVER = 1_000_000  # a device call that no script comes to: behind a failed call the script goes on
 MEMORY, DEVICE = "jbench: refusal 1 Memory\n", "jbench: refusal 2 Device\n"
+CLIENTS = "service::refused::a_client_without_memory_ends_alone"  # the test of clients in threads
+TIMES = 4  # how often each of its requests is refused
 
 
 # ---- the rows
@@ -190,21 +199,20 @@ class Wanted:
 
 
 def compiler():
-    """How the system's C compiler is called, or that of the kit."""
-    if shutil.which("cc"):
+    """How the kit's C compiler is called, or the system's where no kit is there."""
+    if not shutil.which("rt"):
         return ["cc"]
     kit = Path(subprocess.run(["rt", "doc"], capture_output=True, text=True, check=True).stdout.strip()).parent
     return [kit / "toolchain" / "bin" / "clang", "-fuse-ld=lld"]
 
 
 class Refuser:
-    """The program under the wrapper, and how often it did what."""
+    """A program under the wrapper. `done` counts the requests that were refused, the lines that passed, and those that failed."""
 
-    def __init__(self, program, folder):
-        self.program, self.folder = program, folder
+    def __init__(self, program, folder, done=None):
+        self.program, self.folder, self.done = program, folder, Counter() if done is None else done
         self.wrapper, self.counted, self.calls = folder / "wrapper.so", folder / "counted", folder / "calls"
         subprocess.run([*compiler(), "-shared", "-fPIC", "-O2", "-nostdlib", "-o", self.wrapper, HERE / "refused_memory.c"], check=True)
-        self.requests = self.false = 0
 
     def path(self, name, text=None):
         path = self.folder / name
@@ -215,27 +223,31 @@ class Refuser:
     def jbench(self, words, refused=0):
         wrapped = {"LD_PRELOAD": self.wrapper, "COUNT": self.counted, "CALLS": self.calls, "REFUSED": refused}
         environment = {**os.environ, **{name: str(value) for name, value in wrapped.items()}}
-        done = subprocess.run([str(word) for word in (self.program, *words)], capture_output=True, text=True, env=environment, timeout=60)
+        done = subprocess.run([str(word) for word in (self.program, *words)], capture_output=True, text=True, env=environment, timeout=120)
         return done.returncode, done.stdout, done.stderr
 
-    def each(self, name, words, judge, before=lambda: None):
-        """Refuses each request of the program in turn. `judge` says what it came to, or raises what is false."""
+    def each(self, name, words, judge, before=lambda: None, times=1):
+        """Refuses each request of the program in turn, so many times. `judge` says what it came to, or raises what is false."""
         before()
+        self.counted.unlink(missing_ok=True)
         self.jbench(words)
         count, cases = int(self.counted.read_text()), Counter()
         false = 0
-        for refused in range(1, count + 1):
+        for refused in list(range(1, count + 1)) * times:
             before()
             try:
                 cases[judge(*self.jbench(words, refused))] += 1
             except (Difference, subprocess.TimeoutExpired) as difference:
                 false += 1
                 print(f"{name}: request {refused} of {count} refused: {difference}")
-        self.requests += count
-        self.false += false
+        self.done["requests"] += count
+        self.note(count > 0 and false == 0)
         told = ", ".join(f"{times} {case}" for case, times in sorted(cases.items()))
         print(f"{name}: requests={count} false={false} ({told})", flush=True)
         return cases
+
+    def note(self, passed):
+        self.done["passed" if passed else "failed"] += 1
 
 
 def differ(found, wanted=""):
@@ -269,6 +281,34 @@ def judge_row(refuser, name, operations):
     kinds = Counter(wanted.operations[place][0] for place in seen)
     print(f"  refused and made again: {', '.join(f'{kind} {times}' for kind, times in sorted(kinds.items()))}")
     return set(kinds)
+
+
+# ---- clients in threads
+
+
+def judge_clients(refuser, tests):
+    """Runs of the test of clients: it passes, whichever request is refused. With ample memory nothing is refused."""
+    clients = Refuser(tests, refuser.folder, refuser.done)
+    cases = {
+        "": "of the clients' making or of a thread",
+        "refused=0 None\n": "as with ample memory",
+        "refused=1 Some(Memory)\n": "a client is refused",
+        "refused=1 Some(Aborted)\n": "a device call fails",
+        "refused=2 Some(Aborted)\n": "a device call fails",
+    }
+
+    def judge(status, output, messages):
+        told, _, ended = output.rpartition("\ntest result: ")
+        if (status, messages, ended) != (0, "", "ok\n") or told not in cases:
+            differ((status, output, messages))
+        return cases[told]
+
+    if judge(*clients.jbench([CLIENTS])) != "as with ample memory":
+        differ("clients are refused with ample memory")
+    seen = clients.each("clients in threads", [CLIENTS], judge, times=TIMES)
+    if not seen["a client is refused"]:
+        clients.note(False)
+        print("never refused: a client")
 
 
 # ---- over files
@@ -375,21 +415,25 @@ def random_script(draw):
 
 def main(words):
     program, words = program_of(words)
+    tests, words = (Path(words[1]).resolve(), words[2:]) if words[:1] == ["--tests"] else (None, words)
     count, seed = count_and_seed(words, 0)
     with tempfile.TemporaryDirectory() as folder:
         refuser = Refuser(program, Path(folder))
         missing = set(REFUSABLE) - set().union(*(judge_row(refuser, name, operations) for name, operations in ROWS.items()))
         if missing:
-            refuser.false += 1
+            refuser.note(False)
             print(f"never refused: {missing}")
         judge_commands(refuser)
+        if tests:
+            judge_clients(refuser, tests)
         draw = random.Random(seed)
         for number in range(count):
             script = Script([], False)
             script.text = json.dumps(random_script(draw))
             judge_runs(refuser, f"run of random script {number + 1}", script)
-    print(f"requests={refuser.requests} false={refuser.false}")
-    return 1 if refuser.false else 0
+    print(f"requests={refuser.done['requests']}")
+    print(f"{refuser.done['passed']} passed, {refuser.done['failed']} failed")
+    return 1 if refuser.done["failed"] else 0
 
 
 if __name__ == "__main__":
