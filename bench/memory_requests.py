@@ -10,9 +10,10 @@ close the block from which it tells the next number. A request in a call that ta
 that it can do without: each of these is refused, in an apply of its own, and has to change no line and no byte of either file.
 
 It prints a table: the call, its requests the first time, the least and the most that any later one made, and how many of all these come
-behind the first write of their call; and then what the seals of one copy and of six make, each in a journal that was just made, what a
-write of a block makes that its transaction has already, and what came of the device's requests. The program is `./jbench`, which is
-built first, or the one at PATH. Run it by hand; it needs glibc, and a C compiler or the kit's.
+behind the first write of their call; and then what the seals of one copy and of six make, each in a journal that was just made, what
+the first step of each of a journal's first three transactions makes, what the steps of a transaction of fifty entries make beside their
+bytes, what a write of a block makes that its transaction has already, and what came of the device's requests. The program is `./jbench`,
+which is built first, or the one at PATH. Run it by hand; it needs what `refused_memory.py` does.
 """
 import json
 import sys
@@ -36,6 +37,11 @@ def transaction(name, count, kind="write"):
 
 def seal_of(count, kind="write"):
     return [FIRST, *transaction(1, count, kind), ["turn"]]
+
+
+def first_steps(kind):
+    """Three transactions, each of one step and committed."""
+    return [FIRST, *(operation for i in range(3) for operation in [*transaction(i, 1, kind), *[["turn"]] * 8])]
 
 
 # Of each kind of call some: 12 transactions of one to six entries, with reads, revokes, direct writes and rounds between them.
@@ -120,6 +126,12 @@ def main(words):
             for count in (1, 6):
                 *_, (word, _, sizes, _), _ = Applied(refuser, seal_of(count, kind)).by_call()
                 print(f"{word} of {count} by {kind}: {len(sizes)} requests, of {sizes} bytes")
+        for kind, own in (("write", 2), ("revoke", 0)):
+            made = [sizes for word, _, sizes, _ in Applied(refuser, first_steps(kind)).by_call() if word == kind]
+            print(f"first {kind} of each of three transactions: requests {[len(sizes) for sizes in made]}, the last of {made[-1]} bytes")
+            made = [len(sizes) for word, _, sizes, _ in Applied(refuser, seal_of(50, kind)).by_call() if word == kind]
+            grown = {place: count - own for place, count in enumerate(made, 1) if count > own}
+            print(f"{kind} of 50 blocks: {own} requests, and so many more by the place of the step: {grown}")
         known = [FIRST, ["start", 1, 1], *[["write", 1, 9, "11"]] * 40]
         made = [sizes for word, _, sizes, _ in Applied(refuser, known).by_call() if word == "write"]
         print(f"write of a block that is known: requests {[len(sizes) for sizes in made[1:]]}")
