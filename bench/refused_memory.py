@@ -18,9 +18,11 @@ starts try how many credits are held: one of just those that are left, and one o
 - `recover`, which opens a log, `format`, `upgrade`, `dump`, `show` and `check` come to what they come to with ample memory, or are
   refused; a `recover` that is refused has left both files as they were; and the same command made again, with ample memory, does all.
 
-Clients in threads are a test of `library_tests`, which looks at what came of them itself: one that was refused Memory ended alone, with
-its handle stopped, and what is left opens to all receipts. Which request is the Kth depends on how the threads run, so each K is tried a
-few times. This is done where --tests names the built tests of that crate, as `rt test` and `rt ci` leave them in its `out/`.
+`threads` with two clients prints the seven lines of a run with ample memory, or nothing but `jbench: client I refused 1 Memory`; or the
+device of these clients fails, which is in memory too, and each that is refused then is refused `3 Aborted`; or the program itself is refused.
+Such clients are also a test of `library_tests`, which looks at what came of them itself: one that was refused Memory ended alone, with
+its handle stopped, and what is left opens to all receipts. This is done where --tests names the built tests of that crate, as `rt test`
+and `rt ci` leave them in its `out/`. Which request is the Kth depends on how the threads run, so each K is tried a few times.
 
 It writes a line for each of these, with how many requests there were and how many answers were false, and names each false answer. The
 last line is `N passed, M failed`, which counts these lines; where one failed the status is 1. The program is `./jbench`, which is built
@@ -286,6 +288,34 @@ def judge_row(refuser, name, operations):
 # ---- clients in threads
 
 
+def judge_threads(refuser, script):
+    """Runs of two clients in threads, by the program. Which of them is refused is up to how they run."""
+    verdicts = "".join(f"verdict {name} ok\n" for name in ("credits", "receipts", "order", "recovery"))
+    whole = (0, f"clients 2\nhandles 4\nreceipts 4\n{verdicts}", "")
+    refused = lambda number, cause: f"jbench: client {number} refused {cause}\n"
+    cases = {
+        whole: "as with ample memory",
+        (1, "", MEMORY): "of the program itself",
+        (1, "", DEVICE): "of the program itself",
+        (1, "", refused(1, "3 Aborted") + refused(2, "3 Aborted")): "a device call fails",
+    }
+    for number in (1, 2):
+        cases[1, "", refused(number, "1 Memory")] = "a client is refused"
+        cases[1, "", refused(number, "3 Aborted")] = "a device call fails"
+
+    def judge(*found):
+        if found not in cases:
+            differ(found)
+        return cases[found]
+
+    if refuser.jbench(["threads", script]) != whole:
+        differ("clients are refused with ample memory")
+    seen = refuser.each("threads", ["threads", script], judge, times=TIMES)
+    if not seen["a client is refused"]:
+        refuser.note(False)
+        print("never refused: a client of the program")
+
+
 def judge_clients(refuser, tests):
     """Runs of the test of clients: it passes, whichever request is refused. With ample memory nothing is refused."""
     clients = Refuser(tests, refuser.folder, refuser.done)
@@ -424,6 +454,7 @@ def main(words):
             refuser.note(False)
             print(f"never refused: {missing}")
         judge_commands(refuser)
+        judge_threads(refuser, HERE.parent / "examples" / "two_clients.json")
         if tests:
             judge_clients(refuser, tests)
         draw = random.Random(seed)
