@@ -2,7 +2,9 @@
 #include <stdint.h>
 
 #define BLOCK_BYTES 1024
+#ifndef HOME_BLOCKS
 #define HOME_BLOCKS 8192
+#endif
 #define MOST_COPIES 64
 
 /* Makes a new store in this folder. */
