@@ -112,7 +112,7 @@ def spoiled(draw, made, kind):
     else:
         made.clients[place] = whole[:cut] + more + whole[cut:]
         number = cut + at
-    return f"jbench: bad script: client {place + 1} operation {number}: {why}\n"
+    return f"jbench: bad script\n  client {place + 1} operation {number}: {why}\n"
 
 
 KINDS = ("too many credits", "too few credits", "no block", "a start in a handle", "a wait in a handle", "a write outside", "a stop outside",

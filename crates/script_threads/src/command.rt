@@ -16,7 +16,7 @@ use std::thread::Threads;
 
 /// Runs the clients of a script in threads, and prints how many clients, handles and receipts there are, and the verdicts. Where a client is
 /// refused something a line on `err` for each such client says what, and nothing else is printed; where the command can't go on, one
-/// line says why. `path` names the script's file.
+/// line says why, and of a bad script a second one, behind two spaces, where and what is wrong. `path` names the script's file.
 ///
 /// # Errors
 ///
@@ -66,7 +66,7 @@ fn serve_text<T: Threads + Wait + Sync, W: Write + Drop, E: Write + Drop>(
     match read_clients(alloc, text) {
         Ok(script) => serve_script(rt, alloc, path, &script, out, err),
         Err(ScriptError::BadScript(bad)) => {
-            writeln!(err, "jbench: bad script: {bad}")?;
+            writeln!(err, "jbench: bad script\n  {bad}")?;
             Ok(Status::Refused)
         }
         Err(ScriptError::Memory) => {

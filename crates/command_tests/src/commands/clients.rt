@@ -40,7 +40,7 @@ fn a_handle_of_too_many_credits_is_refused(rt: HostRuntime) -> Result<(), Fail> 
     let said = said(&rt, rt.alloc(), TOO_MANY)?;
     assert_eq!(rt;
         said.as_str(),
-        "| jbench: bad script: client 1 operation 1: a transaction of this log has fewer credits\nRefused"
+        "| jbench: bad script\n  client 1 operation 1: a transaction of this log has fewer credits\nRefused"
     );
     Ok(())
 }
