@@ -11,6 +11,7 @@ use Rattle.block_device.specs.declared.fail.FailOnce.{FailOnce}
 use Rattle.block_device.specs.declared.stop.StopAt.{StopAt}
 use Rattle.journal_world.specs.Opening.{IsOpening}
 use Rattle.journal_world.specs.Sound.{durable_cell}
+use Rattle.log_epochs.specs.EngineWorld.{LeadsToEngine}
 use Rattle.log_format.proofs.Formatted.{formatted_says}
 use Rattle.recovery.specs.Opening.{IsFormatted}
 use Rattle.recovery.specs.Values.{OpenedValue}
@@ -72,9 +73,10 @@ run-zero disk stop fail device is zero = subst (λ (d : FailOnce (StopAt MemStat
 -- what was opened over that disk is opened over the device
 pub run-anew : (m : Measures) (stop fail : Option ℕ) (formatted disk : MemState) (superblock : List ℕ) (next : ℕ) (opened : OpenedValue (FailOnce (StopAt MemState)))
     → IsEmptyLog m (state_of formatted) → (state_of disk).shape ≡ (state_of formatted).shape
-    → IsOpening (state_of formatted).shape (state_of formatted).disk (state_of disk).disk superblock next → opened.device ≡ run_device_over disk stop fail
+    → IsOpening (state_of formatted).shape (state_of formatted).disk (state_of disk).disk superblock next
+    → LeadsToEngine (state_of formatted).shape (state_of formatted).disk (state_of disk).disk superblock next → opened.device ≡ run_device_over disk stop fail
     → opened.superblock ≡ superblock → opened.next ≡ next → IsOpenedAnew m stop fail opened
-run-anew m stop fail formatted disk superblock next opened empty shape opening over block number = record {
+run-anew m stop fail formatted disk superblock next opened empty shape opening run over block number = record {
   formatted = formatted;
   empty = empty;
   disk = disk;
@@ -82,5 +84,8 @@ run-anew m stop fail formatted disk superblock next opened empty shape opening o
   opening =
       subst (λ (b : List ℕ). IsOpening (state_of formatted).shape (state_of formatted).disk (state_of disk).disk b opened.next) (sym block)
       (subst (λ (n : ℕ). IsOpening (state_of formatted).shape (state_of formatted).disk (state_of disk).disk superblock n) (sym number) opening);
+  run =
+      subst (λ (b : List ℕ). LeadsToEngine (state_of formatted).shape (state_of formatted).disk (state_of disk).disk b opened.next) (sym block)
+      (subst (λ (n : ℕ). LeadsToEngine (state_of formatted).shape (state_of formatted).disk (state_of disk).disk superblock n) (sym number) run);
   device_is = over;
 }

@@ -10,6 +10,7 @@ use Rattle.block_device.specs.Stop.{stopping}
 use Rattle.block_device.specs.declared.fail.FailOnce.{FailOnce}
 use Rattle.block_device.specs.declared.stop.StopAt.{StopAt}
 use Rattle.journal_world.specs.Opening.{IsOpening}
+use Rattle.log_epochs.specs.EngineWorld.{LeadsToEngine}
 use Rattle.recovery.specs.Values.{OpenedValue}
 use Rattle.journal_script.specs.declared.measures.Measures.{Measures}
 use Rattle.script_client.specs.Told.{IsZeroHome}
@@ -42,12 +43,14 @@ run_device_over disk stop fail = record {
 abbrev pub run_state : FailOnce (StopAt MemState) → DeviceState
 run_state device = failing (stopping state_of) device
 
--- An empty log of these measures was opened, and over the disk of that stands a device that stops at this write, and of which this call
--- fails, where they are named: both are counted from behind the opening.
+-- An empty log of these measures was opened, by a run of the machine from its begin to the answer, whatever came before; and over the disk
+-- of that stands a device that stops at this write, and of which this call fails, where they are named: both are counted from behind the
+-- opening.
 pub record IsOpenedAnew (m : Measures) (stop fail : Option ℕ) (opened : OpenedValue (FailOnce (StopAt MemState))) : Type 0 where
   pub formatted : MemState
   pub empty : IsEmptyLog m (state_of formatted)
   pub disk : MemState
   pub shape_is : disk.shape ≡ shape_of m
   pub opening : IsOpening (state_of formatted).shape (state_of formatted).disk (state_of disk).disk opened.superblock opened.next
+  pub run : LeadsToEngine (state_of formatted).shape (state_of formatted).disk (state_of disk).disk opened.superblock opened.next
   pub device_is : opened.device ≡ run_device_over disk stop fail

@@ -6,7 +6,7 @@ use Rattle.script_run.proofs.disk.empty_log.Goals as goal
 pub returns-in-Ok-clause-anew : goal.returns-in-Ok-clause-anew
 returns-in-Ok-clause-anew c =
     run-anew c.args.measures.now c.args.stop c.args.fail c.in_ok-disk.disk c.in-Ok.opened.device c.in-Ok.opened.superblock c.in-Ok.opened.next c.with_stops.result
-    c.in_ok-disk.ensures c.in-Ok.ensures.shape (c.in-Ok.ensures.opened tt) c.with_stops.ensures.device c.with_stops.ensures.superblock c.with_stops.ensures.next
+    c.in_ok-disk.ensures c.in-Ok.ensures.shape (c.in-Ok.ensures.opened tt) (c.in-Ok.ensures.run tt) c.with_stops.ensures.device c.with_stops.ensures.superblock c.with_stops.ensures.next
 
 -- opening an empty log leaves home as it is
 pub returns-in-Ok-clause-home : goal.returns-in-Ok-clause-home
