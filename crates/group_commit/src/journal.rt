@@ -26,8 +26,8 @@ ghost use Rattle.group_commit.specs.Values.{StatusIs};
 use crate::close::finish;
 use crate::ticket::{Receipt, Ticket};
 use block_device::Device;
-use journal_front::{Credits, Front, Handle, Record};
-use journal_model::{BlockNo, History, JournalError, Sealed, Status, Tid};
+use journal_front::{Credits, Front, Handle, Record, Unrecorded};
+use journal_model::{BlockNo, JournalError, Status, Tid};
 use journal_steps::{CheckTurn, Turn, steps};
 use log_engine::Engine;
 use log_ring::Layout;
@@ -37,14 +37,14 @@ use std::marker::Model;
 
 /// A journal on an opened log.
 #[derive(Drop)]
-pub struct Journal<D: Device, R: Record = History<Sealed>> {
+pub struct Journal<D: Device, R: Record = Unrecorded> {
     pub(crate) front: Front<R>,
     pub(crate) engine: Engine<D>,
 }
 
 /// What is left of a journal at its end.
 #[derive(Drop)]
-pub struct Parts<D, R = History<Sealed>> {
+pub struct Parts<D, R = Unrecorded> {
     /// The device.
     pub device: D,
     /// The transactions sealed since the opening, with their handles and steps, as the journal kept them.

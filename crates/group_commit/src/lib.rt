@@ -20,7 +20,7 @@ mod journal;
 mod ticket;
 
 pub use journal::{Journal, Parts};
-pub use journal_front::{Credits, Front, Handle, Record};
+pub use journal_front::{Credits, Front, Handle, Record, Unrecorded};
 pub use journal_model::Status;
 pub use journal_steps::{CheckTurn, Turn};
 pub use ticket::{Receipt, Ticket};

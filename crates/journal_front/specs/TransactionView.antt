@@ -1,18 +1,22 @@
 -- The fields of a transaction as contracts see them, and what they keep true.
-use Rattle.std.specs.Prelude.{◌≡◌, ◌<◌, true, length, vec_capacity}
+use Rattle.std.specs.Prelude.{◌≡◌, ◌<◌, ◌↔◌, Bool, true, length, vec_capacity}
 use Rattle.journal_model.specs.Transaction.{entries}
 use Rattle.journal_front.specs.declared.transaction.Transaction.TheInside.{Inside}
 use Rattle.journal_front.specs.Transaction.{OpenTransaction}
 
-abbrev pub transaction_of : Inside → OpenTransaction
+abbrev pub transaction_of : {R : Type 0} → Inside R → OpenTransaction
 transaction_of t = record {
-  transaction = record { tid = t.tid; handles = t.handles; steps = t.steps.items };
+  transaction = t.known;
   locked = t.locked;
   reserved = t.reserved;
   committing = t.versions.committing;
 }
 
--- the entries are those of the steps; and where room was made for one more step, it is there
-pub record KeepsTransaction (t : Inside) : Type 0 where
-  pub entries_are : t.versions.running ≡ entries t.steps.items
-  pub step_room : t.reserved ≡ true → length t.steps.items < vec_capacity t.steps
+-- the entries are those of the steps; it is known whether a handle has joined; and where the record keeps data, handles and
+-- steps are so too, and where room was made for one more step, it is there
+pub record KeepsTransaction {R : Type 0} (keeps : Bool) (t : Inside R) : Type 0 where
+  pub entries_are : t.versions.running ≡ entries t.known.steps
+  pub joined_is : (t.joined ≡ true) ↔ (0 < length t.known.handles)
+  pub handles_are : keeps ≡ true → t.handles ≡ t.known.handles
+  pub steps_are : keeps ≡ true → t.steps.items ≡ t.known.steps
+  pub step_room : keeps ≡ true → t.reserved ≡ true → length t.steps.items < vec_capacity t.steps

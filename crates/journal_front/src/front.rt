@@ -45,7 +45,7 @@ pub struct Front<R: Record> {
     /// The transactions sealed since the opening.
     sealed: R,
     /// The one that handles join, beside which are the entries of the last sealed one, while that is not finished.
-    running: Transaction,
+    running: Transaction<R>,
     /// The handles of the running one that have not stopped, in the order in which they joined, with the credits that each
     /// has left.
     open_handles: IndexMap<HandleNo, u64>,
@@ -449,9 +449,8 @@ impl<R: Record> Front<R> {
         ensures { self.new ≡ sealing self.old }
     {
         let entries = self.running.len() as u64;
-        let sealed = self.running.seal();
+        self.running.seal(&mut self.sealed);
         self.held = self.held.saturating_sub(entries);
-        self.sealed.note(sealed);
     }
 
     /// One more transaction is committed, by the engine. No caller is told yet.

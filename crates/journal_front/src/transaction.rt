@@ -1,18 +1,21 @@
 //! A transaction until its seal: its number, the handles that joined it, their steps, and the entries of these. Beside them it has
-//! those of the transaction before it, while that is being committed.
-ghost use Rattle.std.specs.Prelude.{◌≡◌, ◌+◌, ◌-◌, ◌<◌, ◌^◌, ◌↔◌, [], true, false, IsTrue, length, nat_eq, IfErr, IfOk, None, OnOk, Some};
+//! those of the transaction before it, while that is being committed. Handles and steps are data where its record keeps data, and
+//! else known to contracts alone.
+ghost use Rattle.std.specs.Prelude.{◌≡◌, ◌+◌, ◌-◌, ◌<◌, ◌^◌, ◌++◌, ◌∷◌, ◌↔◌, [], true, false, IsTrue, length, nat_eq, vec_capacity, IfErr, IfOk, None, OnOk, Some};
 ghost use Rattle.std.specs.Map.{lookup};
 ghost use Rattle.std.specs.Option.{option_copied};
 ghost use Rattle.journal_model.specs.declared.refusal.JournalError.TheVariants.{Memory};
 ghost use Rattle.journal_model.specs.Transaction.{copied, effect, entries, entry_of, later, revoked};
 ghost use Rattle.journal_front.specs.Transaction.{LacksCredit, MayTouch, TouchRefused, Touches, batch_of, begun, cost, finishing, joined_by, locking, noting, reserving, revoke_step, touch_of, write_step};
 
+use crate::known::KnownTransaction;
+use crate::record::Record;
 use frozen_copy::VersionCache;
 use journal_model::{
     Batch, Block, BlockNo, Entry, HandleNo, Items, JournalError, Op, Sealed, Step, Tid,
 };
 use std::alloc::Global;
-use std::marker::Model;
+use std::marker::{Model, PhantomData};
 
 /// What a touch of a block, which is a write or a revoke of it, is to its transaction.
 /// Source: journalling.rst (the credits of `journal_start`).
@@ -40,14 +43,20 @@ impl Touch {
 ///
 /// A call that is refused changes nothing. Where a step has to be ready together with something else, make room first: after
 /// `reserve` one `note` takes no memory.
+///
+/// Where `R` keeps no data, it holds of each block that it touches one copy, and none of the steps: a later write of a block drops
+/// the bytes of the earlier one.
 #[derive(Drop)]
-pub struct Transaction {
+pub struct Transaction<R: Record> {
     alloc: Global,
-    tid: Tid,
-    /// In the order in which they joined.
+    /// Its number, and what contracts know of its handles and steps.
+    known: KnownTransaction,
+    /// Its handles as data, in the order in which they joined, where the record keeps data; else none.
     handles: Items<HandleNo>,
-    /// In the order in which they were made.
+    /// Its steps as data, in the order in which they were made, where the record keeps data; else none.
     steps: Vec<Step>,
+    /// A handle has joined it.
+    joined: bool,
     /// What the steps leave of each block that they touch, in the order of the first touches, and what the transaction before left
     /// while it is being committed.
     versions: VersionCache,
@@ -55,9 +64,10 @@ pub struct Transaction {
     locked: bool,
     /// There is room for one more step.
     reserved: bool,
+    of: PhantomData<R>,
 }
 
-impl Model for Transaction {
+impl<R: Record> Model for Transaction<R> {
     ghost use Rattle.journal_front.specs.Transaction.{OpenTransaction};
 
     ghost Value = { OpenTransaction };
@@ -66,10 +76,37 @@ impl Model for Transaction {
 
     ghost view = { transaction_of };
 
-    ghost invariant = { KeepsTransaction };
+    ghost invariant = { KeepsTransaction R.KEEPS };
 }
 
-impl Transaction {
+/// Makes room for one more step, where the record keeps data.
+///
+/// # Errors
+///
+/// `Memory`: the steps are as they were.
+fn room_for_step<R: Record>(steps: &mut Vec<Step>) -> Result<(), JournalError>
+    ensures room { OnOk result (R.KEEPS ≡ true → length steps.new.items < vec_capacity steps.new) }
+    ensures same { steps.new.items ≡ steps.old.items }
+    ensures kept { length steps.old.items < vec_capacity steps.old → length steps.new.items < vec_capacity steps.new }
+    ensures err { IfErr result (λ e. e ≡ Memory) }
+{
+    if R::KEEPS {
+        steps.try_reserve(1)?;
+    }
+    Ok(())
+}
+
+/// Keeps a step, for which there is room, where the record keeps data. Else it is dropped.
+fn keep_step<R: Record>(steps: &mut Vec<Step>, step: Step)
+    requires { R.KEEPS ≡ true → length steps.old.items < vec_capacity steps.old }
+    ensures { R.KEEPS ≡ true → steps.new.items ≡ steps.old.items ++ step ∷ [] }
+{
+    if R::KEEPS {
+        steps.push_reserved(step);
+    }
+}
+
+impl<R: Record> Transaction<R> {
     /// A running transaction of this number, which no handle has joined, with none before it that is being committed. It takes no
     /// memory.
     pub fn new(alloc: Global, tid: Tid) -> Self
@@ -77,12 +114,14 @@ impl Transaction {
     {
         Transaction {
             alloc,
-            tid,
+            known: KnownTransaction::new(tid),
             handles: Items::new(alloc),
             steps: Vec::new(alloc),
+            joined: false,
             versions: VersionCache::new(alloc),
             locked: false,
             reserved: false,
+            of: PhantomData,
         }
     }
 
@@ -90,14 +129,14 @@ impl Transaction {
     pub fn tid(&self) -> Tid
         ensures { result ≡ self.now.transaction.tid }
     {
-        self.tid
+        self.known.tid()
     }
 
     /// Whether a handle has joined it.
     pub fn is_joined(&self) -> bool
         ensures { IsTrue result ↔ (0 < length self.now.transaction.handles) }
     {
-        self.handles.len() > 0
+        self.joined
     }
 
     /// Whether it takes no further handles.
@@ -164,7 +203,11 @@ impl Transaction {
         ensures ok { OnOk result (self.new ≡ joined_by self.old handle) }
         ensures err { IfErr result (λ e. (e ≡ Memory) × (self.new ≡ self.old)) }
     {
-        self.handles.push(handle)?;
+        if R::KEEPS {
+            self.handles.push(handle)?;
+        }
+        self.known.join(handle);
+        self.joined = true;
         Ok(())
     }
 
@@ -174,7 +217,7 @@ impl Transaction {
         ensures joined { 0 < length self.old.transaction.handles → self.new ≡ locking self.old }
         ensures empty { length self.old.transaction.handles ≡ 0 → self.new ≡ self.old }
     {
-        if self.is_joined() {
+        if self.joined {
             self.locked = true;
         }
     }
@@ -188,7 +231,7 @@ impl Transaction {
         ensures ok { OnOk result (self.new ≡ reserving self.old) }
         ensures err { IfErr result (λ e. (e ≡ Memory) × (self.new ≡ self.old)) }
     {
-        self.steps.try_reserve(1)?;
+        room_for_step::<R>(&mut self.steps)?;
         self.reserved = true;
         Ok(())
     }
@@ -200,11 +243,12 @@ impl Transaction {
         ensures { self.new ≡ noting self.old step }
     {
         self.reserved = false;
-        self.steps.push_reserved(step);
+        self.known.note(&step);
+        keep_step::<R>(&mut self.steps, step);
     }
 
-    /// Makes a step, which leaves this of its block. Whether the touch is paid for is the caller's to see. The list of steps grows
-    /// first, so that nothing changes where the entry has no room.
+    /// Makes a step, which leaves this of its block. Whether the touch is paid for is the caller's to see. The list of steps, if it
+    /// is kept, grows first, so that nothing changes where the entry has no room.
     ///
     /// # Errors
     ///
@@ -214,10 +258,11 @@ impl Transaction {
         ensures ok { OnOk result (self.new ≡ noting self.old step) }
         ensures err { IfErr result (λ e. (e ≡ Memory) × (self.new ≡ self.old)) }
     {
-        self.steps.try_reserve(1)?;
+        room_for_step::<R>(&mut self.steps)?;
         self.versions.write(step.block, entry)?;
-        self.steps.push_reserved(step);
         self.reserved = false;
+        self.known.note(&step);
+        keep_step::<R>(&mut self.steps, step);
         Ok(())
     }
 
@@ -296,33 +341,39 @@ impl Transaction {
             entries.push((*block, entry.try_clone()?))?;
         }
         Ok(Batch {
-            tid: self.tid,
+            tid: self.known.tid(),
             entries,
         })
     }
 
-    /// It is sealed: it is handed out, and the next one begins in its place, beside which its entries stay while it is being
-    /// committed: none of them is moved or copied. The caller's conditions: it is locked, there is a next number, and the one before
-    /// it is finished. It takes no memory, and can't be refused.
-    pub fn seal(&mut self) -> Sealed
+    /// It is sealed: the record `into` notes it, and the next one begins in its place, beside which its entries stay while it is being
+    /// committed: none of them is moved or copied. The caller's conditions: it is locked, there is a next number, the one before
+    /// it is finished, and the record has room for one more. It takes no memory, and can't be refused.
+    pub fn seal(&mut self, into: &mut R)
         requires locked { self.old.locked ≡ true }
         requires number { self.old.transaction.tid < 2 ^ 32 - 1 }
         requires finished { self.old.committing ≡ [] }
-        ensures sealed { result ≡ self.old.transaction }
+        requires room { R.has_room into.old }
+        ensures sealed { R.transactions into.new ≡ R.transactions into.old ++ self.old.transaction ∷ [] }
         ensures next { self.new ≡ begun (self.old.transaction.tid + 1) (entries self.old.transaction.steps) }
     {
-        let tid = self.tid;
+        let tid = self.known.tid();
+        let known = std::mem::replace(&mut self.known, KnownTransaction::new(Tid(tid.0 + 1)));
         let handles = std::mem::replace(&mut self.handles, Items::new(self.alloc));
         let steps = std::mem::replace(&mut self.steps, Vec::new(self.alloc));
-        self.tid = Tid(tid.0 + 1);
+        self.joined = false;
         self.versions.seal();
         self.locked = false;
         self.reserved = false;
-        Sealed {
-            tid,
-            handles,
-            steps: Items::from_vec(steps),
-        }
+        let steps = Items::from_vec(steps);
+        into.note(
+            &known,
+            Sealed {
+                tid,
+                handles,
+                steps,
+            },
+        );
     }
 
     /// The transaction before it is finished: its entries are dropped.

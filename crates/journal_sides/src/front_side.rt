@@ -12,8 +12,8 @@ ghost use Rattle.journal_steps.specs.Journal.{Agrees, Does, Requests};
 ghost use Rattle.group_commit.specs.Extension.{Extends, ExtensionRefused, StartRefused, Starts};
 
 use block_device::Device;
-use journal_front::{Credits, Front, Handle, Record};
-use journal_model::{BlockNo, History, JournalError, Sealed, Tid};
+use journal_front::{Credits, Front, Handle, Record, Unrecorded};
+use journal_model::{BlockNo, JournalError, Tid};
 use log_engine::Engine;
 use meeting::{Follower, MeetingName};
 use std::marker::Model;
@@ -21,7 +21,7 @@ use std::marker::Model;
 /// The front's side of a journal. Contracts see the journal that the front makes with the engine as it was when both last met: that of
 /// now, but for what the engine has done alone since. So a step of the front is a step of that journal.
 #[derive(Drop)]
-pub struct FrontSide<J: MeetingName, D: Device, R: Record = History<Sealed>> {
+pub struct FrontSide<J: MeetingName, D: Device, R: Record = Unrecorded> {
     pub(crate) front: Front<R>,
     pub(crate) met: Follower<J, Engine<D>>,
 }

@@ -9,8 +9,8 @@ ghost use Rattle.journal_sides.specs.Sides.{engine_of};
 use crate::engine_side::{Alone, EngineSide, SidesMeeting};
 use crate::front_side::FrontSide;
 use block_device::Device;
-use journal_front::{Front, Record};
-use journal_model::{History, JournalError, Sealed};
+use journal_front::{Front, Record, Unrecorded};
+use journal_model::JournalError;
 use log_engine::Engine;
 use log_ring::Layout;
 use meeting::{MeetingName, UnnamedMeeting};
@@ -20,7 +20,7 @@ use std::marker::Model;
 
 /// The two sides of a journal that has no name yet. Contracts see the word at which they are to meet, and the journal.
 #[derive(Drop)]
-pub struct UnnamedSides<D: Device, R: Record = History<Sealed>> {
+pub struct UnnamedSides<D: Device, R: Record = Unrecorded> {
     front: Front<R>,
     engine: Engine<D>,
     meeting: UnnamedMeeting<Engine<D>, Alone<D>>,

@@ -11,13 +11,12 @@ use Rattle.std.proofs.MapsCrossing as maps
 use Rattle.atomic_table.proofs.owned.Table.TheSendSync as table
 use Rattle.atomic_table.proofs.shared.Seat.TheSendSync as seat
 use Rattle.journal_model.proofs.history.History.TheSendSync as history
-use Rattle.journal_model.specs.contracts.history.History as History
-use Rattle.journal_model.specs.contracts.transaction.Sealed as Sealed
 use Rattle.block_device.specs.declared.device.Device as Device
 use Rattle.handle.specs.contracts.seat.Seat as HandleSeat
 use Rattle.handle.specs.declared.place.JournalName as JournalName
 use Rattle.journal_front.specs.declared.record.Record as Record
 use Rattle.journal_front.specs.contracts.front.Front as Front
+use Rattle.journal_front.specs.contracts.record.Unrecorded as Unrecorded
 use Rattle.journal_front.specs.contracts.transaction.Transaction as Transaction
 use Rattle.log_engine.specs.contracts.engine.Engine as Engine
 use Rattle.journal_sides.specs.contracts.engine_side.EngineSide as EngineSide
@@ -30,8 +29,8 @@ use Rattle.shared_journal.specs.contracts.journal.Journal as Journal
 use Rattle.shared_journal.specs.contracts.locked.Locked as Locked
 use Rattle.shared_journal.specs.contracts.locked.Locked.TheInside as inside
 
-transaction_send : IsSend Transaction.the_row
-transaction_send = search (sendable, crosses, maps.crosses) depth 400 fits 200000
+transaction_send : (R : RattleType) (r : Record.Ghosts R.Denot) → IsSend R → IsSend (Transaction.the_row R r)
+transaction_send R r sr = search (history.the_send, sendable, crosses, maps.crosses) depth 400 fits 200000
 
 front_send : (R : RattleType) (r : Record.Ghosts R.Denot) → IsSend R → IsSend (Front.the_row R r)
 front_send R r sr = search (transaction_send, sendable, crosses, maps.crosses) depth 400 fits 200000
@@ -82,8 +81,8 @@ pub journal_sync : (J D R : RattleType) (j : JournalName.Ghosts J.Denot) (p : Pa
     (r : Record.Ghosts R.Denot) → IsSend J → IsSync J → IsSend D → IsSend R → IsSync (Journal.the_row J D R j p m d r)
 journal_sync J D R j p m d r sj yj sd sr = search (locked_send, engine_side_send, table.the_field_sync, table.the_field_send, sendable, crosses) depth 400 fits 200000
 
--- its record, as data
-pub record_send : IsSend (History.the_row Sealed.the_row)
+-- its record, where that is for contracts alone
+pub record_send : IsSend Unrecorded.the_row
 record_send = search (history.the_send, sendable, crosses) depth 400 fits 200000
 
 -- a caller's seat

@@ -26,9 +26,9 @@ use crate::open_handle::Handle;
 use crate::sole::Sole;
 use crate::stopped::{Receipt, Ticket};
 use block_device::Device;
-use group_commit::{CheckTurn, Journal as OneJournal, Parts, Record, Turn};
+use group_commit::{CheckTurn, Journal as OneJournal, Parts, Record, Turn, Unrecorded};
 use handle::{Credits, JournalName, Seat};
-use journal_model::{BlockNo, History, JournalError, Sealed, Status, Tid};
+use journal_model::{BlockNo, JournalError, Status, Tid};
 use journal_sides::{EngineSide, SidesMeeting};
 use log_engine::Progress;
 use meeting::MeetingName;
@@ -40,11 +40,7 @@ use std::sync::{Mutex, Wait};
 ///
 /// Who takes both locks takes the engine's first: nobody waits for it while they hold the front's. So a call on the front waits for no
 /// device call of a commit or of a checkpoint round, also where others wait for the engine.
-pub struct Journal<
-    J: JournalName + PartsName + MeetingName,
-    D: Device,
-    R: Record = History<Sealed>,
-> {
+pub struct Journal<J: JournalName + PartsName + MeetingName, D: Device, R: Record = Unrecorded> {
     pub(crate) counters: Counters<J>,
     meeting: SidesMeeting<J, D>,
     pub(crate) locked: Mutex<Locked<J, D, R>>,

@@ -14,9 +14,9 @@ use crate::journal::Journal;
 use crate::known::UnnamedKnowing;
 use crate::locked::{Counters, Locked};
 use block_device::Device;
-use group_commit::Record;
+use group_commit::{Record, Unrecorded};
 use handle::{JournalName, LaidBoard, Seat, board};
-use journal_model::{History, JournalError, Sealed, Tid};
+use journal_model::{JournalError, Tid};
 use journal_sides::UnnamedSides;
 use log_format::Super;
 use log_ring::Layout;
@@ -28,7 +28,7 @@ use std::marker::Model;
 
 /// A journal on an opened log that has no name yet.
 #[derive(Drop)]
-pub struct LaidJournal<D: Device, R: Record = History<Sealed>> {
+pub struct LaidJournal<D: Device, R: Record = Unrecorded> {
     sides: UnnamedSides<D, R>,
     board: LaidBoard,
     knowing: UnnamedKnowing<R>,

@@ -21,7 +21,7 @@ mod sole;
 mod stopped;
 mod waiting;
 
-pub use group_commit::{CheckTurn, Parts, Record, Turn};
+pub use group_commit::{CheckTurn, Parts, Record, Turn, Unrecorded};
 pub use handle::{Credits, JournalName, Seat};
 pub use journal::Journal;
 pub use journal_model::Status;

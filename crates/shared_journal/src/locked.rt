@@ -21,9 +21,9 @@ use crate::known::{Knowing, Recorded, enter, look, note};
 use crate::open_handle::Handle;
 use crate::stopped::{Receipt, Ticket};
 use block_device::Device;
-use group_commit::{Record, Turn};
+use group_commit::{Record, Turn, Unrecorded};
 use handle::{CommitMark, CreditPool, Credits, Handle as Place, JournalName, Raiser, Seat};
-use journal_model::{BlockNo, History, JournalError, Sealed, Tid};
+use journal_model::{BlockNo, JournalError, Tid};
 use journal_sides::{EngineSide, FrontSide, SidesMeeting};
 use meeting::MeetingName;
 use parts::PartsName;
@@ -50,11 +50,7 @@ pub struct Tally {
 /// What lies under the front's lock of a journal: its front's side, what it keeps at the two words, and its record as the holders of
 /// handles, tickets and receipts know it. Contracts see the journal as the front knows it. A call that is not lent the engine's side is
 /// a step of that journal; one that is lent it is a step of the journal that both are where they have met.
-pub struct Locked<
-    J: JournalName + PartsName + MeetingName,
-    D: Device,
-    R: Record = History<Sealed>,
-> {
+pub struct Locked<J: JournalName + PartsName + MeetingName, D: Device, R: Record = Unrecorded> {
     pub(crate) journal: FrontSide<J, D, R>,
     /// The credits that open handles have left, and one for each entry of the running transaction.
     pub(crate) credits: Credits<J>,

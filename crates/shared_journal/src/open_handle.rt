@@ -5,9 +5,9 @@ ghost use Rattle.own_steps.specs.Own.{open_own};
 ghost use Rattle.shared_journal.specs.Known.{steps_known};
 
 use crate::known::Known;
-use group_commit::{Handle as FrontHandle, Record};
+use group_commit::{Handle as FrontHandle, Record, Unrecorded};
 use handle::{Handle as Place, JournalName};
-use journal_model::{HandleNo, History, Sealed, Tid};
+use journal_model::{HandleNo, Tid};
 use parts::PartsName;
 use std::marker::Model;
 
@@ -16,7 +16,7 @@ use std::marker::Model;
 ///
 /// It knows its steps: whatever other threads do, the journal's record has just these of it.
 /// Source: journalling.rst (`journal_start` and `journal_stop`).
-pub struct Handle<'j, J: JournalName + PartsName, R: Record = History<Sealed>> {
+pub struct Handle<'j, J: JournalName + PartsName, R: Record = Unrecorded> {
     pub(crate) place: Place<'j, J>,
     pub(crate) inner: FrontHandle,
     pub(crate) part: Known<J, R>,

@@ -4,9 +4,9 @@ ghost use Rattle.handle.specs.Values.{LooksAgain};
 ghost use Rattle.shared_journal.specs.Known.{own_of_ticket, ticket_known};
 
 use crate::known::Known;
-use group_commit::Record;
+use group_commit::{Record, Unrecorded};
 use handle::{CommitMark, JournalName, Receipt as MarkReceipt, Ticket as MarkTicket};
-use journal_model::{HandleNo, History, Sealed, Tid};
+use journal_model::{HandleNo, Tid};
 use parts::PartsName;
 use std::marker::Model;
 
@@ -14,7 +14,7 @@ use std::marker::Model;
 ///
 /// It knows the handle's steps: whatever other threads do, the journal's record has just these of it.
 #[derive(Drop)]
-pub struct Ticket<J: JournalName + PartsName, R: Record = History<Sealed>> {
+pub struct Ticket<J: JournalName + PartsName, R: Record = Unrecorded> {
     pub(crate) inner: MarkTicket<J>,
     pub(crate) part: Known<J, R>,
 }
@@ -32,7 +32,7 @@ impl<J: JournalName + PartsName, R: Record> Model for Ticket<J, R> {
 
 /// The proof that a handle's transaction is committed. It knows the handle's steps, as its ticket did.
 #[derive(Drop)]
-pub struct Receipt<J: JournalName + PartsName, R: Record = History<Sealed>> {
+pub struct Receipt<J: JournalName + PartsName, R: Record = Unrecorded> {
     pub(crate) inner: MarkReceipt<J>,
     pub(crate) part: Known<J, R>,
 }

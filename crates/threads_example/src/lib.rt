@@ -8,9 +8,9 @@ ghost use Rattle.std.specs.Prelude.{◌≡◌};
 
 use anyhow::{Result, bail};
 use block_device::Device;
-use journal_model::{Block, BlockNo, History, JournalError, Sealed};
+use journal_model::{Block, BlockNo, JournalError};
 use recovery::Opened;
-use shared_journal::{JournalName, LaidJournal, MeetingName, PartsName, lay};
+use shared_journal::{JournalName, LaidJournal, MeetingName, PartsName, Unrecorded, lay};
 use std::alloc::{AllocError, Global};
 use std::marker::Brand;
 use std::sync::Wait;
@@ -120,7 +120,7 @@ fn change(
 
 /// How many changes were told to be safe. A thread that met a refusal ended with it.
 fn safe_changes<J: JournalName + PartsName + MeetingName>(
-    clients: &[ClientOutcome<J, History<Sealed>>],
+    clients: &[ClientOutcome<J, Unrecorded>],
 ) -> Result<usize, JournalError> {
     let mut safe = 0usize;
     for client in clients {

@@ -5,9 +5,8 @@ use denote.Param.Send.{AllSend, arg_send, param_send, shr_send}
 use denote.Struct.Field.{shr_ref_field}
 use Rattle.std.specs.Prelude.{[], ◌∷◌}
 use Rattle.handle.specs.contracts.seat.Seat as Seat
-use Rattle.journal_front.specs.contracts.record.HistorySealedRecord.TheImpl as kept
-use Rattle.journal_model.specs.contracts.history.History as History
-use Rattle.journal_model.specs.contracts.transaction.Sealed as Sealed
+use Rattle.journal_front.specs.contracts.record.Unrecorded as Unrecorded
+use Rattle.journal_front.specs.contracts.record.UnrecordedRecord.TheImpl as kept
 use Rattle.shared_journal.specs.contracts.journal.Journal as Journal
 use Rattle.shared_journal.proofs.Sent.{closure_send, journal_sync, record_send, seat_send}
 use Rattle.library_tests.proofs.held.commit_and_overtake.Lts as lts
@@ -17,14 +16,14 @@ use Rattle.library_tests.proofs.held.commit_and_overtake.Goals as goal
 pub join-committed-requires-send-F : goal.join-committed-requires-send-F
 join-committed-requires-send-F g c κs within =
     let runtime = (shr_ref_field (record { mir = named 6; lft = κs.1.1.1.1.1.1.0 }) (param 2 g.row.R) tt).row in
-    let journal = Journal.the_row (param 0 g.row.J) (param 1 g.row.D) (History.the_row Sealed.the_row) g.J.JournalName g.J.PartsName g.J.MeetingName g.D.Device kept.ghosts in
+    let journal = Journal.the_row (param 0 g.row.J) (param 1 g.row.D) Unrecorded.the_row g.J.JournalName g.J.PartsName g.J.MeetingName g.D.Device kept.ghosts in
     let shared = (shr_ref_field (record { mir = named 7; lft = κs.1.1.1.1.1.1.1.0 }) journal tt).row in
     let seat = Seat.the_row (param 0 g.row.J) g.J.JournalName in
     let all : AllSend (runtime ∷ shared ∷ seat ∷ []) = (
       shr_send _ _ (param 2 g.row.R) c.type_bounds.sync-R,
       (
         shr_send _ _ journal
-            (journal_sync (param 0 g.row.J) (param 1 g.row.D) (History.the_row Sealed.the_row) g.J.JournalName g.J.PartsName g.J.MeetingName g.D.Device kept.ghosts c.type_bounds.send-J c.type_bounds.sync-J
+            (journal_sync (param 0 g.row.J) (param 1 g.row.D) Unrecorded.the_row g.J.JournalName g.J.PartsName g.J.MeetingName g.D.Device kept.ghosts c.type_bounds.send-J c.type_bounds.sync-J
             c.type_bounds.send-D record_send),
         (seat_send (param 0 g.row.J) g.J.JournalName c.type_bounds.send-J, tt),
       ),

@@ -7,9 +7,8 @@ use Rattle.std.specs.Prelude.{[], ◌∷◌}
 use Rattle.std.specs.contracts.sync.atomic.AtomicU64 as AtomicU64
 use Rattle.std.proofs.Crossing.{crosses}
 use Rattle.handle.specs.contracts.seat.Seat as Seat
-use Rattle.journal_front.specs.contracts.record.HistorySealedRecord.TheImpl as kept
-use Rattle.journal_model.specs.contracts.history.History as History
-use Rattle.journal_model.specs.contracts.transaction.Sealed as Sealed
+use Rattle.journal_front.specs.contracts.record.Unrecorded as Unrecorded
+use Rattle.journal_front.specs.contracts.record.UnrecordedRecord.TheImpl as kept
 use Rattle.shared_journal.specs.contracts.journal.Journal as Journal
 use Rattle.shared_journal.proofs.Sent.{closure_send, journal_sync, record_send, seat_send}
 use Rattle.library_tests.proofs.held.read_and_overtake.Lts as lts
@@ -19,7 +18,7 @@ use Rattle.library_tests.proofs.held.read_and_overtake.Goals as goal
 pub join-read-requires-send-F : goal.join-read-requires-send-F
 join-read-requires-send-F g c κs within =
     let runtime = (shr_ref_field (record { mir = named 6; lft = κs.1.1.1.1.1.1.0 }) (param 2 g.row.R) tt).row in
-    let journal = Journal.the_row (param 0 g.row.J) (param 1 g.row.D) (History.the_row Sealed.the_row) g.J.JournalName g.J.PartsName g.J.MeetingName g.D.Device kept.ghosts in
+    let journal = Journal.the_row (param 0 g.row.J) (param 1 g.row.D) Unrecorded.the_row g.J.JournalName g.J.PartsName g.J.MeetingName g.D.Device kept.ghosts in
     let shared = (shr_ref_field (record { mir = named 7; lft = κs.1.1.1.1.1.1.1.0 }) journal tt).row in
     let seat = Seat.the_row (param 0 g.row.J) g.J.JournalName in
     let word = (shr_ref_field (record { mir = named 8; lft = κs.1.1.1.1.1.1.1.1.0 }) AtomicU64.the_row tt).row in
@@ -28,7 +27,7 @@ join-read-requires-send-F g c κs within =
       shr_send _ _ (param 2 g.row.R) c.type_bounds.sync-R,
       (
         shr_send _ _ journal
-            (journal_sync (param 0 g.row.J) (param 1 g.row.D) (History.the_row Sealed.the_row) g.J.JournalName g.J.PartsName g.J.MeetingName g.D.Device kept.ghosts c.type_bounds.send-J c.type_bounds.sync-J
+            (journal_sync (param 0 g.row.J) (param 1 g.row.D) Unrecorded.the_row g.J.JournalName g.J.PartsName g.J.MeetingName g.D.Device kept.ghosts c.type_bounds.send-J c.type_bounds.sync-J
             c.type_bounds.send-D record_send),
         (
           seat_send (param 0 g.row.J) g.J.JournalName c.type_bounds.send-J,

@@ -3,4 +3,4 @@ use Rattle.journal_front.proofs.transaction.Transaction.batch.Given as goal
 
 -- the copied entries, and those that are left
 abbrev pub invariant-loop-block : goal.invariant-loop-block
-invariant-loop-block l = l.entries ++ l.block-iterator ≡ l.self-inside.versions.running
+invariant-loop-block g l = l.entries ++ l.block-iterator ≡ l.self-inside.versions.running

@@ -7,7 +7,7 @@ use Rattle.journal_front.proofs.transaction.Transaction.counts.Goals as goal
 
 -- at first none is counted
 pub loop-entry-init : goal.loop-entry-init
-loop-entry-init c =
+loop-entry-init g c =
     none-yet _ _
     (ap (λ (es : List (ℕ × Entry)). length (copied es))
     (c.into_iter-entry-iterator.ensures.into_iter_gives ∙ c.iter-entry-items.ensures.rest ∙ c.running-entries.ensures ∙ c.self.invariant.entries_are)
@@ -15,15 +15,15 @@ loop-entry-init c =
 
 -- a copy is
 pub loop-entry-preserved-in-Copy : goal.loop-entry-preserved-in-Copy
-loop-entry-preserved-in-Copy c = counts-copy _ _ _ _ _ _ _ c.in-Some.ensures.steps c.in-Copy.is c.loop-entry.invariant
+loop-entry-preserved-in-Copy g c = counts-copy _ _ _ _ _ _ _ c.in-Some.ensures.steps c.in-Copy.is c.loop-entry.invariant
 
 -- a revoke is not
 pub loop-entry-preserved : goal.loop-entry-preserved
-loop-entry-preserved c = counts-revoke _ _ _ _ _ _ c.in-Some.ensures.steps c.in_default.is c.loop-entry.invariant
+loop-entry-preserved g c = counts-revoke _ _ _ _ _ _ c.in-Some.ensures.steps c.in_default.is c.loop-entry.invariant
 
 -- there are no more than entries
 pub overflow_add-copies : goal.overflow_add-copies
-overflow_add-copies c =
+overflow_add-copies g c =
     let es = entries c.args.self.now.transaction.steps in
     let few : c.loop-entry.copies + 1 ≤ length es =
     let count = counts-copy _ _ _ _ _ _ _ c.in-Some.ensures.steps c.in-Copy.is c.loop-entry.invariant in
@@ -33,7 +33,7 @@ overflow_add-copies c =
     omega arith
 
 pub overflow_sub-result : goal.overflow_sub-result
-overflow_sub-result c =
+overflow_sub-result g c =
     let es = entries c.args.self.now.transaction.steps in
     let few = few-copies es c.loop-entry.copies _ c.loop-entry.invariant in
     let len : length es ≡ c.len-all.result =
@@ -42,11 +42,11 @@ overflow_sub-result c =
 
 -- at the end all are counted
 pub returns-clause-copies : goal.returns-clause-copies
-returns-clause-copies c = all-copies _ _ _ c.in-None.ensures.steps.0 c.loop-entry.invariant
+returns-clause-copies g c = all-copies _ _ _ c.in-None.ensures.steps.0 c.loop-entry.invariant
 
 -- and all others are revokes
 pub returns-clause-revokes : goal.returns-clause-revokes
-returns-clause-revokes c =
+returns-clause-revokes g c =
     let es = entries c.args.self.now.transaction.steps in
     let others = other-revokes es c.loop-entry.copies (all-copies _ _ _ c.in-None.ensures.steps.0 c.loop-entry.invariant) in
     let len : length es ≡ c.len-all.result =

@@ -4,4 +4,4 @@ use Rattle.journal_front.proofs.transaction.Transaction.counts.Given as goal
 
 -- the copies that were counted, and those that are left, are all
 abbrev pub invariant-loop-entry : goal.invariant-loop-entry
-invariant-loop-entry l = l.copies + length (copied l.entry-iterator) ≡ length (copied (entries l.self.transaction.steps))
+invariant-loop-entry g l = l.copies + length (copied l.entry-iterator) ≡ length (copied (entries l.self.transaction.steps))

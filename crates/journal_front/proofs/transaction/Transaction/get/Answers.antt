@@ -5,6 +5,6 @@ use Rattle.journal_front.proofs.transaction.Transaction.get.Goals as goal
 
 -- a look-up of a block finds the effect on it
 pub returns : goal.returns
-returns c =
+returns g c =
     rw (← c.self.view_is)
-    (c.get.ensures.value ∙ ap (lookup (nat_eq c.args.block)) (c.running.ensures ∙ c.self.invariant.entries_are) ∙ lookup-effect c.self.inside.steps.items c.args.block)
+    (c.get.ensures.value ∙ ap (lookup (nat_eq c.args.block)) (c.running.ensures ∙ c.self.invariant.entries_are) ∙ lookup-effect c.self.inside.known.steps c.args.block)

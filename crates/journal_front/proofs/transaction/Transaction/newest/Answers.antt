@@ -12,9 +12,9 @@ newer-later None old = refl
 newer-later (Some e) old = refl
 
 pub returns : goal.returns
-returns c =
+returns g c =
     let v = c.self.inside.versions in
-    let own = ap (lookup (nat_eq c.args.block)) c.self.invariant.entries_are ∙ lookup-effect c.self.inside.steps.items c.args.block in
+    let own = ap (lookup (nat_eq c.args.block)) c.self.invariant.entries_are ∙ lookup-effect c.self.inside.known.steps c.args.block in
     rw (← c.self.view_is)
     (c.get.ensures ∙ newer-later (lookup (nat_eq c.args.block) v.running) (lookup (nat_eq c.args.block) v.committing)
     ∙ ap (later (lookup (nat_eq c.args.block) v.committing)) own)

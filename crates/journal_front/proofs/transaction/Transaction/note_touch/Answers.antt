@@ -2,19 +2,24 @@ use Rattle.std.proofs.Common.{List, ap, nat_eq, sym, true≢false, ℕ, [], ◌+
 use Rattle.indexmap.specs.IndexMap.{insert_entry}
 use Rattle.journal_model.specs.declared.entry.Entry.{Entry}
 use Rattle.journal_model.specs.declared.transaction.Step.{Step}
-use Rattle.journal_model.specs.Transaction.{entries}
+use Rattle.journal_model.specs.Transaction.{Transaction, entries}
 use Rattle.journal_front.proofs.EntriesOfSteps.{entries-touch}
 use Rattle.journal_front.proofs.transaction.Transaction.note_touch.Goals as goal
 
 -- the entries are those of one step more, and no room is promised
 pub invariant_of-self-2 : goal.invariant_of-self-2
-invariant_of-self-2 c =
+invariant_of-self-2 g c =
     let t = c.self.inside in
-    let steps = c.push_reserved.ensures.items ∙ ap (λ (ss : List Step). ss ++ c.args.step ∷ []) c.try_reserve.ensures.items in
+    let noted = c.note.ensures in
     record {
       entries_are =
           c.in_ok-write.ensures.running
           ∙ ap (λ (es : List (ℕ × Entry)). insert_entry nat_eq es c.args.step.block c.args.entry) c.self.invariant.entries_are
-          ∙ sym (entries-touch t.steps.items c.args.step c.args.entry c.requires) ∙ ap entries (sym steps);
-      step_room = λ is. absurd (true≢false (sym is));
+          ∙ sym (entries-touch t.known.steps c.args.step c.args.entry c.requires) ∙ ap (λ (k : Transaction). entries k.steps) (sym noted);
+      joined_is = rw noted c.self.invariant.joined_is;
+      handles_are = λ keeps. c.self.invariant.handles_are keeps ∙ ap (λ (k : Transaction). k.handles) (sym noted);
+      steps_are = λ keeps.
+          c.keep_step.ensures keeps ∙ ap (λ (ss : List Step). ss ++ c.args.step ∷ []) (c.room_for_step.ensures.same ∙ c.self.invariant.steps_are keeps)
+          ∙ ap (λ (k : Transaction). k.steps) (sym noted);
+      step_room = λ keeps is. absurd (true≢false (sym is));
     }
