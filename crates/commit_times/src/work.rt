@@ -86,23 +86,26 @@ impl<D: Device + Drop> Work<D> {
     /// Those of a reserve, a join and a write: `TooMany` where a transaction can't have so many blocks.
     pub(crate) fn change(&mut self, plan: &mut Plan) -> Result<Ticket, JournalError> {
         let mut handle = self.start(plan.copies)?;
-        for number in 0..plan.copies {
-            let (block, fill) = plan.draw(number);
-            self.write(&mut handle, block, fill)?;
+        let written = self.write_all(&mut handle, plan);
+        let ticket = self.journal.stop(handle);
+        match written {
+            Ok(()) => Ok(ticket),
+            Err(e) => Err(e),
         }
-        Ok(self.journal.stop(handle))
     }
 
     /// A handle with so many credits.
     fn start(&mut self, credits: u64) -> Result<Handle, JournalError> {
-        let credits = self.journal.reserve(credits)?;
-        match self.journal.try_join(credits) {
-            Ok(handle) => Ok(handle),
-            Err((credits, e)) => {
-                self.journal.give_back(credits);
-                Err(e)
-            }
+        self.journal.try_start(credits)
+    }
+
+    /// Writes the blocks of the next transaction.
+    fn write_all(&mut self, handle: &mut Handle, plan: &mut Plan) -> Result<(), JournalError> {
+        for number in 0..plan.copies {
+            let (block, fill) = plan.draw(number);
+            self.write(handle, block, fill)?;
         }
+        Ok(())
     }
 
     /// Writes a block that is filled with one byte.

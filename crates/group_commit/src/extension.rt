@@ -44,10 +44,10 @@ impl<D: Device, R: Record> Journal<D, R> {
             × (credits ≤ self.old.journal.front.reserved → Does D.state self.old (FrontStep (GiveBack credits)) self.new)) }
         ensures device { self.new.device ≡ self.old.device }
     {
-        match self.front.extend(handle, credits.count()) {
+        match self.front.give(handle, credits) {
             Ok(()) => Ok(()),
-            Err(e) => {
-                self.front.give_back(credits.count());
+            Err((credits, e)) => {
+                self.front.take_back(credits);
                 Err(e)
             }
         }

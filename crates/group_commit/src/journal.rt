@@ -159,7 +159,7 @@ impl<D: Device, R: Record> Journal<D, R> {
         ensures other { self.old.journal.front.reserved < credits → self.new ≡ self.old }
         ensures device { self.new.device ≡ self.old.device }
     {
-        self.front.give_back(credits.count());
+        self.front.take_back(credits);
     }
 
     /// Makes a handle of the running transaction, with these credits.
@@ -178,10 +178,7 @@ impl<D: Device, R: Record> Journal<D, R> {
         ensures err { IfErr result (λ e. (e.0 ≡ credits) × JoinRefused self.old.journal.front credits e.1 × (self.new ≡ self.old)) }
         ensures device { self.new.device ≡ self.old.device }
     {
-        match self.front.join(credits.count()) {
-            Ok(handle) => Ok(handle),
-            Err(e) => Err((credits, e)),
-        }
+        self.front.join_with(credits)
     }
 
     /// Writes a block of the home area, of one block of bytes, as a part of the handle's transaction. The first touch of a
@@ -274,10 +271,9 @@ impl<D: Device, R: Record> Journal<D, R> {
         ensures ticket { result ≡ record { handle = handle.number; tid = handle.tid } }
         ensures device { self.new.device ≡ self.old.device }
     {
-        if self.front.is_open(&handle) {
-            self.front.stop(handle.number(), handle.left());
-        }
-        Ticket::new(handle.number(), handle.tid())
+        let ticket = Ticket::new(handle.number(), handle.tid());
+        self.front.stop_handle(handle);
+        ticket
     }
 
     /// Asks for the commit of the ticket's transaction: where it is still running, it takes no further handles.

@@ -8,7 +8,7 @@
 use anyhow::{Result, bail};
 use block_device::Device;
 use file_device::{FileDevice, UnknownContents, lock};
-use group_commit::{Journal, Receipt, Ticket};
+use group_commit::{Handle, Journal, Receipt, Ticket};
 use journal_model::{BlockNo, JournalError, Tid};
 use recovery::Opened;
 use std::alloc::Global;
@@ -101,16 +101,28 @@ fn new_journal<D: Device + Drop>(alloc: Global, opened: Opened<D>) -> Result<Jou
 /// Changes blocks 9 and 10 through one handle: after any stop both changes are there, or neither is. Nothing is written to the
 /// device yet: both blocks lie in memory, as a part of the running transaction. A handle has a credit for each block that it will touch
 /// first. Where the journal has fewer left (`Full`), or its running transaction takes no further handles (`NotRunning`), commit first.
+/// The handle is stopped whatever its writes come to: the compiler lets nobody drop it.
 fn change_two_blocks<D: Device + Drop>(
     alloc: Global,
     journal: &mut Journal<D>,
 ) -> Result<Ticket, JournalError> {
     let mut handle = journal.try_start(2)?;
+    let written = write_two_blocks(alloc, journal, &mut handle);
+    let ticket = journal.stop(handle);
+    written?;
+    Ok(ticket)
+}
+
+/// Writes the two blocks.
+fn write_two_blocks<D: Device + Drop>(
+    alloc: Global,
+    journal: &mut Journal<D>,
+    handle: &mut Handle,
+) -> Result<(), JournalError> {
     let ones = vec![in alloc; 0x11; journal.block_size()]?;
-    journal.write(&mut handle, BlockNo(9), &ones)?;
+    journal.write(handle, BlockNo(9), &ones)?;
     let twos = vec![in alloc; 0x22; journal.block_size()]?;
-    journal.write(&mut handle, BlockNo(10), &twos)?;
-    Ok(journal.stop(handle))
+    journal.write(handle, BlockNo(10), &twos)
 }
 
 /// Commits a ticket's transaction: takes its commit turns, one device call each, and makes room in the log first where it is too full.
@@ -129,10 +141,11 @@ fn read_first<D: Device + Drop>(
     journal: &mut Journal<D>,
     block: BlockNo,
 ) -> Result<u8, JournalError> {
-    let mut handle = journal.try_start(0)?;
     let mut bytes = vec![in alloc; 0; journal.block_size()]?;
-    journal.read(&mut handle, block, &mut bytes)?;
+    let mut handle = journal.try_start(0)?;
+    let read = journal.read(&mut handle, block, &mut bytes);
     let _ticket = journal.stop(handle);
+    read?;
     Ok(bytes.first().copied().unwrap_or(0))
 }
 

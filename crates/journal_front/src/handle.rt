@@ -1,12 +1,21 @@
-//! What callers hold of a front: credits and handles. A front alone makes them: `Front::reserve` and `Front::join`.
+//! What callers hold of a front: credits and handles. A front alone makes them (`Front::{reserve, join}`), and a front alone
+//! ends them: `Front::{take_back, join_with, give, stop_handle}`. Neither can be dropped, so none is forgotten.
+ghost use Rattle.std.specs.Prelude.{◌≡◌, ◌⊎◌, ◌+◌, ◌<◌, ◌≤◌, IfErr, IfOk, OnOk};
+ghost use Rattle.journal_world.specs.Front.{FrontHappens, next_handle};
+ghost use Rattle.journal_world.specs.Front.FrontEvent.{ExtendHandle, GiveBack, Join, StopHandle};
+ghost use Rattle.journal_front.specs.Front.{ExtendRefused, IsOpenHandle, JoinRefused};
+
 use crate::Touch;
-use journal_model::{HandleNo, Tid};
+use crate::front::Front;
+use crate::record::Record;
+use journal_model::{HandleNo, JournalError, Tid};
 use std::marker::Model;
 
-/// Credits that were granted: the right of one handle to touch so many further blocks. Make a handle of them, or give
-/// them back to the journal that granted them: while they are held, others can have the fewer.
+/// Credits that were granted: the right of one handle to touch so many further blocks. They have to be given back to the journal
+/// that granted them, or used up by a handle that is made of them: a value of this type can't be dropped or copied. While they
+/// are held, others can have the fewer.
 /// Source: journalling.rst (the credits of `journal_start`).
-#[derive(Debug, Drop)]
+#[derive(Debug)]
 pub struct Credits {
     count: u64,
 }
@@ -37,9 +46,10 @@ impl Credits {
 }
 
 /// A handle: it writes and revokes blocks as a part of one transaction, and all that it does is there after a stop, or
-/// nothing of it. Stop it when it is done: until then its transaction can't be committed.
+/// nothing of it. It has to be stopped, after a device failure too: a value of this type can't be dropped or copied. Until it
+/// has stopped its transaction can't be committed.
 /// Source: journalling.rst (`journal_start` and `journal_stop`).
-#[derive(Debug, Drop)]
+#[derive(Debug)]
 pub struct Handle {
     number: HandleNo,
     tid: Tid,
@@ -99,5 +109,79 @@ impl Handle {
         ensures { self.new ≡ record self.old { left = self.old.left + n } }
     {
         self.left += n;
+    }
+}
+
+impl<R: Record> Front<R> {
+    /// Takes credits back, of those that no handle was made of. More than there are were not granted here: nothing changes.
+    pub fn take_back(&mut self, credits: Credits)
+        ensures granted { credits ≤ self.old.reserved → FrontHappens self.old (GiveBack credits) self.new }
+        ensures other { self.old.reserved < credits → self.new ≡ self.old }
+    {
+        let Credits { count } = credits;
+        self.give_back(count);
+    }
+
+    /// Lets one more handle join, with these credits.
+    ///
+    /// # Errors
+    ///
+    /// Those of `join`: the credits come back, and nothing else changes.
+    pub fn join_with(&mut self, credits: Credits) -> Result<Handle, (Credits, JournalError)>
+        ensures ok { IfOk result (λ handle. FrontHappens self.old (Join credits) self.new
+            × (handle ≡ record { number = next_handle self.old; tid = self.old.running.tid; left = credits })) }
+        ensures open { IfOk result (IsOpenHandle self.new) }
+        ensures err { IfErr result (λ e. (e.0 ≡ credits) × JoinRefused self.old credits e.1 × (self.new ≡ self.old)) }
+    {
+        match self.join(credits.count) {
+            Ok(handle) => {
+                let Credits { count: _ } = credits;
+                Ok(handle)
+            }
+            Err(e) => Err((credits, e)),
+        }
+    }
+
+    /// Gives an open handle these credits.
+    ///
+    /// # Errors
+    ///
+    /// Those of `extend`: the credits come back, and nothing else changes.
+    pub fn give(
+        &mut self,
+        handle: &mut Handle,
+        credits: Credits,
+    ) -> Result<(), (Credits, JournalError)>
+        ensures ok { OnOk result (FrontHappens self.old (ExtendHandle handle.old.number credits) self.new) }
+        ensures open { OnOk result (IsOpenHandle self.new handle.new) }
+        ensures handle { OnOk result (handle.new ≡ record handle.old { left = handle.old.left + credits }) }
+        ensures err { IfErr result (λ e. (e.0 ≡ credits) × ExtendRefused self.old handle.old credits e.1 × (self.new ≡ self.old) × (handle.new ≡ handle.old)) }
+    {
+        match self.extend(handle, credits.count) {
+            Ok(()) => {
+                let Credits { count: _ } = credits;
+                Ok(())
+            }
+            Err(e) => Err((credits, e)),
+        }
+    }
+
+    /// Ends a handle: its credits that are left come back. Where it is none of the open ones nothing changes.
+    pub fn stop_handle(&mut self, handle: Handle)
+        ensures stops { IsOpenHandle self.old handle → FrontHappens self.old (StopHandle handle.number) self.new }
+        ensures other { (IsOpenHandle self.old handle → ⊥) → self.new ≡ self.old }
+        ensures either { FrontHappens self.old (StopHandle handle.number) self.new ⊎ (self.new ≡ self.old) }
+        ensures given { self.new.given ≡ self.old.given }
+        ensures running { self.new.running ≡ self.old.running }
+    {
+        let is_open = self.is_open(&handle);
+        let Handle {
+            number,
+            tid: _,
+            left,
+        } = handle;
+        if is_open {
+            self.stop(number, left);
+        }
     }
 }

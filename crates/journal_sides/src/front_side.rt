@@ -105,7 +105,7 @@ impl<J: MeetingName, D: Device, R: Record> FrontSide<J, D, R> {
         ensures other { self.old.journal.front.reserved < credits → self.new ≡ self.old }
         ensures device { self.new.device ≡ self.old.device }
     {
-        self.front.give_back(credits.count());
+        self.front.take_back(credits);
     }
 
     /// Makes a handle of the running transaction, with these credits.
@@ -123,10 +123,7 @@ impl<J: MeetingName, D: Device, R: Record> FrontSide<J, D, R> {
         ensures err { IfErr result (λ e. (e.0 ≡ credits) × JoinRefused self.old.journal.front credits e.1 × (self.new ≡ self.old)) }
         ensures device { self.new.device ≡ self.old.device }
     {
-        match self.front.join(credits.count()) {
-            Ok(handle) => Ok(handle),
-            Err(e) => Err((credits, e)),
-        }
+        self.front.join_with(credits)
     }
 
     /// Grants `n` credits, and makes a handle of the running transaction with them.
@@ -197,10 +194,10 @@ impl<J: MeetingName, D: Device, R: Record> FrontSide<J, D, R> {
             × (credits ≤ self.old.journal.front.reserved → Does D.state self.old (FrontStep (GiveBack credits)) self.new)) }
         ensures device { self.new.device ≡ self.old.device }
     {
-        match self.front.extend(handle, credits.count()) {
+        match self.front.give(handle, credits) {
             Ok(()) => Ok(()),
-            Err(e) => {
-                self.front.give_back(credits.count());
+            Err((credits, e)) => {
+                self.front.take_back(credits);
                 Err(e)
             }
         }
@@ -257,9 +254,7 @@ impl<J: MeetingName, D: Device, R: Record> FrontSide<J, D, R> {
         ensures running { self.new.journal.front.running ≡ self.old.journal.front.running }
         ensures device { self.new.device ≡ self.old.device }
     {
-        if self.front.is_open(&handle) {
-            self.front.stop(handle.number(), handle.left());
-        }
+        self.front.stop_handle(handle);
     }
 
     /// Asks for the commit of the transaction with this number: where it is still running, and a handle has joined it, it takes no

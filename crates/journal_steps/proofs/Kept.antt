@@ -1,10 +1,10 @@
 -- A front and an engine that agree do so after each call of the front, whatever it answers.
 use Rattle.std.proofs.Common.{arith, sym, subst, ⊎_elim}
-use Rattle.std.specs.Prelude.{◌≡◌, ℕ, ◌<◌, ◌≤◌, Result, Ok, Err, IfErr, IfOk, OnOk, List, length}
+use Rattle.std.specs.Prelude.{◌≡◌, ◌⊎◌, ℕ, ◌<◌, ◌≤◌, Result, Ok, Err, IfErr, IfOk, OnOk, List, length}
 use Rattle.std.proofs.lemmas.Bool.Decides.{leb_tells}
 use Rattle.journal_world.specs.Engine.{Engine}
 use Rattle.journal_world.specs.Front.{Front, FrontEvent, FrontHappens}
-use Rattle.journal_world.specs.Front.FrontEvent.{GiveBack, Join, Lock, Reserve, RevokeBlock, WriteBlock}
+use Rattle.journal_world.specs.Front.FrontEvent.{GiveBack, Join, Lock, Reserve, RevokeBlock, StopHandle, WriteBlock}
 use Rattle.journal_steps.specs.Journal.{Agrees}
 use Rattle.journal_steps.proofs.Sealing.{IsTouch, agrees-revoked, agrees-untouched, agrees-written}
 
@@ -36,6 +36,16 @@ module _ (f front : Front) (e : Engine) (agrees : Agrees (record { front = f; en
       IfErr r (λ x. Why x × (front ≡ f)) → Agrees (record { front = front; engine = e })
   kept-join Says Why (Ok a) n ok err = kept-step (Join n) (λ touch. touch) ok.0
   kept-join Says Why (Err x) n ok err = kept-same err.1
+
+  -- the same, where the credits come back
+  pub kept-join_with : {A R : Type 0} (Says : A → Type 0) (Back Why : R → Type 0) (r : Result A R) (n : ℕ) → IfOk r (λ a. FrontHappens f (Join n) front × Says a) →
+      IfErr r (λ x. Back x × Why x × (front ≡ f)) → Agrees (record { front = front; engine = e })
+  kept-join_with Says Back Why (Ok a) n ok err = kept-step (Join n) (λ touch. touch) ok.0
+  kept-join_with Says Back Why (Err x) n ok err = kept-same err.2
+
+  -- after a handle that stops, or is none of the open ones
+  pub kept-stop : (h : ℕ) → (FrontHappens f (StopHandle h) front ⊎ (front ≡ f)) → Agrees (record { front = front; engine = e })
+  kept-stop h = ⊎_elim (λ stops. kept-step (StopHandle h) (λ touch. touch) stops) kept-same
 
   -- after a lock, which a transaction without handles does not take
   pub kept-lock : (0 < length f.running.handles → FrontHappens f Lock front) → (length f.running.handles ≡ 0 → front ≡ f) → Agrees (record { front = front; engine = e })

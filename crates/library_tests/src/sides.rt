@@ -28,7 +28,13 @@ fn goes_on<J: MeetingName, R: Abort>(rt: &R, unnamed: UnnamedSides<MemDevice>)
     let (meeting, mut front, mut engine) = unnamed.named::<J>();
     revoke_one(rt, &mut front, 9);
     assert!(rt; front.request_commit(Tid(2)).is_ok());
-    assert!(rt; matches!(front.try_start(1), Err(JournalError::NotRunning)));
+    match front.try_start(1) {
+        Ok(handle) => {
+            front.stop(handle);
+            panic!(rt; "the transaction takes a further handle")
+        }
+        Err(e) => assert!(rt; e == JournalError::NotRunning),
+    }
     assert!(rt;
         matches!(
             seal(&meeting, &mut front, &mut engine),

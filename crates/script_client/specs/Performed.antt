@@ -24,7 +24,7 @@ use Rattle.script_client.specs.declared.outcome.Outcome.{Outcome}
 use Rattle.script_client.specs.declared.outcome.Outcome.TheVariants.{Begins, CheckTurn as CameToCheckTurn, Committed, Done, Open as StillOpen, Refused, Skipped, Transaction, Turn as CameToTurn}
 use Rattle.script_client.specs.declared.slots.Slot.{Slot}
 use Rattle.script_client.specs.declared.slots.Slot.TheVariants.{Empty, Open, Stopped, Waited}
-use Rattle.script_client.specs.Names.{stands_for}
+use Rattle.script_client.specs.Names.{IsFree, stands_for}
 use Rattle.recovery.specs.Values.{OpenedValue}
 use Rattle.script_client.specs.Shown.{IsNewClient, IsNextHandle, IsReceiptTaken, IsRefusedAborted, IsSameButJournal, ticket_of}
 use Rattle.script_client.specs.Steps.{Steps}
@@ -65,6 +65,12 @@ pub record StartsNone {D : Type 0} (name credits : ℕ) (old new : Table D) (e :
   pub why : StartRefused old.client.journal.journal.front credits e
   pub same : new.client.journal ≡ old.client.journal
   pub names : new.names ≡ set old.names name Empty
+
+-- where the name is free a handle starts, or none does; else the operation does not run
+abbrev pub HasStarted : {D : Type 0} → (D → DeviceState) → (name credits : ℕ) → Outcome → Table D → Table D → Type 0
+HasStarted state name credits outcome old new =
+    (IsFree old.names name × OrRefused outcome (StartsNamed state name credits outcome old new) (StartsNone name credits old new))
+    ⊎ ((IsFree old.names name → ⊥) × Skips outcome old new)
 
 -- a block is written through a handle, with these bytes and zeros behind them
 abbrev pub WritesBlock : {D : Type 0} → (D → DeviceState) → ℕ → List ℕ → Outcome → (h left : HandleValue) → (old new : JournalValue D) → Type 0
@@ -278,7 +284,7 @@ OnJournal Did old new = Did old.client.journal new.client.journal × (new.names 
 -- what an operation came to, and what it did: to the journal, by the handle or the ticket that its name stands for, and to the names
 abbrev pub HasDone : {D : Type 0} → (D → DeviceState) → (honest : D → Type 0) → Operation → Outcome → Table D → Table D → Type 0
 HasDone state honest (Start name credits) outcome old new =
-    IsSameButJournal old.client new.client × OrRefused outcome (StartsNamed state name credits outcome old new) (StartsNone name credits old new)
+    IsSameButJournal old.client new.client × HasStarted state name credits outcome old new
 HasDone state honest (Write name b bytes) outcome old new =
     IsSameButJournal old.client new.client × HasTouched state honest (Write name b bytes) name (stands_for old.names name) outcome old new
 HasDone state honest (Revoke name b) outcome old new =

@@ -10,7 +10,7 @@ use crate::slots::{Slot, Slots};
 use block_device::Device;
 use group_commit::{CheckTurn, Handle, Parts, Receipt, Status, Ticket, Turn};
 use journal_model::{BlockNo, JournalError, Sealed, Tid};
-use journal_script::{HandleName, Operation};
+use journal_script::{HANDLE_NAMES, HandleName, Operation};
 use recovery::Opened;
 use std::alloc::{AllocError, Global};
 
@@ -19,7 +19,6 @@ use std::alloc::{AllocError, Global};
 const MOST_TURNS: u32 = 2_000_000;
 
 /// The client of a journal, and what the names of a script stand for.
-#[derive(Drop)]
 pub struct Interpreter<'a, D: Device, H: HomeFact> {
     alloc: Global,
     client: Client<'a, D, H>,
@@ -92,7 +91,7 @@ impl<'a, D: Device + Drop, H: HomeFact> Interpreter<'a, D, H> {
     ghost use Rattle.group_commit.specs.Close.{IsSealedInClose, closing};
     ghost use Rattle.script_client.specs.Ended.{IsEnded, IsLeftClosed, IsUnclosed, StopsHandles};
     ghost use Rattle.script_client.specs.Names.{stands_for};
-    ghost use Rattle.script_client.specs.Performed.{HasDone, HasRequested, HasRestarted, HasStatus, HasStopped, HasTouched, HasWaited, IsBegun, IsTouch, Locks, OrRefused, ReadsBlock, StartsNamed, StartsNone, SyncsDirectly, TakesCheckTurns, TakesOneCheckTurn, TakesOneTurn, TakesTurns, TellsAgain, Touches, WaitsFor, WritesBlock, WritesDirectly};
+    ghost use Rattle.script_client.specs.Performed.{HasDone, HasRequested, HasRestarted, HasStarted, HasStatus, HasStopped, HasTouched, HasWaited, IsBegun, IsTouch, Locks, ReadsBlock, SyncsDirectly, TakesCheckTurns, TakesOneCheckTurn, TakesOneTurn, TakesTurns, TellsAgain, Touches, WaitsFor, WritesBlock, WritesDirectly};
     ghost use Rattle.script_client.specs.Shown.{IsLeftOf, IsSameButJournal};
     ghost use Rattle.script_client.specs.Told.{IsLedTo};
 
@@ -110,17 +109,20 @@ impl<'a, D: Device + Drop, H: HomeFact> Interpreter<'a, D, H> {
         ensures begun { IfOk result (λ interpreter. IsBegun D.state opened operations.now (record { client = interpreter.client; names = interpreter.slots })) }
         ensures err { IfErr result (λ e. (e.0 ≡ opened) × (e.1 ≡ Memory)) }
     {
-        let slots = match Slots::new(alloc) {
-            Ok(slots) => slots,
+        let room = match Vec::with_capacity(alloc, usize::from(HANDLE_NAMES)) {
+            Ok(room) => room,
             Err(_) => return Err((opened, JournalError::Memory)),
         };
         match Client::new(alloc, opened, operations) {
             Ok(client) => Ok(Interpreter {
                 alloc,
                 client,
-                slots,
+                slots: Slots::of(room),
             }),
-            Err(refused) => Err(refused),
+            Err(refused) => {
+                room.destroy_empty();
+                Err(refused)
+            }
         }
     }
 
@@ -190,21 +192,27 @@ impl<'a, D: Device + Drop, H: HomeFact> Interpreter<'a, D, H> {
             mut client,
             slots,
         } = self;
-        for slot in slots.into_slots() {
-            if let Slot::Open(handle) = slot {
-                let _ = client.stop(handle);
+        let mut slots = slots.into_slots();
+        while let Some(slot) = slots.pop() {
+            match slot {
+                Slot::Open(handle) => {
+                    let _ = client.stop(handle);
+                }
+                Slot::Empty | Slot::Stopped(_) | Slot::Waited(_) => {}
             }
         }
+        slots.destroy_empty();
         client
     }
 
-    /// Starts a handle. Where it is refused the name stands for nothing.
+    /// Starts a handle, where its name stands for no open one. Where the start is refused the name stands for nothing.
     fn start(&mut self, name: HandleName, credits: u64) -> Outcome
         ensures rest { IsSameButJournal self.old.client self.new.client }
-        ensures done { OrRefused result
-            (StartsNamed D.state name credits result (record { client = self.old.client; names = self.old.slots }) (record { client = self.new.client; names = self.new.slots }))
-            (StartsNone name credits (record { client = self.old.client; names = self.old.slots }) (record { client = self.new.client; names = self.new.slots })) }
+        ensures done { HasStarted D.state name credits result (record { client = self.old.client; names = self.old.slots }) (record { client = self.new.client; names = self.new.slots }) }
     {
+        if !self.slots.is_free(name) {
+            return Outcome::Skipped;
+        }
         match self.client.start(credits) {
             Ok(handle) => {
                 let tid = handle.tid();

@@ -114,7 +114,10 @@ fn perform_by<D: Device + Drop, H: HomeFact, W: Write>(
     let mut interpreter = interpreter;
     match perform_all(&mut interpreter, operations, after, out) {
         Ok(()) => Ok(left_of(interpreter)),
-        Err(e) => Err(Fault::Output(e)),
+        Err(e) => {
+            let _ = left_of(interpreter);
+            Err(Fault::Output(e))
+        }
     }
 }
 

@@ -1,15 +1,13 @@
-//! What the names of a script stand for while it runs.
-ghost use Rattle.std.specs.Prelude.{◌≡◌, IfOk, MatchOption, replicate, set};
+//! What the names of a script stand for while it runs. An open handle can't be dropped, so neither can a slot.
+ghost use Rattle.std.specs.Prelude.{◌≡◌, ◌↔◌, [], IsTrue, MatchOption, replicate, set, vec_capacity};
 ghost use Rattle.script_client.specs.declared.slots.Slot.TheVariants.{Empty};
 
 use group_commit::{Handle, Receipt, Ticket};
 use journal_script::{HANDLE_NAMES, HandleName};
-use std::alloc::{AllocError, Global};
 use std::marker::Model;
 use std::mem;
 
 /// What a name stands for.
-#[derive(Drop)]
 pub enum Slot {
     /// Nothing: its handle's start was refused, or none was tried.
     Empty,
@@ -22,7 +20,6 @@ pub enum Slot {
 }
 
 /// What each name stands for.
-#[derive(Drop)]
 pub struct Slots {
     slots: Vec<Slot>,
 }
@@ -37,17 +34,29 @@ impl Model for Slots {
 }
 
 impl Slots {
-    ghost use Rattle.script_client.specs.Names.{stands_for};
+    ghost use Rattle.script_client.specs.Names.{IsFree, MayStand, stands_for};
 
-    /// No name stands for anything. It fails where memory runs out; no other call does.
-    pub fn new(alloc: Global) -> Result<Self, AllocError>
-        ensures { IfOk result (λ names. names ≡ replicate 10_000 Empty) }
+    /// No name stands for anything. The room is for a slot of each name.
+    pub fn of(room: Vec<Slot>) -> Self
+        requires empty { room.items ≡ [] }
+        requires capacity { vec_capacity room ≡ 10_000 }
+        ensures { result ≡ replicate 10_000 Empty }
     {
-        let mut slots = Vec::with_capacity(alloc, usize::from(HANDLE_NAMES))?;
+        let mut slots = room;
         for _ in 0..HANDLE_NAMES {
-            slots.push(Slot::Empty)?;
+            slots.push_reserved(Slot::Empty);
         }
-        Ok(Slots { slots })
+        Slots { slots }
+    }
+
+    /// Whether a name may come to stand for an open handle: there is such a name, and it stands for none.
+    pub fn is_free(&self, name: HandleName) -> bool
+        ensures { IsTrue result ↔ IsFree self.now name }
+    {
+        match self.slots.get(name.index()) {
+            Some(Slot::Open(_)) | None => false,
+            Some(Slot::Empty | Slot::Stopped(_) | Slot::Waited(_)) => true,
+        }
     }
 
     /// What a name stands for.
@@ -69,12 +78,19 @@ impl Slots {
         }
     }
 
-    /// Lets a name stand for something else.
+    /// Lets a name, which stands for no open handle, stand for something else.
     pub fn put(&mut self, name: HandleName, slot: Slot)
+        requires { MayStand self.old name slot }
         ensures { self.new ≡ set self.old name slot }
     {
-        if name.index() < self.slots.len() {
-            self.slots[name.index()] = slot;
+        let other = if name.index() < self.slots.len() {
+            mem::replace(&mut self.slots[name.index()], slot)
+        } else {
+            slot
+        };
+        match other {
+            Slot::Open(_handle) => unreachable!(),
+            Slot::Empty | Slot::Stopped(_) | Slot::Waited(_) => {}
         }
     }
 

@@ -5,12 +5,12 @@ use Rattle.group_commit.proofs.journal.Journal.give.Goals as goal
 -- front and engine agree after an extension
 pub invariant_of-self : goal.invariant_of-self
 invariant_of-self g c =
-    kept-step c.self.inside.front c.extend.new.self c.self.inside.engine.engine c.self.invariant (ExtendHandle c.args.handle.now.number c.count.result)
+    kept-step c.self.inside.front c.give.new.self c.self.inside.engine.engine c.self.invariant (ExtendHandle c.args.handle.now.number c.args.credits)
     (λ touch. touch) c.in-Ok.ensures.ok
 
 -- and after one that was refused, whose credits come back
 pub invariant_of-self-in-Err : goal.invariant_of-self-in-Err
 invariant_of-self-in-Err g c =
     let e = c.self.inside.engine.engine in
-    kept-give_back c.extend.new.self c.give_back.new.self e (kept-same c.self.inside.front c.extend.new.self e c.self.invariant c.in-Err.ensures.err.1)
-    _ c.give_back.ensures.granted c.give_back.ensures.other
+    kept-give_back c.give.new.self c.take_back.new.self e (kept-same c.self.inside.front c.give.new.self e c.self.invariant c.in-Err.ensures.err.2)
+    _ c.take_back.ensures.granted c.take_back.ensures.other
