@@ -17,7 +17,7 @@ use Rattle.jbench_logs.specs.Done.{HasUpgraded, IsFoundOut, IsMade, IsRecovered,
 use Rattle.jbench_logs.specs.Over.{IsOver}
 use Rattle.jbench_logs.specs.declared.regular.RegularFile.{RegularFile}
 use Rattle.jbench_commands.specs.Applying.{IsDoneTo, after_told, ending_told}
-use Rattle.jbench_commands.specs.Runs.{HasRun, HasTaken, runs_told}
+use Rattle.jbench_commands.specs.Runs.{HasRun, HasTakenEither, runs_told}
 use Rattle.jbench_commands.specs.Sweeps.{HasSwept}
 use Rattle.script_threads.specs.Runs.{HasFoundFalse, HasServed}
 
@@ -77,7 +77,7 @@ pub record IsBenchDone (first : FileContents) : Type 0 where
 abbrev pub HasObeyed : (first : FileContents) → (contents : Option (List ℕ)) → Words → Type 0
 HasObeyed first contents (Run words) = (text : Option (List ℕ)) × HasRun (runs_told words.image) text words true
 HasObeyed first contents (Sweep words) = (text : Option (List ℕ)) × HasSwept text words.fails 0
-HasObeyed first contents (Check path) = (text : Option (List ℕ)) × HasTaken text
+HasObeyed first contents (Check path) = (text : Option (List ℕ)) × HasTakenEither text
 HasObeyed first contents (Threads path) = (text : Option (List ℕ)) × HasServed text
 HasObeyed first contents (Format words) = IsFormatDone first words
 HasObeyed first contents (Dump path) = IsDoneOver first IsOverAny (λ old new. HasDump (shape_of old) (reading old.disk))

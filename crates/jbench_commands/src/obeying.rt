@@ -6,7 +6,7 @@ ghost use Rattle.jbench_words.specs.declared.fault.Status.TheVariants.{Fine, Ref
 ghost use Rattle.jbench_logs.specs.Cleared.{cleared, log_cleared};
 ghost use Rattle.jbench_logs.specs.Done.{HasUpgraded, IsMade};
 ghost use Rattle.jbench_commands.specs.Obeying.{HasFoundWrong, HasObeyed, IsAppliedOver, IsBenchDone, IsDoneOver, IsFormatDone, IsOverAny, IsOverTwo, Recovers};
-ghost use Rattle.jbench_commands.specs.Runs.{HasRun, HasTaken, runs_told};
+ghost use Rattle.jbench_commands.specs.Runs.{HasRun, HasTakenEither, runs_told};
 ghost use Rattle.jbench_commands.specs.Sweeps.{HasSwept};
 ghost use Rattle.script_threads.specs.Runs.{HasFoundFalse, HasServed};
 
@@ -155,7 +155,7 @@ fn check_file<W: Write + Drop, E: Write + Drop>(
     out: W,
     err: E,
 ) -> io::Result<Status>
-    ensures done { IfOk result (λ status. status ≡ Fine → (text : Option (List ℕ)) × HasTaken text) }
+    ensures done { IfOk result (λ status. status ≡ Fine → (text : Option (List ℕ)) × HasTakenEither text) }
     ensures other { IfOk result (λ status. status ≢ Fine → status ≡ Refused) }
 {
     let mut err = err;

@@ -31,7 +31,7 @@ that fails, LIST write numbers with commas (default: none), PATH a file that get
 script is.
 sweep SCRIPT [--fail]: runs a script with a stop at each of its writes and judges what each leaves; with --fail also once for each
 device call, which fails.
-check SCRIPT: says whether a script is good, and why it is not.
+check SCRIPT: says whether a script of run or of threads is good, and why it is not.
 threads SCRIPT: runs the clients of a script, each in a thread of its own, over one journal, and judges what came of them.
 format LOG HOME [--block B] [--length M] [--home N] [--uuid DIGITS] [--wide] [--keep-home]: two files become an empty log of M
 blocks (default: 33) and a home area of N zero blocks (default: 64), of B bytes each (default: 1024), or only the first does.
@@ -190,6 +190,10 @@ pub(crate) const CHECK: Usage = Usage {
     after_help: "\
 The script is one of run: jbench run --help says what that is. Nothing is run. It prints 'good operations=N', or on standard
 error 'jbench: bad script: ' with the key, or the number of the operation from 1 on and its text, and what is wrong with it.
+
+A script with the key \"clients\" is one of threads: jbench threads --help says what that is. It prints 'good clients=N handles=N
+receipts=N', how many clients, starts and waits it has, or behind 'jbench: bad script: ' the key, or the client and the number of its
+operation, each from 1 on, and what is wrong, as threads says it.
 
 Exit status: 0 the script is good; 1 it is not, or the words or the file were refused.
 
