@@ -208,6 +208,7 @@ fn bench_words<'a>(matches: &ArgMatches<'a>) -> Result<BenchWords<'a>, Wanted> {
         transactions: number_of(matches, "transactions", (1, u64::MAX), Wanted::Transactions)?,
         copies: copies.unwrap_or(COPIES),
         threads: number_of(matches, "threads", (1, 64), Wanted::Threads)?,
+        csv: matches.get_flag("csv"),
     })
 }
 

@@ -42,8 +42,8 @@ where that is told also those of a damaged log; or says what it would do.
 upgrade LOG: gives the empty log in a file block numbers of 64 bits.
 apply LOG HOME SCRIPT [--stay] [--keep-going]: opens the log in a file, and does the operations of a script over it and its home
 area.
-bench LOG HOME [--seconds N] [--transactions N] [--copies K] [--threads N]: opens the log in a file, and tells how long transactions
-take.
+bench LOG HOME [--seconds N] [--transactions N] [--copies K] [--threads N] [--csv]: opens the log in a file, and tells how long
+transactions take.
 
 Exit status: 0 done, 1 refused (words, file, script, refusal), 2 a verdict is false.
 
@@ -509,6 +509,9 @@ the nanoseconds that a commit took, from its request until it was durable with t
 did not exceed, and the most; and how many reads, writes and flushes of one block each area got, those of the opening and of the close too. On
 a terminal it says on standard error each second how many transactions are durable.
 
+With --csv it prints all of that as two lines with commas instead, the names of the columns and their values, with the times that 1, 5, 10,
+25, 50, 75, 90, 95 and 99 of 100 commits did not exceed.
+
 Exit status: 0 done; 1 refused: the words, a file, the log, or the device.
 
 Example: jbench bench log home --seconds 10 --copies 4",
@@ -548,6 +551,12 @@ Example: jbench bench log home --seconds 10 --copies 4",
             value: "N",
             is_option: true,
             help: "Let N clients commit at once, 1 to 64, each in a thread of its own [default: one, in no thread]",
+        },
+        Word {
+            name: "csv",
+            value: "",
+            is_option: true,
+            help: "Print a line of column names and one of values, with commas",
         },
     ],
 };

@@ -65,6 +65,8 @@ pub struct BenchWords<'a> {
     pub copies: u64,
     /// How many clients work in threads of their own, where that is told: else one works in no thread.
     pub threads: Option<u64>,
+    /// It prints values with commas, for machines.
+    pub csv: bool,
 }
 
 impl BenchWords<'_> {

@@ -332,6 +332,9 @@ fn told_bench(alloc: Global, words: &BenchWords<'_>) -> Result<String, AllocErro
     if let Some(threads) = words.threads {
         write!(text, ", {threads} threads")?;
     }
+    if words.csv {
+        text.push_str(", csv")?;
+    }
     Ok(text)
 }
 
