@@ -102,6 +102,7 @@ fn run_words<'a>(alloc: Global, matches: &ArgMatches<'a>) -> Result<RunWords<'a>
         run,
         opening: opening_stop(alloc, matches)?,
         image: image_paths(matches)?,
+        json: matches.get_flag("json"),
     })
 }
 
@@ -169,6 +170,7 @@ fn sweep_words<'a>(matches: &ArgMatches<'a>) -> SweepWords<'a> {
     SweepWords {
         script: matches.get_str("script").unwrap_or(""),
         fails: matches.get_flag("fail"),
+        json: matches.get_flag("json"),
     }
 }
 

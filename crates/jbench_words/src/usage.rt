@@ -25,12 +25,12 @@ pub(crate) const PROGRAM: Usage = Usage {
     name: "jbench",
     about: "Runs scripts of journal operations over a disk in memory that loses power and judges what is left; makes, prints and recovers logs",
     after_help: "\
-run SCRIPT [--stop K | --fail K] [--keep LIST] [--stop2 K] [--keep2 LIST] [--image-log PATH --image-home PATH]: SCRIPT is a file, K
-a write number from 1 on (default: the device stops at the end, and the opening does not stop), or with --fail the number of a call
-that fails, LIST write numbers with commas (default: none), PATH a file that gets what the stop left. jbench run --help says what a
-script is.
-sweep SCRIPT [--fail]: runs a script with a stop at each of its writes and judges what each leaves; with --fail also once for each
-device call, which fails.
+run SCRIPT [--stop K | --fail K] [--keep LIST] [--stop2 K] [--keep2 LIST] [--image-log PATH --image-home PATH] [--json]: SCRIPT is a
+file, K a write number from 1 on (default: the device stops at the end, and the opening does not stop), or with --fail the number of a
+call that fails, LIST write numbers with commas (default: none), PATH a file that gets what the stop left. jbench run --help says what
+a script is.
+sweep SCRIPT [--fail] [--json]: runs a script with a stop at each of its writes and judges what each leaves; with --fail also once for
+each device call, which fails.
 check SCRIPT: says whether a script of run or of threads is good, and why it is not.
 threads SCRIPT: runs the clients of a script, each in a thread of its own, over one journal, and judges what came of them.
 format LOG HOME [--block B] [--length M] [--home N] [--uuid DIGITS] [--wide] [--keep-home]: two files become an empty log of M
@@ -68,6 +68,10 @@ With --image-log and --image-home the image is also written to two files before 
 programs can judge it: jbench recover of them ends as the run's line 'open' says. Both files are made where there are none, and
 lose what they held once the script is taken. They are made before the script runs. A home area of more than 1048576 blocks has no
 image.
+
+With --json it prints one object in the place of lines, once all is done: \"operations\", a list of objects with \"operation\"
+and \"answer\", which are the sides of a line; \"stopped\", the write or null; \"dump\" and \"openings\", lists of lines; \"home\", a list
+of objects with \"block\" and \"begins\"; and \"verdict\".
 
 A script is a JSON object with these keys, of which \"ops\" alone has to be there:
   \"block\"   bytes of a block: 1024, 2048 or 4096 [default: 1024]
@@ -146,6 +150,12 @@ Example: jbench run examples/one_write.json --stop 4 --keep 4",
             is_option: true,
             help: "The file that gets the home area of the image; with --image-log [default: none]",
         },
+        Word {
+            name: "json",
+            value: "",
+            is_option: true,
+            help: "Print one JSON object",
+        },
     ],
 };
 
@@ -164,6 +174,9 @@ With --fail the script is also run once for each of its C device calls (reads, w
 fails and does nothing: the script goes on, and the device stops at the end. Each choice of that run's last four writes is kept,
 opened and judged. A second line is 'fail calls=C false=F'.
 
+With --json it prints one object in the place of lines, once all is done: \"writes\", \"images\", \"again\" and \"false\" are
+numbers, with --fail \"fail\" is an object of the numbers \"calls\" and \"false\", and \"verdict\" is \"ok\" or \"false\".
+
 Exit status: 0 done, all verdicts ok; 1 refused: the words, the file, or the script; 2 an F is not 0.
 
 Example: jbench sweep examples/two_blocks.json --fail",
@@ -179,6 +192,12 @@ Example: jbench sweep examples/two_blocks.json --fail",
             value: "",
             is_option: true,
             help: "Let each device call of the script fail in turn, too",
+        },
+        Word {
+            name: "json",
+            value: "",
+            is_option: true,
+            help: "Print one JSON object",
         },
     ],
 };

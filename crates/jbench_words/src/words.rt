@@ -47,6 +47,8 @@ pub struct SweepWords<'a> {
     pub script: &'a str,
     /// Whether each call of the run is to fail in turn, too.
     pub fails: bool,
+    /// It prints an object of JSON, for machines.
+    pub json: bool,
 }
 
 /// How many seconds `bench` takes where it is told no end.
@@ -142,6 +144,8 @@ pub struct RunWords<'a> {
     pub opening: StopWords,
     /// The files that get what the run left, if any do.
     pub image: Option<LogPaths<'a>>,
+    /// It prints an object of JSON, for machines.
+    pub json: bool,
 }
 
 /// Where a device is to stop.

@@ -231,7 +231,8 @@ fn told(alloc: Global, words: &Words<'_>) -> Result<String, RowError> {
 /// What words tell `sweep`.
 fn told_sweep(alloc: Global, words: &SweepWords<'_>) -> Result<String, RowError> {
     let fails = if words.fails { ", calls fail" } else { "" };
-    Ok(format!(in alloc; "sweep {}{fails}", words.script)?)
+    let json = if words.json { ", json" } else { "" };
+    Ok(format!(in alloc; "sweep {}{fails}{json}", words.script)?)
 }
 
 /// What words tell `run`.
@@ -247,6 +248,9 @@ fn told_run(alloc: Global, words: &RunWords<'_>) -> Result<String, AllocError> {
     }
     if let Some(image) = &words.image {
         write!(text, ", image {} {}", image.log, image.home)?;
+    }
+    if words.json {
+        text.push_str(", json")?;
     }
     Ok(text)
 }
