@@ -17,6 +17,15 @@ use std::io;
 use std::io::Write;
 use std::time::{Clock, Duration, Instant};
 
+/// The shares of 100 commits whose times stand in `COLUMNS`.
+const SHARES: [u8; 9] = [1, 5, 10, 25, 50, 75, 90, 95, 99];
+
+/// The names of the values that `--csv` asks for.
+const COLUMNS: &str =
+    "threads,blocks_each,transactions,commits,taken_ns,transactions_per_second,blocks_per_second,\
+commit_1of100_ns,commit_5of100_ns,commit_10of100_ns,commit_25of100_ns,commit_50of100_ns,commit_75of100_ns,commit_90of100_ns,\
+commit_95of100_ns,commit_99of100_ns,commit_greatest_ns,log_reads,log_writes,log_flushes,home_reads,home_writes,home_flushes";
+
 /// The seed of the places that are drawn.
 pub(crate) const SEED: u64 = 1;
 
@@ -93,7 +102,8 @@ fn do_and_say<D: Device + Drop, C: Clock, H: Watch, W: Write>(
     let mut plan = Plan::new(words.copies, device.blocks(Area::Home), SEED)?;
     let work = open(alloc, Counted::new(device))?;
     let (done, device) = do_all(alloc, words, work, &mut plan, clock, watch)?;
-    say(words, done, &device, out)?;
+    let commits = done.tally.commits();
+    say(words, done, commits, &device, out)?;
     Ok(device.into_device())
 }
 
@@ -241,8 +251,62 @@ fn a_second(count: u64, taken: Duration) -> u128 {
     u128::from(count) * 1_000_000_000 / taken.as_nanos().max(1)
 }
 
-/// Says what the transactions took, and which calls the device got.
+/// Says what the transactions took, in so many commits, and which calls the device got, as the words tell.
 pub(crate) fn say<D, W: Write>(
+    words: &BenchWords<'_>,
+    done: Done,
+    commits: u64,
+    device: &Counted<D>,
+    out: &mut W,
+) -> Result<(), Fault> {
+    if words.csv {
+        say_values(words, done, commits, device, out)
+    } else {
+        say_lines(words, done, device, out)
+    }
+}
+
+/// Says it in two lines, the names of the columns and their values.
+fn say_values<D, W: Write>(
+    words: &BenchWords<'_>,
+    done: Done,
+    commits: u64,
+    device: &Counted<D>,
+    out: &mut W,
+) -> Result<(), Fault> {
+    let transactions = done.tally.commits();
+    let blocks = transactions.saturating_mul(words.copies);
+    let taken = done.taken;
+    let (log, home) = (device.calls(Area::Log), device.calls(Area::Home));
+    writeln!(out, "{COLUMNS}")?;
+    write!(
+        out,
+        "{},{},{transactions},{commits},{},{},{}",
+        words.threads.unwrap_or(0),
+        words.copies,
+        taken.as_nanos(),
+        a_second(transactions, taken),
+        a_second(blocks, taken)
+    )?;
+    say_shares(&done.tally.into_ranked(), out)?;
+    writeln!(
+        out,
+        ",{},{},{},{},{},{}",
+        log.reads, log.writes, log.flushes, home.reads, home.writes, home.flushes
+    )?;
+    Ok(())
+}
+
+/// Says which times shares of the commits did not exceed, and the greatest, each behind a comma.
+fn say_shares<W: Write>(ranked: &Ranked, out: &mut W) -> io::Result<()> {
+    for share in SHARES {
+        write!(out, ",{}", ranked.of_hundred(share))?;
+    }
+    write!(out, ",{}", ranked.greatest())
+}
+
+/// Says it in lines that are read by people.
+fn say_lines<D, W: Write>(
     words: &BenchWords<'_>,
     done: Done,
     device: &Counted<D>,

@@ -88,8 +88,10 @@ fn do_and_say<
         rt, clock, alloc, words, plans, laid, watch,
     )?;
     let transactions = done.tally.commits();
-    say(words, done, &device, out)?;
-    say_commits(commits, transactions, out)?;
+    say(words, done, commits, &device, out)?;
+    if !words.csv {
+        say_commits(commits, transactions, out)?;
+    }
     Ok(device.into_device())
 }
 

@@ -1,14 +1,13 @@
 -- How commands end.
-use Rattle.std.proofs.Common.{◌∙◌, ◌≡◌, ◌⊎◌, ⊎_elim, List, Option, subst, sym, ℕ}
+use Rattle.std.proofs.Common.{◌∙◌, ◌≡◌, ◌⊎◌, ⊎_elim, List, Option, inl, inr, subst, sym, ℕ}
 use Rattle.std.proofs.lemmas.Bool.{false≢true}
 use Rattle.std.specs.Prelude.{◌≢◌, ⊤, Bool, true, false, IfOk, IfSome, IsOk, IsSome, None, Some, Result, Err, Ok}
-use Rattle.journal_script.specs.Measures.{AreLimited}
-use Rattle.journal_script.specs.Text.{IsScriptOf}
-use Rattle.journal_script.specs.declared.script.Script.{Script}
 use Rattle.jbench_words.specs.declared.fault.Fault.{Fault}
 use Rattle.jbench_words.specs.declared.fault.Status.{Status}
 use Rattle.jbench_words.specs.declared.fault.Status.TheVariants.{Fine, Refused, VerdictFalse}
-use Rattle.jbench_commands.specs.Runs.{HasTaken, IsWhole}
+use Rattle.jbench_commands.specs.Runs.{HasTakenEither, IsGoodOf, IsWhole}
+use Rattle.jbench_commands.specs.declared.check.Good.{Good}
+use Rattle.jbench_commands.specs.declared.check.Good.TheVariants.{Operations, Clients}
 
 -- a run that ends with 0 has a verdict that is ok
 pub ends-fine : {E : Type 0} (P : Bool → Type 0) (end : Result Status E) (verdict : Result Bool Fault) →
@@ -53,10 +52,12 @@ refused-not-wrong P (Err e) refused = tt
 refused-not-wrong P (Ok status) refused = λ wrong. absurd (subst IsWrong (sym wrong ∙ refused) tt)
 
 -- a script that was read is one of its text
-pub is-taken : {E : Type 0} (known : Option (List ℕ)) (text : List ℕ) (read : Result Script E) → IsWhole known text → IfOk read (λ script. IsScriptOf text script.operations.items script.measures)
-    → IfOk read (λ script. AreLimited script.measures) → IsOk read → HasTaken known
-is-taken known text (Ok script) whole is limited ok = record { script = script; taken = record { of_text = record { text = text; whole = whole; is = is.of_text }; limited = limited; defaults = is.defaults } }
-is-taken known text (Err e) whole is limited ok = absurd (false≢true ok)
+pub is-taken : {E : Type 0} (known : Option (List ℕ)) (text : List ℕ) (read : Result Good E) → IsWhole known text → IfOk read (IsGoodOf text) → IsOk read → HasTakenEither known
+is-taken known text (Ok (Operations script)) whole is ok =
+    inl (record { script = script; taken = record { of_text = record { text = text; whole = whole; is = is.0.of_text }; limited = is.1; defaults = is.0.defaults } })
+is-taken known text (Ok (Clients script)) whole is ok =
+    inr (record { script = script; of_text = record { text = text; whole = whole; is = is.0 }; servable = is.1 })
+is-taken known text (Err e) whole is ok = absurd (false≢true ok)
 
 -- what is left where something is
 pub some-left : {A : Type 0} (P : A → Type 0) (done : Option A) → IsSome done → IfSome done P → (left : A) × P left

@@ -10,14 +10,14 @@ use Rattle.commit_times.specs.Closed.{IsLeftClosed as IsBenchClosed}
 use Rattle.jbench_words.specs.declared.words.ApplyWords.{ApplyWords}
 use Rattle.jbench_words.specs.declared.words.FormatWords.{FormatWords}
 use Rattle.jbench_words.specs.declared.words.Words.{Words}
-use Rattle.jbench_words.specs.declared.words.Words.TheVariants.{Run, Sweep, Check, Threads, Format, Dump, Show, Recover, Upgrade, Apply, Bench}
+use Rattle.jbench_words.specs.declared.words.Words.TheVariants.{Run, Sweep, Check, Threads, Format, Dump, Show, Recover, Upgrade, Apply, Bench, Completions, Man}
 use Rattle.jbench_logs.specs.Apart.{AreApart}
 use Rattle.jbench_logs.specs.Cleared.{cleared, log_cleared}
 use Rattle.jbench_logs.specs.Done.{HasUpgraded, IsFoundOut, IsMade, IsRecovered, IsRecoveredBefore}
 use Rattle.jbench_logs.specs.Over.{IsOver}
 use Rattle.jbench_logs.specs.declared.regular.RegularFile.{RegularFile}
 use Rattle.jbench_commands.specs.Applying.{IsDoneTo, after_told, ending_told}
-use Rattle.jbench_commands.specs.Runs.{HasRun, HasTaken, runs_told}
+use Rattle.jbench_commands.specs.Runs.{HasRun, HasTakenEither, runs_told}
 use Rattle.jbench_commands.specs.Sweeps.{HasSwept}
 use Rattle.script_threads.specs.Runs.{HasFoundFalse, HasServed}
 
@@ -77,7 +77,7 @@ pub record IsBenchDone (first : FileContents) : Type 0 where
 abbrev pub HasObeyed : (first : FileContents) → (contents : Option (List ℕ)) → Words → Type 0
 HasObeyed first contents (Run words) = (text : Option (List ℕ)) × HasRun (runs_told words.image) text words true
 HasObeyed first contents (Sweep words) = (text : Option (List ℕ)) × HasSwept text words.fails 0
-HasObeyed first contents (Check path) = (text : Option (List ℕ)) × HasTaken text
+HasObeyed first contents (Check path) = (text : Option (List ℕ)) × HasTakenEither text
 HasObeyed first contents (Threads path) = (text : Option (List ℕ)) × HasServed text
 HasObeyed first contents (Format words) = IsFormatDone first words
 HasObeyed first contents (Dump path) = IsDoneOver first IsOverAny (λ old new. HasDump (shape_of old) (reading old.disk))
@@ -86,6 +86,8 @@ HasObeyed first contents (Recover words) = IsDoneOver first IsOverTwo (Recovers 
 HasObeyed first contents (Upgrade path) = IsDoneOver first IsOverAny HasUpgraded
 HasObeyed first contents (Apply words) = IsAppliedOver first words contents
 HasObeyed first contents (Bench words) = IsBenchDone first
+HasObeyed first contents (Completions shell) = ⊤
+HasObeyed first contents Man = ⊤
 
 -- a command ends with 2 where a sweep counted an opening that was not right, or a run in threads has a verdict that is false; no other does
 abbrev pub HasFoundWrong : Words → Type 0
@@ -100,3 +102,5 @@ HasFoundWrong (Recover words) = ⊥
 HasFoundWrong (Upgrade path) = ⊥
 HasFoundWrong (Apply words) = ⊥
 HasFoundWrong (Bench words) = ⊥
+HasFoundWrong (Completions shell) = ⊥
+HasFoundWrong Man = ⊥

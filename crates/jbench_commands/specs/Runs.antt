@@ -1,8 +1,10 @@
 -- Which script a command took, and what the command `run` did with it.
-use Rattle.std.specs.Prelude.{◌≡◌, ℕ, ◌≤◌, Bool, List, Option, Some, None, IfSome}
+use Rattle.std.specs.Prelude.{◌≡◌, ◌⊎◌, ℕ, ◌≤◌, Bool, List, Option, Some, None, IfSome}
 use Rattle.block_device.specs.State.{DeviceState}
+use Rattle.journal_script.specs.Clients.{CanBeServed, IsClientScriptOf}
 use Rattle.journal_script.specs.Measures.{AreLimited}
-use Rattle.journal_script.specs.Text.{IsDefaultElse, IsTextOf}
+use Rattle.journal_script.specs.Text.{IsDefaultElse, IsScriptOf, IsTextOf}
+use Rattle.journal_script.specs.declared.clients.ClientScript.{ClientScript}
 use Rattle.journal_script.specs.declared.measures.Measures.{Measures}
 use Rattle.journal_script.specs.declared.script.Operation.{Operation}
 use Rattle.journal_script.specs.declared.script.Script.{Script}
@@ -13,6 +15,9 @@ use Rattle.script_run.specs.Copying.{IsCopiedRun}
 use Rattle.script_run.specs.Left.{IsRunOf}
 use Rattle.script_run.specs.declared.stops.Stop.{Stop}
 use Rattle.script_run.specs.declared.stops.Stops.{Stops}
+use Rattle.script_threads.specs.Runs.{IsOfText}
+use Rattle.jbench_commands.specs.declared.check.Good.{Good}
+use Rattle.jbench_commands.specs.declared.check.Good.TheVariants.{Operations, Clients}
 
 -- the text is all that a reader had, where that is known
 abbrev pub IsWhole : (known : Option (List ℕ)) → List ℕ → Type 0
@@ -34,6 +39,20 @@ pub record IsTaken (known : Option (List ℕ)) (script : Script) : Type 0 where
 pub record HasTaken (known : Option (List ℕ)) : Type 0 where
   pub script : Script
   pub taken : IsTaken known script
+
+-- or such a script of clients, which can be served
+pub record HasTakenClients (known : Option (List ℕ)) : Type 0 where
+  pub script : ClientScript
+  pub of_text : IsOfText known script
+  pub servable : CanBeServed script
+
+abbrev pub HasTakenEither : Option (List ℕ) → Type 0
+HasTakenEither known = HasTaken known ⊎ HasTakenClients known
+
+-- a good script is that of a text
+abbrev pub IsGoodOf : List ℕ → Good → Type 0
+IsGoodOf text (Operations script) = IsScriptOf text script.operations.items script.measures × AreLimited script.measures
+IsGoodOf text (Clients script) = IsClientScriptOf text script × CanBeServed script
 
 -- a device is to stop at the write that the words tell, and then keeps those that they tell
 pub record IsStopTold (words : StopWords) (stop : Stop) : Type 0 where

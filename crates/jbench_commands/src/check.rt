@@ -1,17 +1,30 @@
-//! The command `check`: says whether a script is good.
+//! The command `check`: says whether a script is good, one of operations or one of clients.
 ghost use Rattle.std.specs.Prelude.{◌≡◌, ◌≢◌, IfOk, IsOk};
 ghost use Rattle.jbench_words.specs.declared.fault.Status.TheVariants.{Fine, Refused};
-ghost use Rattle.jbench_commands.specs.Runs.{HasTaken};
+ghost use Rattle.jbench_commands.specs.Runs.{HasTakenEither, IsGoodOf};
 
 use crate::run::read_text;
 use jbench_words::fault::{self, Fault, Status};
-use journal_script::{Script, ScriptError};
+use journal_script::{BadScript, ClientScript, Script, ScriptError};
 use std::alloc::Global;
 use std::io;
 use std::io::{Read, Write};
 
-/// Says whether a text is a script: how many operations it has, on `out`; or which key or operation is bad and why, on a line on
-/// `err`. `path` names its file.
+/// The key that a script of clients has, and one of operations has not.
+const CLIENTS: &str = "clients";
+
+/// A good script.
+#[derive(Drop)]
+enum Good {
+    /// One of operations, which `run` takes.
+    Operations(Script),
+    /// One of clients, which `threads` takes.
+    Clients(ClientScript),
+}
+
+/// Says whether a text is a script: how many operations it has, or how many clients, with their handles and receipts, on `out`; or which
+/// key or operation is bad and why, on a line on `err`. One with the key `clients` is judged as `threads` does it, and each other one as
+/// `run` does. `path` names its file.
 ///
 /// # Errors
 ///
@@ -23,22 +36,35 @@ pub fn check<R: Read + Drop, W: Write + Drop, E: Write + Drop>(
     out: W,
     err: E,
 ) -> io::Result<Status>
-    ensures good { IfOk result (λ status. status ≡ Fine → HasTaken (R.remaining script)) }
+    ensures good { IfOk result (λ status. status ≡ Fine → HasTakenEither (R.remaining script)) }
     ensures other { IfOk result (λ status. status ≢ Fine → status ≡ Refused) }
 {
     let mut err = err;
     match read_text(alloc, script) {
         Ok(text) => {
-            let read = journal_script::read(alloc, &text);
+            let read = read_either(alloc, &text);
             tell(read, out, &mut err)
         }
         Err(fault) => fault::refuse(&mut err, path, &fault),
     }
 }
 
+/// Reads a script of either kind: one of clients where the key of these is what keeps it from being one of operations.
+fn read_either(alloc: Global, text: &[u8]) -> Result<Good, ScriptError>
+    ensures { IfOk result (IsGoodOf text.now) }
+{
+    match journal_script::read(alloc, text) {
+        Ok(script) => Ok(Good::Operations(script)),
+        Err(ScriptError::BadScript(BadScript::UnknownKey(name))) if name.as_str() == CLIENTS => {
+            Ok(Good::Clients(journal_script::read_clients(alloc, text)?))
+        }
+        Err(e) => Err(e),
+    }
+}
+
 /// Says what reading a script came to.
 fn tell<W: Write + Drop, E: Write>(
-    read: Result<Script, ScriptError>,
+    read: Result<Good, ScriptError>,
     out: W,
     err: &mut E,
 ) -> io::Result<Status>
@@ -47,7 +73,7 @@ fn tell<W: Write + Drop, E: Write>(
     ensures other { IfOk result (λ status. status ≢ Fine → status ≡ Refused) }
 {
     match read {
-        Ok(script) => say_good(&script, out),
+        Ok(good) => say_good(&good, out),
         Err(ScriptError::BadScript(bad)) => {
             writeln!(err, "jbench: bad script: {bad}")?;
             Ok(Status::Refused)
@@ -57,10 +83,21 @@ fn tell<W: Write + Drop, E: Write>(
 }
 
 /// Says that a script is good.
-fn say_good<W: Write + Drop>(script: &Script, out: W) -> io::Result<Status>
+fn say_good<W: Write + Drop>(good: &Good, out: W) -> io::Result<Status>
     ensures { IfOk result (λ status. status ≡ Fine) }
 {
     let mut out = out;
-    writeln!(out, "good operations={}", script.operations.len())?;
+    match good {
+        Good::Operations(script) => {
+            writeln!(out, "good operations={}", script.operations.len())?;
+        }
+        Good::Clients(script) => writeln!(
+            out,
+            "good clients={} handles={} receipts={}",
+            script.clients.len(),
+            script.handles(),
+            script.waits()
+        )?,
+    }
     Ok(Status::Fine)
 }

@@ -3,7 +3,8 @@
 //! shows how far a command is.
 //!
 //! Over the files of a log `apply` does a script's operations; the commands that need no more than a log are in `jbench_logs`. Over a
-//! script and a disk in memory: `run`, `sweep` and `check`; `image` has the files that take what a run leaves. `faults` says in a
+//! script and a disk in memory: `run`, `sweep` and `check`; `image` has the files that take what a run leaves,
+//! and `object` has its lines as one object. `faults` says in a
 //! command's words why a run can't go on.
 #![tactic(auto)]
 
@@ -12,6 +13,7 @@ pub mod check;
 mod faults;
 pub mod image;
 pub mod obeying;
+mod object;
 mod progress;
 pub mod run;
 pub mod sweep;

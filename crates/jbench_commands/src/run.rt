@@ -6,6 +6,7 @@ ghost use Rattle.script_run.specs.Left.{IsRunOf};
 ghost use Rattle.jbench_commands.specs.Runs.{AreStopsTold, HasRun, IsRunAsTold, IsRunWithImage, IsStopTold, IsTaken, IsWhole};
 
 use crate::faults::of_run;
+use crate::object::write_object;
 use block_device::Device;
 use jbench_words::fault::{self, Fault, Status};
 use jbench_words::words::{RunWords, StopWords};
@@ -15,8 +16,8 @@ use std::alloc::Global;
 use std::io;
 use std::io::{BufWriter, ErrorKind, Read, Write};
 
-/// Runs a script, and prints its lines, the dump of what the stop left, and the verdict on what openings of it give back.
-/// Where it can't go on, one line on `err` says why.
+/// Runs a script, and prints its lines, the dump of what the stop left, and the verdict on what openings of it give back; or one object of
+/// JSON that has all of that, where the words tell so. Where it can't go on, one line on `err` says why.
 ///
 /// # Errors
 ///
@@ -31,7 +32,7 @@ pub fn run<R: Read + Drop, W: Write + Drop, E: Write + Drop>(
     ensures run { IfOk result (λ status. status ≡ Fine → HasRun IsRunOf (R.remaining script) words.now true) }
     ensures other { IfOk result (λ status. status ≢ Fine → status ≡ Refused) }
 {
-    let verdict = verdict_of(alloc, words, script, out);
+    let verdict = verdict_as_told(alloc, words, script, out);
     end(words, verdict, err)
 }
 
@@ -52,7 +53,7 @@ pub fn run_with_image<R: Read + Drop, M: MakeImage + Drop, W: Write + Drop, E: W
     ensures run { IfOk result (λ status. status ≡ Fine → HasRun IsRunWithImage (R.remaining script) words.now true) }
     ensures other { IfOk result (λ status. status ≢ Fine → status ≡ Refused) }
 {
-    let verdict = image_verdict_of(alloc, words, script, image, out);
+    let verdict = image_verdict_as_told(alloc, words, script, image, out);
     end(words, verdict, err)
 }
 
@@ -170,6 +171,46 @@ fn too_large() -> Fault
         ErrorKind::InvalidInput,
         "its home area would have more than 1048576 blocks",
     ))
+}
+
+/// Reads a script, and runs it, so that it leaves an image. Where the words tell so, one object has all that is printed, once all is done.
+/// The answer is the verdict.
+fn image_verdict_as_told<R: Read + Drop, M: MakeImage + Drop, W: Write + Drop>(
+    alloc: Global,
+    words: &RunWords<'_>,
+    script: R,
+    image: M,
+    out: W,
+) -> Result<bool, Fault>
+    ensures run { IfOk result (HasRun IsRunWithImage (R.remaining script) words.now) }
+    ensures right { IfOk result (λ right. right ≡ true) }
+{
+    if !words.json {
+        return image_verdict_of(alloc, words, script, image, out);
+    }
+    let mut text = Vec::new(alloc);
+    let verdict = image_verdict_of(alloc, words, script, image, &mut text)?;
+    write_object(alloc, &text, out)?;
+    Ok(verdict)
+}
+
+/// Reads a script, and runs it. Where the words tell so, one object has all that is printed, once all is done. The answer is the verdict.
+fn verdict_as_told<R: Read + Drop, W: Write + Drop>(
+    alloc: Global,
+    words: &RunWords<'_>,
+    script: R,
+    out: W,
+) -> Result<bool, Fault>
+    ensures run { IfOk result (HasRun IsRunOf (R.remaining script) words.now) }
+    ensures right { IfOk result (λ right. right ≡ true) }
+{
+    if !words.json {
+        return verdict_of(alloc, words, script, out);
+    }
+    let mut text = Vec::new(alloc);
+    let verdict = verdict_of(alloc, words, script, &mut text)?;
+    write_object(alloc, &text, out)?;
+    Ok(verdict)
 }
 
 /// Reads a script, and runs it so that it leaves an image. The answer is the verdict.

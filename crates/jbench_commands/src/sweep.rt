@@ -15,8 +15,8 @@ use std::io::{Read, Write};
 
 /// Runs a script with a stop at each of its writes, opens and judges what each stop may have left, by each choice among its last four
 /// writes, and prints what was counted. Where the words say so, each device call of the script then fails in turn: what that leaves is
-/// opened and judged too, and a second line says what was counted. What is false is named on `err`. Where it can't go on, one line on
-/// `err` says why.
+/// opened and judged too, and a second line says what was counted. Where they say so, both lines are one object of JSON. What is false is
+/// named on `err`. Where it can't go on, one line on `err` says why.
 ///
 /// # Errors
 ///
@@ -32,12 +32,35 @@ pub fn sweep<R: Read + Drop, P: Watch + Drop, W: Write + Drop, E: Write + Drop>(
     ensures { IfOk result (IsSweptTo (R.remaining script) words.now.fails) }
 {
     let (mut watch, mut out, mut err) = (watch, out, err);
-    match sweep_script(alloc, words, script, &mut watch, &mut out, &mut err) {
+    match sweep_as_told(alloc, words, script, &mut watch, &mut out, &mut err) {
         Ok(0) => Ok(Status::Fine),
         Ok(_) => Ok(Status::VerdictFalse),
         Err(Fault::Output(e)) => Err(e),
         Err(fault) => fault::refuse(&mut err, words.script, &fault),
     }
+}
+
+/// Reads a script, and sweeps it. Where the words tell so, one object says what was counted, once all of it was. The answer is how many
+/// openings were not right.
+fn sweep_as_told<R: Read + Drop, W: Write>(
+    alloc: Global,
+    words: &SweepWords<'_>,
+    script: R,
+    watch: &mut impl Watch,
+    out: &mut W,
+    err: &mut impl Write,
+) -> Result<u64, Fault>
+    ensures { IfOk result (HasSwept (R.remaining script) words.now.fails) }
+{
+    if !words.json {
+        return sweep_script(alloc, words, script, watch, out, err);
+    }
+    let mut text = Vec::new(alloc);
+    let count = sweep_script(alloc, words, script, watch, &mut text, err)?;
+    out.write_all(&text)?;
+    let verdict = if count == 0 { "ok" } else { "false" };
+    writeln!(out, ",\"verdict\":\"{verdict}\"}}")?;
+    Ok(count)
 }
 
 /// Reads a script, and sweeps it. The answer is how many openings were not right.
@@ -52,11 +75,11 @@ fn sweep_script<R: Read + Drop, W: Write>(
     ensures { IfOk result (HasSwept (R.remaining script) words.now.fails) }
 {
     let script = read_script(alloc, script)?;
-    let of_stops = sweep_stops(alloc, &script, watch, out, err)?;
+    let of_stops = sweep_stops(alloc, &script, words.json, watch, out, err)?;
     if !words.fails {
         return Ok(of_stops);
     }
-    let of_failures = sweep_failures(alloc, &script, watch, out, err)?;
+    let of_failures = sweep_failures(alloc, &script, words.json, watch, out, err)?;
     Ok(of_stops.saturating_add(of_failures))
 }
 
@@ -64,6 +87,7 @@ fn sweep_script<R: Read + Drop, W: Write>(
 fn sweep_stops<W: Write>(
     alloc: Global,
     script: &Script,
+    json: bool,
     watch: &mut impl Watch,
     out: &mut W,
     err: &mut impl Write,
@@ -72,7 +96,7 @@ fn sweep_stops<W: Write>(
 {
     match script_sweep::sweep(alloc, &ThisJournal, script, watch, err) {
         Ok(counts) => {
-            tell(counts, out)?;
+            tell(counts, json, out)?;
             Ok(counts.not_right.count())
         }
         Err(fault) => Err(of_run(fault)),
@@ -83,6 +107,7 @@ fn sweep_stops<W: Write>(
 fn sweep_failures<W: Write>(
     alloc: Global,
     script: &Script,
+    json: bool,
     watch: &mut impl Watch,
     out: &mut W,
     err: &mut impl Write,
@@ -91,31 +116,41 @@ fn sweep_failures<W: Write>(
 {
     match script_sweep::sweep_failures(alloc, &ThisJournal, script, watch, err) {
         Ok(counts) => {
-            tell_failures(counts, out)?;
+            tell_failures(counts, json, out)?;
             Ok(counts.not_right.count())
         }
         Err(fault) => Err(of_run(fault)),
     }
 }
 
-/// Prints what a sweep of stops counted.
-fn tell<W: Write>(counts: Counts, out: &mut W) -> io::Result<()> {
-    writeln!(
-        out,
-        "sweep writes={} images={} again={} false={}",
-        counts.writes,
-        counts.images,
-        counts.again,
-        counts.not_right.count()
-    )
+/// Prints what a sweep of stops counted, or how an object with it begins.
+fn tell<W: Write>(counts: Counts, json: bool, out: &mut W) -> io::Result<()> {
+    let Counts {
+        writes,
+        images,
+        again,
+        not_right,
+    } = counts;
+    let wrong = not_right.count();
+    if json {
+        write!(
+            out,
+            "{{\"writes\":{writes},\"images\":{images},\"again\":{again},\"false\":{wrong}"
+        )
+    } else {
+        writeln!(
+            out,
+            "sweep writes={writes} images={images} again={again} false={wrong}"
+        )
+    }
 }
 
-/// Prints what a sweep of failing calls counted.
-fn tell_failures<W: Write>(counts: FailureCounts, out: &mut W) -> io::Result<()> {
-    writeln!(
-        out,
-        "fail calls={} false={}",
-        counts.calls,
-        counts.not_right.count()
-    )
+/// Prints what a sweep of failing calls counted, or that part of an object.
+fn tell_failures<W: Write>(counts: FailureCounts, json: bool, out: &mut W) -> io::Result<()> {
+    let (calls, wrong) = (counts.calls, counts.not_right.count());
+    if json {
+        write!(out, ",\"fail\":{{\"calls\":{calls},\"false\":{wrong}}}")
+    } else {
+        writeln!(out, "fail calls={calls} false={wrong}")
+    }
 }

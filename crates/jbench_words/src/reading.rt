@@ -3,6 +3,7 @@ ghost use Rattle.std.specs.Prelude.{◌≡◌, ◌≤◌, IfOk, IfSome};
 ghost use Rattle.journal_script.specs.Measures.{AreLimited};
 ghost use Rattle.log_format.specs.Size.{IsBlockSize};
 
+use crate::completions::Shell;
 use crate::wanted::Wanted;
 use crate::words::{
     ApplyWords, BenchWords, FormatWords, LogPaths, RecoverWords, RunWords, StopWords, SweepWords,
@@ -102,6 +103,7 @@ fn run_words<'a>(alloc: Global, matches: &ArgMatches<'a>) -> Result<RunWords<'a>
         run,
         opening: opening_stop(alloc, matches)?,
         image: image_paths(matches)?,
+        json: matches.get_flag("json"),
     })
 }
 
@@ -169,6 +171,7 @@ fn sweep_words<'a>(matches: &ArgMatches<'a>) -> SweepWords<'a> {
     SweepWords {
         script: matches.get_str("script").unwrap_or(""),
         fails: matches.get_flag("fail"),
+        json: matches.get_flag("json"),
     }
 }
 
@@ -208,7 +211,13 @@ fn bench_words<'a>(matches: &ArgMatches<'a>) -> Result<BenchWords<'a>, Wanted> {
         transactions: number_of(matches, "transactions", (1, u64::MAX), Wanted::Transactions)?,
         copies: copies.unwrap_or(COPIES),
         threads: number_of(matches, "threads", (1, 64), Wanted::Threads)?,
+        csv: matches.get_flag("csv"),
     })
+}
+
+/// The shell that `completions` is told.
+fn shell_told(matches: &ArgMatches<'_>) -> Result<Shell, Wanted> {
+    Shell::named(matches.get_str("shell").unwrap_or("")).ok_or(Wanted::Shell)
 }
 
 /// What a command is told.
@@ -242,6 +251,12 @@ pub(crate) fn words_of<'a>(alloc: Global, matches: &ArgMatches<'a>) -> Result<Wo
     }
     if let Some(show) = matches.subcommand_matches("show") {
         return Ok(Words::Show(show.get_str("log").unwrap_or("")));
+    }
+    if let Some(completions) = matches.subcommand_matches("completions") {
+        return shell_told(completions).map(Words::Completions);
+    }
+    if matches.subcommand_matches("man").is_some() {
+        return Ok(Words::Man);
     }
     match matches.subcommand_matches("dump") {
         Some(dump) => Ok(Words::Dump(dump.get_str("log").unwrap_or(""))),

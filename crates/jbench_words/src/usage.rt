@@ -25,13 +25,13 @@ pub(crate) const PROGRAM: Usage = Usage {
     name: "jbench",
     about: "Runs scripts of journal operations over a disk in memory that loses power and judges what is left; makes, prints and recovers logs",
     after_help: "\
-run SCRIPT [--stop K | --fail K] [--keep LIST] [--stop2 K] [--keep2 LIST] [--image-log PATH --image-home PATH]: SCRIPT is a file, K
-a write number from 1 on (default: the device stops at the end, and the opening does not stop), or with --fail the number of a call
-that fails, LIST write numbers with commas (default: none), PATH a file that gets what the stop left. jbench run --help says what a
-script is.
-sweep SCRIPT [--fail]: runs a script with a stop at each of its writes and judges what each leaves; with --fail also once for each
-device call, which fails.
-check SCRIPT: says whether a script is good, and why it is not.
+run SCRIPT [--stop K | --fail K] [--keep LIST] [--stop2 K] [--keep2 LIST] [--image-log PATH --image-home PATH] [--json]: SCRIPT is a
+file, K a write number from 1 on (default: the device stops at the end, and the opening does not stop), or with --fail the number of a
+call that fails, LIST write numbers with commas (default: none), PATH a file that gets what the stop left. jbench run --help says what
+a script is.
+sweep SCRIPT [--fail] [--json]: runs a script with a stop at each of its writes and judges what each leaves; with --fail also once for
+each device call, which fails.
+check SCRIPT: says whether a script of run or of threads is good, and why it is not.
 threads SCRIPT: runs the clients of a script, each in a thread of its own, over one journal, and judges what came of them.
 format LOG HOME [--block B] [--length M] [--home N] [--uuid DIGITS] [--wide] [--keep-home]: two files become an empty log of M
 blocks (default: 33) and a home area of N zero blocks (default: 64), of B bytes each (default: 1024), or only the first does.
@@ -42,8 +42,10 @@ where that is told also those of a damaged log; or says what it would do.
 upgrade LOG: gives the empty log in a file block numbers of 64 bits.
 apply LOG HOME SCRIPT [--stay] [--keep-going]: opens the log in a file, and does the operations of a script over it and its home
 area.
-bench LOG HOME [--seconds N] [--transactions N] [--copies K] [--threads N]: opens the log in a file, and tells how long transactions
-take.
+bench LOG HOME [--seconds N] [--transactions N] [--copies K] [--threads N] [--csv]: opens the log in a file, and tells how long
+transactions take.
+completions SHELL: prints what bash, zsh or fish is told so that it completes these words.
+man: prints the page for man.
 
 Exit status: 0 done, 1 refused (words, file, script, refusal), 2 a verdict is false.
 
@@ -68,6 +70,10 @@ With --image-log and --image-home the image is also written to two files before 
 programs can judge it: jbench recover of them ends as the run's line 'open' says. Both files are made where there are none, and
 lose what they held once the script is taken. They are made before the script runs. A home area of more than 1048576 blocks has no
 image.
+
+With --json it prints one object in the place of lines, once all is done: \"operations\", a list of objects with \"operation\"
+and \"answer\", which are the sides of a line; \"stopped\", the write or null; \"dump\" and \"openings\", lists of lines; \"home\", a list
+of objects with \"block\" and \"begins\"; and \"verdict\".
 
 A script is a JSON object with these keys, of which \"ops\" alone has to be there:
   \"block\"   bytes of a block: 1024, 2048 or 4096 [default: 1024]
@@ -146,6 +152,12 @@ Example: jbench run examples/one_write.json --stop 4 --keep 4",
             is_option: true,
             help: "The file that gets the home area of the image; with --image-log [default: none]",
         },
+        Word {
+            name: "json",
+            value: "",
+            is_option: true,
+            help: "Print one JSON object",
+        },
     ],
 };
 
@@ -164,6 +176,9 @@ With --fail the script is also run once for each of its C device calls (reads, w
 fails and does nothing: the script goes on, and the device stops at the end. Each choice of that run's last four writes is kept,
 opened and judged. A second line is 'fail calls=C false=F'.
 
+With --json it prints one object in the place of lines, once all is done: \"writes\", \"images\", \"again\" and \"false\" are
+numbers, with --fail \"fail\" is an object of the numbers \"calls\" and \"false\", and \"verdict\" is \"ok\" or \"false\".
+
 Exit status: 0 done, all verdicts ok; 1 refused: the words, the file, or the script; 2 an F is not 0.
 
 Example: jbench sweep examples/two_blocks.json --fail",
@@ -180,6 +195,12 @@ Example: jbench sweep examples/two_blocks.json --fail",
             is_option: true,
             help: "Let each device call of the script fail in turn, too",
         },
+        Word {
+            name: "json",
+            value: "",
+            is_option: true,
+            help: "Print one JSON object",
+        },
     ],
 };
 
@@ -190,6 +211,10 @@ pub(crate) const CHECK: Usage = Usage {
     after_help: "\
 The script is one of run: jbench run --help says what that is. Nothing is run. It prints 'good operations=N', or on standard
 error 'jbench: bad script: ' with the key, or the number of the operation from 1 on and its text, and what is wrong with it.
+
+A script with the key \"clients\" is one of threads: jbench threads --help says what that is. It prints 'good clients=N handles=N
+receipts=N', how many clients, starts and waits it has, or behind 'jbench: bad script: ' the key, or the client and the number of its
+operation, each from 1 on, and what is wrong, as threads says it.
 
 Exit status: 0 the script is good; 1 it is not, or the words or the file were refused.
 
@@ -505,6 +530,9 @@ the nanoseconds that a commit took, from its request until it was durable with t
 did not exceed, and the most; and how many reads, writes and flushes of one block each area got, those of the opening and of the close too. On
 a terminal it says on standard error each second how many transactions are durable.
 
+With --csv it prints all of that as two lines with commas instead, the names of the columns and their values, with the times that 1, 5, 10,
+25, 50, 75, 90, 95 and 99 of 100 commits did not exceed.
+
 Exit status: 0 done; 1 refused: the words, a file, the log, or the device.
 
 Example: jbench bench log home --seconds 10 --copies 4",
@@ -545,12 +573,62 @@ Example: jbench bench log home --seconds 10 --copies 4",
             is_option: true,
             help: "Let N clients commit at once, 1 to 64, each in a thread of its own [default: one, in no thread]",
         },
+        Word {
+            name: "csv",
+            value: "",
+            is_option: true,
+            help: "Print a line of column names and one of values, with commas",
+        },
     ],
 };
 
+/// The command `completions`.
+pub(crate) const COMPLETIONS: Usage = Usage {
+    name: "completions",
+    about: "Prints what a shell is told so that it completes the words of jbench",
+    after_help: "\
+bash and fish take it as it is, zsh behind compinit. Where jbench is no word of the shell, give it a place in PATH first.
+
+Exit status: 0 done; 1 refused: the words.
+
+Examples:
+  source <(jbench completions bash)
+  source <(jbench completions zsh)
+  jbench completions fish | source",
+    words: &[Word {
+        name: "shell",
+        value: "SHELL",
+        is_option: false,
+        help: "bash, zsh or fish",
+    }],
+};
+
+/// The command `man`.
+pub(crate) const MAN: Usage = Usage {
+    name: "man",
+    about: "Prints the page of jbench for man, which has the help of each command",
+    after_help: "\
+Exit status: 0 done; 1 refused: the words.
+
+Example: jbench man > jbench.1 && man ./jbench.1",
+    words: &[],
+};
+
 /// The commands, as the help names them.
-pub(crate) const COMMANDS: [&Usage; 11] = [
-    &RUN, &SWEEP, &CHECK, &THREADS, &FORMAT, &DUMP, &SHOW, &RECOVER, &UPGRADE, &APPLY, &BENCH,
+pub(crate) const COMMANDS: [&Usage; 13] = [
+    &RUN,
+    &SWEEP,
+    &CHECK,
+    &THREADS,
+    &FORMAT,
+    &DUMP,
+    &SHOW,
+    &RECOVER,
+    &UPGRADE,
+    &APPLY,
+    &BENCH,
+    &COMPLETIONS,
+    &MAN,
 ];
 
 /// What the command of this name is, if there is one.

@@ -1,4 +1,5 @@
 //! What the program is told by the words that it is called with, and what they are answered where they tell nothing to do.
+use crate::completions::Shell;
 use crate::fault::{self, Fault, Status};
 use crate::program::program;
 use crate::reading::words_of;
@@ -38,6 +39,10 @@ pub enum Words<'a> {
     Apply(ApplyWords<'a>),
     /// To tell how long transactions on a log take.
     Bench(BenchWords<'a>),
+    /// To print what this shell is told so that it completes words.
+    Completions(Shell),
+    /// To print the page for `man`.
+    Man,
 }
 
 /// The words of `sweep`.
@@ -47,6 +52,8 @@ pub struct SweepWords<'a> {
     pub script: &'a str,
     /// Whether each call of the run is to fail in turn, too.
     pub fails: bool,
+    /// It prints an object of JSON, for machines.
+    pub json: bool,
 }
 
 /// How many seconds `bench` takes where it is told no end.
@@ -65,6 +72,8 @@ pub struct BenchWords<'a> {
     pub copies: u64,
     /// How many clients work in threads of their own, where that is told: else one works in no thread.
     pub threads: Option<u64>,
+    /// It prints values with commas, for machines.
+    pub csv: bool,
 }
 
 impl BenchWords<'_> {
@@ -140,6 +149,8 @@ pub struct RunWords<'a> {
     pub opening: StopWords,
     /// The files that get what the run left, if any do.
     pub image: Option<LogPaths<'a>>,
+    /// It prints an object of JSON, for machines.
+    pub json: bool,
 }
 
 /// Where a device is to stop.

@@ -27,6 +27,7 @@ fn words(alloc: Global) -> RunWords<'static> {
         run: no_stop(alloc),
         opening: no_stop(alloc),
         image: None,
+        json: false,
     }
 }
 

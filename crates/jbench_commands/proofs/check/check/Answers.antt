@@ -6,5 +6,5 @@ use Rattle.jbench_commands.proofs.check.check.Goals as goal
 pub returns-in-Ok-clause-good : goal.returns-in-Ok-clause-good
 returns-in-Ok-clause-good g c =
     IfOk-weaker c.tell.result _ _
-    (λ status good fine. is-taken (g.R.Read.remaining c.args.script) c.deref.result.now c.read-read.result (rw c.deref.ensures.value c.in-Ok.ensures) c.read-read.ensures.script c.read-read.ensures.measures (good fine))
+    (λ status good fine. is-taken (g.R.Read.remaining c.args.script) c.deref.result.now c.read_either-read.result (rw c.deref.ensures.value c.in-Ok.ensures) c.read_either-read.ensures (good fine))
     c.tell.ensures.good

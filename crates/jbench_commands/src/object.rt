@@ -1,0 +1,130 @@
+//! The lines that a run prints, as one object of JSON. They are words, numbers and signs that stand for themselves in a text of JSON: no
+//! line has a quote or a backslash.
+use jbench_words::fault::Fault;
+use std::alloc::Global;
+use std::io;
+use std::io::{BufWriter, ErrorKind, Write};
+use std::str::from_utf8;
+
+/// The key of the object under which a line stands. The lines of a run come in this order.
+#[derive(Clone, Copy, PartialEq, Eq)]
+enum Key {
+    /// What an operation came to.
+    Operations,
+    /// Where the device stopped.
+    Stopped,
+    /// The dump of what the stop left.
+    Dump,
+    /// What openings found, or where one stopped.
+    Openings,
+    /// How a block of home begins.
+    Home,
+    /// The verdict.
+    Verdict,
+}
+
+impl Key {
+    /// The key of a line behind one of this key.
+    fn behind(self, line: &str) -> Key {
+        match self {
+            Key::Operations if !line.starts_with("stopped ") => Key::Operations,
+            Key::Operations => Key::Stopped,
+            Key::Stopped => Key::Dump,
+            Key::Dump if !line.starts_with("open ") && !line.starts_with("stopped ") => Key::Dump,
+            _ if line.starts_with("home ") => Key::Home,
+            _ if line.starts_with("verdict ") => Key::Verdict,
+            _ => Key::Openings,
+        }
+    }
+}
+
+/// Writes the object that has the lines of this text, which a run printed, and a newline.
+///
+/// # Errors
+///
+/// `Fault::Output` where it can't be written; `Fault::Refused` with `Memory`.
+pub(crate) fn write_object<W: Write + Drop>(
+    alloc: Global,
+    text: &[u8],
+    out: W,
+) -> Result<(), Fault> {
+    let mut out = BufWriter::new(alloc, out)?;
+    match from_utf8(text) {
+        Ok(text) => write_members(text, &mut out)?,
+        Err(_) => return Err(Fault::Output(io::Error::from(ErrorKind::InvalidData))),
+    }
+    out.flush()?;
+    Ok(())
+}
+
+/// Writes the object.
+fn write_members<W: Write>(text: &str, out: &mut W) -> io::Result<()> {
+    write!(out, "{{\"operations\":")?;
+    write_list(text, Key::Operations, out)?;
+    write!(out, ",\"stopped\":{}", stop_in(text))?;
+    write!(out, ",\"dump\":")?;
+    write_list(text, Key::Dump, out)?;
+    write!(out, ",\"openings\":")?;
+    write_list(text, Key::Openings, out)?;
+    write!(out, ",\"home\":")?;
+    write_list(text, Key::Home, out)?;
+    writeln!(out, ",\"verdict\":\"{}\"}}", told_in(text, Key::Verdict))
+}
+
+/// The write at which the device stopped, or null.
+fn stop_in(text: &str) -> &str {
+    match told_in(text, Key::Stopped) {
+        "at end" => "null",
+        write => write,
+    }
+}
+
+/// What stands behind the first word of the line of this key.
+fn told_in(text: &str, wanted: Key) -> &str {
+    let mut key = Key::Operations;
+    for line in text.lines() {
+        key = key.behind(line);
+        if key == wanted {
+            return sides_of(line, " ").1;
+        }
+    }
+    ""
+}
+
+/// Writes the list of the lines of this key.
+fn write_list<W: Write>(text: &str, wanted: Key, out: &mut W) -> io::Result<()> {
+    let mut key = Key::Operations;
+    let mut sign = "[";
+    for line in text.lines() {
+        key = key.behind(line);
+        if key == wanted {
+            out.write_all(sign.as_bytes())?;
+            write_line(key, line, out)?;
+            sign = ",";
+        }
+    }
+    out.write_all(if sign == "[" { b"[]" } else { b"]" })
+}
+
+/// Writes a line of this key.
+fn write_line<W: Write>(key: Key, line: &str, out: &mut W) -> io::Result<()> {
+    match key {
+        Key::Operations => {
+            let (operation, answer) = sides_of(line, " = ");
+            write!(
+                out,
+                "{{\"operation\":\"{operation}\",\"answer\":\"{answer}\"}}"
+            )
+        }
+        Key::Home => {
+            let (block, begins) = sides_of(sides_of(line, " ").1, " ");
+            write!(out, "{{\"block\":{block},\"begins\":\"{begins}\"}}")
+        }
+        _ => write!(out, "\"{line}\""),
+    }
+}
+
+/// What stands in a line before and behind this.
+fn sides_of<'a>(line: &'a str, between: &str) -> (&'a str, &'a str) {
+    line.split_once(between).unwrap_or((line, ""))
+}
