@@ -6,7 +6,7 @@ use crate::counted::{Calls, Counted};
 use crate::tally::{Ranked, Tally};
 use crate::work::{Plan, Work};
 use block_device::Device;
-use group_commit::Ticket;
+use group_commit::Receipt;
 use jbench_words::fault::{self, Fault};
 use jbench_words::watch::{Step, Watch};
 use jbench_words::words::BenchWords;
@@ -137,15 +137,15 @@ struct Run<D: Device> {
 }
 
 impl<D: Device + Drop> Run<D> {
-    /// Commits the next transaction. The ticket of its handle comes back: it is durable.
-    fn commit<C: Clock>(&mut self, plan: &mut Plan, clock: &C) -> Result<Ticket, Fault>
-        ensures { IfOk result (λ ticket. ticket.tid ≤ self.new.work.journal.journal.front.mark) }
+    /// Commits the next transaction. The receipt of its handle comes back: it is durable.
+    fn commit<C: Clock>(&mut self, plan: &mut Plan, clock: &C) -> Result<Receipt, Fault>
+        ensures { IfOk result (λ receipt. receipt.tid ≤ self.new.work.journal.journal.front.mark) }
     {
         let ticket = self.work.change(plan)?;
         let asked = now(clock)?;
-        self.work.commit(&ticket)?;
+        let receipt = self.work.commit(ticket)?;
         self.note(asked, now(clock)?)?;
-        Ok(ticket)
+        Ok(receipt)
     }
 
     /// Notes a commit that was asked for and came at these times.

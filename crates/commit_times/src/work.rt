@@ -1,18 +1,14 @@
 //! Durable transactions of one handle each.
-ghost use Rattle.std.specs.Prelude.{◌≡◌, ◌≤◌, IfOk, OnOk, []};
+ghost use Rattle.std.specs.Prelude.{◌≡◌, ◌≤◌, IfOk, []};
 ghost use Rattle.commit_times.specs.Closed.{IsLeftClosed};
 
 use block_device::Device;
-use group_commit::{CheckTurn, Handle, Journal, Status, Ticket, Turn};
+use group_commit::{Handle, Journal, Receipt, Ticket};
 use journal_model::{BlockNo, JournalError};
 use rand_core::{Rng, SeedableRng};
 use rand_xoshiro::Xoshiro256PlusPlus;
 use recovery::Opened;
 use std::alloc::Global;
-
-/// More turns than a commit can take: each is the seal, a round or one device call, and there are few more of these than ring blocks,
-/// of which a log has fewer than 1,048,576.
-const MOST_TURNS: u32 = 2_000_000;
 
 /// What each transaction writes: one block, at a place that is drawn, in each of as many parts of the home area as it has copies.
 #[derive(Drop)]
@@ -85,18 +81,13 @@ impl<D: Device + Drop> Work<D> {
     ///
     /// Those of a reserve, a join and a write: `TooMany` where a transaction can't have so many blocks.
     pub(crate) fn change(&mut self, plan: &mut Plan) -> Result<Ticket, JournalError> {
-        let mut handle = self.start(plan.copies)?;
+        let mut handle = self.journal.try_start(plan.copies)?;
         let written = self.write_all(&mut handle, plan);
         let ticket = self.journal.stop(handle);
         match written {
             Ok(()) => Ok(ticket),
             Err(e) => Err(e),
         }
-    }
-
-    /// A handle with so many credits.
-    fn start(&mut self, credits: u64) -> Result<Handle, JournalError> {
-        self.journal.try_start(credits)
     }
 
     /// Writes the blocks of the next transaction.
@@ -115,41 +106,18 @@ impl<D: Device + Drop> Work<D> {
         self.journal.write(handle, block, &self.bytes)
     }
 
-    /// Commits the transaction of a ticket, with a round where the ring has no room for it.
+    /// Commits the transaction of a ticket, behind rounds where the ring has no room for it.
     ///
     /// # Errors
     ///
-    /// Those of a request, a commit turn and a checkpoint turn; `NeedSpace` where the ring has no room for it though all is home.
-    pub(crate) fn commit(&mut self, ticket: &Ticket) -> Result<(), JournalError>
-        ensures { OnOk result (ticket.now.tid ≤ self.new.journal.journal.front.mark) }
+    /// Those of a commit.
+    pub(crate) fn commit(&mut self, ticket: Ticket) -> Result<Receipt, JournalError>
+        ensures { IfOk result (λ receipt. receipt.tid ≤ self.new.journal.journal.front.mark) }
     {
-        self.journal.request(ticket)?;
-        for _ in 0..MOST_TURNS {
-            match self.journal.commit_turn() {
-                Ok(Turn::Committed(_)) => {
-                    if let Status::Committed = self.journal.status(ticket) {
-                        return Ok(());
-                    }
-                }
-                Ok(Turn::Step | Turn::Sealed(_)) => {}
-                Ok(Turn::Idle | Turn::Waiting) => break,
-                Err(JournalError::NeedSpace) => self.make_room()?,
-                Err(e) => return Err(e),
-            }
+        match self.journal.commit(ticket) {
+            Ok(receipt) => Ok(receipt),
+            Err((_, e)) => Err(e),
         }
-        Err(JournalError::NotRunning)
-    }
-
-    /// Takes checkpoint turns until a round is over.
-    fn make_room(&mut self) -> Result<(), JournalError> {
-        for _ in 0..MOST_TURNS {
-            match self.journal.checkpoint_turn()? {
-                CheckTurn::Released(_) => return Ok(()),
-                CheckTurn::Step => {}
-                CheckTurn::Idle => break,
-            }
-        }
-        Err(JournalError::NeedSpace)
     }
 
     /// Closes the journal: all that was sealed, and the running transaction where a handle has joined it, is home, and the log is clean. The
