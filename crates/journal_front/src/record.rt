@@ -9,7 +9,7 @@ use std::alloc::Global;
 
 /// How a journal keeps its transactions since the opening: as data for its caller, or for contracts alone.
 pub trait Record: Drop {
-    /// Handles and steps are kept as data. Where they are not, the running transaction's are not either.
+    /// Whether handles and steps are kept as data: of the sealed transactions, and of the running one.
     const KEEPS: bool;
 
     ghost KEEPS: { Bool };
@@ -68,13 +68,13 @@ impl Record for Vec<Sealed> {
     }
 }
 
-/// What a journal has sealed since the opening, known to contracts alone: it takes no memory.
+/// The transactions that a journal has sealed since the opening, known to contracts alone: it takes no memory.
 #[derive(Drop)]
 pub struct Unrecorded {
     transactions: History<KnownTransaction>,
 }
 
-/// A journal gives the memory of a transaction back. The running one keeps of each block what its last write or revoke left.
+/// A journal gives the memory of a transaction back, and the running one has of each block what its last write or revoke left.
 impl Record for Unrecorded {
     ghost use Rattle.std.specs.Prelude.{⊤, false};
 
