@@ -16,7 +16,7 @@ ghost use Rattle.log_epochs.specs.JournalWorld.{Begins};
 ghost use Rattle.block_device.specs.Call.{MakesOneCall, OnlyReads};
 ghost use Rattle.log_engine.specs.Close.{IsAllReleased};
 ghost use Rattle.log_engine.specs.Left.{commit_calls};
-ghost use Rattle.journal_steps.specs.Journal.{Agrees, CheckTurnDid, CheckTurnRefused, Does, FitsQuarter, HasRoomFor, IsDuringCheckTurn, IsDuringTurn, LeavesFewerRounds, NotesRead, OpensNow, OpensOver, ReadRefused, Requests, SealIsDue, TurnDid, TurnRefused};
+ghost use Rattle.journal_steps.specs.Journal.{Agrees, CheckTurnDid, CheckTurnRefused, Does, FitsQuarter, HasRoomFor, IsDuringCheckTurn, IsDuringTurn, LeavesFewerRounds, NewestRefused, NotesRead, OpensNow, OpensOver, ReadRefused, ReadsNewest, Requests, SealIsDue, TurnDid, TurnRefused};
 ghost use Rattle.journal_steps.specs.Values.{together};
 ghost use Rattle.group_commit.specs.AllTurns.{IsReadyToSeal};
 ghost use Rattle.group_commit.specs.Close.{CloseDid, CloseRefused, EndsWith, SealRefused, closing, locked_journal};
@@ -258,6 +258,32 @@ impl<D: Device, R: Record> Journal<D, R> {
         ensures handle { handle.new ≡ handle.old }
     {
         steps::read(&mut self.front, &mut self.engine, handle, block, into)
+    }
+
+    /// Reads a block of the home area into a buffer of one block, without a handle: the bytes that a handle's read would see, which are
+    /// the running transaction's copy, else that of the one that is being committed, else the newest committed copy, else what home
+    /// reads. Nothing is noted: who only reads makes no transaction. It takes no memory. A block with a copy that is not home for good
+    /// is read without a device call, any other with one.
+    ///
+    /// # Errors
+    ///
+    /// The first that applies. `Aborted` after a device failure; `BadBlock` where home has no such block, or its number is not below
+    /// 2^32 (in a log with numbers of 64 bits 2^48); `Revoked` where the block's last entry in the transactions that are not committed
+    /// is a revoke: nothing changes, nor does the buffer. `Device` where the device failed: the journal is aborted, and the buffer's
+    /// bytes are unspecified.
+    /// Source: this project's own (a file system reads its cache of buffers, and asks no journal).
+    pub fn read_newest(&mut self, block: BlockNo, into: &mut [u8]) -> Result<(), JournalError>
+        requires { length into.old ≡ (D.state self.old.device).shape.block_size }
+        ensures ok { OnOk result (ReadsNewest D.state D.honest self.old block into.new self.new) }
+        ensures err { IfErr result (NewestRefused D.state self.old block self.new) }
+        ensures untouched { IfErr result (λ e. e ≢ DeviceFailed → into.new ≡ into.old) }
+        ensures device { OnlyReads D.state D.honest self.old.device self.new.device }
+        ensures opens { D.honest self.old.device → OpensNow self.new.journal (D.state self.new.device).disk }
+        ensures calls { MakesAtMostOneCall (D.state self.old.device) (D.state self.new.device) }
+        ensures no_fault { OnOk result ((D.state self.new.device).faults ≡ (D.state self.old.device).faults) }
+        ensures length { length into.new ≡ length into.old }
+    {
+        steps::read_newest(&mut self.front, &mut self.engine, block, into)
     }
 
     /// Ends a handle. Its credits that are left come back. It always succeeds, after a device failure too. Where the handle is

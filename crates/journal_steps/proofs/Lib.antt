@@ -4,6 +4,7 @@ pub mod Kept
 pub mod Turning
 -- The others.
 mod Directs
+mod Newest
 mod Noting
 mod Quarter
 mod Reading

@@ -1,15 +1,17 @@
 -- What the calls of a journal do, each as one step of the pure machine, and why they are refused.
-use Rattle.std.specs.Prelude.{◌≡◌, ◌≢◌, ⊤, ℕ, ◌+◌, ◌/◌, ◌<◌, ◌≤◌, true, false, List, [], length, Some, None}
+use Rattle.std.specs.Prelude.{◌≡◌, ◌≢◌, ⊤, ℕ, ◌+◌, ◌/◌, ◌<◌, ◌≤◌, Bool, true, false, List, [], length, Ok, Some, None}
 use Rattle.std.specs.List.{AllByRecursion}
 use Rattle.journal_model.specs.declared.entry.Entry.TheVariants.{Copy, Revoke as RevokeEntry}
 use Rattle.journal_model.specs.declared.refusal.JournalError.{JournalError}
-use Rattle.journal_model.specs.declared.refusal.JournalError.TheVariants.{Aborted, Device, Memory, NeedSpace, Revoked}
+use Rattle.journal_model.specs.declared.refusal.JournalError.TheVariants.{Aborted, BadBlock, Device, Memory, NeedSpace, Revoked}
 use Rattle.journal_model.specs.declared.transaction.Op.{Op}
 use Rattle.journal_model.specs.declared.transaction.Op.TheVariants.{Write, Revoke, Read}
 use Rattle.journal_model.specs.declared.transaction.Step.{Step as HandleStep}
 use Rattle.journal_model.specs.Block.{IsAllowedBlock}
 use Rattle.journal_model.specs.Disk.{Disk, Image, Leaves, Shape}
 use Rattle.journal_model.specs.Layout.{Layout}
+use Rattle.journal_model.specs.Reading.{seen}
+use Rattle.journal_model.specs.declared.number.Area.TheVariants.{Home}
 use Rattle.log_model.specs.Opening.{Opens, IsCountOf, greatest_number}
 use Rattle.log_model.specs.Room.{IsCapacity, need}
 use Rattle.journal_model.specs.Transaction.{History, Transaction, copied, entries, last_effect, revoked}
@@ -18,7 +20,7 @@ use Rattle.journal_world.specs.declared.round.Round.TheVariants.{Idle as NoRound
 use Rattle.journal_world.specs.declared.stage.Stage.TheVariants.{Idle}
 use Rattle.journal_world.specs.Checkpoint.{IsPending}
 use Rattle.journal_world.specs.Engine.{AreBatchesOf, Engine}
-use Rattle.journal_world.specs.Front.{Front, held, reading_block, unfinished}
+use Rattle.journal_world.specs.Front.{Front, finished_count, held, reading_block, transactions, unfinished}
 use Rattle.journal_world.specs.Front.FrontEvent.{Lock, Raise}
 use Rattle.journal_world.specs.Journal.{Event, Happens, Journal}
 use Rattle.journal_world.specs.Journal.Event.{AbortMark, CheckpointFault, CheckpointStep, CommitFault, CommitStep, Finish, FrontStep, ReadFault, Seal}
@@ -28,7 +30,7 @@ use Rattle.journal_steps.specs.declared.turn.CheckTurn.TheVariants.{Idle as Idle
 use Rattle.journal_steps.specs.declared.turn.Turn.{Turn}
 use Rattle.journal_steps.specs.declared.turn.Turn.TheVariants.{Idle as IdleTurn, Waiting, Step, Sealed, Committed}
 use Rattle.log_engine.specs.Left.{round_calls}
-use Rattle.journal_front.specs.Front.{IsKeptOut, MayStep}
+use Rattle.journal_front.specs.Front.{IsKeptOut, MayStep, MayTouch}
 use Rattle.journal_front.specs.Values.{HandleValue}
 use Rattle.journal_steps.specs.Handles.{KeepsHandles}
 use Rattle.journal_steps.specs.Values.{JournalValue}
@@ -94,6 +96,33 @@ pub data ReadRefused {D : Type 0} (state : D → DeviceState) (old : JournalValu
       (state new.device).faults ≡ (state old.device).faults → e ≡ Memory → ReadRefused state old h b new e
   ReadFailed : MayStep old.journal.front h b → last_effect b (unfinished old.journal.front) ≡ None → (HasCopyKept old.journal b → ⊥) → Does state old ReadFault new →
       (state new.device).faults ≡ one_more_fault (state old.device).faults → e ≡ Device → ReadRefused state old h b new e
+
+-- what a front may hand out of a block, where it is asked for bytes: the copy that is the block's last entry in the transactions that
+-- are not finished; or they have none, and the buffer is as it was
+abbrev pub HandsOut : Front → ℕ → (buffer : List ℕ) → Bool → List ℕ → Type 0
+HandsOut f b buffer true v = last_effect b (unfinished f) ≡ Some (Copy v)
+HandsOut f b buffer false v = (last_effect b (unfinished f) ≡ None) × (v ≡ buffer)
+
+-- a read of the block without a handle saw these bytes, which are those that a handle's read would see; the journal stays as it is.
+-- Where a copy is kept they are the copy's, and nor has the device changed
+pub record ReadsNewest {D : Type 0} (state : D → DeviceState) (honest : D → Type 0) (old : JournalValue D) (b : ℕ) (v : List ℕ) (new : JournalValue D) : Type 0 where
+  pub running : old.journal.front.aborted ≡ false
+  pub allowed : MayTouch old.journal.front b
+  pub same : new.journal ≡ old.journal
+  pub sees : honest new.device → seen (transactions old.journal.front) (finished_count old.journal.front) b ((state old.device).disk Home b).reads ≡ Ok v
+  pub copied : (w : List ℕ) → last_effect b (unfinished old.journal.front) ≡ Some (Copy w) → (v ≡ w) × (new ≡ old)
+  pub pending : last_effect b (unfinished old.journal.front) ≡ None → (i : ℕ) (w : List ℕ) → IsPending old.journal.engine i b w → (v ≡ w) × (new ≡ old)
+
+-- why it is refused: the device failed before; the block is none that may be touched; its last entry in the transactions that are not
+-- finished is a revoke; or no copy of it is kept and the device failed in the read
+pub data NewestRefused {D : Type 0} (state : D → DeviceState) (old : JournalValue D) (b : ℕ) (new : JournalValue D) (e : JournalError) : Type 0 where
+  NewestAborted : old.journal.front.aborted ≡ true → new ≡ old → e ≡ Aborted → NewestRefused state old b new e
+  NewestOutside : old.journal.front.aborted ≡ false → (MayTouch old.journal.front b → ⊥) → new ≡ old → e ≡ BadBlock → NewestRefused state old b new e
+  NewestRevoked : old.journal.front.aborted ≡ false → MayTouch old.journal.front b → last_effect b (unfinished old.journal.front) ≡ Some RevokeEntry → new ≡ old →
+      e ≡ Revoked → NewestRefused state old b new e
+  NewestFailed : old.journal.front.aborted ≡ false → MayTouch old.journal.front b → last_effect b (unfinished old.journal.front) ≡ None →
+      (HasCopyKept old.journal b → ⊥) → Does state old ReadFault new → (state new.device).faults ≡ one_more_fault (state old.device).faults → e ≡ Device →
+      NewestRefused state old b new e
 
 -- a request locks the ticket's transaction where that is still running, and a handle has joined it; else it does nothing
 pub record Requests {D : Type 0} (state : D → DeviceState) (tid : ℕ) (old new : JournalValue D) : Type 0 where

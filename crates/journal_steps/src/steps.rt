@@ -1,9 +1,9 @@
 //! The steps that need both the front and the engine: each is lent both, and is one step of the machine, or several in a row
 //! that nobody else sees between. The steps of the front alone are its own, and so are those of the engine (`log_engine`).
 //! Front and engine agree before a step and behind it.
-ghost use Rattle.std.specs.Prelude.{◌≡◌, ◌<◌, ◌≢◌, ◌↔◌, false, length, is_some, option_map, IfOk, IfErr, IfSome, OnOk, IsTrue};
-ghost use Rattle.journal_model.specs.declared.entry.Entry.TheVariants.{Copy};
-ghost use Rattle.journal_model.specs.declared.refusal.JournalError.TheVariants.{Memory};
+ghost use Rattle.std.specs.Prelude.{◌≡◌, ◌<◌, ◌≢◌, ◌↔◌, List, ℕ, false, length, is_some, option_map, Some, IfOk, IfErr, IfSome, OnOk, IsTrue};
+ghost use Rattle.journal_model.specs.declared.entry.Entry.TheVariants.{Copy, Revoke as RevokeEntry};
+ghost use Rattle.journal_model.specs.declared.refusal.JournalError.TheVariants.{Device as DeviceFailed, Memory, Revoked};
 ghost use Rattle.journal_model.specs.Transaction.{last_effect};
 ghost use Rattle.block_device.specs.State.{MakesAtMostOneCall};
 ghost use Rattle.journal_world.specs.declared.stage.Stage.TheVariants.{Idle};
@@ -11,7 +11,7 @@ ghost use Rattle.journal_world.specs.Front.{IsOpen, reading_block, unfinished};
 ghost use Rattle.journal_world.specs.Journal.Event.{DirectSync, DirectWrite, ReadBlock};
 ghost use Rattle.block_device.specs.Call.{MakesOneCall, OnlyReads};
 ghost use Rattle.log_engine.specs.Left.{commit_calls};
-ghost use Rattle.journal_steps.specs.Journal.{Agrees, CheckTurnDid, CheckTurnRefused, Does, FitsQuarter, HasRoomFor, IsDuringCheckTurn, IsDuringTurn, LeavesFewerRounds, NoCopy, NotesRead, OpensNow, ReadRefused, SealIsDue, TurnDid, TurnRefused, need_of};
+ghost use Rattle.journal_steps.specs.Journal.{Agrees, CheckTurnDid, CheckTurnRefused, Does, FitsQuarter, HandsOut, HasRoomFor, IsDuringCheckTurn, IsDuringTurn, LeavesFewerRounds, NewestRefused, NoCopy, NotesRead, OpensNow, ReadRefused, ReadsNewest, SealIsDue, TurnDid, TurnRefused, need_of};
 ghost use Rattle.journal_steps.specs.Direct.{DirectSyncRefused, DirectWriteRefused, IsDuringDirectSync, IsDuringDirectWrite, MayWriteDirectly};
 ghost use Rattle.journal_front.specs.Front.{MayStep};
 ghost use Rattle.journal_steps.specs.Values.{together};
@@ -102,6 +102,76 @@ pub fn read<D: Device, R: Record>(
         return Err(e);
     }
     note(front, handle, block, Block::new(bytes)?, into)
+}
+
+/// Copies what the front holds of a block into a buffer of one block: the copy that is its last entry in the transactions that are not
+/// finished. It answers whether there is such a copy; where there is none the buffer stays as it is.
+///
+/// # Errors
+///
+/// `Revoked` where that entry is a revoke: the buffer stays as it is.
+fn hand_out<R: Record>(
+    front: &Front<R>,
+    block: BlockNo,
+    into: &mut [u8],
+) -> Result<bool, JournalError>
+    requires { (v : List ℕ) → last_effect block (unfinished front.now) ≡ Some (Copy v) → length into.old ≡ length v }
+    ensures ok { IfOk result (λ held. HandsOut front.now block into.old held into.new) }
+    ensures err { IfErr result (λ e. (e ≡ Revoked) × (last_effect block (unfinished front.now) ≡ Some RevokeEntry) × (into.new ≡ into.old)) }
+    ensures length { length into.new ≡ length into.old }
+{
+    let copy = match front.newest(block) {
+        Some(Entry::Copy(copy)) => copy,
+        Some(Entry::Revoke) => return Err(JournalError::Revoked),
+        None => return Ok(false),
+    };
+    into.copy_from_slice(copy.bytes());
+    Ok(true)
+}
+
+/// Reads a block of the home area into a buffer of one block, without a handle: the bytes that a handle's read would see. Nothing is
+/// noted, so it makes no transaction, and it takes no memory. A block with a copy that is not home for good is read without a device
+/// call, any other with one.
+///
+/// # Errors
+///
+/// The first that applies. `Aborted` after a device failure; `BadBlock` where home has no such block, or its number is not below 2^32
+/// (in a log with numbers of 64 bits 2^48); `Revoked` where the block's last entry in the transactions that are not committed is a
+/// revoke: nothing changes, nor does the buffer. `Device` where the device failed: the journal is aborted, and the buffer's bytes are
+/// unspecified.
+pub fn read_newest<D: Device, R: Record>(
+    front: &mut Front<R>,
+    engine: &mut Engine<D>,
+    block: BlockNo,
+    into: &mut [u8],
+) -> Result<(), JournalError>
+    requires length { length into.old ≡ (D.state engine.old.device).shape.block_size }
+    requires agrees { Agrees (together front.old engine.old).journal }
+    ensures agrees { Agrees (together front.new engine.new).journal }
+    ensures ok { OnOk result (ReadsNewest D.state D.honest (together front.old engine.old) block into.new (together front.new engine.new)) }
+    ensures err { IfErr result (NewestRefused D.state (together front.old engine.old) block (together front.new engine.new)) }
+    ensures untouched { IfErr result (λ e. e ≢ DeviceFailed → into.new ≡ into.old) }
+    ensures device { OnlyReads D.state D.honest engine.old.device engine.new.device }
+    ensures opens { D.honest engine.old.device → OpensNow (together front.new engine.new).journal (D.state engine.new.device).disk }
+    ensures calls { MakesAtMostOneCall (D.state engine.old.device) (D.state engine.new.device) }
+    ensures no_fault { OnOk result ((D.state engine.new.device).faults ≡ (D.state engine.old.device).faults) }
+    ensures length { length into.new ≡ length into.old }
+{
+    engine.recall_invariant();
+    if front.is_aborted() {
+        return Err(JournalError::Aborted);
+    }
+    if !front.may_touch(block) {
+        return Err(JournalError::BadBlock);
+    }
+    if hand_out(front, block, into)? {
+        return Ok(());
+    }
+    if let Err(e) = engine.read(block, into) {
+        front.abort();
+        return Err(e);
+    }
+    Ok(())
 }
 
 /// Takes the next step of committing: one device call of a commit, or the seal of a transaction that takes no further handles

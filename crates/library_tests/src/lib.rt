@@ -19,6 +19,8 @@ mod held;
 #[cfg(test)]
 mod meetings;
 #[cfg(test)]
+mod newest;
+#[cfg(test)]
 mod service;
 #[cfg(test)]
 mod shares;
