@@ -125,10 +125,9 @@ pub(crate) fn lead<J: JournalName + PartsName + MeetingName, D: Device, W: Wait>
 
 /// Takes a part of a round, lets all who were in the last commit join again, and commits the running transaction.
 ///
-/// The wait is jbd2's: a handle that is to be durable lets others join for about as long as a commit takes before it asks for one, and
-/// waits for nobody where it had the last commit alone. So commits do not alternate between all handles but one and that one, which
-/// comes back before the others have woken. Where a client that had a handle in the last commit has no further one, the wait is for a
-/// short while alone.
+/// jbd2 waits too: a handle that is to be durable lets others join for about as long as a commit takes on average, where the last such
+/// handle was another thread's. Here the wait is over once each client of the last commit has stopped a further handle, and after a short
+/// while in any case. So commits do not alternate between all handles but one and that one, which comes back before the others have woken.
 /// Source: fs/jbd2/transaction.c by behaviour (`jbd2_journal_stop`, `j_average_commit_time`).
 fn commit<J: JournalName + PartsName + MeetingName, D: Device, W: Wait>(
     rt: &W,
