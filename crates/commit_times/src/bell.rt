@@ -1,10 +1,11 @@
 //! What threads sleep on.
-use std::hint;
 use std::sync::Wait;
 use std::sync::atomic::{AtomicU64, Ordering};
+use std::thread;
 
-/// How often who waits looks again before it sleeps: some ten microseconds, about as long as a sleep and a wake take.
-const LOOKS: u32 = 10_000;
+/// How often who waits looks again before it sleeps. It lets another thread run behind each look, so that this takes some two hundred
+/// microseconds: longer than a commit where a sync costs nothing, and about as long as one on a fast disk.
+pub(crate) const LOOKS: u32 = 200;
 
 /// A count that goes up each time something may have become possible. Who waits reads it, looks whether it can go on, and sleeps for
 /// as long as the count is the one that it read: so no ring between the look and the sleep is lost.
@@ -24,9 +25,24 @@ impl Bell {
         }
     }
 
+    /// How often it rang.
+    pub(crate) fn count(&self) -> u64 {
+        self.rings.load(Ordering::SeqCst)
+    }
+
     /// How often it rang, in the low 32 bits.
     pub(crate) fn heard(&self) -> u32 {
-        (self.rings.load(Ordering::SeqCst) % (1 << 32)) as u32
+        (self.count() % (1 << 32)) as u32
+    }
+
+    /// Looks for a short while until the bell has rung so often.
+    pub(crate) fn look_for(&self, count: u64) {
+        for _ in 0..LOOKS {
+            if self.count() >= count {
+                return;
+            }
+            thread::yield_now();
+        }
     }
 
     /// Wakes all who sleep. Where nobody does, the system is not called: who notes itself as a sleeper later finds the new count.
@@ -43,7 +59,7 @@ impl Bell {
             if self.heard() != heard {
                 return;
             }
-            hint::spin_loop();
+            thread::yield_now();
         }
         self.sleepers.fetch_add(1, Ordering::SeqCst);
         self.rings.park(rt, heard);

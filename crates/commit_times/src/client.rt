@@ -1,6 +1,7 @@
 //! A client: one thread with a seat of its own, which makes one durable change after the other.
 ghost use Rattle.std.specs.Prelude.{◌≤◌, IfOk};
 
+use crate::bell::LOOKS;
 use crate::bench::Done;
 use crate::leader::{Bells, Rounds, lead};
 use crate::work::Plan;
@@ -11,7 +12,8 @@ use journal_model::{BlockNo, JournalError};
 use shared_journal::{Handle, Journal, JournalName, MeetingName, PartsName, Receipt, Seat, Ticket};
 use std::alloc::Global;
 use std::sync::atomic::{AtomicU64, Ordering};
-use std::sync::{Mutex, Wait};
+use std::sync::{Mutex, MutexGuard, Wait};
+use std::thread;
 use std::time::{Clock, Duration, Instant};
 
 /// What all clients share.
@@ -25,6 +27,8 @@ pub(crate) struct Shared<'s, J: JournalName + PartsName + MeetingName, D: Device
     pub(crate) turns: Mutex<Rounds>,
     /// What the others wait for.
     pub(crate) bells: Bells,
+    /// Who has it makes a change.
+    pub(crate) changes: Mutex<()>,
     /// When the work began.
     pub(crate) begun: Instant,
     /// The most transactions, all clients together.
@@ -52,6 +56,7 @@ impl<'s, J: JournalName + PartsName + MeetingName, D: Device, C> Shared<'s, J, D
             journal,
             turns: Mutex::new(Rounds::new()),
             bells: Bells::new(),
+            changes: Mutex::new(()),
             begun,
             most: words.most_transactions(),
             most_time: words.most_time(),
@@ -59,6 +64,18 @@ impl<'s, J: JournalName + PartsName + MeetingName, D: Device, C> Shared<'s, J, D
             durable: AtomicU64::new(0),
             refused: AtomicU64::new(0),
         }
+    }
+
+    /// Waits until no other client makes a change. A change takes a few microseconds, and each of its calls takes the journal's lock, for
+    /// which who finds it taken sleeps soon: a sleep and a wake take longer than all changes of a commit one behind the other.
+    pub(crate) fn alone<W: Wait>(&self, rt: &W) -> MutexGuard<'_, ()> {
+        for _ in 0..LOOKS {
+            if let Some(guard) = self.changes.try_lock() {
+                return guard;
+            }
+            thread::yield_now();
+        }
+        self.changes.lock(rt)
     }
 
     /// No client begins a further transaction.
@@ -173,28 +190,34 @@ impl<'s, J: JournalName + PartsName + MeetingName, D: Device, C: Clock> Client<'
 
     /// Writes the blocks of the next transaction through one handle, which stops then, also where a write is refused.
     fn change<W: Wait>(&mut self, rt: &W) -> Result<Ticket<J>, JournalError> {
-        let mut handle = self.start(rt)?;
+        let (mut handle, alone) = self.start(rt)?;
         let written = self.write_all(rt, &mut handle);
         let ticket = self.shared.journal.stop(rt, handle);
+        drop(alone);
         self.shared.bells.stopped.ring();
         written?;
         Ok(ticket)
     }
 
-    /// A handle with as many credits as it is to write blocks. It waits while the running transaction takes no handles, and while
-    /// others hold the credits; where nobody takes turns then, it does.
-    fn start<W: Wait>(&mut self, rt: &W) -> Result<Handle<'s, J>, JournalError> {
+    /// A handle with as many credits as it is to write blocks, while no other client makes a change. It waits while the running
+    /// transaction takes no handles, and while others hold the credits; where nobody takes turns then, it does.
+    fn start<W: Wait>(
+        &mut self,
+        rt: &W,
+    ) -> Result<(Handle<'s, J>, MutexGuard<'s, ()>), JournalError> {
         let shared = self.shared;
         for _ in rt.forever() {
+            let alone = shared.alone(rt);
             let heard = shared.bells.sealed.heard();
             match shared
                 .journal
                 .try_start(rt, &mut self.seat, self.plan.copies())
             {
-                Ok(handle) => return Ok(handle),
+                Ok(handle) => return Ok((handle, alone)),
                 Err(JournalError::Full | JournalError::NotRunning) => {}
                 Err(e) => return Err(e),
             }
+            drop(alone);
             if !lead(rt, shared.journal, &shared.turns, &shared.bells)? {
                 shared.bells.sealed.sleep(rt, heard);
             }

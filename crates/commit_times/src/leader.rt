@@ -27,13 +27,21 @@ impl Bells {
     }
 }
 
-/// Where the rounds are. It is known to the leader alone.
+/// Where the rounds are, and how many handles the next transaction waits for. It is known to the leader alone.
 #[derive(Clone, Copy)]
 pub(crate) struct Rounds {
     /// How many commit steps were taken since the last round began.
     steps: u64,
     /// A round has begun and is not over.
     under_way: bool,
+    /// How many of its steps are to be taken before the next commit.
+    part: u64,
+    /// How many handles had stopped when a transaction was locked last.
+    locked_at: u64,
+    /// How many of these had joined that transaction.
+    group: u64,
+    /// How many will have stopped once each client of that transaction has stopped a further one.
+    awaited: u64,
 }
 
 impl Rounds {
@@ -42,7 +50,22 @@ impl Rounds {
         Rounds {
             steps: 0,
             under_way: false,
+            part: 0,
+            locked_at: 0,
+            group: 0,
+            awaited: 0,
         }
+    }
+
+    /// The running transaction is locked, once so many handles have stopped.
+    fn lock(&mut self, stopped: u64) {
+        self.group = stopped.saturating_sub(self.locked_at);
+        self.locked_at = stopped;
+    }
+
+    /// It is committed, once so many have: those behind the lock are of the next one.
+    fn await_group(&mut self, stopped: u64) {
+        self.awaited = stopped.saturating_add(self.group);
     }
 
     /// A round begins, where none is under way.
@@ -58,15 +81,22 @@ impl Rounds {
         self.under_way = false;
     }
 
-    /// Notes a commit of so many steps, and says whether a part of a round is to follow: one is under way, or half of the ring may be
+    /// Notes a commit of so many steps. A part of a round, of as many, is to follow where one is under way, or half of the ring may be
     /// taken, so that one begins. A transaction takes a quarter of the ring at most, and its credits are about as many blocks; each
     /// block of the ring takes a step.
-    fn is_due(&mut self, steps: u64, capacity: u64) -> bool {
+    fn note(&mut self, steps: u64, capacity: u64) {
         self.steps = self.steps.saturating_add(steps);
         if self.steps / 2 >= capacity {
             self.begin();
         }
-        self.under_way
+        self.part = if self.under_way { steps } else { 0 };
+    }
+
+    /// How many steps of a round are to be taken now.
+    fn take_part(&mut self) -> u64 {
+        let part = self.part;
+        self.part = 0;
+        part
     }
 }
 
@@ -93,13 +123,21 @@ pub(crate) fn lead<J: JournalName + PartsName + MeetingName, D: Device, W: Wait>
     Ok(true)
 }
 
-/// Commits the running transaction, and takes a part of a round.
+/// Takes a part of a round, lets all who were in the last commit join again, and commits the running transaction.
+///
+/// jbd2 waits too: a handle that is to be durable lets others join for about as long as a commit takes on average, where the last such
+/// handle was another thread's. Here the wait is over once each client of the last commit has stopped a further handle, and after a short
+/// while in any case. So commits do not alternate between all handles but one and that one, which comes back before the others have woken.
+/// Source: fs/jbd2/transaction.c by behaviour (`jbd2_journal_stop`, `j_average_commit_time`).
 fn commit<J: JournalName + PartsName + MeetingName, D: Device, W: Wait>(
     rt: &W,
     journal: &Journal<J, D>,
     rounds: &mut Rounds,
     bells: &Bells,
 ) -> Result<(), JournalError> {
+    keep_room(rt, journal, rounds)?;
+    bells.stopped.look_for(rounds.awaited);
+    rounds.lock(bells.stopped.count());
     journal.lock(rt)?;
     let mut steps = 1u64;
     for _ in rt.forever() {
@@ -108,7 +146,11 @@ fn commit<J: JournalName + PartsName + MeetingName, D: Device, W: Wait>(
             Ok(Turn::Step) => steps = steps.saturating_add(1),
             Ok(Turn::Sealed(_)) => bells.sealed.ring(),
             Ok(Turn::Waiting) => bells.stopped.sleep(rt, heard),
-            Ok(Turn::Committed(_)) => return keep_room(rt, journal, rounds, bells, steps),
+            Ok(Turn::Committed(_)) => {
+                rounds.note(steps, journal.capacity());
+                rounds.await_group(bells.stopped.count());
+                break;
+            }
             Ok(Turn::Idle) => break,
             Err(JournalError::NeedSpace) => make_room(rt, journal, rounds)?,
             Err(e) => return Err(e),
@@ -117,21 +159,15 @@ fn commit<J: JournalName + PartsName + MeetingName, D: Device, W: Wait>(
     Ok(())
 }
 
-/// Takes a part of a round behind a commit, of as many steps as that had, where one is due. A round writes no more blocks than the ring
-/// had taken when it began, so it is over when about as many again are: no commit waits for the whole of one. Who waited for this commit is
-/// told before.
+/// Takes a part of a round before a commit, of as many steps as the last commit had, where one is due. A round writes no more blocks than
+/// the ring had taken when it began, so it is over when about as many again are: no commit waits for the whole of one. Others who were in
+/// the last commit make their next changes meanwhile.
 fn keep_room<J: JournalName + PartsName + MeetingName, D: Device, W: Wait>(
     rt: &W,
     journal: &Journal<J, D>,
     rounds: &mut Rounds,
-    bells: &Bells,
-    steps: u64,
 ) -> Result<(), JournalError> {
-    if !rounds.is_due(steps, journal.capacity()) {
-        return Ok(());
-    }
-    bells.committed.ring();
-    for _ in 0..steps {
+    for _ in 0..rounds.take_part() {
         match journal.checkpoint_turn(rt)? {
             CheckTurn::Step => {}
             CheckTurn::Idle | CheckTurn::Released(_) => {
