@@ -8,6 +8,7 @@ ghost use Rattle.journal_model.specs.Transaction.{last_effect};
 ghost use Rattle.block_device.specs.State.{MakesAtMostOneCall};
 ghost use Rattle.journal_world.specs.declared.stage.Stage.TheVariants.{Idle};
 ghost use Rattle.journal_world.specs.Front.{IsOpen, reading_block, unfinished};
+ghost use Rattle.journal_world.specs.Journal.{batch_of};
 ghost use Rattle.journal_world.specs.Journal.Event.{DirectSync, DirectWrite, ReadBlock};
 ghost use Rattle.block_device.specs.Call.{MakesOneCall, OnlyReads};
 ghost use Rattle.log_engine.specs.Left.{commit_calls};
@@ -19,7 +20,7 @@ ghost use Rattle.journal_steps.specs.Values.{together};
 use crate::turn::{CheckTurn, Turn};
 use block_device::Device;
 use journal_front::{Front, Handle, Record};
-use journal_model::{Block, BlockNo, Entry, JournalError};
+use journal_model::{Batch, Block, BlockNo, Entry, JournalError};
 use log_engine::{Engine, Progress};
 
 /// The copy of a block that the front keeps: that of the last entry in the transactions that are not finished, if there is one.
@@ -264,12 +265,57 @@ pub fn seal<D: Device, R: Record>(
     ensures err { IfErr result (λ e. TurnRefused D.state (together front.old engine.old) (together front.new engine.new) e) }
     ensures device { engine.new.device ≡ engine.old.device }
 {
+    if room_for(front, engine).is_none() {
+        return Err(JournalError::NeedSpace);
+    }
+    let batch = ready_batch(front, engine)?;
+    seal_batch(front, engine, batch)
+}
+
+/// The entries of the running transaction, with all the room made that their seal needs. They may be had before the seal is due, while
+/// another transaction is being committed: as long as no step of a handle comes between, a seal by them makes no request for memory.
+///
+/// # Errors
+///
+/// `Memory`: nothing changes.
+pub fn ready_batch<D: Device, R: Record>(
+    front: &Front<R>,
+    engine: &mut Engine<D>,
+) -> Result<Batch, JournalError>
+    ensures ok { IfOk result (λ batch. batch ≡ batch_of front.now.running) }
+    ensures err { IfErr result (λ e. e ≡ Memory) }
+    ensures same { engine.new ≡ engine.old }
+{
+    let batch = front.batch()?;
+    engine.reserve(batch.entries.len())?;
+    Ok(batch)
+}
+
+/// Seals the locked transaction, of which no handle is open and these are the entries (`ready_batch`), and hands them to the engine.
+///
+/// # Errors
+///
+/// `NeedSpace` where what is left of the ring is too short for the transaction, and `Memory`, which does not come where room was made
+/// for these entries: nothing changes.
+/// Source: fs/jbd2/commit.c by behaviour.
+pub fn seal_batch<D: Device, R: Record>(
+    front: &mut Front<R>,
+    engine: &mut Engine<D>,
+    batch: Batch,
+) -> Result<Turn, JournalError>
+    requires agrees { Agrees (together front.old engine.old).journal }
+    requires due { SealIsDue (together front.old engine.old).journal }
+    requires batch { batch ≡ batch_of front.old.running }
+    ensures agrees { Agrees (together front.new engine.new).journal }
+    ensures ok { IfOk result (λ turn. TurnDid D.state turn (together front.old engine.old) (together front.new engine.new)) }
+    ensures err { IfErr result (λ e. TurnRefused D.state (together front.old engine.old) (together front.new engine.new) e) }
+    ensures device { engine.new.device ≡ engine.old.device }
+{
     engine.recall_invariant();
     let Some(blocks) = room_for(front, engine) else {
         return Err(JournalError::NeedSpace);
     };
     let tid = front.tid();
-    let batch = front.batch()?;
     if let Err(refused) = engine.accept(batch, blocks) {
         return Err(refused.1);
     }

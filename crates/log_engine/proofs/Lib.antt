@@ -8,5 +8,6 @@ mod KeptClean
 mod LeftBlocks
 mod Plans
 mod Reading
+mod Rooms
 mod Rounding
 mod Stepping

@@ -165,6 +165,23 @@ impl<D: Device> Engine<D> {
         self.ledger.room_for(copies, revokes)
     }
 
+    /// Makes each growth that taking a batch of no more than so many entries will need, also while another one is being committed:
+    /// an `accept` behind it, with no other between, makes no request for memory. It calls no device, and the engine is as it was
+    /// whatever it answers.
+    ///
+    /// # Errors
+    ///
+    /// `Memory`.
+    pub fn reserve(&mut self, entries: usize) -> Result<(), JournalError>
+        ensures err { IfErr result (λ e. e ≡ Memory) }
+        ensures same { self.new ≡ self.old }
+    {
+        self.plan.reserve(entries)?;
+        self.effects.reserve(entries)?;
+        self.ledger.reserve()?;
+        Ok(())
+    }
+
     /// Takes the entries of a transaction, which is then to be committed: copies of one block each and revokes, in any mix,
     /// of different blocks that may be touched, with the next number, while nothing is being committed. They need so many
     /// log blocks, and the ring has as many free ones (`room_for`). It makes every growth that the commit will need, so that

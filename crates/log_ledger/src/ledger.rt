@@ -15,7 +15,7 @@ use journal_model::{Batch, History, LogLayout};
 use journal_world::{Round, Stage};
 use log_format::Super;
 use log_ring::Ring;
-use std::alloc::Global;
+use std::alloc::{AllocError, Global};
 use std::collections::VecDeque;
 
 /// More copies, or more revokes, fit no ring.
@@ -119,6 +119,16 @@ impl Ledger {
         ensures { result.now ≡ slice_index_or self.now.accepted.items place result.now }
     {
         &self.kept[place - self.released]
+    }
+
+    /// Makes room for one more batch, so that `take` of it makes no request for memory. Whatever comes of it, nothing changes.
+    pub fn reserve(&mut self) -> Result<(), AllocError>
+        ensures engine { (shape : Shape) → engine_of shape self.new ≡ engine_of shape self.old }
+        ensures ring { self.new.ring ≡ self.old.ring }
+        ensures pending { self.new.pending ≡ self.old.pending }
+        ensures kept { self.new.kept.items ≡ self.old.kept.items }
+    {
+        self.kept.reserve(1)
     }
 
     /// Takes a batch that there is room for, and which needs so many log blocks; it is then to be committed. Where memory

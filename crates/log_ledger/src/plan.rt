@@ -1,5 +1,5 @@
 //! Where the copies of a transaction stand among its entries, and which blocks it revokes.
-ghost use Rattle.std.specs.Prelude.{[], OnOk};
+ghost use Rattle.std.specs.Prelude.{◌≡◌, ◌≤◌, [], OnOk, vec_capacity};
 ghost use Rattle.log_ledger.specs.Text.{IsPlanOf};
 
 use journal_model::{BlockNo, Entry};
@@ -24,6 +24,19 @@ impl Plan {
             copies: Vec::new(alloc),
             revokes: Vec::new(alloc),
         }
+    }
+
+    /// Makes room for the plan of so many entries, so that `make` of no more of them makes no request for memory. Whatever comes of
+    /// it, it is the same plan: one that is in use stays so.
+    pub fn reserve(&mut self, entries: usize) -> Result<(), AllocError>
+        ensures copies { self.new.copies.items ≡ self.old.copies.items }
+        ensures revokes { self.new.revokes.items ≡ self.old.revokes.items }
+        ensures room { OnOk result ((entries ≤ vec_capacity self.new.copies) × (entries ≤ vec_capacity self.new.revokes)) }
+    {
+        let further = entries.saturating_sub(self.copies.len());
+        self.copies.try_reserve(further)?;
+        let further = entries.saturating_sub(self.revokes.len());
+        self.revokes.try_reserve(further)
     }
 
     /// Makes it the plan of these entries, in memory in proportion to them. Where memory runs out it is the plan of none of them.

@@ -1,81 +1,39 @@
-use Rattle.std.proofs.Common.{refl, sym, ap, subst, ◌∙◌, ◌≡◌, ℕ, Option, Some, IsTrue, is_some, length}
+use Rattle.std.proofs.Common.{refl, sym, ap, ◌∙◌, not}
 use Rattle.std.proofs.lemmas.Bool.{true≢false}
 use Rattle.std.proofs.lemmas.Result.{err_from_is_err_and}
-use Rattle.journal_model.specs.declared.entry.Batch.{Batch}
-use Rattle.journal_model.specs.Transaction.{copied, revoked}
-use Rattle.log_model.specs.Room.{need}
-use Rattle.journal_world.specs.Engine.{Accepts, HasRoom}
-use Rattle.journal_world.specs.Front.{Front, MaySeal}
-use Rattle.log_ledger.specs.Steps.{MayHandOver}
 use Rattle.log_engine.specs.Engine.{EngineValue}
-use Rattle.journal_steps.specs.Journal.{Agrees, HasRoomFor, TurnRefused}
-use Rattle.journal_steps.proofs.Sealing.{agrees-sealed, all-told, may-hand_over, quarter, refused-seal, room-good}
+use Rattle.journal_steps.specs.Journal.{HasRoomFor, TurnRefused}
 use Rattle.journal_steps.proofs.steps.seal.Goals as goal
 
--- an answer of some number says that there is one
-there : (r : Option ℕ) (n : ℕ) → r ≡ Some n → IsTrue (is_some r)
-there r n is = ap is_some is
-
 -- the ring is too short
-pub returns-in_default-clause-err : goal.returns-in_default-clause-err
-returns-in_default-clause-err g c =
+pub returns-then-is_none-clause-err : goal.returns-then-is_none-clause-err
+returns-then-is_none-clause-err g c =
     let short : HasRoomFor (record { front = c.args.front.now; engine = c.args.engine.now.engine }) → ⊥ =
-    λ room. true≢false (sym (c.room_for.ensures.room.1 room) ∙ ap is_some c.in_default.is) in
+    λ room. true≢false (sym (c.room_for.ensures.room.1 room) ∙ c.is_none.ensures ∙ ap not c.if-is_none.true) in
     TurnRefused.RingIsShort c.requires.due short refl
 
 -- memory ran out for the batch
 pub returns-in_err-batch-clause-err : goal.returns-in_err-batch-clause-err
 returns-in_err-batch-clause-err g c =
     let p = err_from_is_err_and c.from_residual.result c.from_residual.ensures.1 in
-    rw (p.1, p.2, c.in_err-batch.ensures.err) (TurnRefused.MemoryIsShort c.requires.due (c.room_for.ensures.room.0 (there c.room_for.result _ c.in-Some.is)) refl)
+    let room = c.room_for.ensures.room.0 (c.is_none.ensures ∙ ap not c.if-is_none.false) in
+    let same = ap (λ (v : EngineValue g.row.D.Denot). record { device = v.device; journal = record { front = c.args.front.now; engine = v.engine } }) c.ready_batch.ensures.same in
+    rw (p.1, p.2, c.in_err-batch.ensures.err) (TurnRefused.MemoryIsShort c.requires.due room same)
 
--- the engine may take it
-pub accept-requires-clause-may : goal.accept-requires-clause-may
-accept-requires-clause-may g c =
-    let e = c.args.engine.now.engine in
-    let plain = c.recall_invariant.ensures.plain in
-    subst (MayHandOver e) (sym c.in_ok-batch.ensures.ok) (may-hand_over c.args.front.now e c.requires.agrees plain c.requires.due)
+-- front and engine agree as they did
+pub returns-in_err-batch-clause-agrees : goal.returns-in_err-batch-clause-agrees
+returns-in_err-batch-clause-agrees g c = rw c.ready_batch.ensures.same c.requires.agrees
 
--- the ring has room for it
-pub accept-requires-clause-room : goal.accept-requires-clause-room
-accept-requires-clause-room g c =
-    let e = c.args.engine.now.engine in
-    let plain = c.recall_invariant.ensures.plain in
-    let room = c.room_for.ensures.room.0 (there c.room_for.result _ c.in-Some.is) in
-    subst (HasRoom e) (sym c.in_ok-batch.ensures.ok) (room-good e c.args.front.now.running plain room)
+pub seal_batch-requires-clause-agrees : goal.seal_batch-requires-clause-agrees
+seal_batch-requires-clause-agrees g c = rw c.ready_batch.ensures.same c.requires.agrees
 
--- in as many blocks
-pub accept-requires-clause-blocks : goal.accept-requires-clause-blocks
-accept-requires-clause-blocks g c =
-    let e = c.args.engine.now.engine in
-    subst (λ (b : Batch). c.in-Some.blocks ≡ need e.layout (length (copied b.entries)) (length (revoked b.entries))) (sym c.in_ok-batch.ensures.ok)
-    c.in-Some.ensures.blocks
+-- the seal is as due as it was
+pub seal_batch-requires-clause-due : goal.seal_batch-requires-clause-due
+seal_batch-requires-clause-due g c = rw c.ready_batch.ensures.same c.requires.due
 
--- memory ran out for the engine
-pub returns-in-Err-clause-err : goal.returns-in-Err-clause-err
-returns-in-Err-clause-err g c =
-    let due = c.requires.due in
-    let f = c.args.front.now in
-    let e = c.args.engine.now.engine in
-    let room = c.room_for.ensures.room.0 (there c.room_for.result _ c.in-Some.is) in
-    let refused = c.in-Err.ensures.err in
-    let same = ap (λ (v : EngineValue g.row.D.Denot). record { device = v.device; journal = record { front = f; engine = v.engine } }) refused.2 in
-    (refused-seal g.D.Device.state f c.args.engine.now.device e _ c.in-Err.refused.1 due room refused.1 same)
-
--- the transaction is sealed, and fits a quarter of the ring
+-- and made from where the journal was
 pub returns-clause-ok : goal.returns-clause-ok
-returns-clause-ok g c =
-    let f = c.args.front.now in
-    let e = c.args.engine.now.engine in
-    let plain = c.recall_invariant.ensures.plain in
-    let due = c.requires.due in
-    let taken = subst (λ (b : Batch). Accepts e b c.accept.new.self.engine) c.in_ok-batch.ensures.ok c.in_default-accept.ensures.ok in
-    let may : MaySeal f = record { locked = due.locked; stopped = due.stopped; finished = all-told f e c.requires.agrees plain due.idle } in
-    (record { may = may; front = c.seal.ensures; engine = taken; disk_is = ap (λ d. (g.D.Device.state d).disk) c.accept.ensures.device }, c.tid-tid.ensures, quarter f e c.requires.agrees plain)
+returns-clause-ok g c = rw (← c.ready_batch.ensures.same) c.seal_batch.ensures.ok
 
--- front and engine agree
-pub returns-clause-agrees : goal.returns-clause-agrees
-returns-clause-agrees g c =
-    let taken = subst (λ (b : Batch). Accepts c.args.engine.now.engine b c.accept.new.self.engine) c.in_ok-batch.ensures.ok c.in_default-accept.ensures.ok in
-    subst (λ (f : Front). Agrees (record { front = f; engine = c.accept.new.self.engine })) (sym c.seal.ensures)
-    (agrees-sealed c.args.front.now c.args.engine.now.engine c.accept.new.self.engine c.requires.agrees c.requires.due.stopped taken.after)
+pub returns-clause-err : goal.returns-clause-err
+returns-clause-err g c = rw (← c.ready_batch.ensures.same) c.seal_batch.ensures.err
