@@ -1,4 +1,4 @@
-use Rattle.std.proofs.Common.{◌≡◌}
+use Rattle.std.proofs.Common.{◌≡◌, vec_len}
 use Rattle.script_client.specs.Ended.{StopsHandles}
 use Rattle.script_client.specs.Shown.{IsLeftOf}
 use Rattle.script_client.proofs.interpreter.Interpreter.into_stopped.Given as goal
@@ -11,3 +11,7 @@ invariant-loop-slot g l = record {
   stops : StopsHandles g.D.Device.state l.fn.self.client.journal l.client.journal;
   running : l.client.journal.journal.front.running ≡ l.fn.self.client.journal.journal.front.running;
 }
+
+-- the slots that are left
+abbrev pub decreases-loop-slot : goal.decreases-loop-slot
+decreases-loop-slot g l = vec_len l.slots
