@@ -4,7 +4,7 @@ use std::io;
 use std::io::Write;
 
 /// A shell that completes words.
-#[derive(Clone, Copy, Debug, PartialEq, Eq)]
+#[derive(Clone, Copy, Debug)]
 pub enum Shell {
     /// GNU bash.
     Bash,

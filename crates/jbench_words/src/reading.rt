@@ -253,7 +253,7 @@ pub(crate) fn words_of<'a>(alloc: Global, matches: &ArgMatches<'a>) -> Result<Wo
         return Ok(Words::Show(show.get_str("log").unwrap_or("")));
     }
     if let Some(completions) = matches.subcommand_matches("completions") {
-        return shell_told(completions).map(Words::Completions);
+        return Ok(Words::Completions(shell_told(completions)?));
     }
     if matches.subcommand_matches("man").is_some() {
         return Ok(Words::Man);
