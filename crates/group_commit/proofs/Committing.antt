@@ -1,6 +1,6 @@
 -- What comes of a request and of all turns behind it.
 use Rattle.std.proofs.Common.{refl, sym, ◌∙◌, ap, subst, arith, ⊎_elim}
-use Rattle.std.specs.Prelude.{◌≡◌, ◌≢◌, ℕ, zero, suc, true, false, length, eqb, Result, Ok, Err, IfErr}
+use Rattle.std.specs.Prelude.{◌≡◌, ◌≢◌, ℕ, zero, suc, true, false, length, eqb, Result, Ok, Err, IfErr, OnOk}
 use Rattle.std.proofs.lemmas.Bool.Decides.{eqb_tells}
 use Rattle.journal_model.specs.declared.refusal.JournalError.{JournalError}
 use Rattle.journal_model.specs.declared.refusal.JournalError.TheVariants.{Device}
@@ -13,8 +13,7 @@ use Rattle.log_epochs.specs.EngineWorld.Phase.{Running}
 use Rattle.group_commit.specs.AllTurns.{CommitsAll, IsReadyToSeal, ReleaseRefused}
 use Rattle.group_commit.specs.AllTurns.CommitsAll.{WithRunning, WithoutRunning}
 use Rattle.group_commit.specs.AllTurns.ReleaseRefused.{ReleaseFailed}
-use Rattle.group_commit.specs.Close.{ComesTo, Went, WentWrong}
-use Rattle.group_commit.proofs.Finishing.{went-sealed, went-went}
+use Rattle.group_commit.specs.Close.{ComesTo, HasSealed, Went, WentWrong}
 use Rattle.group_commit.proofs.Leading.{comes-same, comes-step}
 
 module _ {D : Type 0} (state : D → DeviceState) where
@@ -41,18 +40,17 @@ module _ {D : Type 0} (state : D → DeviceState) where
   pub asked-way : (tid : ℕ) (old new : JournalValue D) → Requests state tid old new → ComesBy old new
   asked-way tid old new asks = asked-of tid old new asks (length old.journal.front.running.handles) refl
 
-  -- steps of the commit that is under way leave the running transaction as ready as it was
-  ready-before : (old mid : JournalValue D) → Went state old mid → IsReadyToSeal mid.journal.front → IsReadyToSeal old.journal.front
-  ready-before old mid went ready = (sym went.on.locked ∙ ready.0, sym went.on.open_handles ∙ ready.1)
+  -- where the running transaction was not ready, all that can be committed is behind the commit that was under way
+  pub none-ready : {T : Type 0} (r : Result T JournalError) (old new : JournalValue D) → (IsReadyToSeal old.journal.front → ⊥) →
+      OnOk r (Went state old new) → OnOk r (CommitsAll state old new)
+  none-ready (Ok x) old new unready went = WithoutRunning unready went
+  none-ready (Err e) old new unready went = tt
 
-  ready-behind : (old mid : JournalValue D) → Went state old mid → IsReadyToSeal old.journal.front → IsReadyToSeal mid.journal.front
-  ready-behind old mid went ready = (went.on.locked ∙ ready.0, went.on.open_handles ∙ ready.1)
-
-  -- so all that is committed behind them is from the first of them on
-  pub commits-on : (old mid new : JournalValue D) → Went state old mid → CommitsAll state mid new → CommitsAll state old new
-  commits-on old mid new went (WithRunning ready has) = WithRunning (ready-before old mid went ready) (went-sealed state old mid new went has)
-  commits-on old mid new went (WithoutRunning unready on) =
-      WithoutRunning (λ ready. unready (ready-behind old mid went ready)) (went-went state old mid new went on)
+  -- and else it is sealed
+  pub ready-sealed : {T : Type 0} (r : Result T JournalError) (old new : JournalValue D) → IsReadyToSeal old.journal.front →
+      OnOk r (HasSealed state old new) → OnOk r (CommitsAll state old new)
+  ready-sealed (Ok x) old new ready has = WithRunning ready has
+  ready-sealed (Err e) old new ready has = tt
 
   -- rounds that are refused have failed
   pub release-failed : {T : Type 0} (r : Result T JournalError) (old new : JournalValue D) → old.journal.engine.aborted ≡ false →

@@ -4,7 +4,7 @@ use Rattle.std.specs.Prelude.{◌≡◌, ◌≢◌, ℕ, ◌/◌, ◌<◌, ◌�
 use Rattle.std.proofs.lemmas.Bool.{true≢false}
 use Rattle.std.proofs.lemmas.Option.{none-some}
 use Rattle.journal_model.specs.declared.refusal.JournalError.{JournalError}
-use Rattle.journal_model.specs.declared.refusal.JournalError.TheVariants.{Device}
+use Rattle.journal_model.specs.declared.refusal.JournalError.TheVariants.{Device, Memory}
 use Rattle.journal_model.specs.Layout.{Layout}
 use Rattle.log_model.specs.Chain.{Ring}
 use Rattle.journal_model.specs.Transaction.{History, Transaction}
@@ -31,7 +31,7 @@ use Rattle.journal_steps.specs.declared.turn.Turn.TheVariants.{Idle as IdleTurn,
 use Rattle.log_epochs.specs.EngineWorld.Phase.{Running}
 use Rattle.log_epochs.specs.JournalWorld.{with_directs}
 use Rattle.group_commit.specs.Close.{CloseRefused, ComesTo, GoesOn, HasSealed, IsFinished, SealRefused, StaysUnsealed, Went, WentWrong, closing, locked_journal, with_running}
-use Rattle.group_commit.specs.Close.CloseRefused.{CloseAborted, CloseFailed, NoMemory}
+use Rattle.group_commit.specs.Close.CloseRefused.{CloseFailed, NoMemory, NotReady}
 use Rattle.group_commit.specs.Close.SealRefused.{NoMemoryForIt, NoRoomForIt}
 use Rattle.journal_steps.specs.Journal.{Agrees, CheckTurnDid, CheckTurnRefused, Does, FailsAndTells, FitsQuarter, HasRoomFor, NothingToRelease, TurnDid, TurnRefused, need_of}
 use Rattle.journal_steps.specs.Journal.CheckTurnRefused.{CheckAborted, CheckFailed}
@@ -155,6 +155,21 @@ module _ {D : Type 0} (state : D → DeviceState) where
 
   pub went-wrong : (a b c : JournalValue D) → Went state a b → WentWrong state b c → WentWrong state a c
   went-wrong a b c one two = record { on = on-on a b c one.on two.on; faults = two.faults ∙ ap one_more_fault one.faults }
+
+  -- where nothing changed before it
+  pub went-from : (old ready new : JournalValue D) → ready ≡ old → Went state ready new → Went state old new
+  went-from old ready new same went = subst (λ (v : JournalValue D). Went state v new) same went
+
+  -- whatever the answer behind it is
+  pub went-on : {T : Type 0} (r : Result T JournalError) (old mid new : JournalValue D) → Went state old mid → OnOk r (Went state mid new) →
+      OnOk r (Went state old new)
+  went-on (Ok x) old mid new one two = went-went old mid new one two
+  went-on (Err e) old mid new one two = tt
+
+  pub wrong-on : {T : Type 0} (r : Result T JournalError) (old mid new : JournalValue D) → Went state old mid →
+      IfErr r (λ e. (e ≡ Device) × WentWrong state mid new) → IfErr r (λ e. (e ≡ Device) × WentWrong state old new)
+  wrong-on (Ok x) old mid new one wrong = tt
+  wrong-on (Err e) old mid new one wrong = (wrong.0, went-wrong old mid new one wrong.1)
 
   -- a step that leaves the front as it was
   on-log : (old new : JournalValue D) → new.journal.front ≡ old.journal.front → KeepsLog old.journal.engine new.journal.engine →
@@ -424,9 +439,9 @@ module _ {D : Type 0} (state : D → DeviceState) where
   sealed-on (Err e) old mid new has went = tt
 
   -- where no handle has joined the running transaction, all is sealed without a seal
-  pub none-sealed : (old new : JournalValue D) → Went state old new → (0 < length new.journal.front.running.handles → ⊥) → HasSealed state old new
+  pub none-sealed : (old new : JournalValue D) → Went state old new → (0 < length old.journal.front.running.handles → ⊥) → HasSealed state old new
   none-sealed old new went none = record {
-    sealed = sym (with-none new.journal.front.sealed new.journal.front.running new.journal.front.running.handles none) ∙ same-closing old new went.on;
+    sealed = went.on.sealed ∙ sym (with-none old.journal.front.sealed old.journal.front.running old.journal.front.running.handles none);
     measures = went.on.measures;
     committed = went.on.committed;
     shape = went.on.shape;
@@ -462,6 +477,13 @@ module _ {D : Type 0} (state : D → DeviceState) where
       subst (CloseRefused state old new.device new.journal.front.sealed new.journal.engine.committed) (sym wrong.0)
       (CloseFailed running (inl wrong.1.on.sealed) wrong.1.on.committed wrong.1.faults)
 
+  -- whatever the answer is
+  pub any-refused : {T : Type 0} (r : Result T JournalError) (old new : JournalValue D) → old.journal.engine.aborted ≡ false →
+      IfErr r (λ e. (e ≡ Device) × WentWrong state old new) →
+      IfErr r (λ e. CloseRefused state old new.device new.journal.front.sealed new.journal.engine.committed e)
+  any-refused (Ok x) old new running wrong = tt
+  any-refused (Err e) old new running wrong = wrong-refused old new e running wrong
+
   -- so does one behind it
   sealed-wrong : (old mid new : JournalValue D) (e : JournalError) → old.journal.engine.aborted ≡ false → HasSealed state old mid →
       (e ≡ Device) × WentWrong state mid new → CloseRefused state old new.device new.journal.front.sealed new.journal.engine.committed e
@@ -477,21 +499,6 @@ module _ {D : Type 0} (state : D → DeviceState) where
       IfErr r (λ e. CloseRefused state old new.device new.journal.front.sealed new.journal.engine.committed e)
   sealed-refused (Ok x) old mid new running has wrong = tt
   sealed-refused (Err e) old mid new running has wrong = sealed-wrong old mid new e running has wrong
-
-  -- what is sealed behind some steps is sealed from the first of them on
-  pub went-sealed : (old mid new : JournalValue D) → Went state old mid → HasSealed state mid new → HasSealed state old new
-  went-sealed old mid new went has =
-      let low : old.journal.engine.committed ≤ mid.journal.engine.committed = went.on.committed in
-      let high : mid.journal.engine.committed ≤ new.journal.engine.committed = has.committed in
-      record {
-        sealed = has.sealed ∙ same-closing old mid went.on;
-        measures = has.measures ∙ went.on.measures;
-        committed = omega arith;
-        shape = has.shape ∙ went.on.shape;
-        running = has.running;
-        faults = has.faults ∙ went.faults;
-        path = ways old mid new went.on.path has.path;
-      }
 
   -- what was sealed and committed before stays so
   unsealed : (old mid new : JournalValue D) → Went state old mid → 0 < length mid.journal.front.running.handles →
@@ -514,29 +521,11 @@ module _ {D : Type 0} (state : D → DeviceState) where
   seal-refused old mid new e running went joined room all (NoMemoryForIt has) is =
       NoMemory running (unsealed old mid new went joined all is) (ap (λ (v : JournalValue D). (state v.device).faults) is ∙ went.faults)
 
-  -- the same of an earlier state
-  stays-on : (old mid : JournalValue D) (sealed : History) (committed : ℕ) → Went state old mid → StaysUnsealed mid.journal sealed committed →
-      StaysUnsealed old.journal sealed committed
-  stays-on old mid sealed committed went stays = record {
-    joined = subst (λ (t : Transaction). 0 < length t.handles) went.on.transaction stays.joined;
-    same = stays.same ∙ went.on.sealed;
-    all = stays.all;
-  }
-
-  -- a close that is refused behind some steps is refused from the first of them on
-  pub refused-on : (old mid : JournalValue D) (device : D) (sealed : History) (committed : ℕ) (e : JournalError) → old.journal.engine.aborted ≡ false →
-      Went state old mid → CloseRefused state mid device sealed committed e → CloseRefused state old device sealed committed e
-  refused-on old mid device sealed committed e running went (CloseAborted is same kept count) = absurd (true≢false (sym is ∙ went.running))
-  refused-on old mid device sealed committed e running went (CloseFailed on (inl before) more counted) =
-      let low : old.journal.engine.committed ≤ mid.journal.engine.committed = went.on.committed in
-      let high : mid.journal.engine.committed ≤ committed = more in
-      CloseFailed running (inl (before ∙ went.on.sealed)) (omega arith) (counted ∙ ap one_more_fault went.faults)
-  refused-on old mid device sealed committed e running went (CloseFailed on (inr all) more counted) =
-      let low : old.journal.engine.committed ≤ mid.journal.engine.committed = went.on.committed in
-      let high : mid.journal.engine.committed ≤ committed = more in
-      CloseFailed running (inr (all ∙ same-closing old mid went.on)) (omega arith) (counted ∙ ap one_more_fault went.faults)
-  refused-on old mid device sealed committed e running went (NoMemory on stays counted) =
-      NoMemory running (stays-on old mid sealed committed went stays) (counted ∙ went.faults)
+  -- nor is anything done where memory runs out before the first step
+  pub not-ready : (old new : JournalValue D) → old.journal.engine.aborted ≡ false → 0 < length old.journal.front.running.handles → new ≡ old →
+      CloseRefused state old new.device new.journal.front.sealed new.journal.engine.committed Memory
+  not-ready old new running joined same = NotReady running joined (ap (λ (v : JournalValue D). v.device) same)
+      (ap (λ (v : JournalValue D). v.journal.front.sealed) same) (ap (λ (v : JournalValue D). v.journal.engine.committed) same)
 
   -- a way that goes on by steps of a commit or of rounds, whether or not one of them has failed
   pub way-on : {T : Type 0} (r : Result T JournalError) (old mid new : JournalValue D) → ComesBy old mid →

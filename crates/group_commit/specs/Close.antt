@@ -104,12 +104,16 @@ pub record StaysUnsealed (old : Journal) (sealed : History) (committed : ℕ) : 
   pub all : committed ≡ length sealed
 
 -- Why a close is refused, and what it leaves sealed and committed: the device failed before, and nothing was done; it failed
--- in a step of the close; or the running transaction could not be sealed, since memory ran out.
+-- in a step of the close; or memory ran out for the seal of the running transaction, before anything was done, or behind the commit
+-- that was under way. The code makes all room for the seal first, so that the last does not come; an engine's value says
+-- nothing of the room that it has, so that no clause can tell.
 pub data CloseRefused {D : Type 0} (state : D → DeviceState) (old : JournalValue D) (device : D) (sealed : History) (committed : ℕ) : JournalError → Type 0 where
   CloseAborted : old.journal.engine.aborted ≡ true → device ≡ old.device → sealed ≡ old.journal.front.sealed → committed ≡ old.journal.engine.committed →
       CloseRefused state old device sealed committed Aborted
   CloseFailed : old.journal.engine.aborted ≡ false → IsSealedInClose old.journal.front sealed → old.journal.engine.committed ≤ committed →
       (state device).faults ≡ one_more_fault (state old.device).faults → CloseRefused state old device sealed committed Device
+  NotReady : old.journal.engine.aborted ≡ false → 0 < length old.journal.front.running.handles → device ≡ old.device → sealed ≡ old.journal.front.sealed →
+      committed ≡ old.journal.engine.committed → CloseRefused state old device sealed committed Memory
   NoMemory : old.journal.engine.aborted ≡ false → StaysUnsealed old.journal sealed committed → (state device).faults ≡ (state old.device).faults →
       CloseRefused state old device sealed committed Memory
 

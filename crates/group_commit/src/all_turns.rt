@@ -60,7 +60,8 @@ impl<D: Device, R: Record> Journal<D, R> {
     ///
     /// What was sealed and committed by then stays so. `Aborted` after a device failure: nothing was done. `Device` where the device
     /// failed: the journal is aborted, until the device is opened again. `Memory` where it ran out for the seal: the transaction stays
-    /// as it is, and all before it are committed.
+    /// as it is. All memory that the call takes it asks for before its first call of the device, so that nothing was done. (The contract
+    /// leaves room for a refusal behind the commit that was under way, where all before the transaction are committed.)
     /// Source: fs/jbd2/journal.c by behaviour (`jbd2_journal_flush` up to its checkpoint).
     pub fn commit_all(&mut self) -> Result<Tid, JournalError>
         ensures mark { IfOk result (λ tid. tid ≡ self.new.journal.front.mark) }
@@ -74,7 +75,6 @@ impl<D: Device, R: Record> Journal<D, R> {
         if self.is_aborted() {
             return Err(JournalError::Aborted);
         }
-        finish_commit(self)?;
         commit_ready(self)?;
         Ok(self.mark())
     }
@@ -100,10 +100,10 @@ impl<D: Device, R: Record> Journal<D, R> {
     }
 }
 
-/// Seals the running transaction where it is ready for that, and commits it.
+/// Takes the steps that are left of the commit that is under way; then seals the running transaction where it is ready for that, and
+/// commits it.
 fn commit_ready<D: Device, R: Record>(journal: &mut Journal<D, R>) -> Result<(), JournalError>
-    requires running { journal.old.journal.engine.aborted ≡ false }
-    requires idle { journal.old.journal.engine.stage ≡ Idle }
+    requires { journal.old.journal.engine.aborted ≡ false }
     ensures ok { OnOk result (CommitsAll D.state journal.old journal.new) }
     ensures idle { OnOk result (journal.new.journal.engine.stage ≡ Idle) }
     ensures err { IfErr result (λ e. CloseRefused D.state journal.old journal.new.device journal.new.journal.front.sealed journal.new.journal.engine.committed e) }
@@ -112,8 +112,8 @@ fn commit_ready<D: Device, R: Record>(journal: &mut Journal<D, R>) -> Result<(),
     ensures honest { D.honest journal.new.device → D.honest journal.old.device }
 {
     journal.recall_invariant();
-    if !journal.is_ready() {
-        return Ok(());
+    if journal.is_ready() {
+        return seal_last(journal);
     }
-    seal_last(journal)
+    finish_commit(journal)
 }

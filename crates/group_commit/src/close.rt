@@ -27,19 +27,20 @@ pub(crate) fn finish<D: Device, R: Record>(journal: &mut Journal<D, R>) -> Resul
     if journal.is_aborted() {
         return Err(JournalError::Aborted);
     }
-    finish_commit(journal)?;
     if journal.has_joined() {
         seal_last(journal)?;
+    } else {
+        finish_commit(journal)?;
     }
     release_all(journal)
 }
 
-/// Seals the running transaction, which a handle has joined, and commits it.
+/// Seals the running transaction, which a handle has joined, and commits it, behind the commit that is under way. All memory that
+/// this takes is asked for first: where it runs out, nothing is done.
 pub(crate) fn seal_last<D: Device, R: Record>(
     journal: &mut Journal<D, R>,
 ) -> Result<(), JournalError>
     requires running { journal.old.journal.engine.aborted ≡ false }
-    requires idle { journal.old.journal.engine.stage ≡ Idle }
     requires joined { 0 < length journal.old.journal.front.running.handles }
     requires stopped { journal.old.journal.front.open_handles ≡ [] }
     ensures ok { OnOk result (HasSealed D.state journal.old journal.new) }
@@ -50,8 +51,9 @@ pub(crate) fn seal_last<D: Device, R: Record>(
     ensures shape { (D.state journal.new.device).shape ≡ (D.state journal.old.device).shape }
     ensures honest { D.honest journal.new.device → D.honest journal.old.device }
 {
+    let batch = journal.ready_batch()?;
     make_room(journal)?;
-    journal.seal_running()?;
+    journal.seal_running(batch)?;
     finish_commit(journal)
 }
 
@@ -72,16 +74,17 @@ pub(crate) fn finish_commit<D: Device, R: Record>(
     Ok(())
 }
 
-/// Releases what is committed where the ring has too few free blocks for the running transaction.
+/// Finishes the commit that is under way, and releases what is committed where the ring has too few free blocks for the running
+/// transaction.
 fn make_room<D: Device, R: Record>(journal: &mut Journal<D, R>) -> Result<(), JournalError>
-    requires running { journal.old.journal.engine.aborted ≡ false }
-    requires idle { journal.old.journal.engine.stage ≡ Idle }
+    requires { journal.old.journal.engine.aborted ≡ false }
     ensures ok { OnOk result (Went D.state journal.old journal.new) }
     ensures idle { OnOk result (journal.new.journal.engine.stage ≡ Idle) }
     ensures room { OnOk result (HasRoomFor journal.new.journal) }
     ensures err { IfErr result (λ e. (e ≡ DeviceFailed) × WentWrong D.state journal.old journal.new) }
     ensures honest { D.honest journal.new.device → D.honest journal.old.device }
 {
+    finish_commit(journal)?;
     journal.recall_invariant();
     if journal.has_room() {
         return Ok(());

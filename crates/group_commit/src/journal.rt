@@ -8,7 +8,7 @@ ghost use Rattle.journal_world.specs.declared.stage.Stage.TheVariants.{Idle};
 ghost use Rattle.journal_world.specs.Front.{held, next_handle};
 ghost use Rattle.journal_world.specs.Front.FrontEvent.{GiveBack, Join, Reserve, RevokeBlock, StopHandle, WriteBlock};
 ghost use Rattle.journal_world.specs.Sound.{IsPlain};
-ghost use Rattle.journal_world.specs.Journal.{IsFresh};
+ghost use Rattle.journal_world.specs.Journal.{IsFresh, batch_of};
 ghost use Rattle.journal_world.specs.Journal.Event.{FrontStep, ReadBlock, Seal};
 ghost use Rattle.log_epochs.specs.EngineWorld.Phase.{Running, Shut};
 ghost use Rattle.log_epochs.specs.JournalPromise.{IsClosed};
@@ -27,7 +27,7 @@ use crate::close::finish;
 use crate::ticket::{Receipt, Ticket};
 use block_device::Device;
 use journal_front::{Credits, Front, Handle, Record, Unrecorded};
-use journal_model::{BlockNo, JournalError, Status, Tid};
+use journal_model::{Batch, BlockNo, JournalError, Status, Tid};
 use journal_steps::{CheckTurn, Turn, steps};
 use log_engine::Engine;
 use log_ring::Layout;
@@ -422,15 +422,16 @@ impl<D: Device, R: Record> Journal<D, R> {
         steps::commit_step(&mut self.front, &mut self.engine)
     }
 
-    /// Seals the locked transaction, and hands its entries to the engine.
-    fn seal(&mut self) -> Result<Turn, JournalError>
+    /// Seals the locked transaction, whose entries these are, and hands them to the engine.
+    fn seal(&mut self, batch: Batch) -> Result<Turn, JournalError>
         requires due { SealIsDue self.old.journal }
         requires plain { IsPlain self.old.journal.engine }
+        requires batch { batch ≡ batch_of self.old.journal.front.running }
         ensures ok { IfOk result (λ turn. TurnDid D.state turn self.old self.new) }
         ensures err { IfErr result (λ e. TurnRefused D.state self.old self.new e) }
         ensures device { self.new.device ≡ self.old.device }
     {
-        steps::seal(&mut self.front, &mut self.engine)
+        steps::seal_batch(&mut self.front, &mut self.engine, batch)
     }
 
     /// Takes the next step of a checkpoint round: at most one device call. A round writes committed copies home, and frees
@@ -508,12 +509,27 @@ impl<D: Device, R: Record> Journal<D, R> {
         steps::recall_quarter(&self.front, &self.engine);
     }
 
-    /// Seals the running transaction, of which no handle is open, and hands its entries to the engine.
-    pub(crate) fn seal_running(&mut self) -> Result<(), JournalError>
+    /// The entries of the running transaction, with all the room made that their seal needs, whatever steps of commits and of rounds
+    /// come before it.
+    ///
+    /// # Errors
+    ///
+    /// `Memory`: nothing changes.
+    pub(crate) fn ready_batch(&mut self) -> Result<Batch, JournalError>
+        ensures ok { IfOk result (λ batch. batch ≡ batch_of self.old.journal.front.running) }
+        ensures err { IfErr result (λ e. e ≡ Memory) }
+        ensures same { self.new ≡ self.old }
+    {
+        steps::ready_batch(&self.front, &mut self.engine)
+    }
+
+    /// Seals the running transaction, of which no handle is open and these are the entries, and hands them to the engine.
+    pub(crate) fn seal_running(&mut self, batch: Batch) -> Result<(), JournalError>
         requires running { self.old.journal.engine.aborted ≡ false }
         requires idle { self.old.journal.engine.stage ≡ Idle }
         requires joined { 0 < length self.old.journal.front.running.handles }
         requires stopped { self.old.journal.front.open_handles ≡ [] }
+        requires batch { batch ≡ batch_of self.old.journal.front.running }
         ensures ok { OnOk result (Does D.state (locked_journal self.old) Seal self.new) }
         ensures err { IfErr result (λ e. SealRefused self.old.journal e × (self.new ≡ locked_journal self.old)) }
         ensures all { self.old.journal.engine.committed ≡ length self.old.journal.front.sealed }
@@ -522,7 +538,7 @@ impl<D: Device, R: Record> Journal<D, R> {
     {
         self.engine.recall_invariant();
         self.front.lock();
-        self.seal()?;
+        self.seal(batch)?;
         Ok(())
     }
 
@@ -533,8 +549,9 @@ impl<D: Device, R: Record> Journal<D, R> {
     ///
     /// What is left of the journal comes back: what was sealed and committed by then stays so, and what a stop leaves of the
     /// device opens as it says. `Aborted` after a device failure: nothing was done. `Device` where the device failed. `Memory`
-    /// where it ran out for the seal of the running transaction: it is not sealed, and all before it is committed. (A whole ring
-    /// has room for it, since it needs at most a quarter.)
+    /// where it ran out for the seal of the running transaction, which is then not sealed: all memory that the close takes it asks
+    /// for before its first call of the device, so that nothing was done. (The contract leaves room for a refusal behind the commit
+    /// that was under way, where all before it is committed. A whole ring has room for it, since it needs at most a quarter.)
     /// Source: fs/jbd2/journal.c by behaviour (`jbd2_journal_destroy`).
     pub fn close(self) -> Result<Parts<D, R>, (Parts<D, R>, JournalError)>
         requires { self.journal.front.open_handles ≡ [] }

@@ -14,7 +14,7 @@ use Rattle.log_epochs.proofs.Leading.{leads-behind}
 use Rattle.journal_steps.specs.Values.{JournalValue}
 use Rattle.group_commit.specs.Close.{CloseDid, CloseRefused, EndsWith, IsSealedInClose}
 use Rattle.group_commit.specs.Close.CloseDid.{ClosesLog, StaysClean}
-use Rattle.group_commit.specs.Close.CloseRefused.{CloseAborted, CloseFailed, NoMemory}
+use Rattle.group_commit.specs.Close.CloseRefused.{CloseAborted, CloseFailed, NoMemory, NotReady}
 use Rattle.journal_script.specs.declared.script.Operation.{Operation}
 use Rattle.script_client.specs.Ended.{IsEnded, IsLeftClosed, world_in}
 use Rattle.script_client.specs.Told.{HasLedTo, IsLedTo, running_world}
@@ -85,6 +85,7 @@ pub refused-sealed : {D : Type 0} (state : D → DeviceState) (old : JournalValu
     → CloseRefused state old device sealed committed e → IsSealedInClose old.journal.front sealed
 refused-sealed state old device sealed committed e (CloseAborted aborted same is count) = inl is
 refused-sealed state old device sealed committed e (CloseFailed running is count faults) = is
+refused-sealed state old device sealed committed e (NotReady running joined same is count) = inl is
 refused-sealed state old device sealed committed e (NoMemory running unsealed faults) = inl unsealed.same
 
 -- what was led to with this known of the disk was so with less

@@ -2,10 +2,10 @@ use Rattle.std.proofs.Common.{refl, sym, subst, ◌∙◌}
 use Rattle.std.proofs.lemmas.Bool.{true≢false}
 use Rattle.std.proofs.lemmas.Result.{err_from_is_err_and}
 use Rattle.group_commit.specs.Close.{CloseRefused, HasSealed}
-use Rattle.group_commit.proofs.Finishing.{none-sealed, refused-on, sealed-refused, way-on, ways, went-sealed, wrong-refused}
+use Rattle.group_commit.proofs.Finishing.{none-sealed, sealed-refused, way-on, wrong-refused}
 use Rattle.group_commit.proofs.Leading.{comes-nowhere}
 use Rattle.group_commit.proofs.close.finish.Goals as goal
-use Rattle.group_commit.proofs.close.finish.Goals.{then-has_joined+in_ok-seal_last, else-has_joined}
+use Rattle.group_commit.proofs.close.finish.Goals.{then-has_joined+in_ok-seal_last, else-has_joined+in_ok-finish_commit}
 
 -- the device failed before
 pub returns-then-is_aborted-clause-err : goal.returns-then-is_aborted-clause-err
@@ -15,29 +15,26 @@ returns-then-is_aborted-clause-err g c = CloseRefused.CloseAborted (sym c.is_abo
 pub returns-in_err-finish_commit-clause-err : goal.returns-in_err-finish_commit-clause-err
 returns-in_err-finish_commit-clause-err g c =
     let running = sym c.is_aborted.ensures ∙ c.if-is_aborted.false in
-    let p = err_from_is_err_and c.from_residual.result c.from_residual.ensures.1 in
+    let p = err_from_is_err_and c.from_residual-in_err-finish_commit.result c.from_residual-in_err-finish_commit.ensures.1 in
     rw (p.1, p.2) (wrong-refused g.D.Device.state _ _ _ running c.in_err-finish_commit.ensures.err)
 
 -- the last transaction is not sealed and committed
 pub returns-in_err-seal_last-clause-err : goal.returns-in_err-seal_last-clause-err
 returns-in_err-seal_last-clause-err g c =
-    let running = sym c.is_aborted.ensures ∙ c.if-is_aborted.false in
-    let p = err_from_is_err_and c.from_residual-in_err-seal_last.result c.from_residual-in_err-seal_last.ensures.1 in
-    rw (p.1, p.2) (refused-on g.D.Device.state _ _ _ _ _ _ running c.in_ok-finish_commit.ensures.ok c.in_err-seal_last.ensures.err)
+    let p = err_from_is_err_and c.from_residual.result c.from_residual.ensures.1 in
+    rw (p.1, p.2) c.in_err-seal_last.ensures.err
 
 -- the device failed in the last round
 pub returns-clause-err : goal.returns-clause-err
 returns-clause-err g c =
     let old = c.args.journal.now in
     let running = sym c.is_aborted.ensures ∙ c.if-is_aborted.false in
-    let went = c.in_ok-finish_commit.ensures.ok in
     let has : HasSealed g.D.Device.state old c.if-has_joined.journal =
     elim c.if-has_joined.branch [
-      | then-has_joined+in_ok-seal_last w ↦
-          subst (HasSealed g.D.Device.state old) (sym w.journal-is) (went-sealed g.D.Device.state _ _ _ went w.in_ok-seal_last.ensures.ok)
-      | else-has_joined w ↦
+      | then-has_joined+in_ok-seal_last w ↦ subst (HasSealed g.D.Device.state old) (sym w.journal-is) w.in_ok-seal_last.ensures.ok
+      | else-has_joined+in_ok-finish_commit w ↦
           subst (HasSealed g.D.Device.state old) (sym w.journal-is)
-          (none-sealed g.D.Device.state _ _ went (λ some. true≢false (sym (c.has_joined.ensures.1 some) ∙ w.if-has_joined.false)))
+          (none-sealed g.D.Device.state _ _ w.in_ok-finish_commit.ensures.ok (λ some. true≢false (sym (c.has_joined.ensures.1 some) ∙ w.if-has_joined.false)))
     ] in
     sealed-refused g.D.Device.state c.release_all.result _ _ _ running has c.release_all.ensures.err
 
@@ -49,21 +46,15 @@ returns-then-is_aborted-clause-path g c = comes-nowhere _ _
 pub returns-in_err-finish_commit-clause-path : goal.returns-in_err-finish_commit-clause-path
 returns-in_err-finish_commit-clause-path g c = c.in_err-finish_commit.ensures.err.1.on.path
 
--- up to the last transaction
-pub returns-in_err-seal_last-clause-path : goal.returns-in_err-seal_last-clause-path
-returns-in_err-seal_last-clause-path g c = ways g.D.Device.state _ _ _ c.in_ok-finish_commit.ensures.ok.on.path c.seal_last.ensures.path
-
 -- and to the last round
 pub returns-clause-path : goal.returns-clause-path
 returns-clause-path g c =
     let old = c.args.journal.now in
-    let went = c.in_ok-finish_commit.ensures.ok in
     let has : HasSealed g.D.Device.state old c.if-has_joined.journal =
     elim c.if-has_joined.branch [
-      | then-has_joined+in_ok-seal_last w ↦
-          subst (HasSealed g.D.Device.state old) (sym w.journal-is) (went-sealed g.D.Device.state _ _ _ went w.in_ok-seal_last.ensures.ok)
-      | else-has_joined w ↦
+      | then-has_joined+in_ok-seal_last w ↦ subst (HasSealed g.D.Device.state old) (sym w.journal-is) w.in_ok-seal_last.ensures.ok
+      | else-has_joined+in_ok-finish_commit w ↦
           subst (HasSealed g.D.Device.state old) (sym w.journal-is)
-          (none-sealed g.D.Device.state _ _ went (λ some. true≢false (sym (c.has_joined.ensures.1 some) ∙ w.if-has_joined.false)))
+          (none-sealed g.D.Device.state _ _ w.in_ok-finish_commit.ensures.ok (λ some. true≢false (sym (c.has_joined.ensures.1 some) ∙ w.if-has_joined.false)))
     ] in
     way-on g.D.Device.state c.release_all.result _ _ _ has.path c.release_all.ensures.ok c.release_all.ensures.err

@@ -1,7 +1,22 @@
-use Rattle.group_commit.proofs.Finishing.{room-made}
+use Rattle.std.proofs.lemmas.Result.{err_from_is_err_and}
+use Rattle.group_commit.proofs.Finishing.{room-made, went-on, wrong-on}
 use Rattle.group_commit.proofs.close.make_room.Goals as goal
+
+-- the device failed in the commit that was under way
+pub returns-in_err-finish_commit-clause-err : goal.returns-in_err-finish_commit-clause-err
+returns-in_err-finish_commit-clause-err g c =
+    let p = err_from_is_err_and c.from_residual.result c.from_residual.ensures.1 in
+    rw (p.1, p.2) c.in_err-finish_commit.ensures.err
 
 -- a whole ring has room for what needs a quarter of it
 pub returns-clause-room : goal.returns-clause-room
 returns-clause-room g c =
     room-made g.D.Device.state c.release_all.result _ _ c.recall_invariant.ensures.quarter c.release_all.ensures.ok c.release_all.ensures.free
+
+-- the rounds come behind the commit
+pub returns-clause-ok : goal.returns-clause-ok
+returns-clause-ok g c = went-on g.D.Device.state c.release_all.result _ _ _ c.in_ok-finish_commit.ensures.ok c.release_all.ensures.ok
+
+-- and fail behind it
+pub returns-clause-err : goal.returns-clause-err
+returns-clause-err g c = wrong-on g.D.Device.state c.release_all.result _ _ _ c.in_ok-finish_commit.ensures.ok c.release_all.ensures.err

@@ -1,10 +1,18 @@
-use Rattle.std.proofs.Common.{sym, ap, subst, ◌≡◌, ◌<◌, false, length}
+use Rattle.std.proofs.Common.{sym, ap, subst, ◌∙◌, ◌≡◌, ◌<◌, false, length}
 use Rattle.std.proofs.lemmas.Result.{err_from_is_err_and}
 use Rattle.journal_world.specs.declared.stage.Stage.TheVariants.{Idle}
 use Rattle.journal_world.specs.Front.{Front}
+use Rattle.journal_world.specs.Journal.{batch_of}
 use Rattle.journal_steps.specs.Values.{JournalValue}
 use Rattle.group_commit.proofs.Finishing.{all-sealed, seal-wrong}
 use Rattle.group_commit.proofs.journal.Journal.seal_running.Goals as goal
+
+-- the lock leaves its entries
+pub seal-requires-clause-batch : goal.seal-requires-clause-batch
+seal-requires-clause-batch g c =
+    let joined = subst (λ (v : JournalValue g.row.D.Denot). 0 < length v.journal.front.running.handles) (sym c.self.view_is) c.requires.joined in
+    let batch = subst (λ (v : JournalValue g.row.D.Denot). c.args.batch ≡ batch_of v.journal.front.running) (sym c.self.view_is) c.requires.batch in
+    batch ∙ sym (ap (λ (f : Front). batch_of f.running) (c.lock.ensures.joined joined).after)
 
 -- the transaction stays as it was, but for the lock
 pub returns-in_err-seal-clause-err : goal.returns-in_err-seal-clause-err

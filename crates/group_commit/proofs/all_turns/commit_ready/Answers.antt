@@ -1,0 +1,25 @@
+use Rattle.std.proofs.Common.{sym, ◌∙◌}
+use Rattle.std.proofs.lemmas.Bool.{true≢false}
+use Rattle.group_commit.proofs.Committing.{none-ready, ready-sealed}
+use Rattle.group_commit.proofs.Finishing.{any-refused, way-on}
+use Rattle.group_commit.proofs.Leading.{comes-nowhere}
+use Rattle.group_commit.proofs.all_turns.commit_ready.Goals as goal
+
+-- where the running transaction was ready it is sealed
+pub returns-then-is_ready-clause-ok : goal.returns-then-is_ready-clause-ok
+returns-then-is_ready-clause-ok g c =
+    ready-sealed g.D.Device.state c.seal_last.result _ _ (c.is_ready.ensures.0 c.if-is_ready.true) c.seal_last.ensures.ok
+
+-- else what was sealed before is committed
+pub returns-clause-ok : goal.returns-clause-ok
+returns-clause-ok g c =
+    none-ready g.D.Device.state c.finish_commit.result _ _ (λ ready. true≢false (sym (c.is_ready.ensures.1 ready) ∙ c.if-is_ready.false)) c.finish_commit.ensures.ok
+
+-- or the device failed in its commit
+pub returns-clause-err : goal.returns-clause-err
+returns-clause-err g c = any-refused g.D.Device.state c.finish_commit.result _ _ c.requires c.finish_commit.ensures.err
+
+-- the moves are those of its steps
+pub returns-clause-path : goal.returns-clause-path
+returns-clause-path g c =
+    way-on g.D.Device.state c.finish_commit.result _ _ _ (comes-nowhere _ _) c.finish_commit.ensures.ok c.finish_commit.ensures.err
