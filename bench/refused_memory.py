@@ -430,6 +430,8 @@ def judge_commands(refuser):
     script = refuser.path("checked", json.dumps({"ops": ROWS["further_handles"]}))
     judge_files(refuser, "check", ["check", script], {})
     judge_files(refuser, "check of clients", ["check", HERE.parent / "examples" / "two_clients.json"], {})
+    judge_files(refuser, "completions", ["completions", "bash"], {})
+    judge_files(refuser, "man", ["man"], {})
     for name, operations in ROWS.items():
         lines = Run(json.dumps({"ops": operations})).lines  # an apply ends at the first operation that is refused: these are left out
         accepted = [operation for operation, line in zip(operations, lines) if " = refused " not in line]

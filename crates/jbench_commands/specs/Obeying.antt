@@ -10,7 +10,7 @@ use Rattle.commit_times.specs.Closed.{IsLeftClosed as IsBenchClosed}
 use Rattle.jbench_words.specs.declared.words.ApplyWords.{ApplyWords}
 use Rattle.jbench_words.specs.declared.words.FormatWords.{FormatWords}
 use Rattle.jbench_words.specs.declared.words.Words.{Words}
-use Rattle.jbench_words.specs.declared.words.Words.TheVariants.{Run, Sweep, Check, Threads, Format, Dump, Show, Recover, Upgrade, Apply, Bench}
+use Rattle.jbench_words.specs.declared.words.Words.TheVariants.{Run, Sweep, Check, Threads, Format, Dump, Show, Recover, Upgrade, Apply, Bench, Completions, Man}
 use Rattle.jbench_logs.specs.Apart.{AreApart}
 use Rattle.jbench_logs.specs.Cleared.{cleared, log_cleared}
 use Rattle.jbench_logs.specs.Done.{HasUpgraded, IsFoundOut, IsMade, IsRecovered, IsRecoveredBefore}
@@ -86,6 +86,8 @@ HasObeyed first contents (Recover words) = IsDoneOver first IsOverTwo (Recovers 
 HasObeyed first contents (Upgrade path) = IsDoneOver first IsOverAny HasUpgraded
 HasObeyed first contents (Apply words) = IsAppliedOver first words contents
 HasObeyed first contents (Bench words) = IsBenchDone first
+HasObeyed first contents (Completions shell) = ⊤
+HasObeyed first contents Man = ⊤
 
 -- a command ends with 2 where a sweep counted an opening that was not right, or a run in threads has a verdict that is false; no other does
 abbrev pub HasFoundWrong : Words → Type 0
@@ -100,3 +102,5 @@ HasFoundWrong (Recover words) = ⊥
 HasFoundWrong (Upgrade path) = ⊥
 HasFoundWrong (Apply words) = ⊥
 HasFoundWrong (Bench words) = ⊥
+HasFoundWrong (Completions shell) = ⊥
+HasFoundWrong Man = ⊥

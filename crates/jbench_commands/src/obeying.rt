@@ -20,7 +20,9 @@ use jbench_logs::{
     make_log_device, open_log, open_log_to_write, open_or_make_log, open_or_make_pair, open_pair,
     open_pair_to_read, open_script, open_to_read, recovering, show,
 };
+use jbench_words::completions::{Shell, write_completions};
 use jbench_words::fault::{self, Fault, Status, refuse_file};
+use jbench_words::manual::write_manual;
 use jbench_words::words::{
     ApplyWords, BenchWords, FormatWords, RecoverWords, RunWords, SweepWords, Words,
 };
@@ -79,7 +81,27 @@ pub fn obey<C: Contents, W: Write + Drop, E: Write + Drop>(
         Words::Upgrade(path) => upgrade_file(rt, contents, path, out, err),
         Words::Apply(words) => apply_files(rt, contents, words, out, err),
         Words::Bench(words) => bench_files(rt, contents, words, out, err),
+        Words::Completions(shell) => print_completions(*shell, out),
+        Words::Man => print_manual(out),
     }
+}
+
+/// Prints what a shell is told so that it completes words.
+fn print_completions<W: Write + Drop>(shell: Shell, out: W) -> io::Result<Status>
+    ensures other { IfOk result (λ status. status ≢ Fine → status ≡ Refused) }
+{
+    let mut out = out;
+    write_completions(shell, &mut out)?;
+    Ok(Status::Fine)
+}
+
+/// Prints the page for `man`.
+fn print_manual<W: Write + Drop>(out: W) -> io::Result<Status>
+    ensures other { IfOk result (λ status. status ≢ Fine → status ≡ Refused) }
+{
+    let mut out = out;
+    write_manual(&mut out)?;
+    Ok(Status::Fine)
 }
 
 /// Runs the script in a file.

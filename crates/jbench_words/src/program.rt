@@ -4,7 +4,7 @@ use clap::{Arg, ArgAction, Command};
 use std::alloc::{AllocError, Global};
 
 /// The version that the program tells.
-const VERSION: &str = "0.1.0";
+pub(crate) const VERSION: &str = "0.1.0";
 
 /// A value that may stand behind a command.
 fn bare_arg<'a>(alloc: Global, word: &Word) -> Arg<'a> {

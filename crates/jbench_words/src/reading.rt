@@ -3,6 +3,7 @@ ghost use Rattle.std.specs.Prelude.{◌≡◌, ◌≤◌, IfOk, IfSome};
 ghost use Rattle.journal_script.specs.Measures.{AreLimited};
 ghost use Rattle.log_format.specs.Size.{IsBlockSize};
 
+use crate::completions::Shell;
 use crate::wanted::Wanted;
 use crate::words::{
     ApplyWords, BenchWords, FormatWords, LogPaths, RecoverWords, RunWords, StopWords, SweepWords,
@@ -214,6 +215,11 @@ fn bench_words<'a>(matches: &ArgMatches<'a>) -> Result<BenchWords<'a>, Wanted> {
     })
 }
 
+/// The shell that `completions` is told.
+fn shell_told(matches: &ArgMatches<'_>) -> Result<Shell, Wanted> {
+    Shell::named(matches.get_str("shell").unwrap_or("")).ok_or(Wanted::Shell)
+}
+
 /// What a command is told.
 pub(crate) fn words_of<'a>(alloc: Global, matches: &ArgMatches<'a>) -> Result<Words<'a>, Wanted> {
     if let Some(run) = matches.subcommand_matches("run") {
@@ -245,6 +251,12 @@ pub(crate) fn words_of<'a>(alloc: Global, matches: &ArgMatches<'a>) -> Result<Wo
     }
     if let Some(show) = matches.subcommand_matches("show") {
         return Ok(Words::Show(show.get_str("log").unwrap_or("")));
+    }
+    if let Some(completions) = matches.subcommand_matches("completions") {
+        return Ok(Words::Completions(shell_told(completions)?));
+    }
+    if matches.subcommand_matches("man").is_some() {
+        return Ok(Words::Man);
     }
     match matches.subcommand_matches("dump") {
         Some(dump) => Ok(Words::Dump(dump.get_str("log").unwrap_or(""))),

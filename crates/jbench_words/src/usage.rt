@@ -44,6 +44,8 @@ apply LOG HOME SCRIPT [--stay] [--keep-going]: opens the log in a file, and does
 area.
 bench LOG HOME [--seconds N] [--transactions N] [--copies K] [--threads N] [--csv]: opens the log in a file, and tells how long
 transactions take.
+completions SHELL: prints what bash, zsh or fish is told so that it completes these words.
+man: prints the page for man.
 
 Exit status: 0 done, 1 refused (words, file, script, refusal), 2 a verdict is false.
 
@@ -580,9 +582,53 @@ Example: jbench bench log home --seconds 10 --copies 4",
     ],
 };
 
+/// The command `completions`.
+pub(crate) const COMPLETIONS: Usage = Usage {
+    name: "completions",
+    about: "Prints what a shell is told so that it completes the words of jbench",
+    after_help: "\
+bash and fish take it as it is, zsh behind compinit. Where jbench is no word of the shell, give it a place in PATH first.
+
+Exit status: 0 done; 1 refused: the words.
+
+Examples:
+  source <(jbench completions bash)
+  source <(jbench completions zsh)
+  jbench completions fish | source",
+    words: &[Word {
+        name: "shell",
+        value: "SHELL",
+        is_option: false,
+        help: "bash, zsh or fish",
+    }],
+};
+
+/// The command `man`.
+pub(crate) const MAN: Usage = Usage {
+    name: "man",
+    about: "Prints the page of jbench for man, which has the help of each command",
+    after_help: "\
+Exit status: 0 done; 1 refused: the words.
+
+Example: jbench man > jbench.1 && man ./jbench.1",
+    words: &[],
+};
+
 /// The commands, as the help names them.
-pub(crate) const COMMANDS: [&Usage; 11] = [
-    &RUN, &SWEEP, &CHECK, &THREADS, &FORMAT, &DUMP, &SHOW, &RECOVER, &UPGRADE, &APPLY, &BENCH,
+pub(crate) const COMMANDS: [&Usage; 13] = [
+    &RUN,
+    &SWEEP,
+    &CHECK,
+    &THREADS,
+    &FORMAT,
+    &DUMP,
+    &SHOW,
+    &RECOVER,
+    &UPGRADE,
+    &APPLY,
+    &BENCH,
+    &COMPLETIONS,
+    &MAN,
 ];
 
 /// What the command of this name is, if there is one.

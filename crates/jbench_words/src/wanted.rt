@@ -37,6 +37,8 @@ pub(crate) enum Wanted {
     Copies,
     /// A number of clients behind `--threads`.
     Threads,
+    /// The name of a shell behind `completions`.
+    Shell,
     /// A command.
     Command,
     /// Memory.
@@ -75,6 +77,7 @@ fn line_of(wanted: Wanted) -> &'static str {
         }
         Wanted::Copies => "invalid value for '--copies <K>': a number from 1 on is wanted",
         Wanted::Threads => "invalid value for '--threads <N>': 1 to 64 is wanted",
+        Wanted::Shell => "invalid value for '<SHELL>': bash, zsh or fish is wanted",
         Wanted::Command => "a command is wanted",
         Wanted::Memory => "memory is wanted",
     }

@@ -1,4 +1,5 @@
 //! What the program is told by the words that it is called with, and what they are answered where they tell nothing to do.
+use crate::completions::Shell;
 use crate::fault::{self, Fault, Status};
 use crate::program::program;
 use crate::reading::words_of;
@@ -38,6 +39,10 @@ pub enum Words<'a> {
     Apply(ApplyWords<'a>),
     /// To tell how long transactions on a log take.
     Bench(BenchWords<'a>),
+    /// To print what this shell is told so that it completes words.
+    Completions(Shell),
+    /// To print the page for `man`.
+    Man,
 }
 
 /// The words of `sweep`.

@@ -4,7 +4,9 @@ use format_rows::RowError;
 use format_rows::words::cut;
 use jbench_commands::{check, run, sweep};
 use jbench_logs::{logs, recovering, show};
+use jbench_words::completions::write_completions;
 use jbench_words::fault::Status;
+use jbench_words::manual::write_manual;
 use jbench_words::watch::Unwatched;
 use jbench_words::words::{
     ApplyWords, BenchWords, FormatWords, RecoverWords, RunWords, StopWords, SweepWords, Words,
@@ -225,6 +227,8 @@ fn told(alloc: Global, words: &Words<'_>) -> Result<String, RowError> {
         Words::Upgrade(log) => Ok(format!(in alloc; "upgrade {log}")?),
         Words::Apply(words) => Ok(told_apply(alloc, words)?),
         Words::Bench(words) => Ok(told_bench(alloc, words)?),
+        Words::Completions(shell) => Ok(format!(in alloc; "completions {shell:?}")?),
+        Words::Man => Ok(format!(in alloc; "man")?),
     }
 }
 
@@ -402,6 +406,34 @@ fn forms_in(alloc: Global, text: &str) -> Result<String, AllocError> {
         }
     }
     Ok(forms)
+}
+
+/// What shells and `man` are told. Given: the words of the program on a line, and a text. Found: the printed lines that have that text,
+/// without the blanks in front.
+pub fn printed(alloc: Global, given: &str) -> Result<String, RowError> {
+    let (line, wanted) = cut(given, "\n")?;
+    let words = words_in(alloc, line)?;
+    let mut out = Vec::new(alloc);
+    let printed = match parse(alloc, &words) {
+        Ok(Words::Completions(shell)) => write_completions(shell, &mut out),
+        Ok(Words::Man) => write_manual(&mut out),
+        _ => return Err(RowError::Unread),
+    };
+    match printed {
+        Ok(()) => Ok(lines_with(alloc, written(&out)?, wanted)?),
+        Err(_) => Err(RowError::Memory),
+    }
+}
+
+/// The lines that have this text, without the blanks in front.
+fn lines_with(alloc: Global, text: &str, wanted: &str) -> Result<String, AllocError> {
+    let mut lines = String::new(alloc);
+    for line in text.lines() {
+        if line.contains(wanted) {
+            writeln!(lines, "{}", line.trim_start())?;
+        }
+    }
+    Ok(lines)
 }
 
 /// The words of a line, which blanks separate. A word between quotes may have blanks, or nothing.

@@ -55,6 +55,7 @@ fn found_of_command(alloc: Global, kind: &str, given: &str) -> Option<Found> {
         "clients" => Some(commands::clients(alloc, given)),
         "format" => Some(commands::format(alloc, given)),
         "help" => Some(commands::help(alloc, given)),
+        "printed" => Some(commands::printed(alloc, given)),
         "recover" => Some(commands::recover(alloc, given)),
         "run" => Some(commands::run(alloc, given)),
         "show" => Some(commands::show(alloc, given)),

@@ -65,3 +65,9 @@ returns-in-Bench-clause-wrong g c = rw c.in-Bench.is (never-wrong c.bench_files.
 
 pub returns-in-Show-clause-wrong : goal.returns-in-Show-clause-wrong
 returns-in-Show-clause-wrong g c = rw c.in-Show.is (never-wrong c.show_file.result c.show_file.ensures.other)
+
+pub returns-in-Completions-clause-wrong : goal.returns-in-Completions-clause-wrong
+returns-in-Completions-clause-wrong g c = rw c.in-Completions.is (never-wrong c.print_completions.result c.print_completions.ensures.other)
+
+pub returns-in-Man-clause-wrong : goal.returns-in-Man-clause-wrong
+returns-in-Man-clause-wrong g c = rw c.in-Man.is (never-wrong c.print_manual.result c.print_manual.ensures.other)

@@ -1,0 +1,107 @@
+//! What a shell is told so that it completes the words of the program.
+use crate::usage::{COMMANDS, Usage};
+use std::io;
+use std::io::Write;
+
+/// A shell that completes words.
+#[derive(Clone, Copy, Debug)]
+pub enum Shell {
+    /// GNU bash.
+    Bash,
+    /// zsh, which takes what bash is told by its `bashcompinit`.
+    Zsh,
+    /// fish.
+    Fish,
+}
+
+impl Shell {
+    /// The shell of this name, if there is one.
+    pub(crate) fn named(name: &str) -> Option<Shell> {
+        match name {
+            "bash" => Some(Shell::Bash),
+            "zsh" => Some(Shell::Zsh),
+            "fish" => Some(Shell::Fish),
+            _ => None,
+        }
+    }
+}
+
+/// Writes the commands of a shell that let it complete the words of the program: its commands, and the options of each. What is no
+/// option behind a command is a file. No help of a command or an option has a quote, a dollar sign or a backslash.
+///
+/// # Errors
+///
+/// They can't be written.
+pub fn write_completions<W: Write>(shell: Shell, out: &mut W) -> io::Result<()> {
+    match shell {
+        Shell::Bash => write_bash(out),
+        Shell::Zsh => {
+            writeln!(out, "autoload -U +X bashcompinit && bashcompinit")?;
+            write_bash(out)
+        }
+        Shell::Fish => write_fish(out),
+    }
+}
+
+/// Writes a function of bash, which is called with the words that stand there, and looks at the place of the last one, the command and
+/// the last one itself.
+fn write_bash<W: Write>(out: &mut W) -> io::Result<()> {
+    writeln!(out, "_jbench() {{")?;
+    writeln!(out, "    local last=${{COMP_WORDS[COMP_CWORD]}} list=")?;
+    writeln!(out, "    case $COMP_CWORD,${{COMP_WORDS[1]}},$last in")?;
+    write!(out, "    1,*) list='--help --version")?;
+    for usage in COMMANDS {
+        write!(out, " {}", usage.name)?;
+    }
+    writeln!(out, "' ;;")?;
+    for usage in COMMANDS {
+        write_bash_command(usage, out)?;
+    }
+    writeln!(out, "    2,completions,*) list='bash zsh fish' ;;")?;
+    writeln!(out, "    esac")?;
+    writeln!(out, "    COMPREPLY=($(compgen -W \"$list\" -- \"$last\"))")?;
+    writeln!(out, "}}\ncomplete -o default -F _jbench jbench")
+}
+
+/// Writes which options a command has, for bash.
+fn write_bash_command<W: Write>(usage: &Usage, out: &mut W) -> io::Result<()> {
+    write!(out, "    *,{},-*) list='--help", usage.name)?;
+    for word in usage.words {
+        if word.is_option {
+            write!(out, " --{}", word.name)?;
+        }
+    }
+    writeln!(out, "' ;;")
+}
+
+/// Writes the commands of fish.
+fn write_fish<W: Write>(out: &mut W) -> io::Result<()> {
+    writeln!(out, "complete -c jbench -l help -d \"Print help\"")?;
+    for usage in COMMANDS {
+        write_fish_command(usage, out)?;
+    }
+    writeln!(
+        out,
+        "complete -c jbench -n \"__fish_seen_subcommand_from completions\" -f -a \"bash zsh fish\""
+    )
+}
+
+/// Writes what a command does, and which options it has, for fish.
+fn write_fish_command<W: Write>(usage: &Usage, out: &mut W) -> io::Result<()> {
+    let Usage { name, about, .. } = usage;
+    writeln!(
+        out,
+        "complete -c jbench -n __fish_use_subcommand -f -a {name} -d \"{about}\""
+    )?;
+    for word in usage.words {
+        if word.is_option {
+            let takes = if word.value.is_empty() { "" } else { " -r" };
+            writeln!(
+                out,
+                "complete -c jbench -n \"__fish_seen_subcommand_from {name}\" -l {}{takes} -d \"{}\"",
+                word.name, word.help
+            )?;
+        }
+    }
+    Ok(())
+}
