@@ -12,7 +12,8 @@ that it can do without: each of these is refused, in an apply of its own, and ha
 It prints a table: the call, its requests the first time, the least and the most that any later one made, and how many of all these come
 behind the first write of their call; and then what the seals of one copy and of six make, each in a journal that was just made, what
 the first step of each of a journal's first three transactions makes, what the steps of a transaction of fifty entries make beside their
-bytes, what a write of a block makes that its transaction has already, and what came of the device's requests. The program is `./jbench`,
+bytes, what a write of a block makes that its transaction has already, what closes make that first have to finish a commit, or to make room
+too, and what came of the device's requests. The program is `./jbench`,
 which is built first, or the one at PATH. Run it by hand; it needs what `refused_memory.py` does.
 """
 import json
@@ -52,6 +53,15 @@ EACH_CALL = [
         ["revoke", i, 30 + i], ["stop", i], ["request", i], *[["turn"]] * 16, ["wait", i], ["direct", 40 + i, "44"], ["sync"],
         *[["ckturn"]] * (12 if i % 3 == 2 else 0)]),
     *transaction(20, 3)]
+
+
+# Closes that first have to finish a commit; of the second one the ring has no room for the running transaction before a round.
+CLOSES = {
+    "behind a commit": [FIRST, *transaction(1, 3), *[["turn"]] * 4, *transaction(2, 3)],
+    "behind a commit and a round": [
+        FIRST, *(operation for i in range(3) for operation in [*transaction(i, 50), *[["turn"]] * 58]),
+        *transaction(4, 50), *[["turn"]] * 9, *transaction(5, 50)],
+}
 
 
 class Applied:
@@ -116,6 +126,11 @@ def table(applied):
         print(f"| `{word}` | {made[0][0]} | {told} | {sum(behind for _, behind in made)} |")
 
 
+def same(refuser, applied, numbers):
+    """How many of these requests change no line and no byte where they are refused, each in an apply of its own."""
+    return sum((other.done, other.files) == (applied.done, applied.files) for other in (Applied(refuser, applied.operations, number) for number in numbers))
+
+
 def main(words):
     program, _ = program_of(words)
     with tempfile.TemporaryDirectory() as folder:
@@ -135,9 +150,15 @@ def main(words):
         known = [FIRST, ["start", 1, 1], *[["write", 1, 9, "11"]] * 40]
         made = [sizes for word, _, sizes, _ in Applied(refuser, known).by_call() if word == "write"]
         print(f"write of a block that is known: requests {[len(sizes) for sizes in made[1:]]}")
+        for name, operations in CLOSES.items():
+            closed = Applied(refuser, operations)
+            *_, (_, numbers, _, behind) = closed.by_call()
+            late = numbers[len(numbers) - behind :]
+            told = f"of which {same(refuser, closed, late)} change nothing where they are refused"
+            print(f"close {name}: {len(numbers)} requests, {behind} behind its first write, {told}")
         numbers = [number for word, numbers, _, _ in applied.by_call() for number in numbers if word.startswith(NONE_TAKEN)]
-        same = sum((other.done, other.files) == (applied.done, applied.files) for other in (Applied(refuser, EACH_CALL, number) for number in numbers))
-        print(f"requests in calls that take none for the journal: {len(numbers)}, of which {same} change nothing where they are refused")
+        told = f"of which {same(refuser, applied, numbers)} change nothing where they are refused"
+        print(f"requests in calls that take none for the journal: {len(numbers)}, {told}")
     return 0
 
 

@@ -21,8 +21,9 @@ starts try how many credits are held: one of just those that are left, and one o
 `threads` with two clients prints the seven lines of a run with ample memory, or nothing but `jbench: client I refused 1 Memory`; or the
 device of these clients fails, which is in memory too, and each that is refused then is refused `3 Aborted`; or the program itself is refused.
 Such clients are also a test of `library_tests`, which looks at what came of them itself: one that was refused Memory ended alone, with
-its handle stopped, and what is left opens to all receipts. This is done where --tests names the built tests of that crate, as `rt test`
-and `rt ci` leave them in its `out/`. Which request is the Kth depends on how the threads run, so each K is tried a few times.
+its handle stopped, and what is left opens to all receipts. A close that has to finish a commit is a test too: where it is
+refused Memory it has written nothing. Both are run where --tests names the built tests of that crate, as `rt test` and `rt ci` leave them in
+its `out/`. Which request is the Kth depends on how the threads run, so each K is tried a few times.
 
 It writes a line for each of these, with how many requests there were and how many answers were false, and names each false answer. The
 last line is `N passed, M failed`, which counts these lines; where one failed the status is 1. The program is `./jbench`, which is built
@@ -47,6 +48,7 @@ HERE = Path(__file__).resolve().parent
 NEVER = 1_000_000  # a device call that no script comes to: behind a failed call the script goes on
 MEMORY, DEVICE = "jbench: refusal 1 Memory\n", "jbench: refusal 2 Device\n"
 CLIENTS = "service::refused::a_client_without_memory_ends_alone"  # the test of clients in threads
+CLOSE = "closes::a_close_takes_its_memory_before_its_first_call"  # the test of a close that has to finish a commit
 TIMES = 4  # how often each of its requests is refused
 
 
@@ -327,18 +329,35 @@ def judge_clients(refuser, tests):
         "refused=2 Some(Aborted)\n": "a device call fails",
     }
 
+    judge_test(clients, "clients in threads", CLIENTS, cases, "a client is refused", TIMES)
+
+
+def judge_close(refuser, tests):
+    """Runs of the test of a close that has to finish a commit: it passes, whichever request is refused. With ample memory it closes."""
+    cases = {
+        "": "before the close",
+        "closed\n": "as with ample memory",
+        "refused Memory\n": "the close is refused",
+        "refused Device\n": "a device call fails",
+    }
+    judge_test(Refuser(tests, refuser.folder, refuser.done), "close behind a commit", CLOSE, cases, "the close is refused", 1)
+
+
+def judge_test(refuser, name, test, cases, wanted, times):
+    """Runs of a test, which says what it came to. One of its requests has to come to what is wanted."""
+
     def judge(status, output, messages):
         told, _, ended = output.rpartition("\ntest result: ")
         if (status, messages, ended) != (0, "", "ok\n") or told not in cases:
             differ((status, output, messages))
         return cases[told]
 
-    if judge(*clients.jbench([CLIENTS])) != "as with ample memory":
-        differ("clients are refused with ample memory")
-    seen = clients.each("clients in threads", [CLIENTS], judge, times=TIMES)
-    if not seen["a client is refused"]:
-        clients.note(False)
-        print("never refused: a client")
+    if judge(*refuser.jbench([test])) != "as with ample memory":
+        differ(f"{name}: refused with ample memory")
+    seen = refuser.each(name, [test], judge, times=times)
+    if not seen[wanted]:
+        refuser.note(False)
+        print(f"{name}: never came to this: {wanted}")
 
 
 # ---- over files
@@ -460,6 +479,7 @@ def main(words):
         judge_threads(refuser, HERE.parent / "examples" / "two_clients.json")
         if tests:
             judge_clients(refuser, tests)
+            judge_close(refuser, tests)
         draw = random.Random(seed)
         for number in range(count):
             script = Script([], False)

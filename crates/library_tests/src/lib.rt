@@ -5,6 +5,8 @@
 #[cfg(test)]
 mod bytes;
 #[cfg(test)]
+mod closes;
+#[cfg(test)]
 mod credits;
 #[cfg(test)]
 mod example;
