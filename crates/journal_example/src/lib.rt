@@ -134,23 +134,20 @@ fn commit<D: Device + Drop>(journal: &mut Journal<D>, ticket: Ticket) -> Result<
     }
 }
 
-/// The first byte of a block, as the running transaction sees it: the newest copy, which for block 9 is in memory still, and takes
-/// no device call. A read costs no credit, but needs a handle.
+/// The first byte of a block, as a handle would see it: the newest copy, which for block 9 is in memory still, and takes no device
+/// call. It takes no handle, so that who only reads makes no transaction.
 fn read_first<D: Device + Drop>(
     alloc: Global,
     journal: &mut Journal<D>,
     block: BlockNo,
 ) -> Result<u8, JournalError> {
     let mut bytes = vec![in alloc; 0; journal.block_size()]?;
-    let mut handle = journal.try_start(0)?;
-    let read = journal.read(&mut handle, block, &mut bytes);
-    let _ticket = journal.stop(handle);
-    read?;
+    journal.read_newest(block, &mut bytes)?;
     Ok(bytes.first().copied().unwrap_or(0))
 }
 
-/// Closes the journal: what is left is committed and written home, and the log is left clean. Here that is a second transaction,
-/// which the handle of the read has joined. Without a close nothing is lost: the next opening brings home what was committed.
+/// Closes the journal: what is left is committed and written home, and the log is left clean. Here that is the one transaction, which is
+/// committed. Without a close nothing is lost: the next opening brings home what was committed.
 fn close<D: Device + Drop>(journal: Journal<D>) -> Result<u64> {
     if journal.has_open_handles() {
         bail!("a handle has not stopped");
