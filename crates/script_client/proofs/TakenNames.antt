@@ -1,7 +1,8 @@
 -- What names stand for behind an operation that takes what one stands for and puts something in its place.
-use Rattle.std.proofs.Common.{◌∙◌, ap, refl}
-use Rattle.std.specs.Prelude.{◌≡◌, ℕ, List, set}
-use Rattle.std.proofs.lemmas.List.{set-get_or, set-set}
+use Rattle.std.proofs.Common.{◌∙◌, ap, cc, refl, subst, sym, zero, suc, ⊎_elim}
+use Rattle.std.specs.Prelude.{◌≡◌, ℕ, ◌<◌, ◌≤◌, List, [], ◌∷◌, length, set}
+use Rattle.std.proofs.lemmas.List.{get_or_past, length-set, set-get_or, set-set}
+use Rattle.std.proofs.lemmas.Bool.Decides.{leb_tells}
 use Rattle.block_device.specs.State.{DeviceState}
 use Rattle.journal_front.specs.Values.{HandleValue}
 use Rattle.group_commit.specs.Values.{TicketValue}
@@ -9,7 +10,7 @@ use Rattle.journal_script.specs.declared.script.Operation.{Operation}
 use Rattle.script_client.specs.declared.outcome.Outcome.{Outcome}
 use Rattle.script_client.specs.declared.slots.Slot.{Slot}
 use Rattle.script_client.specs.declared.slots.Slot.TheVariants.{Empty, Open, Stopped, Waited}
-use Rattle.script_client.specs.Names.{stands_for}
+use Rattle.script_client.specs.Names.{IsFree, MayStand, stands_for}
 use Rattle.script_client.specs.Performed.{HasRestarted, HasStopped, HasTouched, HasWaited, Skips, Table}
 
 -- it was taken, and this was put there
@@ -20,6 +21,35 @@ put-there old taken new name slot takes puts = puts ∙ ap (λ (names : List Slo
 pub put-back : (old taken new : List Slot) (name : ℕ) (slot : Slot) → slot ≡ stands_for old name → taken ≡ set old name Empty → new ≡ set taken name slot → new ≡ old
 put-back old taken new name slot is takes puts =
     put-there old taken new name slot takes puts ∙ ap (λ (s : Slot). set old name s) is ∙ set-get_or old name Empty
+
+-- a name that stands for something is one of those that there are
+is-named : (names : List Slot) (name : ℕ) → (stands_for names name ≡ Empty → ⊥) → name < length names
+is-named names name some =
+    ⊎_elim
+    (λ (past : _ × (length names ≤ name)). absurd (some (get_or_past names name Empty past.1)))
+    (λ (within : _ × (name < length names)). within.1)
+    (leb_tells (length names) name)
+
+-- nothing stands where a slot was taken
+none-there : (names : List Slot) (name : ℕ) → stands_for (set names name Empty) name ≡ Empty
+none-there [] name = refl
+none-there (x ∷ names) zero = refl
+none-there (x ∷ names) (suc name) = none-there names name
+
+-- what it stood for was taken: where that was something, anything may stand there, and else what is no open handle
+pub may-stand : (old taken : List Slot) (name : ℕ) (was slot : Slot) → was ≡ stands_for old name → taken ≡ set old name Empty
+    → ((h : HandleValue) → slot ≡ Open h → was ≡ Empty → ⊥) → MayStand taken name slot
+may-stand old taken name was slot is takes some = record {
+  free = λ h open.
+      let none : Empty ≡ Open h = sym (none-there old name) ∙ ap (λ (names : List Slot). stands_for names name) (sym takes) ∙ open in cc;
+  named = λ h open.
+      subst (λ (n : ℕ). name < n) (sym (ap (λ (names : List Slot). length names) takes ∙ length-set old name Empty))
+      (is-named old name (λ none. some h open (is ∙ none)));
+}
+
+-- it may come to stand for anything where it is free
+pub may-start : (names : List Slot) (name : ℕ) (slot : Slot) → IsFree names name → MayStand names name slot
+may-start names name slot free = record { free = free.free; named = λ h open. free.named }
 
 module _ {D : Type 0} (state : D → DeviceState) (honest : D → Type 0) (outcome : Outcome) (old new : Table D) (skips : Skips outcome old new) where
   -- no handle is open there
