@@ -1,5 +1,5 @@
 -- What names stand for behind an operation that takes what one stands for and puts something in its place.
-use Rattle.std.proofs.Common.{◌∙◌, ap, cc, refl, subst, sym, zero, suc, ⊎_elim}
+use Rattle.std.proofs.Common.{◌∙◌, ap, refl, subst, sym, zero, suc, ⊎_elim}
 use Rattle.std.specs.Prelude.{◌≡◌, ℕ, ◌<◌, ◌≤◌, List, [], ◌∷◌, length, set}
 use Rattle.std.proofs.lemmas.List.{get_or_past, length-set, set-get_or, set-set}
 use Rattle.std.proofs.lemmas.Bool.Decides.{leb_tells}
@@ -10,7 +10,7 @@ use Rattle.journal_script.specs.declared.script.Operation.{Operation}
 use Rattle.script_client.specs.declared.outcome.Outcome.{Outcome}
 use Rattle.script_client.specs.declared.slots.Slot.{Slot}
 use Rattle.script_client.specs.declared.slots.Slot.TheVariants.{Empty, Open, Stopped, Waited}
-use Rattle.script_client.specs.Names.{IsFree, MayStand, stands_for}
+use Rattle.script_client.specs.Names.{MayStand, stands_for}
 use Rattle.script_client.specs.Performed.{HasRestarted, HasStopped, HasTouched, HasWaited, Skips, Table}
 
 -- it was taken, and this was put there
@@ -40,16 +40,17 @@ none-there (x ∷ names) (suc name) = none-there names name
 pub may-stand : (old taken : List Slot) (name : ℕ) (was slot : Slot) → was ≡ stands_for old name → taken ≡ set old name Empty
     → ((h : HandleValue) → slot ≡ Open h → was ≡ Empty → ⊥) → MayStand taken name slot
 may-stand old taken name was slot is takes some = record {
-  free = λ h open.
-      let none : Empty ≡ Open h = sym (none-there old name) ∙ ap (λ (names : List Slot). stands_for names name) (sym takes) ∙ open in cc;
-  named = λ h open.
+  free = λ h there.
+      let none : Empty ≡ Open h = sym (none-there old name) ∙ ap (λ (names : List Slot). stands_for names name) (sym takes) ∙ there in cc;
+  named = λ h this.
       subst (λ (n : ℕ). name < n) (sym (ap (λ (names : List Slot). length names) takes ∙ length-set old name Empty))
-      (is-named old name (λ none. some h open (is ∙ none)));
+      (is-named old name (λ none. some h this (is ∙ none)));
 }
 
--- it may come to stand for anything where it is free
-pub may-start : (names : List Slot) (name : ℕ) (slot : Slot) → IsFree names name → MayStand names name slot
-may-start names name slot free = record { free = free.free; named = λ h open. free.named }
+-- so may what it stood for
+pub may-return : (old taken : List Slot) (name : ℕ) (slot : Slot) → slot ≡ stands_for old name → taken ≡ set old name Empty → MayStand taken name slot
+may-return old taken name slot is takes =
+    may-stand old taken name slot slot is takes (λ h this none. let both : Empty ≡ Open h = sym none ∙ this in cc)
 
 module _ {D : Type 0} (state : D → DeviceState) (honest : D → Type 0) (outcome : Outcome) (old new : Table D) (skips : Skips outcome old new) where
   -- no handle is open there

@@ -26,7 +26,7 @@ pub enum Outcome {
     Committed(Tid),
     /// The transaction is not committed.
     Open,
-    /// It did not run: its handle's start was refused.
+    /// It did not run: its handle's start was refused, or, of a start, its name stands for an open handle.
     Skipped,
     /// It is refused.
     Refused(JournalError),

@@ -1,11 +1,20 @@
 use Rattle.std.proofs.Common.{◌∙◌, ap, refl, set}
 use Rattle.group_commit.specs.Values.{TicketValue}
 use Rattle.script_client.specs.declared.outcome.Outcome.TheVariants.{Skipped, Transaction}
-use Rattle.script_client.specs.declared.slots.Slot.TheVariants.{Stopped}
+use Rattle.script_client.specs.declared.slots.Slot.TheVariants.{Open, Stopped}
 use Rattle.script_client.specs.Names.{stands_for}
 use Rattle.script_client.specs.Shown.{ticket_of}
-use Rattle.script_client.proofs.TakenNames.{else-stopped, put-back, put-there}
+use Rattle.script_client.proofs.TakenNames.{else-stopped, may-return, may-stand, put-back, put-there}
 use Rattle.script_client.proofs.interpreter.Interpreter.stop.Goals as goal
+
+-- a handle was taken, and what was taken is put back
+pub put-requires : goal.put-requires
+put-requires g c =
+    may-stand c.args.self.now.slots c.take.new.self c.args.name (Open c.in-Open.handle) _ c.in-Open.ensures.slot c.take.ensures.others (λ h this none. cc)
+
+pub put-in_default-requires : goal.put-in_default-requires
+put-in_default-requires g c =
+    may-return c.args.self.now.slots c.take.new.self c.args.name c.take.result c.take.ensures.slot c.take.ensures.others
 
 -- the ticket stands there
 pub returns-in-Open-clause-done : goal.returns-in-Open-clause-done

@@ -2,8 +2,18 @@ use Rattle.std.proofs.Common.{◌∙◌, refl}
 use Rattle.script_client.specs.declared.outcome.Outcome.TheVariants.{Skipped}
 use Rattle.script_client.specs.declared.slots.Slot.TheVariants.{Open}
 use Rattle.script_client.specs.Names.{stands_for}
-use Rattle.script_client.proofs.TakenNames.{else-touched, put-back, put-there}
+use Rattle.script_client.proofs.TakenNames.{else-touched, may-return, may-stand, put-back, put-there}
 use Rattle.script_client.proofs.interpreter.Interpreter.touch.Goals as goal
+
+-- a handle was taken, and what was taken is put back
+pub put-requires : goal.put-requires
+put-requires g c =
+    may-stand c.args.self.now.slots c.touch_by-outcome.new.self.slots c.args.name (Open c.in-Open.handle) (Open c.touch_by-outcome.new.handle) c.in-Open.ensures.slot
+    (c.touch_by-outcome.ensures.slots ∙ c.take.ensures.others) (λ h this none. cc)
+
+pub put-in_default-requires : goal.put-in_default-requires
+put-in_default-requires g c =
+    may-return c.args.self.now.slots c.take.new.self c.args.name c.take.result c.take.ensures.slot c.take.ensures.others
 
 -- the handle stands there again
 pub returns-in-Open-clause-done : goal.returns-in-Open-clause-done

@@ -1,9 +1,24 @@
 use Rattle.std.proofs.Common.{◌∙◌, refl}
 use Rattle.script_client.specs.declared.outcome.Outcome.TheVariants.{Skipped}
-use Rattle.script_client.specs.declared.slots.Slot.TheVariants.{Waited}
+use Rattle.script_client.specs.declared.slots.Slot.TheVariants.{Stopped, Waited}
 use Rattle.script_client.specs.Names.{stands_for}
-use Rattle.script_client.proofs.TakenNames.{else-waited, put-back, put-there}
+use Rattle.script_client.proofs.TakenNames.{else-waited, may-return, may-stand, put-back, put-there}
 use Rattle.script_client.proofs.interpreter.Interpreter.wait.Goals as goal
+
+-- a ticket was taken, or a receipt, or what was taken is put back
+pub put-requires : goal.put-requires
+put-requires g c =
+    may-stand c.args.self.now.slots c.wait_for-outcome.new.self.slots c.args.name (Stopped c.in-Stopped.ticket) c.wait_for-outcome.result.1 c.in-Stopped.ensures.slot
+    (c.wait_for-outcome.ensures.slots ∙ c.take.ensures.others) (λ h this none. cc)
+
+pub put-in-Waited-requires : goal.put-in-Waited-requires
+put-in-Waited-requires g c =
+    may-stand c.args.self.now.slots c.wait_again-outcome.new.self.slots c.args.name (Waited c.in-Waited.receipt) (Waited c.in-Waited.receipt) c.in-Waited.ensures.slot
+    (c.wait_again-outcome.ensures.slots ∙ c.take.ensures.others) (λ h this none. cc)
+
+pub put-in_default-requires : goal.put-in_default-requires
+put-in_default-requires g c =
+    may-return c.args.self.now.slots c.take.new.self c.args.name c.take.result c.take.ensures.slot c.take.ensures.others
 
 -- a ticket stood there
 pub returns-in-Stopped-clause-done : goal.returns-in-Stopped-clause-done
