@@ -12,8 +12,8 @@ pub put-requires : goal.put-requires
 put-requires g c =
     may-stand c.args.self.now.slots c.take.new.self c.args.name (Open c.in-Open.handle) _ c.in-Open.ensures.slot c.take.ensures.others (λ h this none. cc)
 
-pub put-in_default-requires : goal.put-in_default-requires
-put-in_default-requires g c =
+pub put-requires-in_default : goal.put-requires-in_default
+put-requires-in_default g c =
     may-return c.args.self.now.slots c.take.new.self c.args.name c.take.result c.take.ensures.slot c.take.ensures.others
 
 -- the ticket stands there

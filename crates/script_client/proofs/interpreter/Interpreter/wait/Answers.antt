@@ -11,13 +11,13 @@ put-requires g c =
     may-stand c.args.self.now.slots c.wait_for-outcome.new.self.slots c.args.name (Stopped c.in-Stopped.ticket) c.wait_for-outcome.result.1 c.in-Stopped.ensures.slot
     (c.wait_for-outcome.ensures.slots ∙ c.take.ensures.others) (λ h this none. cc)
 
-pub put-in-Waited-requires : goal.put-in-Waited-requires
-put-in-Waited-requires g c =
+pub put-requires-in-Waited : goal.put-requires-in-Waited
+put-requires-in-Waited g c =
     may-stand c.args.self.now.slots c.wait_again-outcome.new.self.slots c.args.name (Waited c.in-Waited.receipt) (Waited c.in-Waited.receipt) c.in-Waited.ensures.slot
     (c.wait_again-outcome.ensures.slots ∙ c.take.ensures.others) (λ h this none. cc)
 
-pub put-in_default-requires : goal.put-in_default-requires
-put-in_default-requires g c =
+pub put-requires-in_default : goal.put-requires-in_default
+put-requires-in_default g c =
     may-return c.args.self.now.slots c.take.new.self c.args.name c.take.result c.take.ensures.slot c.take.ensures.others
 
 -- a ticket stood there
