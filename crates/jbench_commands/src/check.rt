@@ -55,9 +55,30 @@ fn read_either(alloc: Global, text: &[u8]) -> Result<Good, ScriptError>
 {
     match journal_script::read(alloc, text) {
         Ok(script) => Ok(Good::Operations(script)),
-        Err(ScriptError::BadScript(BadScript::UnknownKey(name))) if name.as_str() == CLIENTS => {
-            Ok(Good::Clients(journal_script::read_clients(alloc, text)?))
+        Err(e) => {
+            if names_clients(&e) {
+                read_clients(alloc, text)
+            } else {
+                Err(e)
+            }
         }
+    }
+}
+
+/// Whether the key of clients is what keeps a script from being one of operations.
+fn names_clients(error: &ScriptError) -> bool {
+    match error {
+        ScriptError::BadScript(BadScript::UnknownKey(name)) => name.as_str() == CLIENTS,
+        _ => false,
+    }
+}
+
+/// Reads a script of clients.
+fn read_clients(alloc: Global, text: &[u8]) -> Result<Good, ScriptError>
+    ensures { IfOk result (IsGoodOf text.now) }
+{
+    match journal_script::read_clients(alloc, text) {
+        Ok(script) => Ok(Good::Clients(script)),
         Err(e) => Err(e),
     }
 }

@@ -94,16 +94,19 @@ fn told_in(text: &str, wanted: Key) -> &str {
 /// Writes the list of the lines of this key.
 fn write_list<W: Write>(text: &str, wanted: Key, out: &mut W) -> io::Result<()> {
     let mut key = Key::Operations;
-    let mut sign = "[";
+    let mut first = true;
+    write!(out, "[")?;
     for line in text.lines() {
         key = key.behind(line);
         if key == wanted {
-            out.write_all(sign.as_bytes())?;
+            if !first {
+                write!(out, ",")?;
+            }
             write_line(key, line, out)?;
-            sign = ",";
+            first = false;
         }
     }
-    out.write_all(if sign == "[" { b"[]" } else { b"]" })
+    write!(out, "]")
 }
 
 /// Writes a line of this key.
