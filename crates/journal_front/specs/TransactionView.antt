@@ -1,5 +1,5 @@
 -- The fields of a transaction as contracts see them, and what they keep true.
-use Rattle.std.specs.Prelude.{◌≡◌, ◌<◌, ◌↔◌, Bool, true, length, vec_capacity}
+use Rattle.std.specs.Prelude.{◌≡◌, ◌<◌, ◌↔◌, Bool, true, false, [], length, vec_capacity}
 use Rattle.journal_model.specs.Transaction.{entries}
 use Rattle.journal_front.specs.declared.transaction.Transaction.TheInside.{Inside}
 use Rattle.journal_front.specs.Transaction.{OpenTransaction}
@@ -13,10 +13,11 @@ transaction_of t = record {
 }
 
 -- the entries are those of the steps; it is known whether a handle has joined; and where the record keeps data, handles and
--- steps are so too, and where room was made for one more step, it is there
+-- steps are so too, and where room was made for one more step, it is there; and where it keeps none, there are none
 pub record KeepsTransaction {R : Type 0} (keeps : Bool) (t : Inside R) : Type 0 where
   pub entries_are : t.versions.running ≡ entries t.known.steps
   pub joined_is : (t.joined ≡ true) ↔ (0 < length t.known.handles)
   pub handles_are : keeps ≡ true → t.handles ≡ t.known.handles
   pub steps_are : keeps ≡ true → t.steps.items ≡ t.known.steps
+  pub none_kept : keeps ≡ false → (t.handles ≡ []) × (t.steps.items ≡ [])
   pub step_room : keeps ≡ true → t.reserved ≡ true → length t.steps.items < vec_capacity t.steps

@@ -99,7 +99,8 @@ fn room_for_step<R: Record>(steps: &mut Vec<Step>) -> Result<(), JournalError>
 /// Keeps a step, for which there is room, where the record keeps data. Else it is dropped.
 fn keep_step<R: Record>(steps: &mut Vec<Step>, step: Step)
     requires { R.KEEPS ≡ true → length steps.old.items < vec_capacity steps.old }
-    ensures { R.KEEPS ≡ true → steps.new.items ≡ steps.old.items ++ step ∷ [] }
+    ensures kept { R.KEEPS ≡ true → steps.new.items ≡ steps.old.items ++ step ∷ [] }
+    ensures dropped { R.KEEPS ≡ false → steps.new.items ≡ steps.old.items }
 {
     if R::KEEPS {
         steps.push_reserved(step);

@@ -19,7 +19,10 @@ invariant_of-self-2 g c =
       joined_is = rw noted c.self.invariant.joined_is;
       handles_are = λ keeps. c.self.invariant.handles_are keeps ∙ ap (λ (k : Transaction). k.handles) (sym noted);
       steps_are = λ keeps.
-          c.keep_step.ensures keeps ∙ ap (λ (ss : List Step). ss ++ c.args.step ∷ []) (c.room_for_step.ensures.same ∙ c.self.invariant.steps_are keeps)
+          c.keep_step.ensures.kept keeps ∙ ap (λ (ss : List Step). ss ++ c.args.step ∷ []) (c.room_for_step.ensures.same ∙ c.self.invariant.steps_are keeps)
           ∙ ap (λ (k : Transaction). k.steps) (sym noted);
+      none_kept = λ drops.
+          let none = c.self.invariant.none_kept drops in
+          (none.0, c.keep_step.ensures.dropped drops ∙ c.room_for_step.ensures.same ∙ none.1);
       step_room = λ keeps is. absurd (true≢false (sym is));
     }
