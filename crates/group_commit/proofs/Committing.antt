@@ -1,19 +1,22 @@
 -- What comes of a request and of all turns behind it.
 use Rattle.std.proofs.Common.{refl, sym, ◌∙◌, ap, subst, arith, ⊎_elim}
-use Rattle.std.specs.Prelude.{◌≡◌, ◌≢◌, ℕ, zero, suc, true, false, length, eqb, Result, Ok, Err, IfErr, OnOk}
+use Rattle.std.specs.Prelude.{◌≡◌, ◌≢◌, ℕ, zero, suc, ◌<◌, Bool, true, false, length, eqb, Result, Ok, Err, IfErr, OnOk}
 use Rattle.std.proofs.lemmas.Bool.Decides.{eqb_tells}
 use Rattle.journal_model.specs.declared.refusal.JournalError.{JournalError}
 use Rattle.journal_model.specs.declared.refusal.JournalError.TheVariants.{Device}
 use Rattle.block_device.specs.State.{DeviceState}
+use Rattle.journal_world.specs.Front.{Front}
 use Rattle.journal_world.specs.Front.FrontEvent.{Lock}
 use Rattle.journal_world.specs.Journal.Event.{FrontStep}
 use Rattle.journal_steps.specs.Journal.{Requests}
 use Rattle.journal_steps.specs.Values.{JournalValue}
 use Rattle.log_epochs.specs.EngineWorld.Phase.{Running}
-use Rattle.group_commit.specs.AllTurns.{CommitsAll, IsReadyToSeal, ReleaseRefused}
+use Rattle.group_commit.specs.AllTurns.{AllTurnsRefused, CommitsAll, IsReadyToSeal, ReleaseRefused}
+use Rattle.group_commit.specs.AllTurns.AllTurnsRefused.{FailedSealed, FailedUnsealed, SealUnready, StaysReady}
 use Rattle.group_commit.specs.AllTurns.CommitsAll.{WithRunning, WithoutRunning}
 use Rattle.group_commit.specs.AllTurns.ReleaseRefused.{ReleaseFailed}
-use Rattle.group_commit.specs.Close.{ComesTo, HasSealed, Went, WentWrong}
+use Rattle.group_commit.specs.Close.{ComesTo, HasSealed, LastRefused, Went, WentWrong, locked_journal}
+use Rattle.group_commit.specs.Close.LastRefused.{FailedBefore, FailedBehind, LeftUnsealed, NotMadeReady}
 use Rattle.group_commit.proofs.Leading.{comes-same, comes-step}
 
 module _ {D : Type 0} (state : D → DeviceState) where
@@ -51,6 +54,35 @@ module _ {D : Type 0} (state : D → DeviceState) where
       OnOk r (HasSealed state old new) → OnOk r (CommitsAll state old new)
   ready-sealed (Ok x) old new ready has = WithRunning ready has
   ready-sealed (Err e) old new ready has = tt
+
+  -- or the device failed in its commit
+  pub turns-failed : {T : Type 0} (r : Result T JournalError) (old new : JournalValue D) → old.journal.engine.aborted ≡ false →
+      IfErr r (λ e. (e ≡ Device) × WentWrong state old new) → IfErr r (AllTurnsRefused state old new)
+  turns-failed (Ok x) old new running wrong = tt
+  turns-failed (Err e) old new running wrong = subst (AllTurnsRefused state old new) (sym wrong.0) (FailedUnsealed running wrong.1)
+
+  -- a lock leaves a journal whose running transaction takes no further handles
+  locked-same : (v : JournalValue D) → v.journal.front.locked ≡ true → locked_journal v ≡ v
+  locked-same v locked =
+      ap (λ (b : Bool). record v { journal = record v.journal { front = record v.journal.front { locked = b } } }) (sym locked)
+
+  -- a running transaction that was ready, and is not sealed for want of memory, is as it was
+  ready-refused : (old new : JournalValue D) (e : JournalError) → old.journal.engine.aborted ≡ false → IsReadyToSeal old.journal.front →
+      0 < length old.journal.front.running.handles → LastRefused state old new e → AllTurnsRefused state old new e
+  ready-refused old new e running ready joined (FailedBefore wrong) = FailedUnsealed running wrong
+  ready-refused old new e running ready joined (FailedBehind mid has wrong) = FailedSealed running ready mid has wrong
+  ready-refused old new e running ready joined (NotMadeReady same) = SealUnready running ready joined same
+  ready-refused old new e running ready joined (LeftUnsealed mid went all is) =
+      let same : new ≡ mid = is ∙ locked-same mid (ap (λ (f : Front). f.locked) went.on.front ∙ ready.0) in
+      StaysReady running ready joined (subst (Went state old) (sym same) went)
+      (subst (λ (v : JournalValue D). v.journal.engine.committed ≡ length v.journal.front.sealed) (sym same) all)
+
+  -- whatever the answer is
+  pub last-turns : {T : Type 0} (r : Result T JournalError) (old new : JournalValue D) → old.journal.engine.aborted ≡ false →
+      IsReadyToSeal old.journal.front → 0 < length old.journal.front.running.handles → IfErr r (LastRefused state old new) →
+      IfErr r (AllTurnsRefused state old new)
+  last-turns (Ok x) old new running ready joined refused = tt
+  last-turns (Err e) old new running ready joined refused = ready-refused old new e running ready joined refused
 
   -- rounds that are refused have failed
   pub release-failed : {T : Type 0} (r : Result T JournalError) (old new : JournalValue D) → old.journal.engine.aborted ≡ false →

@@ -1,13 +1,13 @@
 -- The way of a journal to its end: what the turns of a close come to, one after the other.
-use Rattle.std.proofs.Common.{refl, sym, ◌∙◌, ap, ap₂, subst, arith, inl, inr}
-use Rattle.std.specs.Prelude.{◌≡◌, ◌≢◌, ℕ, ◌/◌, ◌<◌, ◌≤◌, true, false, List, [], ◌∷◌, ◌++◌, length, Result, Ok, Err, IfErr, OnOk}
+use Rattle.std.proofs.Common.{refl, sym, ◌∙◌, ap, subst, arith, inl, inr}
+use Rattle.std.specs.Prelude.{◌≡◌, ◌≢◌, ℕ, ◌/◌, ◌<◌, ◌≤◌, true, false, List, [], ◌∷◌, length, Result, Ok, Err, IfErr, OnOk}
 use Rattle.std.proofs.lemmas.Bool.{true≢false}
 use Rattle.std.proofs.lemmas.Option.{none-some}
 use Rattle.journal_model.specs.declared.refusal.JournalError.{JournalError}
-use Rattle.journal_model.specs.declared.refusal.JournalError.TheVariants.{Device, Memory}
+use Rattle.journal_model.specs.declared.refusal.JournalError.TheVariants.{Device}
 use Rattle.journal_model.specs.Layout.{Layout}
 use Rattle.log_model.specs.Chain.{Ring}
-use Rattle.journal_model.specs.Transaction.{History, Transaction}
+use Rattle.journal_model.specs.Transaction.{Transaction}
 use Rattle.block_device.specs.State.{DeviceState, one_more_fault}
 use Rattle.journal_world.specs.declared.round.Round.{Round}
 use Rattle.journal_world.specs.declared.round.Round.TheVariants.{Idle as NoRound, Copies, TailWrite, TailFlush}
@@ -17,7 +17,7 @@ use Rattle.journal_world.specs.Call.{Call}
 use Rattle.journal_world.specs.Checkpoint.{RoundCall, RoundSteps, begun, begun_from}
 use Rattle.journal_world.specs.Checkpoint.RoundCall.{CopyHome, FlushHome, WriteTail, FlushTail}
 use Rattle.journal_world.specs.Engine.{CommitSteps, Engine, call_in, stepped_from}
-use Rattle.journal_world.specs.Front.{Front, aborting}
+use Rattle.journal_world.specs.Front.{Front, aborting, finishing, raising, sealing}
 use Rattle.journal_world.specs.Front.FrontEvent.{Lock, Raise}
 use Rattle.journal_world.specs.Journal.{Event, Journal}
 use Rattle.journal_world.specs.Journal.Event.{AbortMark, CheckpointFault, CheckpointStep, CommitFault, CommitStep, Finish, FrontStep, Seal}
@@ -30,8 +30,9 @@ use Rattle.journal_steps.specs.declared.turn.Turn.{Turn}
 use Rattle.journal_steps.specs.declared.turn.Turn.TheVariants.{Idle as IdleTurn, Waiting, Step, Sealed, Committed}
 use Rattle.log_epochs.specs.EngineWorld.Phase.{Running}
 use Rattle.log_epochs.specs.JournalWorld.{with_directs}
-use Rattle.group_commit.specs.Close.{CloseRefused, ComesTo, GoesOn, HasSealed, IsFinished, SealRefused, StaysUnsealed, Went, WentWrong, closing, locked_journal, with_running}
+use Rattle.group_commit.specs.Close.{CloseRefused, ComesTo, GoesOn, HasSealed, IsFinished, LastRefused, SealRefused, StaysUnsealed, Went, WentWrong, closing, closing_front, locked_journal, sealed_with, told_as, with_running}
 use Rattle.group_commit.specs.Close.CloseRefused.{CloseFailed, NoMemory, NotReady}
+use Rattle.group_commit.specs.Close.LastRefused.{FailedBefore, FailedBehind, LeftUnsealed, NotMadeReady}
 use Rattle.group_commit.specs.Close.SealRefused.{NoMemoryForIt, NoRoomForIt}
 use Rattle.journal_steps.specs.Journal.{Agrees, CheckTurnDid, CheckTurnRefused, Does, FailsAndTells, FitsQuarter, HasRoomFor, NothingToRelease, TurnDid, TurnRefused, need_of}
 use Rattle.journal_steps.specs.Journal.CheckTurnRefused.{CheckAborted, CheckFailed}
@@ -113,16 +114,24 @@ module _ {D : Type 0} (state : D → DeviceState) where
   by-lock v running joined =
       by-step v (locked_journal v) (FrontStep Lock) (λ directs. refl) (record { front = record { running = running; joined = joined; after = refl }; engine = refl; disk_is = refl })
 
+  -- where all that the front has become differs from before by what it is told alone
+  told-only : (old made new : Front) → new ≡ made → made ≡ told_as old made → new ≡ told_as old new
+  told-only old made new is only = is ∙ only ∙ ap (told_as old) (sym is)
+
+  -- what is sealed and what runs is as it was
+  pub same-sealed : (old new : JournalValue D) → GoesOn state old new → new.journal.front.sealed ≡ old.journal.front.sealed
+  same-sealed old new on = ap (λ (f : Front). f.sealed) on.front
+
+  pub same-running : (old new : JournalValue D) → GoesOn state old new → new.journal.front.running ≡ old.journal.front.running
+  same-running old new on = ap (λ (f : Front). f.running) on.front
+
   -- one way behind another
   on-on : (a b c : JournalValue D) → GoesOn state a b → GoesOn state b c → GoesOn state a c
   on-on a b c one two =
       let low : a.journal.engine.committed ≤ b.journal.engine.committed = one.committed in
       let high : b.journal.engine.committed ≤ c.journal.engine.committed = two.committed in
       record {
-        sealed = two.sealed ∙ one.sealed;
-        transaction = two.transaction ∙ one.transaction;
-        locked = two.locked ∙ one.locked;
-        open_handles = two.open_handles ∙ one.open_handles;
+        front = two.front ∙ ap (λ (f : Front). told_as f c.journal.front) one.front;
         measures = two.measures ∙ one.measures;
         layout = two.layout ∙ one.layout;
         ring = two.ring ∙ one.ring;
@@ -135,10 +144,7 @@ module _ {D : Type 0} (state : D → DeviceState) where
   pub went-nowhere : (v : JournalValue D) → v.journal.engine.aborted ≡ false → Went state v v
   went-nowhere v running = record {
     on = record {
-      sealed = refl;
-      transaction = refl;
-      locked = refl;
-      open_handles = refl;
+      front = refl;
       measures = refl;
       layout = refl;
       ring = refl;
@@ -175,10 +181,7 @@ module _ {D : Type 0} (state : D → DeviceState) where
   on-log : (old new : JournalValue D) → new.journal.front ≡ old.journal.front → KeepsLog old.journal.engine new.journal.engine →
       (state new.device).shape ≡ (state old.device).shape → ComesBy old new → GoesOn state old new
   on-log old new front log shape path = record {
-    sealed = ap (λ (f : Front). f.sealed) front;
-    transaction = ap (λ (f : Front). f.running) front;
-    locked = ap (λ (f : Front). f.locked) front;
-    open_handles = ap (λ (f : Front). f.open_handles) front;
+    front = told-only old.journal.front old.journal.front new.journal.front front refl;
     measures = log.measures;
     layout = log.layout;
     ring = log.ring;
@@ -202,19 +205,16 @@ module _ {D : Type 0} (state : D → DeviceState) where
       }
   commit-went (Sealed tid) old new running busy did shape faults = absurd (busy did.0.engine.idle)
   commit-went (Committed tid) old new running busy did shape faults =
-      let front = did.commits.front in
-      let made = did.finishes.front in
-      let told = did.raises.front.after in
+      let before = old.journal.front in
+      let told : new.journal.front ≡ raising (finishing before) tid =
+      did.raises.front.after ∙ ap (λ (f : Front). raising f tid) (did.finishes.front ∙ ap finishing did.commits.front) in
       let engine : new.journal.engine ≡ did.mid.engine = did.raises.engine ∙ did.finishes.engine in
       let log : KeepsLog old.journal.engine new.journal.engine =
       subst (KeepsLog old.journal.engine) (sym engine)
       (commit-log old.journal.engine did.mid.engine (state old.device).disk (state new.device).disk did.commits.engine) in
       record {
         on = record {
-          sealed = ap (λ (f : Front). f.sealed) told ∙ ap (λ (f : Front). f.sealed) made ∙ ap (λ (f : Front). f.sealed) front;
-          transaction = ap (λ (f : Front). f.running) told ∙ ap (λ (f : Front). f.running) made ∙ ap (λ (f : Front). f.running) front;
-          locked = ap (λ (f : Front). f.locked) told ∙ ap (λ (f : Front). f.locked) made ∙ ap (λ (f : Front). f.locked) front;
-          open_handles = ap (λ (f : Front). f.open_handles) told ∙ ap (λ (f : Front). f.open_handles) made ∙ ap (λ (f : Front). f.open_handles) front;
+          front = told-only before (raising (finishing before) tid) new.journal.front told refl;
           measures = log.measures;
           layout = log.layout;
           ring = log.ring;
@@ -251,10 +251,7 @@ module _ {D : Type 0} (state : D → DeviceState) where
         refl,
         record {
           on = record {
-            sealed = ap (λ (f : Front). f.sealed) told;
-            transaction = ap (λ (f : Front). f.running) told;
-            locked = ap (λ (f : Front). f.locked) told;
-            open_handles = ap (λ (f : Front). f.open_handles) told;
+            front = told-only old.journal.front (aborting old.journal.front) new.journal.front told refl;
             measures = ap (λ (x : Engine). x.shape) engine;
             layout = ap (λ (x : Engine). x.layout) engine;
             ring = ap (λ (x : Engine). x.ring) engine;
@@ -273,10 +270,7 @@ module _ {D : Type 0} (state : D → DeviceState) where
   check-went IdleCheck old new running did shape faults = (
     record {
       on = record {
-        sealed = ap (λ (j : Journal). j.front.sealed) did.1;
-        transaction = ap (λ (j : Journal). j.front.running) did.1;
-        locked = ap (λ (j : Journal). j.front.locked) did.1;
-        open_handles = ap (λ (j : Journal). j.front.open_handles) did.1;
+        front = told-only old.journal.front old.journal.front new.journal.front (ap (λ (j : Journal). j.front) did.1) refl;
         measures = ap (λ (j : Journal). j.engine.shape) did.1;
         layout = ap (λ (j : Journal). j.engine.layout) did.1;
         ring = ap (λ (j : Journal). j.engine.ring) did.1;
@@ -320,10 +314,7 @@ module _ {D : Type 0} (state : D → DeviceState) where
         refl,
         record {
           on = record {
-            sealed = ap (λ (f : Front). f.sealed) told;
-            transaction = ap (λ (f : Front). f.running) told;
-            locked = ap (λ (f : Front). f.locked) told;
-            open_handles = ap (λ (f : Front). f.open_handles) told;
+            front = told-only old.journal.front (aborting old.journal.front) new.journal.front told refl;
             measures = ap (λ (x : Engine). x.shape) engine ∙ begins.log.measures;
             layout = ap (λ (x : Engine). x.layout) engine ∙ begins.log.layout;
             ring = ap (λ (x : Engine). x.ring) engine ∙ begins.log.ring;
@@ -354,7 +345,7 @@ module _ {D : Type 0} (state : D → DeviceState) where
       subst (λ (r : Ring). need_of mid.journal.engine.layout mid.journal.front.running ≤ r.blocks) (sym on.ring)
       (subst (λ (l : Layout). need_of l mid.journal.front.running ≤ old.journal.engine.ring.blocks) (sym on.layout)
       (subst (λ (t : Transaction). need_of old.journal.engine.layout t ≤ old.journal.engine.ring.blocks)
-      (sym on.transaction) fits))
+      (sym (same-running old mid on)) fits))
 
   -- then it has room for the running transaction, which needs a quarter at most
   pub free-room : (old new : JournalValue D) → Went state old new → new.journal.engine.start ≡ new.journal.engine.tail →
@@ -384,19 +375,24 @@ module _ {D : Type 0} (state : D → DeviceState) where
       absurd (none-some fault.call
       (sym (ap (call_in mid.journal.engine) (ap (λ (v : JournalValue D). v.journal.engine.stage) is ∙ idle)) ∙ fault.due))
 
-  -- the running transaction is among those that a close seals, where a handle has joined it
-  with-joined : (sealed : History) (running : Transaction) (handles : List ℕ) → 0 < length handles → with_running sealed running handles ≡ sealed ++ running ∷ []
-  with-joined sealed running [] some = absurd (omega arith)
-  with-joined sealed running (h ∷ handles) some = refl
+  -- a front with its running transaction sealed, where a handle has joined it
+  with-seal : (f : Front) (handles : List ℕ) → 0 < length handles → sealed_with f handles ≡ sealing f
+  with-seal f [] some = absurd (omega arith)
+  with-seal f (h ∷ handles) some = refl
 
-  -- and is not, where none has
-  pub with-none : (sealed : History) (running : Transaction) (handles : List ℕ) → (0 < length handles → ⊥) → with_running sealed running handles ≡ sealed
-  with-none sealed running [] none = refl
-  with-none sealed running (h ∷ handles) none = absurd (none (omega arith))
+  -- and one of which nothing is sealed, where none has
+  without-seal : (f : Front) (handles : List ℕ) → (0 < length handles → ⊥) → sealed_with f handles ≡ f
+  without-seal f [] none = refl
+  without-seal f (h ∷ handles) none = absurd (none (omega arith))
 
-  -- a close seals the same behind steps of commits and of rounds
-  same-closing : (old new : JournalValue D) → GoesOn state old new → closing new.journal.front ≡ closing old.journal.front
-  same-closing old new on = ap₂ (λ (sealed : History) (running : Transaction). with_running sealed running running.handles) on.sealed on.transaction
+  -- such a front has sealed what a close seals
+  sealed-closing : (f : Front) (handles : List ℕ) → (sealed_with f handles).sealed ≡ with_running f.sealed f.running handles
+  sealed-closing f [] = refl
+  sealed-closing f (h ∷ handles) = refl
+
+  -- all that a close seals is sealed
+  pub all-closing : (old new : JournalValue D) → HasSealed state old new → new.journal.front.sealed ≡ closing old.journal.front
+  all-closing old new has = ap (λ (f : Front). f.sealed) has.front ∙ sealed-closing old.journal.front old.journal.front.running.handles
 
   -- behind the seal all is sealed
   pub seal-done : (old mid new : JournalValue D) → Went state old mid → mid.journal.front.aborted ≡ false → 0 < length mid.journal.front.running.handles →
@@ -406,10 +402,13 @@ module _ {D : Type 0} (state : D → DeviceState) where
       let after = did.engine.after in
       let low : old.journal.engine.committed ≤ mid.journal.engine.committed = on.committed in
       let same : new.journal.engine.committed ≡ mid.journal.engine.committed = ap (λ (e : Engine). e.committed) after in
+      let before = old.journal.front in
+      let made = sealing mid.journal.front in
+      let first : 0 < length before.running.handles = subst (λ (t : Transaction). 0 < length t.handles) (same-running old mid on) joined in
       record {
-        sealed =
-            ap (λ (f : Front). f.sealed) did.front
-            ∙ sym (with-joined mid.journal.front.sealed mid.journal.front.running mid.journal.front.running.handles joined) ∙ same-closing old mid on;
+        front =
+            told-only (closing_front before) made new.journal.front did.front
+            (ap sealing on.front ∙ ap (λ (f : Front). told_as f made) (sym (with-seal before before.running.handles first)));
         measures = ap (λ (e : Engine). e.shape) after ∙ on.measures;
         committed = omega arith;
         shape = ap (λ (d : D). (state d).shape) device ∙ on.shape;
@@ -424,7 +423,7 @@ module _ {D : Type 0} (state : D → DeviceState) where
       let low : old.journal.engine.committed ≤ mid.journal.engine.committed = has.committed in
       let high : mid.journal.engine.committed ≤ new.journal.engine.committed = went.on.committed in
       record {
-        sealed = went.on.sealed ∙ has.sealed;
+        front = went.on.front ∙ ap (λ (f : Front). told_as f new.journal.front) has.front;
         measures = went.on.measures ∙ has.measures;
         committed = omega arith;
         shape = went.on.shape ∙ has.shape;
@@ -441,7 +440,9 @@ module _ {D : Type 0} (state : D → DeviceState) where
   -- where no handle has joined the running transaction, all is sealed without a seal
   pub none-sealed : (old new : JournalValue D) → Went state old new → (0 < length old.journal.front.running.handles → ⊥) → HasSealed state old new
   none-sealed old new went none = record {
-    sealed = went.on.sealed ∙ sym (with-none old.journal.front.sealed old.journal.front.running old.journal.front.running.handles none);
+    front =
+        went.on.front
+        ∙ ap (λ (f : Front). told_as f new.journal.front) (sym (without-seal old.journal.front old.journal.front.running.handles none));
     measures = went.on.measures;
     committed = went.on.committed;
     shape = went.on.shape;
@@ -455,7 +456,7 @@ module _ {D : Type 0} (state : D → DeviceState) where
       NothingToRelease new.journal.engine → IsFinished state old new
   finished old new running has idle nothing = record {
     was_running = running;
-    sealed = has.sealed;
+    sealed = all-closing old new has;
     all = record { idle = idle; released = nothing.released };
     running = has.running;
     committed = has.committed;
@@ -475,14 +476,7 @@ module _ {D : Type 0} (state : D → DeviceState) where
       CloseRefused state old new.device new.journal.front.sealed new.journal.engine.committed e
   wrong-refused old new e running wrong =
       subst (CloseRefused state old new.device new.journal.front.sealed new.journal.engine.committed) (sym wrong.0)
-      (CloseFailed running (inl wrong.1.on.sealed) wrong.1.on.committed wrong.1.faults)
-
-  -- whatever the answer is
-  pub any-refused : {T : Type 0} (r : Result T JournalError) (old new : JournalValue D) → old.journal.engine.aborted ≡ false →
-      IfErr r (λ e. (e ≡ Device) × WentWrong state old new) →
-      IfErr r (λ e. CloseRefused state old new.device new.journal.front.sealed new.journal.engine.committed e)
-  any-refused (Ok x) old new running wrong = tt
-  any-refused (Err e) old new running wrong = wrong-refused old new e running wrong
+      (CloseFailed running (inl (same-sealed old new wrong.1.on)) wrong.1.on.committed wrong.1.faults)
 
   -- so does one behind it
   sealed-wrong : (old mid new : JournalValue D) (e : JournalError) → old.journal.engine.aborted ≡ false → HasSealed state old mid →
@@ -491,7 +485,7 @@ module _ {D : Type 0} (state : D → DeviceState) where
       let low : old.journal.engine.committed ≤ mid.journal.engine.committed = has.committed in
       let high : mid.journal.engine.committed ≤ new.journal.engine.committed = wrong.1.on.committed in
       subst (CloseRefused state old new.device new.journal.front.sealed new.journal.engine.committed) (sym wrong.0)
-      (CloseFailed running (inr (wrong.1.on.sealed ∙ has.sealed)) (omega arith) (wrong.1.faults ∙ ap one_more_fault has.faults))
+      (CloseFailed running (inr (same-sealed mid new wrong.1.on ∙ all-closing old mid has)) (omega arith) (wrong.1.faults ∙ ap one_more_fault has.faults))
 
   -- whatever the answer is
   pub sealed-refused : {T : Type 0} (r : Result T JournalError) (old mid new : JournalValue D) → old.journal.engine.aborted ≡ false →
@@ -501,31 +495,45 @@ module _ {D : Type 0} (state : D → DeviceState) where
   sealed-refused (Err e) old mid new running has wrong = sealed-wrong old mid new e running has wrong
 
   -- what was sealed and committed before stays so
-  unsealed : (old mid new : JournalValue D) → Went state old mid → 0 < length mid.journal.front.running.handles →
+  unsealed : (old mid new : JournalValue D) → Went state old mid → 0 < length old.journal.front.running.handles →
       mid.journal.engine.committed ≡ length mid.journal.front.sealed → new ≡ locked_journal mid →
       StaysUnsealed old.journal new.journal.front.sealed new.journal.engine.committed
   unsealed old mid new went joined all is = record {
-    joined = subst (λ (t : Transaction). 0 < length t.handles) went.on.transaction joined;
-    same = ap (λ (v : JournalValue D). v.journal.front.sealed) is ∙ went.on.sealed;
+    joined = joined;
+    same = ap (λ (v : JournalValue D). v.journal.front.sealed) is ∙ same-sealed old mid went.on;
     all =
         ap (λ (v : JournalValue D). v.journal.engine.committed) is ∙ all
         ∙ sym (ap (λ (v : JournalValue D). length v.journal.front.sealed) is);
   }
 
-  -- and so does a seal that is refused
-  pub seal-refused : (old mid new : JournalValue D) (e : JournalError) → old.journal.engine.aborted ≡ false → Went state old mid →
-      0 < length mid.journal.front.running.handles → HasRoomFor mid.journal →
-      mid.journal.engine.committed ≡ length mid.journal.front.sealed → SealRefused mid.journal e → new ≡ locked_journal mid →
-      CloseRefused state old new.device new.journal.front.sealed new.journal.engine.committed e
-  seal-refused old mid new e running went joined room all (NoRoomForIt none) is = absurd (none room)
-  seal-refused old mid new e running went joined room all (NoMemoryForIt has) is =
-      NoMemory running (unsealed old mid new went joined all is) (ap (λ (v : JournalValue D). (state v.device).faults) is ∙ went.faults)
+  -- a failure before the seal leaves the running transaction unsealed
+  pub last-failed : (old new : JournalValue D) (e : JournalError) → (e ≡ Device) × WentWrong state old new → LastRefused state old new e
+  last-failed old new e wrong = subst (LastRefused state old new) (sym wrong.0) (FailedBefore wrong.1)
 
-  -- nor is anything done where memory runs out before the first step
-  pub not-ready : (old new : JournalValue D) → old.journal.engine.aborted ≡ false → 0 < length old.journal.front.running.handles → new ≡ old →
-      CloseRefused state old new.device new.journal.front.sealed new.journal.engine.committed Memory
-  not-ready old new running joined same = NotReady running joined (ap (λ (v : JournalValue D). v.device) same)
-      (ap (λ (v : JournalValue D). v.journal.front.sealed) same) (ap (λ (v : JournalValue D). v.journal.engine.committed) same)
+  -- one behind it comes where it is sealed, whatever the answer is
+  pub last-uncommitted : {T : Type 0} (r : Result T JournalError) (old mid new : JournalValue D) → HasSealed state old mid →
+      IfErr r (λ e. (e ≡ Device) × WentWrong state mid new) → IfErr r (LastRefused state old new)
+  last-uncommitted (Ok x) old mid new has wrong = tt
+  last-uncommitted (Err e) old mid new has wrong = subst (LastRefused state old new) (sym wrong.0) (FailedBehind mid has wrong.1)
+
+  -- a seal that is refused where there is room for it is so for want of memory
+  pub seal-refused : (old mid new : JournalValue D) (e : JournalError) → Went state old mid → HasRoomFor mid.journal →
+      mid.journal.engine.committed ≡ length mid.journal.front.sealed → SealRefused mid.journal e → new ≡ locked_journal mid →
+      LastRefused state old new e
+  seal-refused old mid new e went room all (NoRoomForIt none) is = absurd (none room)
+  seal-refused old mid new e went room all (NoMemoryForIt has) is = LeftUnsealed mid went all is
+
+  -- where the running transaction is not sealed and committed, the close is refused
+  pub last-refused : (old new : JournalValue D) (e : JournalError) → old.journal.engine.aborted ≡ false →
+      0 < length old.journal.front.running.handles → LastRefused state old new e →
+      CloseRefused state old new.device new.journal.front.sealed new.journal.engine.committed e
+  last-refused old new e running joined (FailedBefore wrong) = wrong-refused old new e running (refl, wrong)
+  last-refused old new e running joined (FailedBehind mid has wrong) = sealed-wrong old mid new e running has (refl, wrong)
+  last-refused old new e running joined (NotMadeReady same) =
+      NotReady running joined (ap (λ (v : JournalValue D). v.device) same) (ap (λ (v : JournalValue D). v.journal.front.sealed) same)
+      (ap (λ (v : JournalValue D). v.journal.engine.committed) same)
+  last-refused old new e running joined (LeftUnsealed mid went all is) =
+      NoMemory running (unsealed old mid new went joined all is) (ap (λ (v : JournalValue D). (state v.device).faults) is ∙ went.faults)
 
   -- a way that goes on by steps of a commit or of rounds, whether or not one of them has failed
   pub way-on : {T : Type 0} (r : Result T JournalError) (old mid new : JournalValue D) → ComesBy old mid →

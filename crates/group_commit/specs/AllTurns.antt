@@ -1,12 +1,12 @@
 -- What comes of a call that takes turns until none is left, and why it is refused.
-use Rattle.std.specs.Prelude.{◌≡◌, ℕ, ◌<◌, true, false, []}
+use Rattle.std.specs.Prelude.{◌≡◌, ℕ, ◌<◌, true, false, [], length}
 use Rattle.journal_model.specs.declared.refusal.JournalError.{JournalError}
-use Rattle.journal_model.specs.declared.refusal.JournalError.TheVariants.{Aborted, Device, NotRunning}
+use Rattle.journal_model.specs.declared.refusal.JournalError.TheVariants.{Aborted, Device, Memory, NotRunning}
 use Rattle.block_device.specs.State.{DeviceState}
 use Rattle.journal_world.specs.Front.{Front}
 use Rattle.journal_steps.specs.Journal.{Requests}
 use Rattle.journal_steps.specs.Values.{JournalValue}
-use Rattle.group_commit.specs.Close.{CloseRefused, HasSealed, Went, WentWrong}
+use Rattle.group_commit.specs.Close.{HasSealed, Went, WentWrong}
 
 -- why rounds do not come to their end: the device failed before, and nothing was done; or it failed in one of them
 pub data ReleaseRefused {D : Type 0} (state : D → DeviceState) (old new : JournalValue D) : JournalError → Type 0 where
@@ -22,11 +22,29 @@ pub data CommitsAll {D : Type 0} (state : D → DeviceState) (old new : JournalV
   WithRunning : IsReadyToSeal old.journal.front → HasSealed state old new → CommitsAll state old new
   WithoutRunning : (IsReadyToSeal old.journal.front → ⊥) → Went state old new → CommitsAll state old new
 
--- why a transaction is not committed behind a request: it could not be asked for; turns were refused behind the request, for the
--- causes of a close; or all turns were taken, and it is not ready for its seal
+-- Why not all that can be committed is: the device failed before, and nothing was done; it failed in a step, of which none was a
+-- seal; the running transaction was ready, and it failed in a step behind the seal; or memory ran out for the seal. Then nothing
+-- was done, or steps of commits and of rounds alone, with all that was sealed committed: the running transaction is as it was. (The
+-- code makes all room for the seal first, so that the last does not come.)
+pub data AllTurnsRefused {D : Type 0} (state : D → DeviceState) (old new : JournalValue D) : JournalError → Type 0 where
+  TurnsAborted : old.journal.engine.aborted ≡ true → new ≡ old → AllTurnsRefused state old new Aborted
+  FailedUnsealed : old.journal.engine.aborted ≡ false → WentWrong state old new → AllTurnsRefused state old new Device
+  FailedSealed : old.journal.engine.aborted ≡ false → IsReadyToSeal old.journal.front → (mid : JournalValue D) → HasSealed state old mid → WentWrong state mid new →
+      AllTurnsRefused state old new Device
+  SealUnready : old.journal.engine.aborted ≡ false → IsReadyToSeal old.journal.front → 0 < length old.journal.front.running.handles → new ≡ old →
+      AllTurnsRefused state old new Memory
+  StaysReady : old.journal.engine.aborted ≡ false → IsReadyToSeal old.journal.front → 0 < length old.journal.front.running.handles → Went state old new →
+      new.journal.engine.committed ≡ length new.journal.front.sealed → AllTurnsRefused state old new Memory
+
+-- a request of the transaction, and behind it all that can be committed: nothing else is done
+pub record CommitsThrough {D : Type 0} (state : D → DeviceState) (tid : ℕ) (old new : JournalValue D) : Type 0 where
+  pub asked : JournalValue D
+  pub requests : Requests state tid old asked
+  pub commits : CommitsAll state asked new
+
+-- why a transaction is not committed behind a request: it could not be asked for; turns were refused behind the request; or all turns
+-- were taken, and it is not ready for its seal
 pub data CommitRefused {D : Type 0} (state : D → DeviceState) (tid : ℕ) (old new : JournalValue D) (e : JournalError) : Type 0 where
   Unasked : e ≡ Aborted → old.journal.front.aborted ≡ true → new ≡ old → CommitRefused state tid old new e
-  Unfinished : (asked : JournalValue D) → Requests state tid old asked →
-      CloseRefused state asked new.device new.journal.front.sealed new.journal.engine.committed e → CommitRefused state tid old new e
-  StillOpen : (asked : JournalValue D) → Requests state tid old asked → CommitsAll state asked new → new.journal.front.mark < tid → e ≡ NotRunning →
-      CommitRefused state tid old new e
+  Unfinished : (asked : JournalValue D) → Requests state tid old asked → AllTurnsRefused state asked new e → CommitRefused state tid old new e
+  StillOpen : CommitsThrough state tid old new → new.journal.front.mark < tid → e ≡ NotRunning → CommitRefused state tid old new e

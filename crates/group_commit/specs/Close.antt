@@ -5,7 +5,7 @@ use Rattle.journal_model.specs.declared.refusal.JournalError.TheVariants.{Aborte
 use Rattle.journal_model.specs.Disk.{Disk}
 use Rattle.journal_model.specs.Transaction.{History, Transaction}
 use Rattle.block_device.specs.State.{DeviceState, one_more_fault}
-use Rattle.journal_world.specs.Front.{Front, locking}
+use Rattle.journal_world.specs.Front.{Front, locking, sealing}
 use Rattle.journal_world.specs.Journal.{Journal}
 use Rattle.log_epochs.specs.EngineWorld.{Phase}
 use Rattle.log_epochs.specs.EngineWorld.Phase.{Closed, Running, Shut}
@@ -23,6 +23,19 @@ with_running sealed running (handle ∷ handles) = sealed ++ running ∷ []
 -- those that are sealed once a journal is closed
 abbrev pub closing : Front → History
 closing f = with_running f.sealed f.running f.running.handles
+
+-- the front with its running transaction sealed, where these handles have joined it
+abbrev pub sealed_with : Front → List ℕ → Front
+sealed_with f [] = f
+sealed_with f (handle ∷ handles) = sealing f
+
+-- the front of which all is sealed that a close seals
+abbrev pub closing_front : Front → Front
+closing_front f = sealed_with f f.running.handles
+
+-- the front, but for how far it is finished, the mark, and whether it knows of a failure: these are the other one's
+abbrev pub told_as : Front → Front → Front
+told_as f other = record f { finished = other.finished; mark = other.mark; aborted = other.aborted }
 
 -- those that are sealed while it is closed: first those of before, then all that it seals
 abbrev pub IsSealedInClose : Front → History → Type 0
@@ -56,10 +69,7 @@ pub data CloseDid (old : Journal) (disk : Disk) (sealed : History) (committed : 
 -- steps of commits and of rounds alone were made: of the front nothing has changed but how far it is finished, the mark, and
 -- whether it knows of a failure, and no fewer are committed
 pub record GoesOn {D : Type 0} (state : D → DeviceState) (old new : JournalValue D) : Type 0 where
-  pub sealed : new.journal.front.sealed ≡ old.journal.front.sealed
-  pub transaction : new.journal.front.running ≡ old.journal.front.running
-  pub locked : new.journal.front.locked ≡ old.journal.front.locked
-  pub open_handles : new.journal.front.open_handles ≡ old.journal.front.open_handles
+  pub front : new.journal.front ≡ told_as old.journal.front new.journal.front
   pub measures : new.journal.engine.shape ≡ old.journal.engine.shape
   pub layout : new.journal.engine.layout ≡ old.journal.engine.layout
   pub ring : new.journal.engine.ring ≡ old.journal.engine.ring
@@ -78,9 +88,10 @@ pub record WentWrong {D : Type 0} (state : D → DeviceState) (old new : Journal
   pub on : GoesOn state old new
   pub faults : (state new.device).faults ≡ one_more_fault (state old.device).faults
 
--- all is sealed that a close seals, and the device has not failed
+-- all is sealed that a close seals, steps of commits and of rounds came before and behind that seal, and the device has not failed:
+-- behind a seal the next transaction runs, which no handle has joined
 pub record HasSealed {D : Type 0} (state : D → DeviceState) (old new : JournalValue D) : Type 0 where
-  pub sealed : new.journal.front.sealed ≡ closing old.journal.front
+  pub front : new.journal.front ≡ told_as (closing_front old.journal.front) new.journal.front
   pub measures : new.journal.engine.shape ≡ old.journal.engine.shape
   pub committed : old.journal.engine.committed ≤ new.journal.engine.committed
   pub shape : (state new.device).shape ≡ (state old.device).shape
@@ -120,6 +131,16 @@ pub data CloseRefused {D : Type 0} (state : D → DeviceState) (old : JournalVal
 -- the journal whose running transaction takes no further handles
 abbrev pub locked_journal : {D : Type 0} → JournalValue D → JournalValue D
 locked_journal old = record old { journal = record old.journal { front = locking old.journal.front } }
+
+-- Why the running transaction, which a handle has joined, is not sealed and committed, and what that leaves of the journal: the device
+-- failed in a step before the seal, or behind it; or memory ran out for the seal, before anything was done, or behind steps of
+-- commits and of rounds. The code makes all room for the seal first, so that the last does not come.
+pub data LastRefused {D : Type 0} (state : D → DeviceState) (old new : JournalValue D) : JournalError → Type 0 where
+  FailedBefore : WentWrong state old new → LastRefused state old new Device
+  FailedBehind : (mid : JournalValue D) → HasSealed state old mid → WentWrong state mid new → LastRefused state old new Device
+  NotMadeReady : new ≡ old → LastRefused state old new Memory
+  LeftUnsealed : (mid : JournalValue D) → Went state old mid → mid.journal.engine.committed ≡ length mid.journal.front.sealed → new ≡ locked_journal mid →
+      LastRefused state old new Memory
 
 -- why the running transaction is not sealed: the ring has too few free blocks for it, or memory ran out
 pub data SealRefused (j : Journal) : JournalError → Type 0 where

@@ -2,8 +2,8 @@
 ghost use Rattle.std.specs.Prelude.{◌≡◌, ◌≤◌, false, IfErr, IfOk, OnOk};
 ghost use Rattle.journal_world.specs.declared.stage.Stage.TheVariants.{Idle};
 ghost use Rattle.log_epochs.specs.EngineWorld.Phase.{Running};
-ghost use Rattle.group_commit.specs.AllTurns.{CommitRefused, CommitsAll, ReleaseRefused};
-ghost use Rattle.group_commit.specs.Close.{CloseRefused, ComesTo, Went};
+ghost use Rattle.group_commit.specs.AllTurns.{AllTurnsRefused, CommitRefused, CommitsAll, CommitsThrough, ReleaseRefused};
+ghost use Rattle.group_commit.specs.Close.{ComesTo, Went};
 ghost use Rattle.journal_steps.specs.Journal.{NothingToRelease};
 
 use crate::close::{finish_commit, release_all, seal_last};
@@ -14,8 +14,8 @@ use journal_front::Record;
 use journal_model::{JournalError, Tid};
 
 impl<D: Device, R: Record> Journal<D, R> {
-    /// Commits the transaction of a ticket: asks for that, and takes all turns that there are, as `commit_all`. The ticket becomes its
-    /// receipt.
+    /// Commits the transaction of a ticket: asks for that, and takes all turns that there are, as `commit_all`; nothing else changes. The
+    /// ticket becomes its receipt.
     ///
     /// # Errors
     ///
@@ -25,6 +25,7 @@ impl<D: Device, R: Record> Journal<D, R> {
     /// Source: fs/jbd2/journal.c by behaviour (`jbd2_complete_transaction`).
     pub fn commit(&mut self, ticket: Ticket) -> Result<Receipt, (Ticket, JournalError)>
         ensures ok { IfOk result (λ receipt. (receipt ≡ ticket) × (ticket.tid ≤ self.new.journal.front.mark)) }
+        ensures turns { OnOk result (CommitsThrough D.state ticket.tid self.old self.new) }
         ensures err { IfErr result (λ e. (e.0 ≡ ticket) × CommitRefused D.state ticket.tid self.old self.new e.1) }
         ensures path { ComesTo self.old.journal (D.state self.old.device).disk self.new.journal (D.state self.new.device).disk Running }
         ensures shape { (D.state self.new.device).shape ≡ (D.state self.old.device).shape }
@@ -39,6 +40,7 @@ impl<D: Device, R: Record> Journal<D, R> {
     /// Asks for the commit of the transaction with this number, and takes all turns that there are.
     fn commit_through(&mut self, tid: Tid) -> Result<(), JournalError>
         ensures ok { OnOk result (tid ≤ self.new.journal.front.mark) }
+        ensures turns { OnOk result (CommitsThrough D.state tid self.old self.new) }
         ensures err { IfErr result (CommitRefused D.state tid self.old self.new) }
         ensures path { ComesTo self.old.journal (D.state self.old.device).disk self.new.journal (D.state self.new.device).disk Running }
         ensures shape { (D.state self.new.device).shape ≡ (D.state self.old.device).shape }
@@ -60,14 +62,15 @@ impl<D: Device, R: Record> Journal<D, R> {
     ///
     /// What was sealed and committed by then stays so. `Aborted` after a device failure: nothing was done. `Device` where the device
     /// failed: the journal is aborted, until the device is opened again. `Memory` where it ran out for the seal: the transaction stays
-    /// as it is. All memory that the call takes it asks for before its first call of the device, so that nothing was done. (The contract
-    /// leaves room for a refusal behind the commit that was under way, where all before the transaction are committed.)
+    /// as it is, with its handles and steps, and none begins. All memory that the call takes it asks for before its first call of the
+    /// device, so that nothing was done. (The contract leaves room for a refusal behind the commit that was under way, where all before
+    /// the transaction are committed.)
     /// Source: fs/jbd2/journal.c by behaviour (`jbd2_journal_flush` up to its checkpoint).
     pub fn commit_all(&mut self) -> Result<Tid, JournalError>
         ensures mark { IfOk result (λ tid. tid ≡ self.new.journal.front.mark) }
         ensures ok { OnOk result (CommitsAll D.state self.old self.new) }
         ensures idle { OnOk result (self.new.journal.engine.stage ≡ Idle) }
-        ensures err { IfErr result (λ e. CloseRefused D.state self.old self.new.device self.new.journal.front.sealed self.new.journal.engine.committed e) }
+        ensures err { IfErr result (AllTurnsRefused D.state self.old self.new) }
         ensures path { ComesTo self.old.journal (D.state self.old.device).disk self.new.journal (D.state self.new.device).disk Running }
         ensures shape { (D.state self.new.device).shape ≡ (D.state self.old.device).shape }
         ensures honest { D.honest self.new.device → D.honest self.old.device }
@@ -106,7 +109,7 @@ fn commit_ready<D: Device, R: Record>(journal: &mut Journal<D, R>) -> Result<(),
     requires { journal.old.journal.engine.aborted ≡ false }
     ensures ok { OnOk result (CommitsAll D.state journal.old journal.new) }
     ensures idle { OnOk result (journal.new.journal.engine.stage ≡ Idle) }
-    ensures err { IfErr result (λ e. CloseRefused D.state journal.old journal.new.device journal.new.journal.front.sealed journal.new.journal.engine.committed e) }
+    ensures err { IfErr result (AllTurnsRefused D.state journal.old journal.new) }
     ensures path { ComesTo journal.old.journal (D.state journal.old.device).disk journal.new.journal (D.state journal.new.device).disk Running }
     ensures shape { (D.state journal.new.device).shape ≡ (D.state journal.old.device).shape }
     ensures honest { D.honest journal.new.device → D.honest journal.old.device }

@@ -4,7 +4,7 @@ ghost use Rattle.std.specs.Prelude.{◌≡◌, ◌<◌, ◌≤◌, false, length
 ghost use Rattle.journal_model.specs.declared.refusal.JournalError.TheVariants.{Device as DeviceFailed};
 ghost use Rattle.journal_world.specs.declared.stage.Stage.TheVariants.{Idle};
 ghost use Rattle.log_epochs.specs.EngineWorld.Phase.{Running};
-ghost use Rattle.group_commit.specs.Close.{CloseRefused, ComesTo, HasSealed, IsFinished, Went, WentWrong};
+ghost use Rattle.group_commit.specs.Close.{CloseRefused, ComesTo, HasSealed, IsFinished, LastRefused, Went, WentWrong};
 ghost use Rattle.journal_steps.specs.Journal.{HasRoomFor, NothingToRelease};
 
 use crate::journal::Journal;
@@ -45,7 +45,7 @@ pub(crate) fn seal_last<D: Device, R: Record>(
     requires stopped { journal.old.journal.front.open_handles ≡ [] }
     ensures ok { OnOk result (HasSealed D.state journal.old journal.new) }
     ensures idle { OnOk result (journal.new.journal.engine.stage ≡ Idle) }
-    ensures err { IfErr result (λ e. CloseRefused D.state journal.old journal.new.device journal.new.journal.front.sealed journal.new.journal.engine.committed e) }
+    ensures err { IfErr result (LastRefused D.state journal.old journal.new) }
     ensures path { ComesTo journal.old.journal (D.state journal.old.device).disk journal.new.journal (D.state journal.new.device).disk Running }
     ensures measures { journal.new.journal.engine.shape ≡ journal.old.journal.engine.shape }
     ensures shape { (D.state journal.new.device).shape ≡ (D.state journal.old.device).shape }

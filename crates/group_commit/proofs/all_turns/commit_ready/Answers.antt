@@ -1,7 +1,7 @@
 use Rattle.std.proofs.Common.{sym, ◌∙◌}
 use Rattle.std.proofs.lemmas.Bool.{true≢false}
-use Rattle.group_commit.proofs.Committing.{none-ready, ready-sealed}
-use Rattle.group_commit.proofs.Finishing.{any-refused, way-on}
+use Rattle.group_commit.proofs.Committing.{last-turns, none-ready, ready-sealed, turns-failed}
+use Rattle.group_commit.proofs.Finishing.{way-on}
 use Rattle.group_commit.proofs.Leading.{comes-nowhere}
 use Rattle.group_commit.proofs.all_turns.commit_ready.Goals as goal
 
@@ -10,6 +10,12 @@ pub returns-then-is_ready-clause-ok : goal.returns-then-is_ready-clause-ok
 returns-then-is_ready-clause-ok g c =
     ready-sealed g.D.Device.state c.seal_last.result _ _ (c.is_ready.ensures.0 c.if-is_ready.true) c.seal_last.ensures.ok
 
+-- or it is not
+pub returns-then-is_ready-clause-err : goal.returns-then-is_ready-clause-err
+returns-then-is_ready-clause-err g c =
+    let ready = c.is_ready.ensures.0 c.if-is_ready.true in
+    last-turns g.D.Device.state c.seal_last.result _ _ c.requires ready (c.recall_invariant.ensures.agrees.locked ready.0) c.seal_last.ensures.err
+
 -- else what was sealed before is committed
 pub returns-clause-ok : goal.returns-clause-ok
 returns-clause-ok g c =
@@ -17,7 +23,7 @@ returns-clause-ok g c =
 
 -- or the device failed in its commit
 pub returns-clause-err : goal.returns-clause-err
-returns-clause-err g c = any-refused g.D.Device.state c.finish_commit.result _ _ c.requires c.finish_commit.ensures.err
+returns-clause-err g c = turns-failed g.D.Device.state c.finish_commit.result _ _ c.requires c.finish_commit.ensures.err
 
 -- the moves are those of its steps
 pub returns-clause-path : goal.returns-clause-path

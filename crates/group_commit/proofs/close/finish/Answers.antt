@@ -2,7 +2,7 @@ use Rattle.std.proofs.Common.{refl, sym, subst, ◌∙◌}
 use Rattle.std.proofs.lemmas.Bool.{true≢false}
 use Rattle.std.proofs.lemmas.Result.{err_from_is_err_and}
 use Rattle.group_commit.specs.Close.{CloseRefused, HasSealed}
-use Rattle.group_commit.proofs.Finishing.{none-sealed, sealed-refused, way-on, wrong-refused}
+use Rattle.group_commit.proofs.Finishing.{last-refused, none-sealed, sealed-refused, way-on, wrong-refused}
 use Rattle.group_commit.proofs.Leading.{comes-nowhere}
 use Rattle.group_commit.proofs.close.finish.Goals as goal
 use Rattle.group_commit.proofs.close.finish.Goals.{then-has_joined+in_ok-seal_last, else-has_joined+in_ok-finish_commit}
@@ -21,8 +21,9 @@ returns-in_err-finish_commit-clause-err g c =
 -- the last transaction is not sealed and committed
 pub returns-in_err-seal_last-clause-err : goal.returns-in_err-seal_last-clause-err
 returns-in_err-seal_last-clause-err g c =
+    let running = sym c.is_aborted.ensures ∙ c.if-is_aborted.false in
     let p = err_from_is_err_and c.from_residual.result c.from_residual.ensures.1 in
-    rw (p.1, p.2) c.in_err-seal_last.ensures.err
+    rw (p.1, p.2) (last-refused g.D.Device.state _ _ _ running (c.has_joined.ensures.0 c.if-has_joined.true) c.in_err-seal_last.ensures.err)
 
 -- the device failed in the last round
 pub returns-clause-err : goal.returns-clause-err

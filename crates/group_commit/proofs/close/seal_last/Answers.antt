@@ -1,10 +1,10 @@
-use Rattle.std.proofs.Common.{sym, ap, subst, ◌<◌, ◌≡◌, ◌∙◌, length}
+use Rattle.std.proofs.Common.{sym, ap, subst, ◌<◌, ◌∙◌, length}
 use Rattle.std.proofs.lemmas.Result.{err_from_is_err_and}
 use Rattle.journal_model.specs.Transaction.{Transaction}
 use Rattle.journal_world.specs.Journal.{batch_of}
 use Rattle.journal_steps.specs.Values.{JournalValue}
-use Rattle.group_commit.specs.Close.{GoesOn, WentWrong}
-use Rattle.group_commit.proofs.Finishing.{not-ready, seal-done, seal-refused, sealed-on, sealed-refused, way-locked, way-on, went-from, wrong-refused}
+use Rattle.group_commit.specs.Close.{GoesOn, LastRefused, WentWrong}
+use Rattle.group_commit.proofs.Finishing.{last-failed, last-uncommitted, same-running, seal-done, seal-refused, sealed-on, way-locked, way-on, went-from}
 use Rattle.group_commit.proofs.Leading.{comes-same}
 use Rattle.group_commit.proofs.close.seal_last.Goals as goal
 
@@ -12,37 +12,36 @@ use Rattle.group_commit.proofs.close.seal_last.Goals as goal
 pub returns-in_err-batch-clause-err : goal.returns-in_err-batch-clause-err
 returns-in_err-batch-clause-err g c =
     let p = err_from_is_err_and c.from_residual.result c.from_residual.ensures.1 in
-    rw (p.1, p.2, c.in_err-batch.ensures.err) (not-ready g.D.Device.state _ _ c.requires.running c.requires.joined c.ready_batch.ensures.same)
+    rw (p.1, p.2, c.in_err-batch.ensures.err) (LastRefused.NotMadeReady c.ready_batch.ensures.same)
 
 -- the device failed before the seal
 pub returns-in_err-make_room-clause-err : goal.returns-in_err-make_room-clause-err
 returns-in_err-make_room-clause-err g c =
     let p = err_from_is_err_and c.from_residual-in_err-make_room.result c.from_residual-in_err-make_room.ensures.1 in
     let wrong = subst (λ (v : JournalValue g.row.D.Denot). WentWrong g.D.Device.state v c.make_room.new.journal) c.ready_batch.ensures.same c.in_err-make_room.ensures.err.1 in
-    rw (p.1, p.2) (wrong-refused g.D.Device.state _ _ _ c.requires.running (c.in_err-make_room.ensures.err.0, wrong))
+    rw (p.1, p.2) (last-failed g.D.Device.state _ _ _ (c.in_err-make_room.ensures.err.0, wrong))
 
 -- the entries are still those of the running transaction
 pub seal_running-requires-clause-batch : goal.seal_running-requires-clause-batch
 seal_running-requires-clause-batch g c =
     let went = went-from g.D.Device.state c.args.journal.now _ _ c.ready_batch.ensures.same c.in_ok-make_room.ensures.ok in
-    c.in_ok-batch.ensures.ok ∙ ap batch_of (sym went.on.transaction)
+    c.in_ok-batch.ensures.ok ∙ ap batch_of (sym (same-running g.D.Device.state _ _ went.on))
 
 -- the seal was refused
 pub returns-in_err-seal_running-clause-err : goal.returns-in_err-seal_running-clause-err
 returns-in_err-seal_running-clause-err g c =
     let went = went-from g.D.Device.state c.args.journal.now _ _ c.ready_batch.ensures.same c.in_ok-make_room.ensures.ok in
-    let joined = subst (λ (t : Transaction). 0 < length t.handles) (sym went.on.transaction) c.requires.joined in
     let refused = c.in_err-seal_running.ensures.err in
     let p = err_from_is_err_and c.from_residual-in_err-seal_running.result c.from_residual-in_err-seal_running.ensures.1 in
-    rw (p.1, p.2) (seal-refused g.D.Device.state _ _ _ _ c.requires.running went joined c.in_ok-make_room.ensures.room c.seal_running.ensures.all refused.0 refused.1)
+    rw (p.1, p.2) (seal-refused g.D.Device.state _ _ _ _ went c.in_ok-make_room.ensures.room c.seal_running.ensures.all refused.0 refused.1)
 
 -- the device failed behind it
 pub returns-clause-err : goal.returns-clause-err
 returns-clause-err g c =
     let went = went-from g.D.Device.state c.args.journal.now _ _ c.ready_batch.ensures.same c.in_ok-make_room.ensures.ok in
-    let joined = subst (λ (t : Transaction). 0 < length t.handles) (sym went.on.transaction) c.requires.joined in
+    let joined = subst (λ (t : Transaction). 0 < length t.handles) (sym (same-running g.D.Device.state _ _ went.on)) c.requires.joined in
     let has = seal-done g.D.Device.state _ _ _ went c.seal_running.ensures.told joined c.in_ok-seal_running.ensures.ok c.seal_running.ensures.device in
-    sealed-refused g.D.Device.state c.finish_commit.result _ _ _ c.requires.running has c.finish_commit.ensures.err
+    last-uncommitted g.D.Device.state c.finish_commit.result _ _ _ has c.finish_commit.ensures.err
 
 -- the moves: none where memory ran out
 pub returns-in_err-batch-clause-path : goal.returns-in_err-batch-clause-path
@@ -60,14 +59,14 @@ returns-in_err-make_room-clause-path g c =
 pub returns-in_err-seal_running-clause-path : goal.returns-in_err-seal_running-clause-path
 returns-in_err-seal_running-clause-path g c =
     let went = went-from g.D.Device.state c.args.journal.now _ _ c.ready_batch.ensures.same c.in_ok-make_room.ensures.ok in
-    let joined = subst (λ (t : Transaction). 0 < length t.handles) (sym went.on.transaction) c.requires.joined in
+    let joined = subst (λ (t : Transaction). 0 < length t.handles) (sym (same-running g.D.Device.state _ _ went.on)) c.requires.joined in
     way-locked g.D.Device.state _ _ _ went c.seal_running.ensures.told joined c.in_err-seal_running.ensures.err.1
 
 -- and behind it
 pub returns-clause-path : goal.returns-clause-path
 returns-clause-path g c =
     let went = went-from g.D.Device.state c.args.journal.now _ _ c.ready_batch.ensures.same c.in_ok-make_room.ensures.ok in
-    let joined = subst (λ (t : Transaction). 0 < length t.handles) (sym went.on.transaction) c.requires.joined in
+    let joined = subst (λ (t : Transaction). 0 < length t.handles) (sym (same-running g.D.Device.state _ _ went.on)) c.requires.joined in
     let has = seal-done g.D.Device.state _ _ _ went c.seal_running.ensures.told joined c.in_ok-seal_running.ensures.ok c.seal_running.ensures.device in
     way-on g.D.Device.state c.finish_commit.result _ _ _ has.path c.finish_commit.ensures.ok c.finish_commit.ensures.err
 
@@ -75,6 +74,6 @@ returns-clause-path g c =
 pub returns-clause-ok : goal.returns-clause-ok
 returns-clause-ok g c =
     let went = went-from g.D.Device.state c.args.journal.now _ _ c.ready_batch.ensures.same c.in_ok-make_room.ensures.ok in
-    let joined = subst (λ (t : Transaction). 0 < length t.handles) (sym went.on.transaction) c.requires.joined in
+    let joined = subst (λ (t : Transaction). 0 < length t.handles) (sym (same-running g.D.Device.state _ _ went.on)) c.requires.joined in
     let has = seal-done g.D.Device.state _ _ _ went c.seal_running.ensures.told joined c.in_ok-seal_running.ensures.ok c.seal_running.ensures.device in
     sealed-on g.D.Device.state c.finish_commit.result _ _ _ has c.finish_commit.ensures.ok

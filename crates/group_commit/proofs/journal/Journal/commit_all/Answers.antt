@@ -1,11 +1,11 @@
 use Rattle.std.proofs.Common.{refl, sym, ◌∙◌}
 use Rattle.std.proofs.lemmas.Result.{err_from_is_err_and}
-use Rattle.group_commit.specs.Close.{CloseRefused}
+use Rattle.group_commit.specs.AllTurns.{AllTurnsRefused}
 use Rattle.group_commit.proofs.journal.Journal.commit_all.Goals as goal
 
 -- the device failed before
 pub returns-then-is_aborted-clause-err : goal.returns-then-is_aborted-clause-err
-returns-then-is_aborted-clause-err g c = CloseRefused.CloseAborted (sym c.is_aborted.ensures ∙ c.if-is_aborted.true) refl refl refl
+returns-then-is_aborted-clause-err g c = AllTurnsRefused.TurnsAborted (sym c.is_aborted.ensures ∙ c.if-is_aborted.true) refl
 
 -- turns were refused
 pub returns-in_err-commit_ready-clause-err : goal.returns-in_err-commit_ready-clause-err
