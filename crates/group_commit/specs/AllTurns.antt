@@ -22,10 +22,10 @@ pub data CommitsAll {D : Type 0} (state : D → DeviceState) (old new : JournalV
   WithRunning : IsReadyToSeal old.journal.front → HasSealed state old new → CommitsAll state old new
   WithoutRunning : (IsReadyToSeal old.journal.front → ⊥) → Went state old new → CommitsAll state old new
 
--- Why not all that can be committed is: the device failed before, and nothing was done; it failed in a step, of which none was a
--- seal; the running transaction was ready, and it failed in a step behind the seal; or memory ran out for the seal. Then nothing
--- was done, or steps of commits and of rounds alone, with all that was sealed committed: the running transaction is as it was. (The
--- code makes all room for the seal first, so that the last does not come.)
+-- Why not all that can be committed is: the device failed before, and nothing was done; it failed in a step, and nothing was sealed;
+-- the running transaction was ready, and it failed in a step behind the seal; or that was ready, and memory ran out for its seal. Then
+-- nothing was done, or steps of commits and of rounds alone, with all that was sealed committed: the running transaction is as it
+-- was. (The code makes all room for the seal first, so that the last does not come.)
 pub data AllTurnsRefused {D : Type 0} (state : D → DeviceState) (old new : JournalValue D) : JournalError → Type 0 where
   TurnsAborted : old.journal.engine.aborted ≡ true → new ≡ old → AllTurnsRefused state old new Aborted
   FailedUnsealed : old.journal.engine.aborted ≡ false → WentWrong state old new → AllTurnsRefused state old new Device

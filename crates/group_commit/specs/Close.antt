@@ -88,8 +88,8 @@ pub record WentWrong {D : Type 0} (state : D → DeviceState) (old new : Journal
   pub on : GoesOn state old new
   pub faults : (state new.device).faults ≡ one_more_fault (state old.device).faults
 
--- all is sealed that a close seals, steps of commits and of rounds came before and behind that seal, and the device has not failed:
--- behind a seal the next transaction runs, which no handle has joined
+-- all is sealed that a close seals, so that behind a seal the next transaction runs, which no handle has joined; of the front
+-- nothing else has changed but how far it is finished, the mark, and whether it knows of a failure; and the device has not failed
 pub record HasSealed {D : Type 0} (state : D → DeviceState) (old new : JournalValue D) : Type 0 where
   pub front : new.journal.front ≡ told_as (closing_front old.journal.front) new.journal.front
   pub measures : new.journal.engine.shape ≡ old.journal.engine.shape
