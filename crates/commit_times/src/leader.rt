@@ -38,7 +38,7 @@ pub(crate) struct Rounds {
     part: u64,
     /// How many handles had stopped when a transaction was locked last.
     locked_at: u64,
-    /// How many of these had joined that transaction.
+    /// About how many of these had joined that transaction: those that stopped since the lock before it.
     group: u64,
     /// How many will have stopped once each client of that transaction has stopped a further one.
     awaited: u64,
