@@ -1,11 +1,12 @@
 //! The steps that are made where both sides meet: the front catches up with the engine, and then one step of `journal_steps` is made
 //! of both, as of one journal.
-ghost use Rattle.std.specs.Prelude.{◌≡◌, length, IfErr, IfOk, OnOk};
+ghost use Rattle.std.specs.Prelude.{◌≡◌, ◌≢◌, length, IfErr, IfOk, OnOk};
+ghost use Rattle.journal_model.specs.declared.refusal.JournalError.TheVariants.{Device as DeviceFailed};
 ghost use Rattle.block_device.specs.Call.{MakesOneCall, OnlyReads};
 ghost use Rattle.block_device.specs.State.{MakesAtMostOneCall};
 ghost use Rattle.journal_world.specs.Journal.Event.{DirectSync, DirectWrite, ReadBlock};
 ghost use Rattle.journal_steps.specs.Direct.{DirectSyncRefused, DirectWriteRefused, IsDuringDirectSync, IsDuringDirectWrite, MayWriteDirectly};
-ghost use Rattle.journal_steps.specs.Journal.{Agrees, Does, NotesRead, OpensNow, ReadRefused, TurnRefused};
+ghost use Rattle.journal_steps.specs.Journal.{Agrees, Does, NewestRefused, NotesRead, OpensNow, ReadRefused, ReadsNewest, TurnRefused};
 ghost use Rattle.journal_steps.specs.Values.{JournalValue, together};
 ghost use Rattle.journal_sides.specs.Sides.{Meets, MeetsAnd, SealDid, engine_of};
 
@@ -121,6 +122,37 @@ pub fn read<J: MeetingName, D: Device, R: Record>(
 {
     meet(meeting, front, engine);
     let answer = steps::read(&mut front.front, &mut engine.engine, handle, block, into);
+    engine.engine.recall_invariant();
+    meeting.meet(&mut front.met, &mut engine.owner, &engine.engine);
+    answer
+}
+
+/// Reads a block of the home area into a buffer of one block, without a handle, as `journal_steps::steps::read_newest`.
+///
+/// # Errors
+///
+/// Those of `journal_steps::steps::read_newest`: but for `Device` the buffer stays as it is.
+/// Source: journalling.rst (handles see the running transaction); a read without a handle is this project's own.
+pub fn read_newest<J: MeetingName, D: Device, R: Record>(
+    meeting: &SidesMeeting<J, D>,
+    front: &mut FrontSide<J, D, R>,
+    engine: &mut EngineSide<J, D>,
+    block: BlockNo,
+    into: &mut [u8],
+) -> Result<(), JournalError>
+    requires { length into.old ≡ (D.state front.old.device).shape.block_size }
+    ensures engine { engine.new ≡ engine_of front.new }
+    ensures ok { OnOk result (MeetsAnd D.state front.old engine.old (λ (mid : JournalValue D). ReadsNewest D.state D.honest mid block into.new front.new)) }
+    ensures err { IfErr result (λ e. MeetsAnd D.state front.old engine.old (λ (mid : JournalValue D). NewestRefused D.state mid block front.new e)) }
+    ensures untouched { IfErr result (λ e. e ≢ DeviceFailed → into.new ≡ into.old) }
+    ensures device { OnlyReads D.state D.honest engine.old.device engine.new.device }
+    ensures opens { D.honest engine.old.device → OpensNow front.new.journal (D.state engine.new.device).disk }
+    ensures calls { MakesAtMostOneCall (D.state engine.old.device) (D.state engine.new.device) }
+    ensures no_fault { OnOk result ((D.state engine.new.device).faults ≡ (D.state engine.old.device).faults) }
+    ensures length { length into.new ≡ length into.old }
+{
+    meet(meeting, front, engine);
+    let answer = steps::read_newest(&mut front.front, &mut engine.engine, block, into);
     engine.engine.recall_invariant();
     meeting.meet(&mut front.met, &mut engine.owner, &engine.engine);
     answer

@@ -1,17 +1,18 @@
 //! Reads of blocks whose last copy the front holds: in the running transaction, or in the one that is being committed.
-ghost use Rattle.std.specs.Prelude.{◌≡◌, false, length, option_map, IfErr, IfOk, OnOk};
+ghost use Rattle.std.specs.Prelude.{◌≡◌, ◌≢◌, false, length, option_map, IfErr, IfOk, OnOk};
 ghost use Rattle.journal_model.specs.declared.entry.Entry.TheVariants.{Copy};
-ghost use Rattle.journal_model.specs.declared.refusal.JournalError.TheVariants.{Memory};
+ghost use Rattle.journal_model.specs.declared.refusal.JournalError.TheVariants.{Device as DeviceFailed, Memory};
 ghost use Rattle.journal_model.specs.Transaction.{last_effect};
 ghost use Rattle.journal_world.specs.Front.{IsOpen, reading_block, unfinished};
 ghost use Rattle.journal_front.specs.Front.{MayStep};
-ghost use Rattle.journal_steps.specs.Journal.{NoCopy, ReadRefused};
-ghost use Rattle.journal_sides.specs.Sides.{HeldReadDid, HoldsCopy};
+ghost use Rattle.journal_steps.specs.Journal.{NewestRefused, NoCopy, ReadRefused};
+ghost use Rattle.journal_sides.specs.Sides.{HeldNewestDid, HeldReadDid, HoldsCopy};
 
 use crate::front_side::FrontSide;
 use block_device::Device;
 use journal_front::{Front, Handle, Record};
 use journal_model::{Block, BlockNo, Entry, JournalError};
+use journal_steps::steps;
 use meeting::MeetingName;
 
 /// The copy of a block that the front keeps: that of the last entry in the transactions that are not finished, if there is one.
@@ -90,5 +91,31 @@ impl<J: MeetingName, D: Device, R: Record> FrontSide<J, D, R> {
         }
         note(&mut self.front, handle, block, copy, into)?;
         Ok(true)
+    }
+
+    /// Reads a block of the home area into a buffer of one block, without a handle, where the front holds a copy of it: that of the
+    /// running transaction, else that of the one that is being committed. Nothing is noted, so it makes no transaction, and it takes no
+    /// memory. It answers whether there is such a copy; else the buffer stays as it is, and the read has to be made where both sides
+    /// meet.
+    ///
+    /// # Errors
+    ///
+    /// The first that applies; the buffer stays as it is. `Aborted` after a device failure that the front knows of; `BadBlock` where
+    /// home has no such block, or its number is not below 2^32 (in a log with numbers of 64 bits 2^48); `Revoked` where the block's
+    /// last entry in the transactions that are not committed is a revoke.
+    /// Source: journalling.rst (handles see the running transaction); a read without a handle is this project's own.
+    pub fn read_newest_held(&self, block: BlockNo, into: &mut [u8]) -> Result<bool, JournalError>
+        requires { length into.old ≡ (D.state self.now.device).shape.block_size }
+        ensures ok { IfOk result (λ held. HeldNewestDid D.state D.honest held block into.old into.new self.now) }
+        ensures err { IfErr result (λ e. NewestRefused D.state self.now block self.now e × (e ≢ DeviceFailed) × (into.new ≡ into.old)) }
+        ensures length { length into.new ≡ length into.old }
+    {
+        if self.front.is_aborted() {
+            return Err(JournalError::Aborted);
+        }
+        if !self.front.may_touch(block) {
+            return Err(JournalError::BadBlock);
+        }
+        steps::hand_out(&self.front, block, into)
     }
 }

@@ -111,7 +111,8 @@ pub fn read<D: Device, R: Record>(
 /// # Errors
 ///
 /// `Revoked` where that entry is a revoke: the buffer stays as it is.
-fn hand_out<R: Record>(
+/// Source: journalling.rst (handles see the running transaction).
+pub fn hand_out<R: Record>(
     front: &Front<R>,
     block: BlockNo,
     into: &mut [u8],
