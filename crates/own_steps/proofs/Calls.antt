@@ -21,8 +21,9 @@ use Rattle.journal_steps.specs.Direct.{DirectSyncRefused, DirectWriteRefused}
 use Rattle.journal_steps.specs.Direct.DirectSyncRefused.{SyncAborted, SyncFailed}
 use Rattle.journal_steps.specs.Direct.DirectWriteRefused.{WriteAborted, WriteOutside, WriteNotDirect, WriteFailed}
 use Rattle.journal_steps.specs.Handles.{KeepsHandles}
-use Rattle.journal_steps.specs.Journal.{CheckTurnDid, CheckTurnRefused, Does, FailsAndTells, NotesRead, ReadRefused, Requests, TurnDid, TurnRefused}
+use Rattle.journal_steps.specs.Journal.{CheckTurnDid, CheckTurnRefused, Does, FailsAndTells, NewestRefused, NotesRead, ReadRefused, ReadsNewest, Requests, TurnDid, TurnRefused}
 use Rattle.journal_steps.specs.Journal.CheckTurnRefused.{CheckAborted, CheckFailed}
+use Rattle.journal_steps.specs.Journal.NewestRefused.{NewestAborted, NewestOutside, NewestRevoked, NewestFailed}
 use Rattle.journal_steps.specs.Journal.ReadRefused.{ReadKeptOut, ReadRevoked, ReadUnnoted, ReadFailed}
 use Rattle.journal_steps.specs.Journal.TurnRefused.{WasAborted, RingIsShort, MemoryIsShort, DeviceFailed}
 use Rattle.journal_steps.specs.Values.{JournalValue}
@@ -208,6 +209,16 @@ module _ {D : Type 0} (state : D → DeviceState) (old new : JournalValue D) whe
   refused_read h b e (ReadRevoked may last same is) = same-front f g (ap (λ (v : JournalValue D). v.journal.front) same)
   refused_read h b e (ReadUnnoted may last same faults is) = same-front f g (ap (λ (j : Journal). j.front) same)
   refused_read h b e (ReadFailed may last none fails faults is) = made-beside f (aborting f) g fails.front refl refl refl refl
+
+  -- a read without a handle is nobody's step
+  pub read_newest : (honest : D → Type 0) (b : ℕ) (v : List ℕ) → ReadsNewest state honest old b v new → AllStillKnow f g
+  read_newest honest b v read = same-front f g (ap (λ (j : Journal). j.front) read.same)
+
+  pub refused_read_newest : (b : ℕ) (e : JournalError) → NewestRefused state old b new e → AllStillKnow f g
+  refused_read_newest b e (NewestAborted was same is) = same-front f g (ap (λ (x : JournalValue D). x.journal.front) same)
+  refused_read_newest b e (NewestOutside runs out same is) = same-front f g (ap (λ (x : JournalValue D). x.journal.front) same)
+  refused_read_newest b e (NewestRevoked runs may last same is) = same-front f g (ap (λ (x : JournalValue D). x.journal.front) same)
+  refused_read_newest b e (NewestFailed runs may none unkept fails faults is) = made-beside f (aborting f) g fails.front refl refl refl refl
 
   pub direct_write : (b : ℕ) (v : List ℕ) → Does state old (DirectWrite b v) new → AllStillKnow f g
   direct_write b v did = same-front f g did.front
