@@ -13,7 +13,7 @@ use Rattle.journal_front.specs.Values.{HandleValue}
 use Rattle.journal_steps.specs.declared.turn.Turn.{Turn}
 use Rattle.journal_steps.specs.declared.turn.Turn.TheVariants.{Idle as IdleTurn, Waiting, Step, Sealed, Committed}
 use Rattle.journal_steps.specs.Direct.{DirectSyncRefused, DirectWriteRefused, MayWriteDirectly}
-use Rattle.journal_steps.specs.Journal.{Does, NotesRead, ReadRefused, TurnDid, TurnRefused}
+use Rattle.journal_steps.specs.Journal.{Does, NewestRefused, NotesRead, ReadRefused, ReadsNewest, TurnDid, TurnRefused}
 use Rattle.journal_steps.specs.Journal.TurnRefused.{DeviceFailed, MemoryIsShort, RingIsShort, WasAborted}
 use Rattle.journal_steps.specs.Values.{JournalValue}
 use Rattle.journal_sides.specs.Sides.{Finishes, HeldReadDid, Meets, MeetsAnd, SealDid, Tells, engine_of}
@@ -184,6 +184,15 @@ module _ {D : Type 0} (state : D → DeviceState) (old : JournalValue D) (engine
         let r : Result A JournalError = Err e in
         both-held new after raise _ size_is err (λ mid did there same. counting.read state most size count mid.journal.front.mark mid new there same r h b v tt did)
 
+    pub read_newest-held : {A : Type 0} (honest : D → Type 0) (new : JournalValue D) (after : ℕ) → after ≡ max raised new.journal.front.mark → (r : Result A JournalError) (b : ℕ) (v : List ℕ) →
+        (state new.device).shape ≡ (state engine.device).shape → OnOk r (MeetsAnd state old engine (λ (mid : JournalValue D). ReadsNewest state honest mid b v new)) →
+        IfErr r (λ e. MeetsAnd state old engine (λ (mid : JournalValue D). NewestRefused state mid b new e)) → IsHeld state most size count after new
+    read_newest-held {A} honest new after raise (Ok a) b v size_is ok err =
+        both-held new after raise _ size_is ok (λ mid did there same. counting.read-newest state most size count mid.journal.front.mark mid new there same honest (Ok a) b v did tt)
+    read_newest-held {A} honest new after raise (Err e) b v size_is ok err =
+        let r : Result A JournalError = Err e in
+        both-held new after raise _ size_is err (λ mid did there same. counting.read-newest state most size count mid.journal.front.mark mid new there same honest r b v tt did)
+
     pub write_direct-held : {A : Type 0} (new : JournalValue D) (after : ℕ) → after ≡ max raised new.journal.front.mark → (r : Result A JournalError) (b : ℕ) (v : List ℕ) →
         (state new.device).shape ≡ (state engine.device).shape →
         OnOk r (MeetsAnd state old engine (λ (mid : JournalValue D). MayWriteDirectly mid.journal b × Does state mid (DirectWrite b v) new)) →
@@ -207,6 +216,12 @@ module _ {D : Type 0} (state : D → DeviceState) (old : JournalValue D) (engine
   pub read-know : (new : JournalValue D) (e : JournalError) (h : HandleValue) (b : ℕ) →
       MeetsAnd state old engine (λ (mid : JournalValue D). ReadRefused state mid h b new e) → AllStillKnow old.journal.front new.journal.front
   read-know new e h b m = both-know new _ m (λ mid did. calls.refused_read state mid new h b e did)
+
+  pub read_newest-know : {A : Type 0} (honest : D → Type 0) (new : JournalValue D) (r : Result A JournalError) (b : ℕ) (v : List ℕ) →
+      OnOk r (MeetsAnd state old engine (λ (mid : JournalValue D). ReadsNewest state honest mid b v new)) →
+      IfErr r (λ e. MeetsAnd state old engine (λ (mid : JournalValue D). NewestRefused state mid b new e)) → AllStillKnow old.journal.front new.journal.front
+  read_newest-know honest new (Ok a) b v ok err = both-know new _ ok (λ mid did. calls.read_newest state mid new honest b v did)
+  read_newest-know honest new (Err e) b v ok err = both-know new _ err (λ mid did. calls.refused_read_newest state mid new b e did)
 
   pub write_direct-know : {A : Type 0} (new : JournalValue D) (r : Result A JournalError) (b : ℕ) (v : List ℕ) →
       OnOk r (MeetsAnd state old engine (λ (mid : JournalValue D). MayWriteDirectly mid.journal b × Does state mid (DirectWrite b v) new)) →

@@ -13,8 +13,9 @@ use Rattle.journal_steps.specs.declared.turn.CheckTurn.TheVariants.{Idle as Idle
 use Rattle.journal_steps.specs.Direct.{DirectSyncRefused, DirectWriteRefused}
 use Rattle.journal_steps.specs.Direct.DirectSyncRefused.{SyncAborted, SyncFailed}
 use Rattle.journal_steps.specs.Direct.DirectWriteRefused.{WriteAborted, WriteFailed, WriteNotDirect, WriteOutside}
-use Rattle.journal_steps.specs.Journal.{CheckTurnDid, CheckTurnRefused, Does, NotesRead, ReadRefused, TurnRefused}
+use Rattle.journal_steps.specs.Journal.{CheckTurnDid, CheckTurnRefused, Does, NewestRefused, NotesRead, ReadRefused, ReadsNewest, TurnRefused}
 use Rattle.journal_steps.specs.Journal.CheckTurnRefused.{CheckAborted, CheckFailed}
+use Rattle.journal_steps.specs.Journal.NewestRefused.{NewestAborted, NewestFailed, NewestOutside, NewestRevoked}
 use Rattle.journal_steps.specs.Journal.ReadRefused.{ReadFailed, ReadKeptOut, ReadRevoked, ReadUnnoted}
 use Rattle.journal_steps.specs.Journal.TurnRefused.{DeviceFailed, MemoryIsShort, RingIsShort, WasAborted}
 use Rattle.journal_front.specs.Values.{HandleValue}
@@ -102,6 +103,18 @@ module _ {D : Type 0} (state : D → DeviceState) (most size count raised : ℕ)
       → IsHeld state most size count raised new
   read (Ok a) h b v ok err = noted h.number b v ok.front
   read (Err e) h b v ok err = read-refused e h b err
+
+  newest-refused : (e : JournalError) (b : ℕ) → NewestRefused state old b new e → IsHeld state most size count raised new
+  newest-refused e b (NewestAborted was same is) = all-same same
+  newest-refused e b (NewestOutside running outside same is) = all-same same
+  newest-refused e b (NewestRevoked running may last same is) = all-same same
+  newest-refused e b (NewestFailed running may none unkept did faults is) = front-aborted did.front
+
+  -- a read without a handle leaves the journal as it is
+  pub read-newest : {A : Type 0} (honest : D → Type 0) (r : Result A JournalError) (b : ℕ) (v : List ℕ) → OnOk r (ReadsNewest state honest old b v new)
+      → IfErr r (λ e. NewestRefused state old b new e) → IsHeld state most size count raised new
+  read-newest honest (Ok a) b v ok err = front-same (ap (λ j. j.front) ok.same)
+  read-newest honest (Err e) b v ok err = newest-refused e b err
 
   direct-refused : (e : JournalError) (b : ℕ) (v : List ℕ) → DirectWriteRefused state old b v new e → IsHeld state most size count raised new
   direct-refused _ b v (WriteAborted was same) = all-same same

@@ -1,6 +1,6 @@
 //! The journal that threads share: its calls take `&self`, and those that are steps take the lock.
-ghost use Rattle.std.specs.Prelude.{◌≡◌, ◌+◌, ◌<◌, ◌≤◌, ◌++◌, [], ◌∷◌, true, false, length, IfErr, IfOk, IfSome, MatchOption, MatchResult, OnOk};
-ghost use Rattle.journal_model.specs.declared.refusal.JournalError.TheVariants.{Aborted};
+ghost use Rattle.std.specs.Prelude.{◌≡◌, ◌≢◌, ◌+◌, ◌<◌, ◌≤◌, ◌++◌, [], ◌∷◌, true, false, length, IfErr, IfOk, IfSome, MatchOption, MatchResult, OnOk};
+ghost use Rattle.journal_model.specs.declared.refusal.JournalError.TheVariants.{Aborted, Device as DeviceFailed};
 ghost use Rattle.journal_model.specs.Transaction.{entries};
 ghost use Rattle.journal_world.specs.Front.FrontEvent.{RevokeBlock, WriteBlock};
 ghost use Rattle.journal_world.specs.Front.{read_step, reserving, revoke_step, transactions, write_step};
@@ -8,9 +8,9 @@ ghost use Rattle.journal_world.specs.Journal.Event.{DirectSync, DirectWrite, Fro
 ghost use Rattle.handle.specs.Values.{Grants, Halves, Looks, LooksAgain, ReserveRefused, StatusIs, fresh_ticket, loading_credits, loading_mark};
 ghost use Rattle.journal_front.specs.Front.{ExtendRefused, IsOpenHandle, Spends, TouchRefused};
 ghost use Rattle.journal_steps.specs.Direct.{DirectSyncRefused, DirectWriteRefused, MayWriteDirectly};
-ghost use Rattle.journal_steps.specs.Journal.{Does, NotesRead, ReadRefused, Requests};
+ghost use Rattle.journal_steps.specs.Journal.{Does, NewestRefused, NotesRead, ReadRefused, ReadsNewest, Requests};
 ghost use Rattle.journal_steps.specs.Values.{JournalValue};
-ghost use Rattle.journal_sides.specs.Sides.{HeldReadDid};
+ghost use Rattle.journal_sides.specs.Sides.{HeldNewestDid, HeldReadDid};
 ghost use Rattle.group_commit.specs.Extension.{Extends};
 ghost use Rattle.own_steps.specs.Own.{BearsOut};
 ghost use Rattle.shared_journal.specs.Ends.{AtTheEnd, IsClosedWell, IsNotClosed};
@@ -320,6 +320,73 @@ impl<J: JournalName + PartsName + MeetingName, D: Device, R: Record> Journal<J, 
             block,
             into,
         );
+        self.changes.tell();
+        done
+    }
+
+    /// Reads a block of the home area into a buffer of one block, without a handle: the bytes that a handle's read would see. Nothing is
+    /// noted, so it makes no transaction, and it takes no memory. A block of which the front holds a copy is read under the front's lock
+    /// alone, any other under both.
+    ///
+    /// # Errors
+    ///
+    /// The first that applies. `Aborted` after a device failure; `BadBlock` where home has no such block, or its number is not below
+    /// 2^32 (in a log with numbers of 64 bits 2^48); `Revoked` where the block's last entry in the transactions that are not committed
+    /// is a revoke: nothing changes, nor does the buffer. `Device` where the device failed: the journal is aborted, and the buffer's
+    /// bytes are unspecified.
+    /// Source: journalling.rst (handles see the running transaction); a read without a handle is this project's own.
+    pub fn read_newest<W: Wait>(
+        &self,
+        rt: &W,
+        block: BlockNo,
+        into: &mut [u8],
+    ) -> Result<(), JournalError>
+        requires { length into.old ≡ J.block_size }
+        ensures reads { OnOk result (AtOneMoment (λ (old new : JournalValue D). ReadsNewest D.state D.honest old block into.new new)) }
+        ensures why { IfErr result (λ e. AtOneMoment (λ (old new : JournalValue D). NewestRefused D.state old block new e)) }
+        ensures untouched { IfErr result (λ e. e ≢ DeviceFailed → into.new ≡ into.old) }
+        ensures length { length into.new ≡ length into.old }
+    {
+        let held = self.read_newest_front(rt, block, into)?;
+        if held {
+            return Ok(());
+        }
+        self.read_newest_both(rt, block, into)
+    }
+
+    /// The same of a block of which the front holds a copy, under the front's lock alone. It answers whether there is one. Nothing
+    /// changes.
+    fn read_newest_front<W: Wait>(
+        &self,
+        rt: &W,
+        block: BlockNo,
+        into: &mut [u8],
+    ) -> Result<bool, JournalError>
+        requires { length into.old ≡ J.block_size }
+        ensures ok { IfOk result (λ held. AtOneMoment (λ (old new : JournalValue D). HeldNewestDid D.state D.honest held block into.old into.new old × (new ≡ old))) }
+        ensures why { IfErr result (λ e. AtOneMoment (λ (old new : JournalValue D). NewestRefused D.state old block new e)) }
+        ensures untouched { IfErr result (λ e. into.new ≡ into.old) }
+        ensures length { length into.new ≡ length into.old }
+    {
+        self.locked.lock(rt).read_newest_held(block, into)
+    }
+
+    /// The same of any block, under both locks.
+    fn read_newest_both<W: Wait>(
+        &self,
+        rt: &W,
+        block: BlockNo,
+        into: &mut [u8],
+    ) -> Result<(), JournalError>
+        requires { length into.old ≡ J.block_size }
+        ensures reads { OnOk result (AtOneMoment (λ (old new : JournalValue D). ReadsNewest D.state D.honest old block into.new new)) }
+        ensures why { IfErr result (λ e. AtOneMoment (λ (old new : JournalValue D). NewestRefused D.state old block new e)) }
+        ensures untouched { IfErr result (λ e. e ≢ DeviceFailed → into.new ≡ into.old) }
+        ensures length { length into.new ≡ length into.old }
+    {
+        let mut engine = self.engine.lock(rt);
+        let mut locked = self.locked.lock(rt);
+        let done = locked.read_newest(&self.counters, &self.meeting, &mut engine, block, into);
         self.changes.tell();
         done
     }

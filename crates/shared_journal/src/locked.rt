@@ -1,6 +1,6 @@
 //! What lies under the lock, and the steps that are made there.
-ghost use Rattle.std.specs.Prelude.{◌≡◌, ◌+◌, ◌-◌, ◌≤◌, ◌++◌, [], ◌∷◌, length, true, false, IfErr, IfOk, OnOk};
-ghost use Rattle.journal_model.specs.declared.refusal.JournalError.TheVariants.{Aborted, Memory};
+ghost use Rattle.std.specs.Prelude.{◌≡◌, ◌≢◌, ◌+◌, ◌-◌, ◌≤◌, ◌++◌, [], ◌∷◌, length, true, false, IfErr, IfOk, OnOk};
+ghost use Rattle.journal_model.specs.declared.refusal.JournalError.TheVariants.{Aborted, Device as DeviceFailed, Memory};
 ghost use Rattle.journal_model.specs.Transaction.{entries};
 ghost use Rattle.block_device.specs.State.{MakesAtMostOneCall};
 ghost use Rattle.journal_world.specs.Front.{next_handle, read_step, reserving, revoke_step, transactions, write_step};
@@ -11,9 +11,9 @@ ghost use Rattle.handle.specs.Values.{fresh_ticket, loading_credits};
 ghost use Rattle.journal_steps.specs.Direct.{DirectSyncRefused, DirectWriteRefused, IsDuringDirectSync, IsDuringDirectWrite, MayWriteDirectly};
 ghost use Rattle.group_commit.specs.Extension.{Extends, Starts};
 ghost use Rattle.journal_front.specs.Front.{ExtendRefused, IsOpenHandle, JoinRefused, Spends, TouchRefused};
-ghost use Rattle.journal_steps.specs.Journal.{Does, NotesRead, ReadRefused, Requests, TurnRefused};
+ghost use Rattle.journal_steps.specs.Journal.{Does, NewestRefused, NotesRead, ReadRefused, ReadsNewest, Requests, TurnRefused};
 ghost use Rattle.journal_steps.specs.Values.{JournalValue};
-ghost use Rattle.journal_sides.specs.Sides.{HeldReadDid, HoldsCopy, Meets, MeetsAnd, SealDid, engine_of};
+ghost use Rattle.journal_sides.specs.Sides.{HeldNewestDid, HeldReadDid, HoldsCopy, Meets, MeetsAnd, SealDid, engine_of};
 ghost use Rattle.own_steps.specs.Own.{BearsOut};
 ghost use Rattle.shared_journal.specs.Known.{own_of_ticket};
 
@@ -350,6 +350,52 @@ impl<J: JournalName + PartsName + MeetingName, D: Device, R: Record> Locked<J, D
                 Err(e)
             }
         }
+    }
+
+    /// Reads a block of which the front holds a copy, without a handle, as `journal_sides::FrontSide::read_newest_held`. It answers
+    /// whether there is one. Nothing changes.
+    ///
+    /// # Errors
+    ///
+    /// Those of `journal_sides::FrontSide::read_newest_held`: the buffer stays as it is.
+    /// Source: journalling.rst (handles see the running transaction); a read without a handle is this project's own.
+    pub fn read_newest_held(&self, block: BlockNo, into: &mut [u8]) -> Result<bool, JournalError>
+        requires { length into.old ≡ J.block_size }
+        ensures ok { IfOk result (λ held. HeldNewestDid D.state D.honest held block into.old into.new self.now) }
+        ensures err { IfErr result (λ e. NewestRefused D.state self.now block self.now e × (e ≢ DeviceFailed) × (into.new ≡ into.old)) }
+        ensures length { length into.new ≡ length into.old }
+    {
+        self.journal.read_newest_held(block, into)
+    }
+
+    /// Reads a block of the home area into a buffer of one block, without a handle, as `journal_sides::read_newest`.
+    ///
+    /// # Errors
+    ///
+    /// Those of `group_commit::Journal::read_newest`: but for `Device` the buffer stays as it is.
+    /// Source: journalling.rst (handles see the running transaction); a read without a handle is this project's own.
+    pub fn read_newest(
+        &mut self,
+        counters: &Counters<J>,
+        meeting: &SidesMeeting<J, D>,
+        engine: &mut EngineSide<J, D>,
+        block: BlockNo,
+        into: &mut [u8],
+    ) -> Result<(), JournalError>
+        requires { length into.old ≡ J.block_size }
+        ensures engine { engine.new ≡ engine_of self.new }
+        ensures ok { OnOk result (MeetsAnd D.state self.old engine.old (λ (mid : JournalValue D). ReadsNewest D.state D.honest mid block into.new self.new)) }
+        ensures err { IfErr result (λ e. MeetsAnd D.state self.old engine.old (λ (mid : JournalValue D). NewestRefused D.state mid block self.new e)) }
+        ensures untouched { IfErr result (λ e. e ≢ DeviceFailed → into.new ≡ into.old) }
+        ensures device { OnlyReads D.state D.honest engine.old.device engine.new.device }
+        ensures calls { MakesAtMostOneCall (D.state engine.old.device) (D.state engine.new.device) }
+        ensures no_fault { OnOk result ((D.state engine.new.device).faults ≡ (D.state engine.old.device).faults) }
+        ensures length { length into.new ≡ length into.old }
+    {
+        let answer = journal_sides::read_newest(meeting, &mut self.journal, engine, block, into);
+        self.knowing.go_on(&mut self.recorded, self.journal.front());
+        counters.mark.raise(&mut self.raiser, self.journal.mark());
+        answer
     }
 
     /// Writes a block of the home area directly, past the log, as `journal_sides::write_direct`.
