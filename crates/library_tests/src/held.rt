@@ -1,4 +1,5 @@
-//! A handle writes and reads while a device write of a commit, or of a checkpoint round, is held, and another thread waits for the engine.
+//! A handle writes and reads, and a read is made without one, while a device write of a commit, or of a checkpoint round, is held, and
+//! another thread waits for the engine.
 ghost use Rattle.std.specs.Prelude.{◌≡◌};
 
 use block_device::{Device, DeviceFault, MemDevice};
@@ -219,8 +220,28 @@ fn write_and_read<J: JournalName + PartsName + MeetingName, D: Device, R: Wait>(
     wrote.is_ok() && read.is_ok() && newest == 8 && read_other
 }
 
-/// Once a write is held, and another thread waits for the engine, writes one block and reads, and lets the held one go. It answers whether
-/// that was done.
+/// Reads without a handle what was written, and the block that is being committed, if there is one: the front holds both. It answers whether
+/// it read them.
+fn read_without_handle<J: JournalName + PartsName + MeetingName, D: Device, R: Wait>(
+    rt: &R,
+    journal: &Journal<J, D>,
+    committing: Option<BlockNo>,
+) -> bool {
+    if journal.block_size() != 1024 {
+        return false;
+    }
+    let mut bytes = [0; 1024];
+    let read = journal.read_newest(rt, BlockNo(9), &mut bytes);
+    let newest = bytes[0];
+    let read_other = match committing {
+        Some(block) => journal.read_newest(rt, block, &mut bytes).is_ok() && bytes[0] == 7,
+        None => true,
+    };
+    read.is_ok() && newest == 8 && read_other
+}
+
+/// Once a write is held, and another thread waits for the engine, writes one block and reads, through a handle and without one, and lets
+/// the held one go. It answers whether that was done.
 fn overtake<J: JournalName + PartsName + MeetingName, D: Device, R: Wait>(
     rt: &R,
     journal: &Journal<J, D>,
@@ -238,8 +259,9 @@ fn overtake<J: JournalName + PartsName + MeetingName, D: Device, R: Wait>(
         Area::Home => None,
     };
     let done = write_and_read(rt, journal, seat, committing);
+    let read = read_without_handle(rt, journal, committing);
     gate.written.store(1, Ordering::SeqCst);
-    done
+    done && read
 }
 
 /// One thread reads a block that needs the engine, and another overtakes it.

@@ -1,11 +1,16 @@
-//! Reads without a handle, over a journal of one thread: each block as a handle's read would see it, and nothing noted.
+//! Reads without a handle, over a journal of one thread and over one that threads share: each block as a handle's read would see it, and
+//! nothing noted.
+ghost use Rattle.std.specs.Prelude.{◌≡◌};
 
 use block_device::{FailOnce, MemDevice};
 use group_commit::{Journal, Ticket, Turn};
 use journal_model::{BlockNo, JournalError};
 use recovery::Opened;
+use shared_journal::{Journal as Shared, JournalName, LaidJournal, MeetingName, PartsName, lay};
 use std::alloc::Global;
+use std::marker::Brand;
 use std::process::Abort;
+use std::sync::Wait;
 use std::test::Fail;
 
 /// The journal that is read.
@@ -115,5 +120,51 @@ fn a_read_without_a_handle_fails_with_the_device(rt: HostRuntime) -> Result<(), 
     assert_eq!(rt; first(&mut journal, 10), Err(JournalError::Device));
     assert!(rt; journal.is_aborted());
     assert_eq!(rt; first(&mut journal, 10), Err(JournalError::Aborted));
+    Ok(())
+}
+
+/// The first byte of a block, as a read without a handle sees it in a journal that threads share.
+fn first_shared<J: JournalName + PartsName + MeetingName, R: Wait>(
+    rt: &R,
+    journal: &Shared<J, FailOnce<MemDevice>>,
+    block: u64,
+) -> Result<u8, JournalError> {
+    let mut bytes = [0xee; 1024];
+    if journal.block_size() != 1024 {
+        return Err(JournalError::TooMany);
+    }
+    journal.read_newest(rt, BlockNo(block), &mut bytes)?;
+    Ok(bytes[0])
+}
+
+/// Reads a block that home has, and one that it has not. It answers how many transactions are committed at the close.
+fn only_read<J: JournalName + PartsName + MeetingName, R: Wait + Abort>(
+    rt: &R,
+    laid: LaidJournal<FailOnce<MemDevice>>,
+) -> u64
+    requires board { laid.board ≡ J.board }
+    requires parts { laid.parts ≡ J.parts }
+    requires meeting { laid.meeting ≡ J.meeting }
+    requires capacity { laid.capacity ≡ J.capacity }
+    requires block_size { laid.block_size ≡ J.block_size }
+{
+    let (journal, _seat) = laid.named::<J>();
+    assert_eq!(rt; first_shared(rt, &journal, 9), Ok(0));
+    assert_eq!(rt; first_shared(rt, &journal, 64), Err(JournalError::BadBlock));
+    let Ok(parts) = journal.close() else {
+        panic!(rt; "the close is refused")
+    };
+    parts.committed
+}
+
+#[test]
+fn a_read_without_a_handle_makes_no_transaction_of_a_shared_journal(
+    rt: HostRuntime,
+) -> Result<(), Fail> {
+    let Ok(laid) = lay(rt.alloc(), opened(&rt, rt.alloc(), 0)?) else {
+        panic!(rt; "the journal is refused")
+    };
+    let committed = only_read::<Brand, _>(&rt, laid);
+    assert_eq!(rt; committed, 0);
     Ok(())
 }
