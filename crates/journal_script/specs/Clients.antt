@@ -129,6 +129,12 @@ pub record AreServable (capacity home_blocks : ℕ) (reading : Reading) : Type 0
   pub few : IfSome reading.open (λ h. h.credits ≤ capacity)
   pub there : IfSome reading.open (λ h. All (λ t. touched t < home_blocks) h.touches.items)
 
+-- a handle has as many credits as it touches different blocks
+pub record HasCredits (handle : OpenHandle) : Type 0 where
+  pub different : List ℕ
+  pub enough : length different ≤ handle.credits
+  pub has : HasTouched handle.touches.items different
+
 -- an operation is of a block that is there, if it is of one
 abbrev pub IsOfBlock : ℕ → ClientOperation → Type 0
 IsOfBlock home_blocks (Start credits) = ⊤

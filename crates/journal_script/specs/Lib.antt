@@ -1,5 +1,6 @@
 pub mod Measures
 pub mod Named
 pub mod Line
+pub mod Names
 pub mod Text
 pub mod Clients

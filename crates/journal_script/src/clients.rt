@@ -5,15 +5,16 @@ ghost use Rattle.std.specs.List.{AllZip};
 ghost use Rattle.log_model.specs.Room.{IsCapacity};
 ghost use Rattle.serde_json.specs.Find.{as_str, get};
 ghost use Rattle.serde_json.specs.View.{view};
-ghost use Rattle.journal_script.specs.Clients.{AreClientArguments, CanBeServed, HasClients, AreServable, HasTouched, HasTouchedAll, IsClient, IsClientOperation, IsClientScriptOf, IsOfBlock, IsServable, client_operations, client_word, handles_of, layout_of, open_part, so_far, touched, waits_of};
+ghost use Rattle.journal_script.specs.Clients.{AreClientArguments, CanBeServed, HasClients, HasCredits, AreServable, HasTouched, HasTouchedAll, IsClient, IsClientOperation, IsClientScriptOf, IsOfBlock, IsServable, client_operations, client_word, handles_of, layout_of, open_part, so_far, touched, waits_of};
 ghost use Rattle.journal_script.specs.declared.clients.ClientOperation.{ClientOperation};
 ghost use Rattle.journal_script.specs.declared.clients.ClientOperation.TheVariants.{Start, Stop, Touches, Wait};
+ghost use Rattle.journal_script.specs.declared.clients.ClientTouch.TheVariants.{Revoke};
 ghost use Rattle.journal_script.specs.Measures.{AreLimited};
 ghost use Rattle.journal_script.specs.Text.{AgreesWith, IsDefaultElse, list_value, number_value};
 
 use crate::error::{BadClient, BadScript, ClientFault, ScriptError};
 use crate::measures::Measures;
-use crate::reading::{Unread, bytes_of, read_measures, read_value};
+use crate::reading::{Unread, bytes_of, read_measures, read_value, unknown_key};
 use crate::script::MOST_OPERATIONS;
 use journal_model::{BlockNo, LogLayout};
 use log_ring::Layout;
@@ -90,6 +91,15 @@ impl From<AllocError> for Unfit {
 impl<T: Drop> From<AllocFailed<T>> for Unfit {
     fn from(_e: AllocFailed<T>) -> Unfit {
         Unfit::Memory
+    }
+}
+
+impl From<Unread> for Unfit {
+    fn from(unread: Unread) -> Unfit {
+        match unread {
+            Unread::Bad(_) => Unfit::Bad(ClientFault::Form),
+            Unread::Memory => Unfit::Memory,
+        }
     }
 }
 
@@ -231,8 +241,7 @@ pub fn read_clients(alloc: Global, text: &[u8]) -> Result<ClientScript, ScriptEr
 fn require_client_keys(alloc: Global, members: &Map<String, Value>) -> Result<(), ScriptError> {
     for (name, _) in members.iter() {
         if !is_client_key(name.as_str()) {
-            let name = String::from_str(alloc, name.as_str())?;
-            return Err(ScriptError::BadScript(BadScript::UnknownKey(name)));
+            return Err(unknown_key(alloc, name.as_str()));
         }
     }
     Ok(())
@@ -240,12 +249,7 @@ fn require_client_keys(alloc: Global, members: &Map<String, Value>) -> Result<()
 
 /// Whether a script of clients may have this key.
 fn is_client_key(name: &str) -> bool {
-    for key in KEYS {
-        if key == name {
-            return true;
-        }
-    }
-    false
+    KEYS.contains(&name)
 }
 
 /// The script of an object with these members.
@@ -440,11 +444,7 @@ fn stopped(alloc: Global, reading: Reading, limits: Limits) -> Result<Reading, U
     let Some(handle) = open else {
         return Err(Unfit::Bad(ClientFault::NotOpen));
     };
-    let mut blocks = BTreeSet::new(alloc);
-    note_blocks(&handle.touches, &mut blocks)?;
-    if blocks.len() as u64 > handle.credits {
-        return Err(Unfit::Bad(ClientFault::TooFewCredits));
-    }
+    require_credits(alloc, &handle)?;
     handles.push(ClientHandle {
         credits: handle.credits,
         touches: handle.touches,
@@ -454,6 +454,19 @@ fn stopped(alloc: Global, reading: Reading, limits: Limits) -> Result<Reading, U
         handles,
         open: None,
     })
+}
+
+/// Fails where a handle touches more blocks than it has credits.
+fn require_credits(alloc: Global, handle: &OpenHandle) -> Result<(), Unfit>
+    ensures { OnOk result (HasCredits handle.now) }
+{
+    let mut blocks = BTreeSet::new(alloc);
+    note_blocks(&handle.touches, &mut blocks)?;
+    if blocks.len() as u64 <= handle.credits {
+        Ok(())
+    } else {
+        Err(Unfit::Bad(ClientFault::TooFewCredits))
+    }
 }
 
 /// The handle that has stopped is waited for.
@@ -484,10 +497,18 @@ fn read_operation(alloc: Global, value: &Value, limits: Limits) -> Result<Client
     ensures is { IfOk result (λ operation. IsClientOperation operation (view value.now)) }
     ensures there { IfOk result (IsOfBlock limits.home_blocks) }
 {
-    let Some(words) = value.as_array() else {
-        return Err(Unfit::Bad(ClientFault::Form));
-    };
-    match words.as_slice() {
+    match value.as_array() {
+        Some(words) => operation_of(alloc, words.as_slice(), limits),
+        None => Err(Unfit::Bad(ClientFault::Form)),
+    }
+}
+
+/// The operation of a client that a list of these values is.
+fn operation_of(alloc: Global, words: &[Value], limits: Limits) -> Result<ClientOperation, Unfit>
+    ensures is { IfOk result (λ operation. IsClientOperation operation (list_value (map view words.now))) }
+    ensures there { IfOk result (IsOfBlock limits.home_blocks) }
+{
+    match words {
         [name] => plain_operation(name),
         [name, number] => number_operation(name, number, limits),
         [name, block, hex] => write_operation(alloc, name, block, hex, limits),
@@ -514,13 +535,23 @@ fn number_operation(name: &Value, number: &Value, limits: Limits) -> Result<Clie
     ensures arguments { IfOk result (λ operation. AreClientArguments operation (view number.now ∷ [])) }
     ensures there { IfOk result (IsOfBlock limits.home_blocks) }
 {
+    let number = whole_number(number)?;
     match name.as_str() {
-        Some("start") => Ok(ClientOperation::Start(whole_number(number)?)),
-        Some("revoke") => {
-            let block = block_of(number, limits)?;
-            Ok(ClientOperation::Touches(ClientTouch::Revoke(block)))
-        }
+        Some("start") => Ok(ClientOperation::Start(number)),
+        Some("revoke") => revoke_operation(number, limits),
         _ => Err(Unfit::Bad(ClientFault::Form)),
+    }
+}
+
+/// A revoke of the block of home that has this number.
+fn revoke_operation(number: u64, limits: Limits) -> Result<ClientOperation, Unfit>
+    ensures is { IfOk result (λ operation. operation ≡ Touches (Revoke number)) }
+    ensures there { IfOk result (IsOfBlock limits.home_blocks) }
+{
+    if number < limits.home_blocks {
+        Ok(ClientOperation::Touches(ClientTouch::Revoke(BlockNo(number))))
+    } else {
+        Err(Unfit::Bad(ClientFault::NoBlock))
     }
 }
 
@@ -540,11 +571,8 @@ fn write_operation(
         return Err(Unfit::Bad(ClientFault::Form));
     };
     let block = block_of(block, limits)?;
-    match bytes_of(alloc, hex, limits.block_size) {
-        Ok(bytes) => Ok(ClientOperation::Touches(ClientTouch::Write(block, bytes))),
-        Err(Unread::Memory) => Err(Unfit::Memory),
-        Err(Unread::Bad(_)) => Err(Unfit::Bad(ClientFault::Form)),
-    }
+    let bytes = bytes_of(alloc, hex, limits.block_size)?;
+    Ok(ClientOperation::Touches(ClientTouch::Write(block, bytes)))
 }
 
 /// A whole number from 0 to 2^64 - 1.

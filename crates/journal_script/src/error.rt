@@ -157,28 +157,65 @@ pub enum OperationName {
     SyncDirect,
 }
 
+/// The names of all operations.
+const NAMES: [OperationName; 17] = [
+    OperationName::Start,
+    OperationName::Write,
+    OperationName::Revoke,
+    OperationName::Read,
+    OperationName::Extend,
+    OperationName::Restart,
+    OperationName::Stop,
+    OperationName::Request,
+    OperationName::Lock,
+    OperationName::Turn,
+    OperationName::Commit,
+    OperationName::CheckpointTurn,
+    OperationName::Check,
+    OperationName::Status,
+    OperationName::Wait,
+    OperationName::WriteDirect,
+    OperationName::SyncDirect,
+];
+
 impl OperationName {
+    ghost use Rattle.std.specs.Prelude.{◌≡◌, IfSome};
+    ghost use Rattle.journal_script.specs.Names.{name_word};
+
     /// The operation that is called so.
-    pub(crate) fn called(name: &str) -> Option<OperationName> {
-        match name {
-            "start" => Some(OperationName::Start),
-            "write" => Some(OperationName::Write),
-            "revoke" => Some(OperationName::Revoke),
-            "read" => Some(OperationName::Read),
-            "extend" => Some(OperationName::Extend),
-            "restart" => Some(OperationName::Restart),
-            "stop" => Some(OperationName::Stop),
-            "request" => Some(OperationName::Request),
-            "lock" => Some(OperationName::Lock),
-            "turn" => Some(OperationName::Turn),
-            "commit" => Some(OperationName::Commit),
-            "ckturn" => Some(OperationName::CheckpointTurn),
-            "check" => Some(OperationName::Check),
-            "status" => Some(OperationName::Status),
-            "wait" => Some(OperationName::Wait),
-            "direct" => Some(OperationName::WriteDirect),
-            "sync" => Some(OperationName::SyncDirect),
-            _ => None,
+    pub(crate) fn called(text: &str) -> Option<OperationName>
+        ensures { IfSome result (λ name. text.now ≡ name_word name) }
+    {
+        for name in &NAMES {
+            if name.word() == text {
+                return Some(*name);
+            }
+        }
+        None
+    }
+
+    /// What it is called.
+    fn word(self) -> &'static str
+        ensures { result.now ≡ name_word self }
+    {
+        match self {
+            OperationName::Start => "start",
+            OperationName::Write => "write",
+            OperationName::Revoke => "revoke",
+            OperationName::Read => "read",
+            OperationName::Extend => "extend",
+            OperationName::Restart => "restart",
+            OperationName::Stop => "stop",
+            OperationName::Request => "request",
+            OperationName::Lock => "lock",
+            OperationName::Turn => "turn",
+            OperationName::Commit => "commit",
+            OperationName::CheckpointTurn => "ckturn",
+            OperationName::Check => "check",
+            OperationName::Status => "status",
+            OperationName::Wait => "wait",
+            OperationName::WriteDirect => "direct",
+            OperationName::SyncDirect => "sync",
         }
     }
 
@@ -286,14 +323,16 @@ impl fmt::Display for BadScript {
                 write!(f, "it is no JSON from line {line} column {column} on")
             }
             BadScript::NoObject => f.write_str("it is no JSON object"),
-            BadScript::UnknownKey(name) => write!(f, "key {name:?}: a script has no such key"),
-            BadScript::Key(key) => write!(f, "key {:?}: {}", key.name(), key.wanted()),
-            BadScript::WideHome => write!(
-                f,
-                "key {:?}: a number from 1 to 1099511627776 is wanted",
-                Key::Home.name()
-            ),
-            BadScript::Disagrees(key) => write!(f, "key {:?}: the device has another", key.name()),
+            BadScript::UnknownKey(name) => write_key(f, name.as_str(), "a script has no such key"),
+            BadScript::Key(key) => write_key(f, key.name(), key.wanted()),
+            BadScript::WideHome => {
+                write_key(
+                    f,
+                    Key::Home.name(),
+                    "a number from 1 to 1099511627776 is wanted",
+                )
+            }
+            BadScript::Disagrees(key) => write_key(f, key.name(), "the device has another"),
             BadScript::Operation(bad) => bad.fmt(f),
             BadScript::Clients => f.write_str(
                 "key \"clients\": a list of 1 to 64 lists with at most 100000 operations is wanted",
@@ -301,6 +340,11 @@ impl fmt::Display for BadScript {
             BadScript::Client(bad) => bad.fmt(f),
         }
     }
+}
+
+/// Writes what is wrong with a key.
+fn write_key<W: fmt::Write>(f: &mut fmt::Formatter<W>, name: &str, wrong: &str) -> fmt::Result {
+    write!(f, "key {name:?}: {wrong}")
 }
 
 impl fmt::Display for BadClient {

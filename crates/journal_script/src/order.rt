@@ -25,12 +25,12 @@ pub struct Misplaced {
 
 impl fmt::Display for Misplaced {
     fn fmt<W: fmt::Write>(&self, f: &mut fmt::Formatter<W>) -> fmt::Result {
-        let handle = self.handle;
-        match self.state {
-            State::Unused => write!(f, "handle {handle} was not started"),
-            State::Open => write!(f, "handle {handle} is open"),
-            State::Stopped => write!(f, "handle {handle} is stopped"),
-        }
+        let state = match self.state {
+            State::Unused => "was not started",
+            State::Open => "is open",
+            State::Stopped => "is stopped",
+        };
+        write!(f, "handle {} {state}", self.handle)
     }
 }
 

@@ -1,11 +1,12 @@
 //! Reads a script from the bytes of its file.
 ghost use Rattle.std.specs.Prelude.{◌≡◌, ◌≤◌, [], ◌∷◌, IfOk, IfSome, OnOk, Some, codes, false, length, map, replicate};
 ghost use Rattle.serde_json.specs.Data.{boolean, string};
-ghost use Rattle.serde_json.specs.Find.{as_str, get};
+ghost use Rattle.serde_json.specs.Find.{get};
 ghost use Rattle.serde_json.specs.Read.{read as read_text};
 ghost use Rattle.serde_json.specs.View.{view};
 ghost use Rattle.journal_script.specs.Line.{word_of};
 ghost use Rattle.journal_script.specs.Measures.{AreLimited, most_home_blocks};
+ghost use Rattle.journal_script.specs.Names.{name_word};
 ghost use Rattle.journal_script.specs.Text.{AgreesWith, AreArguments, AreOperations, HasOperations, IsAt, IsDefaultElse, IsElse, IsHexOf, IsOperation, IsScriptOf, IsTextOf, key_name, list_value, number_value};
 ghost use Rattle.journal_script.specs.declared.error.Key.TheVariants.{Home, Operations, Uuid, Wide};
 
@@ -83,12 +84,19 @@ fn read_members_over(
     ensures agrees { OnOk result (AgreesWith (view value.now) device.now) }
 {
     require_known_keys(alloc, members)?;
+    require_device(alloc, value, device)?;
+    read_ordered(alloc, list_of(value)?, device.block_size)
+}
+
+/// Fails where a script says something else of its device than this.
+fn require_device(alloc: Global, value: &Value, device: &Measures) -> Result<(), ScriptError>
+    ensures { OnOk result (AgreesWith (view value.now) device.now) }
+{
     require_number(value, Key::Block, device.block_size as u64)?;
     require_number(value, Key::Length, u64::from(device.log_blocks))?;
     require_number(value, Key::Home, device.home_blocks)?;
     require_uuid(alloc, value, &device.uuid)?;
-    require_width(value, device.wide)?;
-    read_ordered(alloc, list_of(value)?, device.block_size)
+    require_width(value, device.wide)
 }
 
 /// Fails where a key stands in a script, and not with this number.
@@ -136,11 +144,18 @@ fn require_width(value: &Value, wide: bool) -> Result<(), ScriptError>
 fn require_known_keys(alloc: Global, members: &Map<String, Value>) -> Result<(), ScriptError> {
     for (name, _) in members.iter() {
         if Key::named(name.as_str()).is_none() {
-            let name = String::from_str(alloc, name.as_str())?;
-            return Err(ScriptError::BadScript(BadScript::UnknownKey(name)));
+            return Err(unknown_key(alloc, name.as_str()));
         }
     }
     Ok(())
+}
+
+/// The fault of a key that a script has not.
+pub(crate) fn unknown_key(alloc: Global, name: &str) -> ScriptError {
+    match String::from_str(alloc, name) {
+        Ok(name) => ScriptError::BadScript(BadScript::UnknownKey(name)),
+        Err(e) => ScriptError::from(e),
+    }
 }
 
 /// The fault of a key that is not there, or whose value is none.
@@ -363,56 +378,85 @@ fn read_operations(
 fn read_operation(alloc: Global, value: &Value, block_size: usize) -> Result<Operation, Unread>
     ensures { IfOk result (λ operation. IsOperation operation (view value.now)) }
 {
-    let Some(words) = value.as_array() else {
-        return Err(Unread::Bad(OperationFault::NoName));
-    };
-    match words.as_slice() {
-        [name] => plain_operation(name),
-        [name, handle] => handle_operation(name, handle),
-        [name, first, second] => pair_operation(alloc, name, first, second, block_size),
-        [name, handle, block, hex] => write_operation(alloc, name, handle, block, hex, block_size),
-        [name, ..] => Err(wrong_form(name)),
-        [] => Err(Unread::Bad(OperationFault::NoName)),
+    match value.as_array() {
+        Some(words) => operation_of(alloc, words.as_slice(), block_size),
+        None => Err(Unread::Bad(OperationFault::NoName)),
     }
 }
 
-/// Why an operation of this name is none, in the form that it has.
-fn wrong_form(name: &Value) -> Unread {
-    let Some(name) = name.as_str() else {
-        return Unread::Bad(OperationFault::NoName);
+/// The operation that a list of these values is.
+fn operation_of(alloc: Global, words: &[Value], block_size: usize) -> Result<Operation, Unread>
+    ensures { IfOk result (λ operation. IsOperation operation (list_value (map view words.now))) }
+{
+    match words {
+        [] => Err(Unread::Bad(OperationFault::NoName)),
+        [name, arguments @ ..] => operation_called(alloc, name_of(name)?, arguments, block_size),
+    }
+}
+
+/// The name of an operation.
+fn name_of(value: &Value) -> Result<OperationName, Unread>
+    ensures { IfOk result (λ name. view value.now ≡ string (name_word name)) }
+{
+    let Some(text) = value.as_str() else {
+        return Err(Unread::Bad(OperationFault::NoName));
     };
-    Unread::Bad(match OperationName::called(name) {
-        Some(name) => OperationFault::Form(name),
-        None => OperationFault::UnknownName,
-    })
+    match OperationName::called(text) {
+        Some(name) => Ok(name),
+        None => Err(Unread::Bad(OperationFault::UnknownName)),
+    }
+}
+
+/// The operation of this name that is about these values.
+fn operation_called(
+    alloc: Global,
+    name: OperationName,
+    arguments: &[Value],
+    block_size: usize,
+) -> Result<Operation, Unread>
+    ensures named { IfOk result (λ operation. word_of operation ≡ name_word name) }
+    ensures arguments { IfOk result (λ operation. AreArguments operation (map view arguments.now)) }
+{
+    match arguments {
+        [] => plain_operation(name),
+        [handle] => handle_operation(name, handle),
+        [first, second] => pair_operation(alloc, name, first, second, block_size),
+        [handle, block, hex] => write_operation(alloc, name, handle, block, hex, block_size),
+        _ => Err(wrong_form(name)),
+    }
+}
+
+/// Why an operation of this name is none that has not its form.
+fn wrong_form(name: OperationName) -> Unread {
+    Unread::Bad(OperationFault::Form(name))
 }
 
 /// An operation that is a name alone.
-fn plain_operation(name: &Value) -> Result<Operation, Unread>
-    ensures named { IfOk result (λ operation. as_str (view name.now) ≡ Some (word_of operation)) }
+fn plain_operation(name: OperationName) -> Result<Operation, Unread>
+    ensures named { IfOk result (λ operation. word_of operation ≡ name_word name) }
     ensures arguments { IfOk result (λ operation. AreArguments operation []) }
 {
-    match name.as_str() {
-        Some("lock") => Ok(Operation::Lock),
-        Some("turn") => Ok(Operation::Turn),
-        Some("commit") => Ok(Operation::Commit),
-        Some("ckturn") => Ok(Operation::CheckpointTurn),
-        Some("check") => Ok(Operation::Check),
-        Some("sync") => Ok(Operation::SyncDirect),
+    match name {
+        OperationName::Lock => Ok(Operation::Lock),
+        OperationName::Turn => Ok(Operation::Turn),
+        OperationName::Commit => Ok(Operation::Commit),
+        OperationName::CheckpointTurn => Ok(Operation::CheckpointTurn),
+        OperationName::Check => Ok(Operation::Check),
+        OperationName::SyncDirect => Ok(Operation::SyncDirect),
         _ => Err(wrong_form(name)),
     }
 }
 
 /// An operation of a handle.
-fn handle_operation(name: &Value, handle: &Value) -> Result<Operation, Unread>
-    ensures named { IfOk result (λ operation. as_str (view name.now) ≡ Some (word_of operation)) }
+fn handle_operation(name: OperationName, handle: &Value) -> Result<Operation, Unread>
+    ensures named { IfOk result (λ operation. word_of operation ≡ name_word name) }
     ensures arguments { IfOk result (λ operation. AreArguments operation (view handle.now ∷ [])) }
 {
-    match name.as_str() {
-        Some("stop") => Ok(Operation::Stop(handle_of(handle)?)),
-        Some("request") => Ok(Operation::Request(handle_of(handle)?)),
-        Some("status") => Ok(Operation::Status(handle_of(handle)?)),
-        Some("wait") => Ok(Operation::Wait(handle_of(handle)?)),
+    match name {
+        OperationName::Stop => Ok(Operation::Stop(handle_of(handle)?)),
+        OperationName::Request => Ok(Operation::Request(handle_of(handle)?)),
+        OperationName::Status => Ok(Operation::Status(handle_of(handle)?)),
+        OperationName::Wait => Ok(Operation::Wait(handle_of(handle)?)),
         _ => Err(wrong_form(name)),
     }
 }
@@ -420,16 +464,16 @@ fn handle_operation(name: &Value, handle: &Value) -> Result<Operation, Unread>
 /// An operation of two values: a direct write, or an operation of a handle and a number.
 fn pair_operation(
     alloc: Global,
-    name: &Value,
+    name: OperationName,
     first: &Value,
     second: &Value,
     block_size: usize,
 ) -> Result<Operation, Unread>
-    ensures named { IfOk result (λ operation. as_str (view name.now) ≡ Some (word_of operation)) }
+    ensures named { IfOk result (λ operation. word_of operation ≡ name_word name) }
     ensures arguments { IfOk result (λ operation. AreArguments operation (view first.now ∷ view second.now ∷ [])) }
 {
-    match name.as_str() {
-        Some("direct") => direct_operation(alloc, first, second, block_size),
+    match name {
+        OperationName::WriteDirect => direct_operation(alloc, first, second, block_size),
         _ => number_operation(name, first, second),
     }
 }
@@ -450,29 +494,33 @@ fn direct_operation(
 }
 
 /// An operation of a handle and a number: credits, or a block.
-fn number_operation(name: &Value, handle: &Value, number: &Value) -> Result<Operation, Unread>
-    ensures named { IfOk result (λ operation. as_str (view name.now) ≡ Some (word_of operation)) }
+fn number_operation(
+    name: OperationName,
+    handle: &Value,
+    number: &Value,
+) -> Result<Operation, Unread>
+    ensures named { IfOk result (λ operation. word_of operation ≡ name_word name) }
     ensures arguments { IfOk result (λ operation. AreArguments operation (view handle.now ∷ view number.now ∷ [])) }
 {
-    match name.as_str() {
-        Some("start") => {
+    match name {
+        OperationName::Start => {
             let handle = handle_of(handle)?;
             Ok(Operation::Start(handle, number_of(number)?))
         }
-        Some("extend") => {
+        OperationName::Extend => {
             let handle = handle_of(handle)?;
             Ok(Operation::Extend(handle, number_of(number)?))
         }
-        Some("restart") => {
+        OperationName::Restart => {
             let handle = handle_of(handle)?;
             Ok(Operation::Restart(handle, number_of(number)?))
         }
-        Some("revoke") => {
+        OperationName::Revoke => {
             let handle = handle_of(handle)?;
             let number = number_of(number)?;
             Ok(Operation::Revoke(handle, BlockNo(number)))
         }
-        Some("read") => {
+        OperationName::Read => {
             let handle = handle_of(handle)?;
             let number = number_of(number)?;
             Ok(Operation::Read(handle, BlockNo(number)))
@@ -484,16 +532,16 @@ fn number_operation(name: &Value, handle: &Value, number: &Value) -> Result<Oper
 /// An operation of a handle, a block and its bytes, where a block has so many.
 fn write_operation(
     alloc: Global,
-    name: &Value,
+    name: OperationName,
     handle: &Value,
     block: &Value,
     hex: &Value,
     block_size: usize,
 ) -> Result<Operation, Unread>
-    ensures named { IfOk result (λ operation. as_str (view name.now) ≡ Some (word_of operation)) }
+    ensures named { IfOk result (λ operation. word_of operation ≡ name_word name) }
     ensures arguments { IfOk result (λ operation. AreArguments operation (view handle.now ∷ view block.now ∷ view hex.now ∷ [])) }
 {
-    let Some("write") = name.as_str() else {
+    let OperationName::Write = name else {
         return Err(wrong_form(name));
     };
     let handle = handle_of(handle)?;

@@ -1,10 +1,8 @@
-use Rattle.std.proofs.Common.{arith, sym, subst}
-use Rattle.std.specs.Prelude.{◌<◌, ◌≤◌, List, Option, All, IfSome}
-use Rattle.std.specs.BTreeSet.{keys}
+use Rattle.std.proofs.Common.{sym, subst}
+use Rattle.std.specs.Prelude.{◌≤◌, ◌<◌, List, Option, All, IfSome}
 use Rattle.std.proofs.lemmas.List.Elements.{All-push}
-use Rattle.journal_script.specs.Clients.{HasTouched, IsServable, touched}
+use Rattle.journal_script.specs.Clients.{IsServable, touched}
 use Rattle.journal_script.specs.declared.clients.ClientHandle.{ClientHandle}
-use Rattle.journal_script.specs.declared.clients.ClientTouch.{ClientTouch}
 use Rattle.journal_script.specs.declared.clients.OpenHandle.{OpenHandle}
 use Rattle.journal_script.proofs.clients.stopped.Goals as goal
 
@@ -19,9 +17,9 @@ returns-clause-servable c =
           (record {
             few = subst (λ (o : Option OpenHandle). IfSome o (λ h. h.credits ≤ limits.capacity)) c.in-Some.is c.requires.few;
             there = subst (λ (o : Option OpenHandle). IfSome o (λ h. All (λ t. touched t < limits.home_blocks) h.touches.items)) c.in-Some.is c.requires.there;
-            different = keys c.note_blocks.new.blocks;
-            enough = omega (arith, c.len.ensures.len, c.if-len-handle.false);
-            has = subst (λ (ts : List ClientTouch). HasTouched ts (keys c.note_blocks.new.blocks)) c.deref.ensures.value c.in_ok-note_blocks.ensures.notes;
+            different = c.in_ok-require_credits.ensures.different;
+            enough = c.in_ok-require_credits.ensures.enough;
+            has = c.in_ok-require_credits.ensures.has;
           }));
       few = tt;
       there = tt;
