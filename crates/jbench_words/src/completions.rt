@@ -1,5 +1,5 @@
 //! What a shell is told so that it completes the words of the program.
-use crate::usage::{COMMANDS, Usage};
+use crate::usage::{Usage, commands};
 use std::io;
 use std::io::Write;
 
@@ -43,24 +43,38 @@ pub fn write_completions<W: Write>(shell: Shell, out: &mut W) -> io::Result<()> 
     }
 }
 
+/// How the function of bash begins, up to the commands.
+const BASH_BEGINS: &str = "\
+_jbench() {
+    local last=${COMP_WORDS[COMP_CWORD]} list=
+    case $COMP_CWORD,${COMP_WORDS[1]},$last in
+    1,*) list='--help --version";
+
+/// How the function of bash ends, behind the options of the commands.
+const BASH_ENDS: &str = "    2,completions,*) list='bash zsh fish' ;;
+    esac
+    COMPREPLY=($(compgen -W \"$list\" -- \"$last\"))
+}
+complete -o default -F _jbench jbench
+";
+
 /// Writes a function of bash, which is called with the words that stand there, and looks at the place of the last one, the command and
 /// the last one itself.
 fn write_bash<W: Write>(out: &mut W) -> io::Result<()> {
-    writeln!(out, "_jbench() {{")?;
-    writeln!(out, "    local last=${{COMP_WORDS[COMP_CWORD]}} list=")?;
-    writeln!(out, "    case $COMP_CWORD,${{COMP_WORDS[1]}},$last in")?;
-    write!(out, "    1,*) list='--help --version")?;
-    for usage in COMMANDS {
-        write!(out, " {}", usage.name)?;
-    }
-    writeln!(out, "' ;;")?;
-    for usage in COMMANDS {
+    write!(out, "{BASH_BEGINS}")?;
+    write_names(out)?;
+    for usage in &commands() {
         write_bash_command(usage, out)?;
     }
-    writeln!(out, "    2,completions,*) list='bash zsh fish' ;;")?;
-    writeln!(out, "    esac")?;
-    writeln!(out, "    COMPREPLY=($(compgen -W \"$list\" -- \"$last\"))")?;
-    writeln!(out, "}}\ncomplete -o default -F _jbench jbench")
+    write!(out, "{BASH_ENDS}")
+}
+
+/// Writes the names of the commands, which end the line that `BASH_BEGINS` begins.
+fn write_names<W: Write>(out: &mut W) -> io::Result<()> {
+    for usage in &commands() {
+        write!(out, " {}", usage.name)?;
+    }
+    writeln!(out, "' ;;")
 }
 
 /// Writes which options a command has, for bash.
@@ -77,7 +91,7 @@ fn write_bash_command<W: Write>(usage: &Usage, out: &mut W) -> io::Result<()> {
 /// Writes the commands of fish.
 fn write_fish<W: Write>(out: &mut W) -> io::Result<()> {
     writeln!(out, "complete -c jbench -l help -d \"Print help\"")?;
-    for usage in COMMANDS {
+    for usage in &commands() {
         write_fish_command(usage, out)?;
     }
     writeln!(

@@ -1,6 +1,6 @@
 //! The page of the program for `man`.
 use crate::program::VERSION;
-use crate::usage::{COMMANDS, PROGRAM, Usage, Word};
+use crate::usage::{PROGRAM, Usage, Word, commands};
 use std::io;
 use std::io::Write;
 
@@ -17,7 +17,7 @@ pub fn write_manual<W: Write>(out: &mut W) -> io::Result<()> {
     writeln!(out, ".SH SYNOPSIS\n.B jbench\nCOMMAND [OPTIONS]")?;
     writeln!(out, ".SH DESCRIPTION\n{}.", PROGRAM.about)?;
     writeln!(out, ".SH COMMANDS")?;
-    for usage in COMMANDS {
+    for usage in &commands() {
         write_command(usage, out)?;
     }
     Ok(())
@@ -25,20 +25,32 @@ pub fn write_manual<W: Write>(out: &mut W) -> io::Result<()> {
 
 /// Writes the part of a command.
 fn write_command<W: Write>(usage: &Usage, out: &mut W) -> io::Result<()> {
+    write_form(usage, out)?;
+    writeln!(out, "\n{}.", usage.about)?;
+    write_options(usage.words, out)?;
+    writeln!(out, ".PP")?;
+    write_text(usage.after_help, out)
+}
+
+/// Writes the name of a command, and the values that have to stand behind it.
+fn write_form<W: Write>(usage: &Usage, out: &mut W) -> io::Result<()> {
     write!(out, ".SS {}", usage.name)?;
     for word in usage.words {
         if !word.is_option {
             write!(out, " {}", word.value)?;
         }
     }
-    writeln!(out, "\n{}.", usage.about)?;
-    for word in usage.words {
+    Ok(())
+}
+
+/// Writes those of the words that are options.
+fn write_options<W: Write>(words: &[Word], out: &mut W) -> io::Result<()> {
+    for word in words {
         if word.is_option {
             write_option(word, out)?;
         }
     }
-    writeln!(out, ".PP")?;
-    write_text(usage.after_help, out)
+    Ok(())
 }
 
 /// Writes an option.

@@ -1,5 +1,5 @@
 //! The program and its commands as `clap` has them.
-use crate::usage::{COMMANDS, PROGRAM, Usage, Word, usage_named};
+use crate::usage::{PROGRAM, Usage, Word, commands, usage_named};
 use clap::{Arg, ArgAction, Command};
 use std::alloc::{AllocError, Global};
 
@@ -39,30 +39,27 @@ fn bare_command<'a>(alloc: Global, usage: &Usage) -> Command<'a> {
         .after_help(usage.after_help)
 }
 
-/// A command with these words behind it.
-fn with_words<'a>(
-    alloc: Global,
-    mut command: Command<'a>,
-    words: &[Word],
-) -> Result<Command<'a>, AllocError> {
+/// Words as `clap` has them.
+fn args_of<'a>(alloc: Global, words: &[Word]) -> Result<Vec<Arg<'a>>, AllocError> {
+    let mut args = Vec::new(alloc);
     for word in words {
-        command = command.arg(arg_of(alloc, word))?;
+        args.push(arg_of(alloc, word))?;
     }
-    Ok(command)
+    Ok(args)
 }
 
 /// A command as `clap` has it.
 fn command_of<'a>(alloc: Global, usage: &Usage) -> Result<Command<'a>, AllocError> {
-    with_words(alloc, bare_command(alloc, usage), usage.words)
+    bare_command(alloc, usage).args(args_of(alloc, usage.words)?)
 }
 
 /// The commands of the program.
-fn commands<'a>(alloc: Global) -> Result<Vec<Command<'a>>, AllocError> {
-    let mut commands = Vec::new(alloc);
-    for usage in COMMANDS {
-        commands.push(command_of(alloc, usage)?)?;
+fn all_commands<'a>(alloc: Global) -> Result<Vec<Command<'a>>, AllocError> {
+    let mut all = Vec::new(alloc);
+    for usage in &commands() {
+        all.push(command_of(alloc, usage)?)?;
     }
-    Ok(commands)
+    Ok(all)
 }
 
 /// The program with these commands.
@@ -77,7 +74,7 @@ fn program_with<'a>(alloc: Global, commands: Vec<Command<'a>>) -> Result<Command
 
 /// The program.
 pub(crate) fn program<'a>(alloc: Global) -> Result<Command<'a>, AllocError> {
-    program_with(alloc, commands(alloc)?)
+    program_with(alloc, all_commands(alloc)?)
 }
 
 /// A command as a program of its own.

@@ -98,7 +98,7 @@ fn failing_call(matches: &ArgMatches<'_>) -> Result<Option<u64>, Wanted> {
 fn run_words<'a>(alloc: Global, matches: &ArgMatches<'a>) -> Result<RunWords<'a>, Wanted> {
     let run = run_stop(alloc, matches)?;
     Ok(RunWords {
-        script: matches.get_str("script").unwrap_or(""),
+        script: script_told(matches),
         failing_call: failing_call(matches)?,
         run,
         opening: opening_stop(alloc, matches)?,
@@ -169,7 +169,7 @@ fn format_words<'a>(alloc: Global, matches: &ArgMatches<'a>) -> Result<FormatWor
 /// What `sweep` is told.
 fn sweep_words<'a>(matches: &ArgMatches<'a>) -> SweepWords<'a> {
     SweepWords {
-        script: matches.get_str("script").unwrap_or(""),
+        script: script_told(matches),
         fails: matches.get_flag("fail"),
         json: matches.get_flag("json"),
     }
@@ -178,7 +178,7 @@ fn sweep_words<'a>(matches: &ArgMatches<'a>) -> SweepWords<'a> {
 /// The files of the log that a command is told.
 fn log_paths<'a>(matches: &ArgMatches<'a>) -> LogPaths<'a> {
     LogPaths {
-        log: matches.get_str("log").unwrap_or(""),
+        log: log_told(matches),
         home: matches.get_str("home_file").unwrap_or(""),
     }
 }
@@ -196,7 +196,7 @@ fn recover_words<'a>(matches: &ArgMatches<'a>) -> RecoverWords<'a> {
 fn apply_words<'a>(matches: &ArgMatches<'a>) -> ApplyWords<'a> {
     ApplyWords {
         paths: log_paths(matches),
-        script: matches.get_str("script").unwrap_or(""),
+        script: script_told(matches),
         stay: matches.get_flag("stay"),
         keep_going: matches.get_flag("keep-going"),
     }
@@ -220,46 +220,44 @@ fn shell_told(matches: &ArgMatches<'_>) -> Result<Shell, Wanted> {
     Shell::named(matches.get_str("shell").unwrap_or("")).ok_or(Wanted::Shell)
 }
 
+/// The script's file that a command is told.
+fn script_told<'a>(matches: &ArgMatches<'a>) -> &'a str {
+    matches.get_str("script").unwrap_or("")
+}
+
+/// The log's file that a command is told.
+fn log_told<'a>(matches: &ArgMatches<'a>) -> &'a str {
+    matches.get_str("log").unwrap_or("")
+}
+
 /// What a command is told.
 pub(crate) fn words_of<'a>(alloc: Global, matches: &ArgMatches<'a>) -> Result<Words<'a>, Wanted> {
-    if let Some(run) = matches.subcommand_matches("run") {
-        return run_words(alloc, run).map(Words::Run);
-    }
-    if let Some(sweep) = matches.subcommand_matches("sweep") {
-        return Ok(Words::Sweep(sweep_words(sweep)));
-    }
-    if let Some(check) = matches.subcommand_matches("check") {
-        return Ok(Words::Check(check.get_str("script").unwrap_or("")));
-    }
-    if let Some(threads) = matches.subcommand_matches("threads") {
-        return Ok(Words::Threads(threads.get_str("script").unwrap_or("")));
-    }
-    if let Some(format) = matches.subcommand_matches("format") {
-        return format_words(alloc, format).map(Words::Format);
-    }
-    if let Some(recover) = matches.subcommand_matches("recover") {
-        return Ok(Words::Recover(recover_words(recover)));
-    }
-    if let Some(apply) = matches.subcommand_matches("apply") {
-        return Ok(Words::Apply(apply_words(apply)));
-    }
-    if let Some(bench) = matches.subcommand_matches("bench") {
-        return bench_words(bench).map(Words::Bench);
-    }
-    if let Some(upgrade) = matches.subcommand_matches("upgrade") {
-        return Ok(Words::Upgrade(upgrade.get_str("log").unwrap_or("")));
-    }
-    if let Some(show) = matches.subcommand_matches("show") {
-        return Ok(Words::Show(show.get_str("log").unwrap_or("")));
-    }
-    if let Some(completions) = matches.subcommand_matches("completions") {
-        return Ok(Words::Completions(shell_told(completions)?));
-    }
-    if matches.subcommand_matches("man").is_some() {
-        return Ok(Words::Man);
-    }
-    match matches.subcommand_matches("dump") {
-        Some(dump) => Ok(Words::Dump(dump.get_str("log").unwrap_or(""))),
+    match matches.subcommand() {
+        Some((name, told)) => command_words(alloc, name, told),
         None => Err(Wanted::Command),
+    }
+}
+
+/// What the command of this name is told.
+fn command_words<'a>(
+    alloc: Global,
+    name: &str,
+    told: &ArgMatches<'a>,
+) -> Result<Words<'a>, Wanted> {
+    match name {
+        "run" => run_words(alloc, told).map(Words::Run),
+        "sweep" => Ok(Words::Sweep(sweep_words(told))),
+        "check" => Ok(Words::Check(script_told(told))),
+        "threads" => Ok(Words::Threads(script_told(told))),
+        "format" => format_words(alloc, told).map(Words::Format),
+        "dump" => Ok(Words::Dump(log_told(told))),
+        "show" => Ok(Words::Show(log_told(told))),
+        "recover" => Ok(Words::Recover(recover_words(told))),
+        "upgrade" => Ok(Words::Upgrade(log_told(told))),
+        "apply" => Ok(Words::Apply(apply_words(told))),
+        "bench" => bench_words(told).map(Words::Bench),
+        "completions" => Ok(Words::Completions(shell_told(told)?)),
+        "man" => Ok(Words::Man),
+        _ => Err(Wanted::Command),
     }
 }

@@ -615,25 +615,27 @@ Example: jbench man > jbench.1 && man ./jbench.1",
 };
 
 /// The commands, as the help names them.
-pub(crate) const COMMANDS: [&Usage; 13] = [
-    &RUN,
-    &SWEEP,
-    &CHECK,
-    &THREADS,
-    &FORMAT,
-    &DUMP,
-    &SHOW,
-    &RECOVER,
-    &UPGRADE,
-    &APPLY,
-    &BENCH,
-    &COMPLETIONS,
-    &MAN,
-];
+pub(crate) fn commands() -> [&'static Usage; 13] {
+    [
+        &RUN,
+        &SWEEP,
+        &CHECK,
+        &THREADS,
+        &FORMAT,
+        &DUMP,
+        &SHOW,
+        &RECOVER,
+        &UPGRADE,
+        &APPLY,
+        &BENCH,
+        &COMPLETIONS,
+        &MAN,
+    ]
+}
 
 /// What the command of this name is, if there is one.
 pub(crate) fn usage_named(name: &str) -> Option<&'static Usage> {
-    for usage in COMMANDS {
+    for usage in &commands() {
         if usage.name == name {
             return Some(usage);
         }
