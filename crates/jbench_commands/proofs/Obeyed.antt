@@ -3,9 +3,9 @@ use Rattle.std.proofs.Common.{◌≡◌, List, Option, refl, subst, sym, ℕ}
 use Rattle.std.specs.Prelude.{Bool, true, false, None, Some}
 use Rattle.block_device.specs.State.{DeviceState}
 use Rattle.file_device.specs.Files.{FileState}
+use Rattle.jbench_files.specs.Over.{IsOver}
+use Rattle.jbench_files.specs.declared.pairs.LockedPair.{LockedPair}
 use Rattle.jbench_logs.specs.Done.{IsFoundOut, IsRecovered, IsRecoveredBefore}
-use Rattle.jbench_logs.specs.Over.{IsOver}
-use Rattle.jbench_logs.specs.declared.pairs.LockedPair.{LockedPair}
 use Rattle.jbench_words.specs.declared.words.LogPaths.{LogPaths}
 use Rattle.jbench_words.specs.declared.words.RunWords.{RunWords}
 use Rattle.script_run.specs.Left.{IsRunOf}

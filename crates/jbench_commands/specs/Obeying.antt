@@ -11,11 +11,11 @@ use Rattle.jbench_words.specs.declared.words.ApplyWords.{ApplyWords}
 use Rattle.jbench_words.specs.declared.words.FormatWords.{FormatWords}
 use Rattle.jbench_words.specs.declared.words.Words.{Words}
 use Rattle.jbench_words.specs.declared.words.Words.TheVariants.{Run, Sweep, Check, Threads, Format, Dump, Show, Recover, Upgrade, Apply, Bench, Completions, Man}
-use Rattle.jbench_logs.specs.Apart.{AreApart}
-use Rattle.jbench_logs.specs.Cleared.{cleared, log_cleared}
+use Rattle.jbench_files.specs.Apart.{AreApart}
+use Rattle.jbench_files.specs.Cleared.{cleared, log_cleared}
+use Rattle.jbench_files.specs.Over.{IsOver}
+use Rattle.jbench_files.specs.declared.regular.RegularFile.{RegularFile}
 use Rattle.jbench_logs.specs.Done.{HasUpgraded, IsFoundOut, IsMade, IsRecovered, IsRecoveredBefore}
-use Rattle.jbench_logs.specs.Over.{IsOver}
-use Rattle.jbench_logs.specs.declared.regular.RegularFile.{RegularFile}
 use Rattle.jbench_commands.specs.Applying.{IsDoneTo, after_told, ending_told}
 use Rattle.jbench_commands.specs.Runs.{HasRun, HasTakenEither, runs_told}
 use Rattle.jbench_commands.specs.Sweeps.{HasSwept}

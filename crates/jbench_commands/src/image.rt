@@ -1,7 +1,7 @@
 //! The files that take the image of a run.
 use crate::run::MakeImage;
 use file_device::{FileDevice, UnknownContents};
-use jbench_logs::{Cleared, LogPair, make_device};
+use jbench_files::{Cleared, LogPair, make_device};
 use journal_script::Measures;
 use std::alloc::Global;
 use std::io;

@@ -1,5 +1,5 @@
 //! The commands of the program `jbench`: what they print, and how they end. Each takes its reader or device and its two writers
-//! from the caller; `obeying` opens the files that the words name, by `jbench_logs`, and `progress` is the line on a terminal that
+//! from the caller; `obeying` opens the files that the words name, by `jbench_files`, and `progress` is the line on a terminal that
 //! shows how far a command is.
 //!
 //! Over the files of a log `apply` does a script's operations; the commands that need no more than a log are in `jbench_logs`. Over a

@@ -3,7 +3,7 @@ ghost use Rattle.std.specs.Prelude.{◌≡◌, ◌≢◌, ◌↔◌, ◌<◌, �
 ghost use Rattle.journal_model.specs.Disk.{reading};
 ghost use Rattle.log_dump.specs.Dumping.{HasDump, shape_of};
 ghost use Rattle.jbench_words.specs.declared.fault.Status.TheVariants.{Fine, Refused, VerdictFalse};
-ghost use Rattle.jbench_logs.specs.Cleared.{cleared, log_cleared};
+ghost use Rattle.jbench_files.specs.Cleared.{cleared, log_cleared};
 ghost use Rattle.jbench_logs.specs.Done.{HasUpgraded, IsMade};
 ghost use Rattle.jbench_commands.specs.Obeying.{HasFoundWrong, HasObeyed, IsAppliedOver, IsBenchDone, IsDoneOver, IsFormatDone, IsOverAny, IsOverTwo, Recovers};
 ghost use Rattle.jbench_commands.specs.Runs.{HasRun, HasTakenEither, runs_told};
@@ -15,11 +15,12 @@ use crate::progress::Progress;
 use crate::{apply, check, run, sweep};
 use commit_times::bench;
 use file_device::{Contents, FileDevice};
-use jbench_logs::{
-    LogPair, RegularFile, device_of, device_to_read, home_bytes, logs, make_device,
-    make_log_device, open_log, open_log_to_write, open_or_make_log, open_or_make_pair, open_pair,
-    open_pair_to_read, open_script, open_to_read, recovering, show,
+use jbench_files::{
+    LogPair, RegularFile, device_of, device_to_read, home_bytes, make_device, make_log_device,
+    open_log, open_log_to_write, open_or_make_log, open_or_make_pair, open_pair, open_pair_to_read,
+    open_script, open_to_read,
 };
+use jbench_logs::{logs, recovering, show};
 use jbench_words::completions::{Shell, write_completions};
 use jbench_words::fault::{self, Fault, Status, refuse_file};
 use jbench_words::manual::write_manual;

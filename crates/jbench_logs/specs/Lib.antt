@@ -1,5 +1,2 @@
-pub mod Apart
-pub mod Cleared
 pub mod Done
-pub mod Over
 pub mod Said

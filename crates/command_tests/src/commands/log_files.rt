@@ -1,8 +1,8 @@
 //! The commands `format` and `dump`, over files.
 use super::text_of;
 use file_device::{FileDevice, UnknownContents};
+use jbench_files::{Cleared, make_device, open_log, open_or_make_pair};
 use jbench_logs::logs::{dump, format};
-use jbench_logs::{Cleared, make_device, open_log, open_or_make_pair};
 use jbench_words::words::LogPaths;
 use journal_script::{DEFAULTS, Measures};
 use std::alloc::Global;

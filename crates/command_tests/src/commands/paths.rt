@@ -1,5 +1,5 @@
 //! Files that can't be opened, and words that are no text.
-use jbench_logs::{open_or_make_pair, open_pair, open_to_read};
+use jbench_files::{open_or_make_pair, open_pair, open_to_read};
 use jbench_words::arguments::{self, Arguments};
 use jbench_words::words::LogPaths;
 use std::alloc::Global;

@@ -2,7 +2,7 @@
 ghost use Rattle.std.specs.Prelude.{◌≡◌, ◌*◌, ◌-◌, ◌^◌, min, IfOk, None};
 ghost use Rattle.journal_model.specs.declared.number.Area.TheVariants.{Home, Log};
 ghost use Rattle.log_format.specs.Size.{IsBlockSize};
-ghost use Rattle.jbench_logs.specs.Over.{IsOver};
+ghost use Rattle.jbench_files.specs.Over.{IsOver};
 
 use crate::locked::{take, take_shared};
 use crate::pairs::{HomeFile, KeptPair, LogFile, LogPair, ReadPair};
@@ -23,7 +23,7 @@ use std::os::unix::fs::FileExt;
 pub struct Cleared<C: Contents>(C);
 
 impl<C: Contents> Contents for Cleared<C> {
-    ghost use Rattle.jbench_logs.specs.Cleared.{cleared};
+    ghost use Rattle.jbench_files.specs.Cleared.{cleared};
 
     ghost contents = { cleared C.contents };
 }
@@ -34,7 +34,7 @@ impl<C: Contents> Contents for Cleared<C> {
 pub struct LogCleared<C: Contents>(C);
 
 impl<C: Contents> Contents for LogCleared<C> {
-    ghost use Rattle.jbench_logs.specs.Cleared.{log_cleared};
+    ghost use Rattle.jbench_files.specs.Cleared.{log_cleared};
 
     ghost contents = { log_cleared C.contents };
 }

@@ -1,7 +1,7 @@
 //! Regular files: how one is opened so that what it holds stays, and which one it is.
 ghost use Rattle.std.specs.Prelude.{◌≡◌, ◌≤◌, ◌↔◌, false, true, IfOk, IsOk};
 ghost use Rattle.std.specs.Fs.{asks_create_new, asks_truncate, metadata_len};
-ghost use Rattle.jbench_logs.specs.Apart.{AreApart};
+ghost use Rattle.jbench_files.specs.Apart.{AreApart};
 
 use std::fs::{File, Files, Metadata, OpenOptions};
 use std::io::ErrorKind;

@@ -1,6 +1,6 @@
 //! The two files of a log, each of which is opened and locked before either is read.
 ghost use Rattle.std.specs.Prelude.{◌≡◌, IfOk, IfSome};
-ghost use Rattle.jbench_logs.specs.Apart.{AreApart};
+ghost use Rattle.jbench_files.specs.Apart.{AreApart};
 
 use crate::locked::{LockedFile, take, take_shared};
 use crate::regular::{

@@ -1,6 +1,6 @@
 -- Files that are two. This project's own.
 use Rattle.std.specs.Prelude.{◌≡◌}
-use Rattle.jbench_logs.specs.declared.regular.RegularFile.{RegularFile}
+use Rattle.jbench_files.specs.declared.regular.RegularFile.{RegularFile}
 
 -- the system tells them apart
 abbrev pub AreApart : RegularFile → RegularFile → Type 0
