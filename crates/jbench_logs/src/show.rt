@@ -91,13 +91,23 @@ fn show_superblock(bytes: &[u8], blocks: u64, out: &mut impl Write) -> io::Resul
     requires { 1024 ≤ length bytes.now }
 {
     writeln!(out, "log blocks={blocks} blocksize={}", bytes.len())?;
-    let fields = Super::fields(bytes);
     show_header(bytes, out)?;
-    show_lengths(&fields, bytes.len(), blocks, out)?;
-    show_tail(&fields, out)?;
-    show_features(&fields, out)?;
+    show_fields(&Super::fields(bytes), bytes.len(), blocks, out)?;
     show_rest(bytes, out)?;
-    tell(bytes, &fields, blocks, out)
+    tell(bytes, blocks, out)
+}
+
+/// Prints the fields that an opening reads, of a log in blocks of so many bytes, which has so many of them.
+fn show_fields(
+    fields: &Super,
+    block_size: usize,
+    blocks: u64,
+    out: &mut impl Write,
+) -> io::Result<()> {
+    show_lengths(fields, block_size, blocks, out)?;
+    show_tail(fields, out)?;
+    show_features(fields, out)?;
+    show_users(fields, out)
 }
 
 /// The number at a place of a superblock.
@@ -105,6 +115,16 @@ fn number(bytes: &[u8], at: usize) -> u32
     requires { at + 4 ≤ length bytes.now }
 {
     BigEndian::read_u32(&bytes[at..])
+}
+
+/// Prints a field that is a number.
+fn show_number(out: &mut impl Write, name: &str, number: u32) -> io::Result<()> {
+    writeln!(out, "{name} {number}")
+}
+
+/// Prints a field that is bytes.
+fn show_bytes(out: &mut impl Write, name: &str, bytes: &[u8]) -> io::Result<()> {
+    writeln!(out, "{name} {}", Hex(bytes))
 }
 
 /// Says below a field that does not pass its test which refusal it comes to, and what is wanted of it.
@@ -120,7 +140,7 @@ fn say_test(out: &mut impl Write, passes: bool, e: JournalError, wanted: &str) -
 fn show_header(bytes: &[u8], out: &mut impl Write) -> io::Result<()>
     requires { 1024 ≤ length bytes.now }
 {
-    writeln!(out, "h_magic {}", Hex(&bytes[..4]))?;
+    show_bytes(out, "h_magic", &bytes[..4])?;
     say_test(
         out,
         bytes.starts_with(&MAGIC),
@@ -128,14 +148,14 @@ fn show_header(bytes: &[u8], out: &mut impl Write) -> io::Result<()>
         "c03b3998",
     )?;
     let block_type = number(bytes, 4);
-    writeln!(out, "h_blocktype {block_type}")?;
+    show_number(out, "h_blocktype", block_type)?;
     say_test(
         out,
         block_type == SUPER_TYPE,
         JournalError::BadType,
         "4, a superblock of version 2",
     )?;
-    writeln!(out, "h_sequence {}", number(bytes, 8))
+    show_number(out, "h_sequence", number(bytes, 8))
 }
 
 /// Prints the fields of lengths and places, of a log in blocks of so many bytes, which has so many of them.
@@ -145,8 +165,8 @@ fn show_lengths(
     blocks: u64,
     out: &mut impl Write,
 ) -> io::Result<()> {
+    show_number(out, "s_blocksize", fields.s_blocksize)?;
     let size = u64::from(fields.s_blocksize);
-    writeln!(out, "s_blocksize {size}")?;
     let passes = is_block_size(size) && size == block_size as u64;
     say_test(
         out,
@@ -155,7 +175,7 @@ fn show_lengths(
         "1024, 2048 or 4096",
     )?;
     let length = fields.s_maxlen;
-    writeln!(out, "s_maxlen {length}")?;
+    show_number(out, "s_maxlen", length)?;
     let passes = LEAST_LENGTH <= length && length <= GREATEST_LENGTH && u64::from(length) <= blocks;
     say_test(
         out,
@@ -164,7 +184,7 @@ fn show_lengths(
         "17 to 1048576, and no more than the log has blocks",
     )?;
     let first = fields.s_first;
-    writeln!(out, "s_first {first}")?;
+    show_number(out, "s_first", first)?;
     let passes = first > 0 && length.saturating_sub(first) >= LEAST_RING;
     say_test(
         out,
@@ -176,9 +196,9 @@ fn show_lengths(
 
 /// Prints the fields of the tail and of an error.
 fn show_tail(fields: &Super, out: &mut impl Write) -> io::Result<()> {
-    writeln!(out, "s_sequence {}", fields.s_sequence)?;
+    show_number(out, "s_sequence", fields.s_sequence)?;
     let start = fields.s_start;
-    writeln!(out, "s_start {start}")?;
+    show_number(out, "s_start", start)?;
     let passes = start == 0 || (fields.s_first <= start && start < fields.s_maxlen);
     say_test(
         out,
@@ -186,7 +206,7 @@ fn show_tail(fields: &Super, out: &mut impl Write) -> io::Result<()> {
         JournalError::BadStart,
         "0, of a clean log, or a place from s_first on and below s_maxlen",
     )?;
-    writeln!(out, "s_errno {}", fields.s_errno)?;
+    show_number(out, "s_errno", fields.s_errno)?;
     say_test(
         out,
         fields.s_errno == 0,
@@ -195,24 +215,32 @@ fn show_tail(fields: &Super, out: &mut impl Write) -> io::Result<()> {
     )
 }
 
-/// Prints the fields of features, the UUID, and the count of users.
+/// Prints the fields of features.
 fn show_features(fields: &Super, out: &mut impl Write) -> io::Result<()> {
     let compatible = fields.s_feature_compat;
     write_features(out, "s_feature_compat", compatible, &COMPATIBLE)?;
     say_test(out, compatible == 0, JournalError::BadFeature, "0")?;
-    let incompatible = fields.s_feature_incompat;
-    write_features(out, "s_feature_incompat", incompatible, &INCOMPATIBLE)?;
-    say_test(
-        out,
-        incompatible == REVOKE || incompatible == REVOKE | WIDE_NUMBERS,
-        JournalError::BadFeature,
-        "0x1, revoke, or 0x3, with 64bit",
-    )?;
+    show_incompatible(fields.s_feature_incompat, out)?;
     let read_only = fields.s_feature_ro_compat;
     write_features(out, "s_feature_ro_compat", read_only, &READ_ONLY_COMPATIBLE)?;
-    say_test(out, read_only == 0, JournalError::BadFeature, "0")?;
-    writeln!(out, "s_uuid {}", Hex(&fields.s_uuid))?;
-    writeln!(out, "s_nr_users {}", fields.s_nr_users)?;
+    say_test(out, read_only == 0, JournalError::BadFeature, "0")
+}
+
+/// Prints the field of incompatible features, which has these bits.
+fn show_incompatible(bits: u32, out: &mut impl Write) -> io::Result<()> {
+    write_features(out, "s_feature_incompat", bits, &INCOMPATIBLE)?;
+    say_test(
+        out,
+        bits == REVOKE || bits == REVOKE | WIDE_NUMBERS,
+        JournalError::BadFeature,
+        "0x1, revoke, or 0x3, with 64bit",
+    )
+}
+
+/// Prints the UUID, and the count of users.
+fn show_users(fields: &Super, out: &mut impl Write) -> io::Result<()> {
+    show_bytes(out, "s_uuid", &fields.s_uuid)?;
+    show_number(out, "s_nr_users", fields.s_nr_users)?;
     say_test(
         out,
         fields.s_nr_users == 1,
@@ -226,18 +254,28 @@ fn show_features(fields: &Super, out: &mut impl Write) -> io::Result<()> {
 fn show_rest(bytes: &[u8], out: &mut impl Write) -> io::Result<()>
     requires { 1024 ≤ length bytes.now }
 {
-    writeln!(out, "s_dynsuper {}", number(bytes, 0x44))?;
-    writeln!(out, "s_max_transaction {}", number(bytes, 0x48))?;
-    writeln!(out, "s_max_trans_data {}", number(bytes, 0x4c))?;
-    writeln!(out, "s_checksum_type {}", bytes[0x50])?;
-    writeln!(out, "s_num_fc_blks {}", number(bytes, 0x54))?;
-    writeln!(out, "s_head {}", number(bytes, 0x58))?;
-    writeln!(out, "s_checksum {}", Hex(&bytes[0xfc..0x100]))?;
-    writeln!(out, "s_users {}", Hex(&bytes[0x100..0x110]))
+    show_number(out, "s_dynsuper", number(bytes, 0x44))?;
+    show_number(out, "s_max_transaction", number(bytes, 0x48))?;
+    show_number(out, "s_max_trans_data", number(bytes, 0x4c))?;
+    show_checksums(bytes, out)
+}
+
+/// Prints those of checksums, of fast commits and of users.
+/// Source: journal.rst, "Super Block".
+fn show_checksums(bytes: &[u8], out: &mut impl Write) -> io::Result<()>
+    requires { 1024 ≤ length bytes.now }
+{
+    show_number(out, "s_checksum_type", u32::from(bytes[0x50]))?;
+    show_number(out, "s_num_fc_blks", number(bytes, 0x54))?;
+    show_number(out, "s_head", number(bytes, 0x58))?;
+    show_bytes(out, "s_checksum", &bytes[0xfc..0x100])?;
+    show_bytes(out, "s_users", &bytes[0x100..0x110])
 }
 
 /// Says whether an opening takes the superblock, and where it does not for its features, what an owner of the log does about each.
-fn tell(bytes: &[u8], fields: &Super, blocks: u64, out: &mut impl Write) -> io::Result<()> {
+fn tell(bytes: &[u8], blocks: u64, out: &mut impl Write) -> io::Result<()>
+    requires { 1024 ≤ length bytes.now }
+{
     match Super::read(bytes, blocks) {
         Ok(_) => writeln!(out, "an opening takes this superblock"),
         Err(e) => {
@@ -246,7 +284,7 @@ fn tell(bytes: &[u8], fields: &Super, blocks: u64, out: &mut impl Write) -> io::
                 "an opening refuses this superblock: {} {e}",
                 e.number()
             )?;
-            tell_ways_out(fields, out)
+            tell_ways_out(&Super::fields(bytes), out)
         }
     }
 }
