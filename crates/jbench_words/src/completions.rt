@@ -27,7 +27,7 @@ impl Shell {
 }
 
 /// Writes the commands of a shell that let it complete the words of the program: its commands, and the options of each. What is no
-/// option behind a command is a file. No help of a command or an option has a quote, a dollar sign or a backslash.
+/// option behind a command is a file. No help of a command or an option has a double quote, a dollar sign or a backslash.
 ///
 /// # Errors
 ///
