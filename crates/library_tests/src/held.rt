@@ -220,24 +220,19 @@ fn write_and_read<J: JournalName + PartsName + MeetingName, D: Device, R: Wait>(
     wrote.is_ok() && read.is_ok() && newest == 8 && read_other
 }
 
-/// Reads without a handle what was written, and the block that is being committed, if there is one: the front holds both. It answers whether
-/// it read them.
-fn read_without_handle<J: JournalName + PartsName + MeetingName, D: Device, R: Wait>(
+/// Reads a block of which the front holds a copy, without a handle. It answers whether the copy begins with this byte.
+fn begins_with<J: JournalName + PartsName + MeetingName, D: Device, R: Wait>(
     rt: &R,
     journal: &Journal<J, D>,
-    committing: Option<BlockNo>,
+    block: u64,
+    byte: u8,
 ) -> bool {
     if journal.block_size() != 1024 {
         return false;
     }
     let mut bytes = [0; 1024];
-    let read = journal.read_newest(rt, BlockNo(9), &mut bytes);
-    let newest = bytes[0];
-    let read_other = match committing {
-        Some(block) => journal.read_newest(rt, block, &mut bytes).is_ok() && bytes[0] == 7,
-        None => true,
-    };
-    read.is_ok() && newest == 8 && read_other
+    let read = journal.read_newest(rt, BlockNo(block), &mut bytes);
+    read.is_ok() && bytes[0] == byte
 }
 
 /// Once a write is held, and another thread waits for the engine, writes one block and reads, through a handle and without one, and lets
@@ -259,9 +254,10 @@ fn overtake<J: JournalName + PartsName + MeetingName, D: Device, R: Wait>(
         Area::Home => None,
     };
     let done = write_and_read(rt, journal, seat, committing);
-    let read = read_without_handle(rt, journal, committing);
+    let newest = begins_with(rt, journal, 9, 8);
+    let older = gate.area == Area::Home || begins_with(rt, journal, 3, 7);
     gate.written.store(1, Ordering::SeqCst);
-    done && read
+    done && newest && older
 }
 
 /// One thread reads a block that needs the engine, and another overtakes it.
