@@ -1,4 +1,4 @@
-//! Blocks of any device that hold one byte over and over, and what tests find of them.
+//! Steps over any device, whose blocks hold one byte over and over.
 use block_device::{Device, DeviceFault};
 use journal_model::Area;
 use std::fmt::Debug;
@@ -12,52 +12,89 @@ pub const LOG: Area = Area::Log;
 
 pub const HOME: Area = Area::Home;
 
-/// A block by its area and number.
-pub type Place = (Area, u64);
+/// A call of a device, with what comes of it.
+#[derive(Clone, Copy)]
+pub enum Step {
+    /// An area has so many blocks.
+    Has(Area, u64),
+    /// A block is filled with a byte.
+    Writes(Area, u64, u8),
+    /// It can't be.
+    CantWrite(Area, u64, u8),
+    /// A block reads as this byte.
+    Reads(Area, u64, u8),
+    /// An area has as many blocks as these are bytes, and each reads as its own.
+    ReadsAll(Area, &'static [u8]),
+    /// A block can't be read.
+    CantRead(Area, u64),
+    /// An area is flushed.
+    Flushes(Area),
+    /// It can't be.
+    CantFlush(Area),
+}
 
 /// What was told is what was expected.
 pub fn expect<T: PartialEq + Debug>(rt: &impl Abort, told: &T, expected: &T) {
     assert_eq!(rt; told, expected);
 }
 
-/// Fills a block with a byte.
-pub fn write_byte<D: Device>(
-    rt: &impl Abort,
+/// Fills a block with a byte, if it is there.
+fn write<D: Device>(
     device: &mut D,
-    (area, block): Place,
+    area: Area,
+    block: u64,
     byte: u8,
-) -> Result<(), DeviceFault> {
-    assert_eq!(rt;
-        (device.block_size(), block < device.blocks(area)),
-        (SIZE, true)
-    );
-    device.write(area, block, &[byte; SIZE])
-}
-
-/// The first byte of a block.
-pub fn read_byte<D: Device>(
-    rt: &impl Abort,
-    device: &mut D,
-    (area, block): Place,
-) -> Result<u8, DeviceFault> {
-    assert_eq!(rt;
-        (device.block_size(), block < device.blocks(area)),
-        (SIZE, true)
-    );
-    let mut bytes = [0xee; SIZE];
-    device.read(area, block, &mut bytes)?;
-    Ok(bytes[0])
-}
-
-/// The bytes of these blocks, one of each.
-pub fn read_bytes<D: Device, const N: usize>(
-    rt: &impl Abort,
-    device: &mut D,
-    places: &[Place; N],
-) -> Result<[u8; N], DeviceFault> {
-    let mut bytes = [0; N];
-    for i in 0..N {
-        bytes[i] = read_byte(rt, device, places[i])?;
+) -> Option<Result<(), DeviceFault>> {
+    if device.block_size() != SIZE || device.blocks(area) <= block {
+        return None;
     }
-    Ok(bytes)
+    Some(device.write(area, block, &[byte; SIZE]))
+}
+
+/// The first byte of a block, if it is there.
+fn read<D: Device>(device: &mut D, area: Area, block: u64) -> Option<Result<u8, DeviceFault>> {
+    if device.block_size() != SIZE || device.blocks(area) <= block {
+        return None;
+    }
+    let mut bytes = [0xee; SIZE];
+    Some(match device.read(area, block, &mut bytes) {
+        Ok(()) => Ok(bytes[0]),
+        Err(e) => Err(e),
+    })
+}
+
+/// Whether an area has as many blocks as these are bytes, and each reads as its own.
+fn reads_all<D: Device>(device: &mut D, area: Area, bytes: &[u8]) -> bool {
+    for (block, byte) in bytes.iter().enumerate() {
+        if read(device, area, block as u64) != Some(Ok(*byte)) {
+            return false;
+        }
+    }
+    device.blocks(area) == bytes.len() as u64
+}
+
+/// Makes the call of a step. It answers whether that came of it which the step tells.
+fn is_so<D: Device>(device: &mut D, step: &Step) -> bool {
+    match *step {
+        Step::Has(area, blocks) => device.blocks(area) == blocks,
+        Step::Writes(area, block, byte) => write(device, area, block, byte) == Some(Ok(())),
+        Step::CantWrite(area, block, byte) => {
+            write(device, area, block, byte) == Some(Err(DeviceFault))
+        }
+        Step::Reads(area, block, byte) => read(device, area, block) == Some(Ok(byte)),
+        Step::ReadsAll(area, bytes) => reads_all(device, area, bytes),
+        Step::CantRead(area, block) => read(device, area, block) == Some(Err(DeviceFault)),
+        Step::Flushes(area) => device.flush(area) == Ok(()),
+        Step::CantFlush(area) => device.flush(area) == Err(DeviceFault),
+    }
+}
+
+/// The place of the first of these steps of which something else comes.
+pub fn first_wrong<D: Device>(device: &mut D, steps: &[Step]) -> Option<usize> {
+    for (n, step) in steps.iter().enumerate() {
+        if !is_so(device, step) {
+            return Some(n);
+        }
+    }
+    None
 }

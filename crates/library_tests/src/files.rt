@@ -1,241 +1,285 @@
 //! Devices over real files.
-use crate::bytes::{HOME, LOG, SIZE, expect, read_byte, read_bytes, write_byte};
-use block_device::{Device, DeviceFault};
+ghost use Rattle.std.specs.Prelude.{◌<◌};
+
+use crate::bytes::{HOME, LOG, SIZE, Step, expect, first_wrong};
+use block_device::Device;
 use file_device::{FileDevice, UnknownContents};
-use journal_model::Area;
 use std::fs::{File, OpenOptions};
-use std::process::Abort;
 use std::test::Fail;
 use std::{fs, io};
+
+/// A file that a device is made over.
+#[derive(Clone, Copy)]
+pub enum Made<'a> {
+    /// It holds these bytes.
+    Written(&'a [u8]),
+    /// It holds these bytes, and can't be written through the device's handle.
+    ReadOnly(&'a [u8]),
+    /// It has no bytes, and fails to be synced.
+    Unsynced,
+}
+
+/// Calls of a device over files, with what comes of them.
+pub struct Case {
+    /// The folder that the files lie in, alone.
+    pub folder: &'static str,
+    pub log: Made<'static>,
+    pub home: Option<Made<'static>>,
+    pub steps: &'static [Step],
+    /// What files hold behind the calls, by their names.
+    pub files: &'static [(&'static str, &'static [u8])],
+}
 
 /// The path of a file in a folder.
 fn path_of(rt: &HostRuntime, folder: &str, name: &str) -> io::Result<String> {
     Ok(format!(in rt.alloc(); "{folder}/{name}")?)
 }
 
+/// Opens a file for reading and writing.
 fn open(rt: &HostRuntime, path: &str) -> io::Result<File> {
     OpenOptions::new().read(true).write(true).open(rt, path)
 }
 
-/// Opens a file of a folder for reading and writing.
-pub fn open_in(rt: &HostRuntime, folder: &str, name: &str) -> io::Result<File> {
-    open(rt, path_of(rt, folder, name)?.as_str())
+/// Makes the file of a path, and opens it.
+fn make_at(rt: &HostRuntime, path: &str, made: &Made) -> io::Result<File> {
+    match made {
+        Made::Written(bytes) => {
+            fs::write(rt, path, *bytes)?;
+            open(rt, path)
+        }
+        Made::ReadOnly(bytes) => {
+            fs::write(rt, path, *bytes)?;
+            fs::open(rt, path)
+        }
+        Made::Unsynced => open(rt, "/dev/null"),
+    }
 }
 
-/// Opens a file of a folder for reading alone.
-pub fn open_to_read(rt: &HostRuntime, folder: &str, name: &str) -> io::Result<File> {
-    fs::open(rt, path_of(rt, folder, name)?.as_str())
+/// Makes a file in a folder, and opens it.
+fn make(rt: &HostRuntime, folder: &str, name: &str, made: &Made) -> io::Result<File> {
+    make_at(rt, path_of(rt, folder, name)?.as_str(), made)
 }
 
-/// Writes a file with these bytes in a folder.
-pub fn write_in(rt: &HostRuntime, folder: &str, name: &str, bytes: &[u8]) -> io::Result<()> {
-    fs::write(rt, path_of(rt, folder, name)?.as_str(), bytes)
+/// Makes the file `home` in a folder, if there is to be one, and opens it.
+fn make_home(rt: &HostRuntime, folder: &str, home: Option<&Made>) -> io::Result<Option<File>> {
+    match home {
+        Some(home) => Ok(Some(make(rt, folder, "home", home)?)),
+        None => Ok(None),
+    }
 }
 
-/// Makes a log with these bytes, alone in a folder of this name.
-pub fn make_log(rt: &HostRuntime, folder: &str, bytes: &[u8]) -> io::Result<()> {
+/// Makes a folder without a file.
+fn make_folder(rt: &HostRuntime, folder: &str) -> io::Result<()> {
     let _ = fs::remove_dir_all(rt, folder);
-    fs::create_dir(rt, folder)?;
-    write_in(rt, folder, "log", bytes)
+    fs::create_dir(rt, folder)
 }
 
-/// What a file of a folder holds.
-fn read_in(rt: &HostRuntime, folder: &str, name: &str) -> io::Result<Vec<u8>> {
-    fs::read(rt, path_of(rt, folder, name)?.as_str())
-}
-
-/// The file in this folder holds these bytes, no more and no less.
-pub fn holds(rt: &HostRuntime, folder: &str, name: &str, bytes: &[u8]) -> io::Result<bool> {
-    Ok(read_in(rt, folder, name)?.as_slice() == bytes)
-}
-
-/// Removes this folder. Its log held these bytes.
-pub fn log_held(rt: &HostRuntime, folder: &str, bytes: &[u8]) -> io::Result<bool> {
-    let held = holds(rt, folder, "log", bytes)?;
-    fs::remove_dir_all(rt, folder)?;
-    Ok(held)
-}
-
-/// The size of a block, and how many blocks the log and home have.
-fn shape<D: Device>(device: &D) -> (usize, u64, u64) {
-    (device.block_size(), device.blocks(LOG), device.blocks(HOME))
-}
-
-/// Writes log block 1 and home block 0, over any device.
-fn write_both<D: Device>(rt: &impl Abort, device: &mut D) -> Result<(), DeviceFault> {
-    write_byte(rt, device, (LOG, 1), 0xa)?;
-    device.flush(LOG)?;
-    write_byte(rt, device, (HOME, 0), 0xb)?;
-    device.flush(HOME)
-}
-
-/// What the last whole blocks read, and then the two blocks of `write_both`.
-fn read_and_written<D: Device>(
-    rt: &impl Abort,
-    device: &mut D,
-) -> Result<([u8; 2], [u8; 2]), DeviceFault> {
-    let read = read_bytes(rt, device, &[(LOG, 2), (HOME, 1)])?;
-    write_both(rt, device)?;
-    Ok((read, read_bytes(rt, device, &[(LOG, 1), (HOME, 0)])?))
-}
-
-/// A log of three blocks and a home of two read what the files hold, and then what is written.
-fn expect_whole_blocks<D: Device>(rt: &impl Abort, device: &mut D) -> Result<(), DeviceFault> {
-    expect(rt, &shape(device), &(SIZE, 3, 2));
-    let told = read_and_written(rt, device)?;
-    expect(rt, &told, &([b'c', b'f'], [0xa, 0xb]));
-    Ok(())
-}
-
-/// A device over a log and a home with these bytes, in a folder of this name.
-pub fn two_files(
+/// A device over the files `log` and `home`, alone in a folder of this name, in blocks of so many bytes.
+pub fn device_over(
     rt: &HostRuntime,
     folder: &str,
-    log: &[u8],
-    home: &[u8],
-) -> io::Result<FileDevice<UnknownContents>> {
-    make_log(rt, folder, log)?;
-    write_in(rt, folder, "home", home)?;
-    let log = open_in(rt, folder, "log")?;
-    let home = open_in(rt, folder, "home")?;
-    Ok(FileDevice::new(rt.alloc(), UnknownContents, SIZE, log, Some(home))?)
+    block_size: usize,
+    log: &Made,
+    home: Option<&Made>,
+) -> io::Result<FileDevice<UnknownContents>>
+    requires { 0 < block_size }
+{
+    make_folder(rt, folder)?;
+    let home = make_home(rt, folder, home)?;
+    let log = make(rt, folder, "log", log)?;
+    Ok(FileDevice::new(rt.alloc(), UnknownContents, block_size, log, home)?)
+}
+
+/// Whether the file of a path holds these bytes, no more and no less.
+fn holds_at(rt: &HostRuntime, path: &str, bytes: &[u8]) -> io::Result<bool> {
+    Ok(fs::read(rt, path)?.as_slice() == bytes)
+}
+
+/// Whether a file of a folder holds these bytes, no more and no less.
+pub fn holds(rt: &HostRuntime, folder: &str, name: &str, bytes: &[u8]) -> io::Result<bool> {
+    holds_at(rt, path_of(rt, folder, name)?.as_str(), bytes)
+}
+
+/// Whether the files of a case hold what they are to hold behind its calls.
+fn hold(rt: &HostRuntime, case: &Case) -> bool {
+    for (name, bytes) in case.files {
+        if !matches!(holds(rt, case.folder, name, bytes), Ok(true)) {
+            return false;
+        }
+    }
+    true
+}
+
+/// What came of a case: the place of the first step of which something else came; whether the files held what they are to hold, to other
+/// handles, while the device was there; and whether they held it once the device was let go.
+pub type Told = (Option<usize>, bool, bool);
+
+/// All was as it was to be.
+pub const RIGHT: Told = (None, true, true);
+
+/// Makes the calls of a case on its device, and lets that go. It answers the first two of what comes of it.
+fn call(
+    rt: &HostRuntime,
+    device: FileDevice<UnknownContents>,
+    case: &Case,
+) -> (Option<usize>, bool) {
+    let mut device = device;
+    (first_wrong(&mut device, case.steps), hold(rt, case))
+}
+
+/// Makes the calls of a case on its device, lets that go, and removes the folder. It answers what came of it.
+fn called(rt: &HostRuntime, device: FileDevice<UnknownContents>, case: &Case) -> io::Result<Told> {
+    let (wrong, held) = call(rt, device, case);
+    let kept = hold(rt, case);
+    fs::remove_dir_all(rt, case.folder)?;
+    Ok((wrong, held, kept))
+}
+
+/// The device of a case.
+fn device_of(rt: &HostRuntime, case: &Case) -> io::Result<FileDevice<UnknownContents>> {
+    device_over(rt, case.folder, SIZE, &case.log, case.home.as_ref())
+}
+
+/// Makes a device over the files of a case and its calls. It answers what came of it.
+pub fn told(rt: &HostRuntime, case: &Case) -> io::Result<Told> {
+    called(rt, device_of(rt, case)?, case)
 }
 
 #[test]
 fn a_device_over_two_files_has_their_whole_blocks(rt: HostRuntime) -> Result<(), Fail> {
-    let mut device = two_files(&rt, "two_files_test", b"aaaabbbbccccdd", b"eeeeffff")?;
-    expect_whole_blocks(&rt, &mut device)?;
-    // Another handle sees the bytes at the blocks' places, and all others as they were.
-    let home = holds(&rt, "two_files_test", "home", b"\x0b\x0b\x0b\x0bffff")?;
-    let log = log_held(&rt, "two_files_test", b"aaaa\x0a\x0a\x0a\x0accccdd")?;
-    expect(&rt, &(home, log), &(true, true));
+    const CASE: Case = Case {
+        folder: "two_files_test",
+        log: Made::Written(b"aaaabbbbccccdd"),
+        home: Some(Made::Written(b"eeeeffff")),
+        steps: &[
+            Step::Has(LOG, 3),
+            Step::Has(HOME, 2),
+            Step::Reads(LOG, 2, b'c'),
+            Step::Reads(HOME, 1, b'f'),
+            Step::Writes(LOG, 1, 0xa),
+            Step::Flushes(LOG),
+            Step::Writes(HOME, 0, 0xb),
+            Step::Flushes(HOME),
+            Step::Reads(LOG, 1, 0xa),
+            Step::Reads(HOME, 0, 0xb),
+        ],
+        files: &[
+            ("log", b"aaaa\x0a\x0a\x0a\x0accccdd"),
+            ("home", b"\x0b\x0b\x0b\x0bffff"),
+        ],
+    };
+    expect(&rt, &told(&rt, &CASE)?, &RIGHT);
     Ok(())
 }
 
-/// A log of two blocks without a home: it has no home block, reads, and flushes home.
-fn expect_lone_log<D: Device>(rt: &impl Abort, device: &mut D) -> Result<(), DeviceFault> {
-    expect(rt, &shape(device), &(SIZE, 2, 0));
-    expect(rt, &read_byte(rt, device, (LOG, 1))?, &b'b');
-    device.flush(HOME)
-}
-
-/// A device over a log alone, which is read through a handle that can't write.
-fn lone_log(rt: &HostRuntime, folder: &str) -> io::Result<FileDevice<UnknownContents>> {
-    make_log(rt, folder, b"aaaabbbb")?;
-    Ok(FileDevice::new(
-        rt.alloc(),
-        UnknownContents,
-        SIZE,
-        open_to_read(rt, folder, "log")?,
-        None,
-    )?)
-}
-
+/// It reads, through a handle that can't write, and flushes home.
 #[test]
 fn a_log_alone_has_no_home_block(rt: HostRuntime) -> Result<(), Fail> {
-    expect_lone_log(&rt, &mut lone_log(&rt, "lone_log_test")?)?;
-    let held = log_held(&rt, "lone_log_test", b"aaaabbbb")?;
-    expect(&rt, &held, &true);
+    const CASE: Case = Case {
+        folder: "lone_log_test",
+        log: Made::ReadOnly(b"aaaabbbb"),
+        home: None,
+        steps: &[
+            Step::Has(LOG, 2),
+            Step::Has(HOME, 0),
+            Step::Reads(LOG, 1, b'b'),
+            Step::Flushes(HOME),
+        ],
+        files: &[("log", b"aaaabbbb")],
+    };
+    expect(&rt, &told(&rt, &CASE)?, &RIGHT);
     Ok(())
 }
 
-/// What a device does once a write or a flush of one area has failed: the other, which begins with an `a`, is read, and neither
-/// written nor flushed.
-fn expect_failed<D: Device>(
-    rt: &impl Abort,
-    device: &mut D,
-    other: Area,
-) -> Result<(), DeviceFault> {
-    let writes = write_byte(rt, device, (other, 0), 0xd).is_ok();
-    let flushes = device.flush(other).is_ok();
-    let read = read_byte(rt, device, (other, 0))?;
-    expect(rt, &(writes, flushes, read), &(false, false, b'a'));
-    Ok(())
-}
-
-/// Writes to the log, and then to a home that can't be written.
-fn fail_a_write<D: Device>(rt: &impl Abort, device: &mut D) -> Result<(), DeviceFault> {
-    write_byte(rt, device, (LOG, 1), 0xb)?;
-    let told = write_byte(rt, device, (HOME, 0), 0xc);
-    expect(rt, &told, &Err(DeviceFault));
-    expect_failed(rt, device, LOG)
-}
-
-/// A device over a log that can be written and a home that can't.
-fn read_only_home(rt: &HostRuntime, folder: &str) -> io::Result<FileDevice<UnknownContents>> {
-    make_log(rt, folder, b"aaaabbbb")?;
-    write_in(rt, folder, "home", b"cccc")?;
-    let log = open_in(rt, folder, "log")?;
-    let home = open_to_read(rt, folder, "home")?;
-    Ok(FileDevice::new(rt.alloc(), UnknownContents, SIZE, log, Some(home))?)
-}
-
+/// Once a write of one area has failed, the other is read, and neither written nor flushed.
 #[test]
 fn after_a_failed_write_nothing_is_written(rt: HostRuntime) -> Result<(), Fail> {
-    fail_a_write(&rt, &mut read_only_home(&rt, "failed_write_test")?)?;
-    let held = log_held(&rt, "failed_write_test", b"aaaa\x0b\x0b\x0b\x0b")?;
-    expect(&rt, &held, &true);
+    const CASE: Case = Case {
+        folder: "failed_write_test",
+        log: Made::Written(b"aaaabbbb"),
+        home: Some(Made::ReadOnly(b"cccc")),
+        steps: &[
+            Step::Writes(LOG, 1, 0xb),
+            Step::CantWrite(HOME, 0, 0xc),
+            Step::CantWrite(LOG, 0, 0xd),
+            Step::CantFlush(LOG),
+            Step::Reads(LOG, 0, b'a'),
+        ],
+        files: &[("log", b"aaaa\x0b\x0b\x0b\x0b"), ("home", b"cccc")],
+    };
+    expect(&rt, &told(&rt, &CASE)?, &RIGHT);
     Ok(())
 }
 
-/// Flushes an area, and then the other, whose file can't be synced.
-fn fail_a_flush<D: Device>(
-    rt: &impl Abort,
-    device: &mut D,
-    synced: Area,
-    unsynced: Area,
-) -> Result<(), DeviceFault> {
-    device.flush(synced)?;
-    expect(rt, &device.flush(unsynced), &Err(DeviceFault));
-    expect_failed(rt, device, synced)
-}
-
-/// A file that fails to be synced. It has no bytes.
-fn open_unsynced(rt: &HostRuntime) -> io::Result<File> {
-    open(rt, "/dev/null")
-}
-
-/// A device over a log, and a home that fails to be synced.
-fn unsynced_home(rt: &HostRuntime, folder: &str) -> io::Result<FileDevice<UnknownContents>> {
-    make_log(rt, folder, b"aaaabbbb")?;
-    let log = open_in(rt, folder, "log")?;
-    Ok(FileDevice::new(
-        rt.alloc(),
-        UnknownContents,
-        SIZE,
-        log,
-        Some(open_unsynced(rt)?),
-    )?)
-}
-
+/// The same of a flush.
 #[test]
 fn after_a_failed_flush_nothing_is_written(rt: HostRuntime) -> Result<(), Fail> {
-    let mut device = unsynced_home(&rt, "failed_flush_test")?;
-    fail_a_flush(&rt, &mut device, LOG, HOME)?;
-    let held = log_held(&rt, "failed_flush_test", b"aaaabbbb")?;
-    expect(&rt, &held, &true);
+    const CASE: Case = Case {
+        folder: "failed_flush_test",
+        log: Made::Written(b"aaaabbbb"),
+        home: Some(Made::Unsynced),
+        steps: &[
+            Step::Flushes(LOG),
+            Step::CantFlush(HOME),
+            Step::CantWrite(LOG, 0, 0xd),
+            Step::CantFlush(LOG),
+            Step::Reads(LOG, 0, b'a'),
+        ],
+        files: &[("log", b"aaaabbbb")],
+    };
+    expect(&rt, &told(&rt, &CASE)?, &RIGHT);
     Ok(())
-}
-
-/// A device over a log that fails to be synced, and a home that is the file `log` of a folder.
-fn unsynced_log(rt: &HostRuntime, folder: &str) -> io::Result<FileDevice<UnknownContents>> {
-    make_log(rt, folder, b"aaaabbbb")?;
-    let home = open_in(rt, folder, "log")?;
-    Ok(FileDevice::new(
-        rt.alloc(),
-        UnknownContents,
-        SIZE,
-        open_unsynced(rt)?,
-        Some(home),
-    )?)
 }
 
 #[test]
 fn a_flush_of_the_log_syncs_its_file(rt: HostRuntime) -> Result<(), Fail> {
-    let mut device = unsynced_log(&rt, "unsynced_log_test")?;
-    fail_a_flush(&rt, &mut device, HOME, LOG)?;
-    let held = log_held(&rt, "unsynced_log_test", b"aaaabbbb")?;
-    expect(&rt, &held, &true);
+    const CASE: Case = Case {
+        folder: "unsynced_log_test",
+        log: Made::Unsynced,
+        home: Some(Made::Written(b"aaaabbbb")),
+        steps: &[
+            Step::Flushes(HOME),
+            Step::CantFlush(LOG),
+            Step::CantWrite(HOME, 0, 0xd),
+            Step::CantFlush(HOME),
+            Step::Reads(HOME, 0, b'a'),
+        ],
+        files: &[("home", b"aaaabbbb")],
+    };
+    expect(&rt, &told(&rt, &CASE)?, &RIGHT);
+    Ok(())
+}
+
+/// Cuts the log of a case to six bytes.
+fn cut_log(rt: &HostRuntime, case: &Case) -> io::Result<()> {
+    open(rt, path_of(rt, case.folder, "log")?.as_str())?.set_len(6)
+}
+
+/// What comes of a case whose log is cut once its device is made.
+fn told_once_cut(rt: &HostRuntime, case: &Case) -> io::Result<Told> {
+    let device = device_of(rt, case)?;
+    cut_log(rt, case)?;
+    called(rt, device, case)
+}
+
+/// Another handle took half of the second block away, so that a read of it meets the end of the file.
+#[test]
+fn after_a_failed_read_the_device_goes_on(rt: HostRuntime) -> Result<(), Fail> {
+    const CASE: Case = Case {
+        folder: "failed_read_test",
+        log: Made::Written(b"aaaabbbb"),
+        home: None,
+        steps: &[
+            Step::CantRead(LOG, 1),
+            Step::Reads(LOG, 0, b'a'),
+            Step::Writes(LOG, 1, 0xb),
+            Step::Flushes(LOG),
+            Step::Reads(LOG, 1, 0xb),
+            Step::Has(LOG, 2),
+        ],
+        files: &[("log", b"aaaa\x0b\x0b\x0b\x0b")],
+    };
+    expect(&rt, &told_once_cut(&rt, &CASE)?, &RIGHT);
     Ok(())
 }
 
@@ -256,76 +300,30 @@ fn one_written_block() -> [u8; THREE] {
     log
 }
 
-/// Writes block 1 of a log, and reads it into bytes ff.
-fn write_and_read<D: Device>(
-    rt: &impl Abort,
-    device: &mut D,
-    block: &[u8],
-) -> Result<[u8; LARGEST], DeviceFault> {
-    assert_eq!(rt;
-        (device.block_size(), 1 < device.blocks(LOG), block.len()),
-        (LARGEST, true, LARGEST)
-    );
-    device.write(LOG, 1, block)?;
-    device.flush(LOG)?;
+/// Writes block 1 of a log, and answers whether the device reads it so then.
+fn reads_as_written<D: Device>(device: &mut D, block: &[u8]) -> bool {
     let mut read = [0xff; LARGEST];
-    device.read(LOG, 1, &mut read)?;
-    Ok(read)
+    device.block_size() == LARGEST
+        && block.len() == LARGEST
+        && 1 < device.blocks(LOG)
+        && device.write(LOG, 1, block).is_ok()
+        && device.flush(LOG).is_ok()
+        && device.read(LOG, 1, &mut read).is_ok()
+        && read.as_slice() == block
 }
 
-/// A device over a log of three of the largest blocks, all zeros.
-fn zero_log(rt: &HostRuntime, folder: &str) -> io::Result<FileDevice<UnknownContents>> {
-    make_log(rt, folder, &[0; THREE])?;
-    let log = open_in(rt, folder, "log")?;
-    Ok(FileDevice::new(rt.alloc(), UnknownContents, LARGEST, log, None)?)
+/// Whether block 1 of a log is read as it was written, and the file holds it so. It is made of zeros.
+fn written_whole(rt: &HostRuntime, folder: &str, log: &[u8; THREE]) -> io::Result<(bool, bool)> {
+    let zeros = Made::Written(&[0; THREE]);
+    let mut device = device_over(rt, folder, LARGEST, &zeros, None)?;
+    let read = reads_as_written(&mut device, &log[LARGEST..2 * LARGEST]);
+    Ok((read, holds(rt, folder, "log", log)?))
 }
 
 #[test]
 fn every_byte_of_a_block_is_written_and_read(rt: HostRuntime) -> Result<(), Fail> {
-    let log = one_written_block();
-    let block = &log[LARGEST..2 * LARGEST];
-    let read = write_and_read(&rt, &mut zero_log(&rt, "whole_block_test")?, block)?;
-    let held = log_held(&rt, "whole_block_test", &log)?;
-    expect(&rt, &(read.as_slice() == block, held), &(true, true));
-    Ok(())
-}
-
-/// A device whose log has block 0, and block 1 only until it is read, goes on: it reads block 0, and writes block 1.
-fn expect_goes_on<D: Device>(rt: &impl Abort, device: &mut D) -> Result<(), DeviceFault> {
-    expect(rt, &read_byte(rt, device, (LOG, 1)), &Err(DeviceFault));
-    let kept = read_byte(rt, device, (LOG, 0))?;
-    write_byte(rt, device, (LOG, 1), 0xb)?;
-    device.flush(LOG)?;
-    let written = read_byte(rt, device, (LOG, 1))?;
-    expect(rt, &(kept, written, device.blocks(LOG)), &(b'a', 0xb, 2));
-    Ok(())
-}
-
-/// Cuts the log in this folder to six bytes.
-fn cut_to_six(rt: &HostRuntime, folder: &str) -> io::Result<()> {
-    open_in(rt, folder, "log")?.set_len(6)
-}
-
-/// A device over a log of two blocks, of which another handle then took half of the second one away, so that a read of it
-/// meets the end of the file.
-fn cut_log(rt: &HostRuntime, folder: &str) -> io::Result<FileDevice<UnknownContents>> {
-    make_log(rt, folder, b"aaaabbbb")?;
-    let device = FileDevice::new(
-        rt.alloc(),
-        UnknownContents,
-        SIZE,
-        open_in(rt, folder, "log")?,
-        None,
-    )?;
-    cut_to_six(rt, folder)?;
-    Ok(device)
-}
-
-#[test]
-fn after_a_failed_read_the_device_goes_on(rt: HostRuntime) -> Result<(), Fail> {
-    let mut device = cut_log(&rt, "failed_read_test")?;
-    expect_goes_on(&rt, &mut device)?;
-    let held = log_held(&rt, "failed_read_test", b"aaaa\x0b\x0b\x0b\x0b")?;
-    expect(&rt, &held, &true);
+    let told = written_whole(&rt, "whole_block_test", &one_written_block())?;
+    expect(&rt, &told, &(true, true));
+    fs::remove_dir_all(&rt, "whole_block_test")?;
     Ok(())
 }

@@ -19,6 +19,8 @@ mod gathered;
 #[cfg(test)]
 mod held;
 #[cfg(test)]
+mod logs;
+#[cfg(test)]
 mod meetings;
 #[cfg(test)]
 mod newest;

@@ -1,36 +1,61 @@
 //! Notes in the tables by block, with what they come to worked out by hand.
 
+use crate::bytes::expect;
 use block_tables::{CopyTable, LastEffects, RevokeTable};
 use journal_model::{Batch, Block, BlockNo, Entry, Items, JournalError, Tid};
 use std::alloc::{AllocError, Global};
 use std::test::Fail;
 
+/// Revokes by block and transaction.
+const REVOKES: [(u64, u32); 4] = [(7, 3), (7, 5), (7, 4), (8, 9)];
+
+/// Whether these copies are covered: of block 7 in transactions 5 and 6, of block 8 in 9, and of block 9 in 1.
+fn covered(table: &RevokeTable) -> [bool; 4] {
+    [
+        table.covers(BlockNo(7), Tid(5)),
+        table.covers(BlockNo(7), Tid(6)),
+        table.covers(BlockNo(8), Tid(9)),
+        table.covers(BlockNo(9), Tid(1)),
+    ]
+}
+
 /// Of several revokes of a block the greatest counts, whatever their order.
 #[test]
 fn the_greatest_revoke_counts(rt: HostRuntime) -> Result<(), Fail> {
     let mut table = RevokeTable::new(rt.alloc());
-    assert!(rt; !table.covers(BlockNo(7), Tid(0)));
-    for tid in [3, 5, 4] {
-        table.note(BlockNo(7), Tid(tid))?;
+    let before = table.covers(BlockNo(7), Tid(0));
+    for (block, tid) in REVOKES {
+        table.note(BlockNo(block), Tid(tid))?;
     }
-    table.note(BlockNo(8), Tid(9))?;
-    assert!(rt; table.covers(BlockNo(7), Tid(5)));
-    assert!(rt; !table.covers(BlockNo(7), Tid(6)));
-    assert!(rt; table.covers(BlockNo(8), Tid(9)));
-    assert!(rt; !table.covers(BlockNo(9), Tid(1)));
+    expect(
+        &rt,
+        &(before, covered(&table)),
+        &(false, [true, false, true, false]),
+    );
     Ok(())
+}
+
+/// Copies by block and place.
+const COPIES: [(u64, u64); 3] = [(5, 0), (6, 1), (5, 2)];
+
+/// The newest copies of blocks 5 and 6.
+fn newest(table: &CopyTable) -> [Option<u64>; 2] {
+    [table.newest(BlockNo(5)), table.newest(BlockNo(6))]
 }
 
 /// The copy that is noted last is its block's newest.
 #[test]
 fn the_last_copy_is_the_newest(rt: HostRuntime) -> Result<(), Fail> {
     let mut table = CopyTable::new(rt.alloc());
-    assert_eq!(rt; table.newest(BlockNo(5)), None);
-    table.note(BlockNo(5), 0)?;
-    table.note(BlockNo(6), 1)?;
-    table.note(BlockNo(5), 2)?;
-    assert_eq!(rt; table.newest(BlockNo(5)), Some(2));
-    assert_eq!(rt; table.newest(BlockNo(6)), Some(1));
+    let before = newest(&table);
+    for (block, place) in COPIES {
+        table.note(BlockNo(block), place)?;
+    }
+    expect(
+        &rt,
+        &[before, newest(&table)],
+        &[[None, None], [Some(2), Some(1)]],
+    );
     Ok(())
 }
 
@@ -52,18 +77,35 @@ fn hand_over(table: &mut LastEffects, batch: &Batch) -> Result<(), JournalError>
     Ok(())
 }
 
+/// Whether blocks are left to home: block 7 by what is committed below transaction 2, block 8 below 3 and 4, and block 9 below 2, 3
+/// and 4.
+fn left_to_home(table: &LastEffects) -> [bool; 6] {
+    [
+        table.is_left_to_home(BlockNo(7), Tid(2)),
+        table.is_left_to_home(BlockNo(8), Tid(3)),
+        table.is_left_to_home(BlockNo(8), Tid(4)),
+        table.is_left_to_home(BlockNo(9), Tid(2)),
+        table.is_left_to_home(BlockNo(9), Tid(3)),
+        table.is_left_to_home(BlockNo(9), Tid(4)),
+    ]
+}
+
+/// What blocks are left to home once transaction 2 copies block 8 and revokes block 9, and once transaction 3 does the opposite.
+fn noted_by_turns(alloc: Global, table: &mut LastEffects) -> Result<[[bool; 6]; 2], JournalError> {
+    hand_over(table, &batch(alloc, 2, 8, 9)?)?;
+    let once = left_to_home(table);
+    hand_over(table, &batch(alloc, 3, 9, 8)?)?;
+    Ok([once, left_to_home(table)])
+}
+
 /// A revoke leaves its block to home once it is committed, and a copy does not, until a later revoke of it is.
 #[test]
 fn a_committed_revoke_leaves_its_block_to_home(rt: HostRuntime) -> Result<(), Fail> {
-    let mut table = LastEffects::new(rt.alloc());
-    hand_over(&mut table, &batch(rt.alloc(), 2, 8, 9)?)?;
-    assert!(rt; table.is_left_to_home(BlockNo(7), Tid(2)));
-    assert!(rt; !table.is_left_to_home(BlockNo(8), Tid(3)));
-    assert!(rt; !table.is_left_to_home(BlockNo(9), Tid(2)));
-    assert!(rt; table.is_left_to_home(BlockNo(9), Tid(3)));
-    hand_over(&mut table, &batch(rt.alloc(), 3, 9, 8)?)?;
-    assert!(rt; !table.is_left_to_home(BlockNo(9), Tid(4)));
-    assert!(rt; !table.is_left_to_home(BlockNo(8), Tid(3)));
-    assert!(rt; table.is_left_to_home(BlockNo(8), Tid(4)));
+    let told = noted_by_turns(rt.alloc(), &mut LastEffects::new(rt.alloc()))?;
+    let expected = [
+        [true, false, false, false, true, true],
+        [true, false, true, false, false, false],
+    ];
+    expect(&rt, &told, &expected);
     Ok(())
 }

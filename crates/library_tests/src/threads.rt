@@ -1,13 +1,14 @@
 //! Two threads that share one journal, over a device in memory and over files.
 ghost use Rattle.std.specs.Prelude.{◌≡◌};
 
-use crate::files::{holds, make_log, open_in, write_in};
+use crate::bytes::expect;
+use crate::files::{Made, device_over, holds};
+use crate::logs::{formatted, laid_on};
 use block_device::{Device, MemDevice};
 use file_device::{FileDevice, UnknownContents};
 use journal_model::BlockNo;
 use shared_journal::{
     Journal, JournalName, LaidJournal, MeetingName, PartsName, Seat, Status, Tally, Ticket, Turn,
-    lay,
 };
 use std::marker::Brand;
 use std::process::Abort;
@@ -155,6 +156,51 @@ fn all_are_left<J: JournalName + PartsName + MeetingName>(
     }
 }
 
+/// All credits of the journal: a quarter of the 1,023 blocks of its ring has room for so many copies, three descriptors and a commit
+/// block.
+const ALL: u64 = 251;
+
+/// The credits that the entries of both threads hold.
+const HELD: u64 = 2 * HANDLES;
+
+/// What is told while the entries of two threads hold credits: the status of a ticket, the tally, and whether one credit more than there
+/// are is left, and just those.
+fn told_before<J: JournalName + PartsName + MeetingName, R: Wait>(
+    rt: &R,
+    journal: &Journal<J, MemDevice>,
+    seat: &mut Seat<J>,
+    ticket: &Ticket<J>,
+) -> (Status, Tally, [bool; 2]) {
+    let status = journal.status(ticket, seat);
+    let tally = journal.tally(rt, seat);
+    let more = all_are_left(journal, seat, ALL - HELD + 1);
+    (
+        status,
+        tally,
+        [more, all_are_left(journal, seat, ALL - HELD)],
+    )
+}
+
+/// Commits the first ticket's transaction, in which that of the second one is. It answers whether that was done, whether all credits are
+/// left then, the status of the second ticket, and whether both stand.
+fn told_behind<J: JournalName + PartsName + MeetingName, R: Wait>(
+    rt: &R,
+    journal: &Journal<J, MemDevice>,
+    seat: &mut Seat<J>,
+    tickets: (Ticket<J>, Ticket<J>),
+) -> (bool, bool, Status, bool) {
+    let (mut first, second) = tickets;
+    let committed = commit(rt, journal, &mut first);
+    let left = all_are_left(journal, seat, ALL);
+    let status = journal.status(&second, seat);
+    (
+        committed,
+        left,
+        status,
+        both_stand(rt, journal, first, second),
+    )
+}
+
 /// Two threads reserve and give back at once, then two write at once; all of it is committed in one transaction, and the credits
 /// are back.
 fn shared<J: JournalName + PartsName + MeetingName + Send + Sync, R: Threads + Wait + Abort + Sync>(
@@ -168,9 +214,6 @@ fn shared<J: JournalName + PartsName + MeetingName + Send + Sync, R: Threads + W
     requires block_size { laid.block_size ≡ J.block_size }
 {
     let (journal, mut seat) = laid.named::<J>();
-    // a quarter of the 1,023 blocks of the ring has room for so many copies, three descriptors and a commit block
-    let all = journal.capacity();
-    assert_eq!(rt; all, 251);
     let (Some(one), Some(two), Some(three), Some(four)) = (
         journal.split_seat(&mut seat),
         journal.split_seat(&mut seat),
@@ -179,41 +222,29 @@ fn shared<J: JournalName + PartsName + MeetingName + Send + Sync, R: Threads + W
     ) else {
         panic!(rt; "there is no further seat")
     };
-    assert!(rt; hammer_at_once(rt, &journal, one, two));
-    assert!(rt; all_are_left(&journal, &mut seat, all));
-    let Some((mut first, second)) = write_at_once(rt, &journal, three, four) else {
+    let within = hammer_at_once(rt, &journal, one, two);
+    let left = all_are_left(&journal, &mut seat, ALL);
+    expect(rt, &(journal.capacity(), within, left), &(ALL, true, true));
+    let Some(tickets) = write_at_once(rt, &journal, three, four) else {
         panic!(rt; "a handle is refused")
     };
-    assert!(rt; journal.status(&first, &mut seat) == Status::Open);
-    assert_eq!(rt;
-        journal.tally(rt, &mut seat),
-        Tally {
-            word: 2 * HANDLES,
-            entries: 2 * HANDLES
-        }
-    );
-    assert!(rt; !all_are_left(&journal, &mut seat, all - 2 * HANDLES + 1));
-    assert!(rt; all_are_left(&journal, &mut seat, all - 2 * HANDLES));
-    assert!(rt; commit(rt, &journal, &mut first));
-    assert!(rt; all_are_left(&journal, &mut seat, all));
-    assert!(rt; journal.status(&second, &mut seat) == Status::Committed);
-    assert!(rt; both_stand(rt, &journal, first, second));
+    let before = told_before(rt, &journal, &mut seat, &tickets.0);
+    let behind = told_behind(rt, &journal, &mut seat, tickets);
     let Ok(parts) = journal.close() else {
         panic!(rt; "the close is refused")
     };
-    assert_eq!(rt; parts.committed, 1);
+    let tally = Tally {
+        word: HELD,
+        entries: HELD,
+    };
+    expect(rt, &before, &(Status::Open, tally, [false, true]));
+    expect(rt, &behind, &(true, true, Status::Committed, true));
+    expect(rt, &parts.committed, &1);
 }
 
 #[test]
 fn two_threads_share_a_journal(rt: HostRuntime) -> Result<(), Fail> {
-    let mut device = MemDevice::new(rt.alloc(), 1024, 1024, 4096);
-    recovery::format(&mut device, 1024, &[7; 16], false)?;
-    let Ok(opened) = recovery::open(rt.alloc(), device) else {
-        panic!(rt; "the log is refused")
-    };
-    let Ok(laid) = lay(rt.alloc(), opened) else {
-        panic!(rt; "the journal is refused")
-    };
+    let laid = laid_on(rt.alloc(), formatted(rt.alloc(), 1024, 4096)?)?;
     shared::<Brand, _>(&rt, laid);
     Ok(())
 }
@@ -226,16 +257,10 @@ const HOME_BLOCKS: usize = 128;
 
 /// A device over a log and a home file of zeros, in blocks of 1024 bytes.
 fn two_files(rt: &HostRuntime) -> io::Result<FileDevice<UnknownContents>> {
-    make_log(rt, FOLDER, &vec![in rt.alloc(); 0; 1024 * 256]?)?;
-    write_in(
-        rt,
-        FOLDER,
-        "home",
-        &vec![in rt.alloc(); 0; 1024 * HOME_BLOCKS]?,
-    )?;
-    let log = open_in(rt, FOLDER, "log")?;
-    let home = open_in(rt, FOLDER, "home")?;
-    Ok(FileDevice::new(rt.alloc(), UnknownContents, 1024, log, Some(home))?)
+    let log = vec![in rt.alloc(); 0; 1024 * 256]?;
+    let home = vec![in rt.alloc(); 0; 1024 * HOME_BLOCKS]?;
+    let (log, home) = (Made::Written(&log), Made::Written(&home));
+    device_over(rt, FOLDER, 1024, &log, Some(&home))
 }
 
 /// Two threads write at once, and all of it is committed in one transaction and written home.
@@ -258,12 +283,12 @@ fn written<
     let Some((mut first, second)) = write_at_once(rt, &journal, one, two) else {
         panic!(rt; "a handle is refused")
     };
-    assert!(rt; commit(rt, &journal, &mut first));
-    assert!(rt; both_stand(rt, &journal, first, second));
+    let committed = commit(rt, &journal, &mut first);
+    let stand = both_stand(rt, &journal, first, second);
     let Ok(parts) = journal.close() else {
         panic!(rt; "the close is refused")
     };
-    assert_eq!(rt; parts.committed, 1);
+    expect(rt, &(committed, stand, parts.committed), &(true, true, 1));
     parts.device
 }
 
@@ -275,18 +300,19 @@ fn expected_home(rt: &HostRuntime) -> io::Result<Vec<u8>> {
     Ok(home)
 }
 
+/// Whether the home file holds that. The folder is removed.
+fn is_home(rt: &HostRuntime) -> io::Result<bool> {
+    let is_home = holds(rt, FOLDER, "home", &expected_home(rt)?)?;
+    fs::remove_dir_all(rt, FOLDER)?;
+    Ok(is_home)
+}
+
 #[test]
 fn two_threads_share_a_journal_over_files(rt: HostRuntime) -> Result<(), Fail> {
     let mut device = two_files(&rt)?;
     recovery::format(&mut device, 256, &[7; 16], false)?;
-    let Ok(opened) = recovery::open(rt.alloc(), device) else {
-        panic!(rt; "the log is refused")
-    };
-    let Ok(laid) = lay(rt.alloc(), opened) else {
-        panic!(rt; "the journal is refused")
-    };
+    let laid = laid_on(rt.alloc(), device)?;
     drop(written::<Brand, _, _>(&rt, laid));
-    assert!(rt; holds(&rt, FOLDER, "home", &expected_home(&rt)?)?);
-    fs::remove_dir_all(&rt, FOLDER)?;
+    expect(&rt, &is_home(&rt)?, &true);
     Ok(())
 }

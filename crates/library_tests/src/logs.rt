@@ -1,0 +1,43 @@
+//! New logs on devices in memory, in blocks of 1,024 bytes, and journals that threads share on logs.
+use block_device::{Device, MemDevice};
+use journal_model::JournalError;
+use recovery::Opened;
+use shared_journal::{LaidJournal, Record, lay};
+use std::alloc::Global;
+
+/// Bytes of a block.
+pub const BLOCK_SIZE: usize = 1024;
+
+/// A device in memory with a new log of so many blocks, and so many blocks of home.
+pub fn formatted(alloc: Global, log: u32, home: u64) -> Result<MemDevice, JournalError> {
+    let mut device = MemDevice::new(alloc, BLOCK_SIZE, u64::from(log), home);
+    recovery::format(&mut device, log, &[7; 16], false)?;
+    Ok(device)
+}
+
+/// The log of a device, opened.
+pub fn opened<D: Device + Drop>(alloc: Global, device: D) -> Result<Opened<D>, JournalError> {
+    match recovery::open(alloc, device) {
+        Ok(opened) => Ok(opened),
+        Err((_, e)) => Err(e),
+    }
+}
+
+/// A journal for threads on an opened log.
+pub fn lay_on<D: Device + Drop, K: Record>(
+    alloc: Global,
+    opened: Opened<D>,
+) -> Result<LaidJournal<D, K>, JournalError> {
+    match lay(alloc, opened) {
+        Ok(laid) => Ok(laid),
+        Err((_, e)) => Err(e),
+    }
+}
+
+/// A journal for threads on the log of a device.
+pub fn laid_on<D: Device + Drop, K: Record>(
+    alloc: Global,
+    device: D,
+) -> Result<LaidJournal<D, K>, JournalError> {
+    lay_on(alloc, opened(alloc, device)?)
+}
