@@ -5,6 +5,3 @@
 mod cache;
 
 pub use cache::VersionCache;
-
-#[cfg(test)]
-mod tests;

@@ -7,6 +7,8 @@ mod bytes;
 #[cfg(test)]
 mod closes;
 #[cfg(test)]
+mod copies;
+#[cfg(test)]
 mod credits;
 #[cfg(test)]
 mod example;
