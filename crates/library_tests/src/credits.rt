@@ -1,6 +1,7 @@
 //! Reserves and loads of one thread and of two, with answers worked out by hand.
 ghost use Rattle.std.specs.Prelude.{◌≡◌};
 
+use crate::bytes::expect;
 use handle::{CommitMark, CreditPool, Handle, JournalName, LaidBoard, Raiser, Seat, Ticket, board};
 use journal_model::{HandleNo, Status, Tid};
 use std::marker::Brand;
@@ -22,28 +23,25 @@ fn refusal<J: JournalName>(pool: &CreditPool<J>, seat: &mut Seat<J>, n: u64) -> 
 
 /// Credits of a pool of 6 are reserved, joined, split and given back.
 fn credits<J: JournalName, R: Abort>(rt: &R, pool: &CreditPool<J>, seat: &mut Seat<J>) {
-    assert_eq!(rt; (pool.capacity(), refusal(pool, seat, 7)), (6, 6));
+    let too_many = refusal(pool, seat, 7);
     let Ok(mut first) = pool.reserve(seat, 3) else {
         panic!(rt; "3 of 6 credits are refused")
     };
     let Ok(second) = pool.reserve(seat, 3) else {
         panic!(rt; "3 of 3 credits are refused")
     };
-    assert_eq!(rt;
-        (
-            refusal(pool, seat, 1),
-            refusal(pool, seat, 0),
-            pool.word(seat)
-        ),
-        (5, 0, 6)
-    );
+    let more = [refusal(pool, seat, 1), refusal(pool, seat, 0)];
+    let all = pool.word(seat);
     first.join(pool, second);
     let third = first.split(pool, 2);
-    assert_eq!(rt; (first.count(), third.count()), (4, 2));
+    let counts = [first.count(), third.count()];
     third.give_back(pool);
-    assert_eq!(rt; (pool.word(seat), refusal(pool, seat, 2)), (4, 0));
+    let word = pool.word(seat);
+    let within = refusal(pool, seat, 2);
     first.give_back(pool);
-    assert_eq!(rt; pool.word(seat), 0);
+    let words = [pool.capacity(), all, word, pool.word(seat)];
+    let told = (too_many, more, within, counts, words);
+    expect(rt, &told, &(6, [5, 0], 0, [4, 2], [6, 6, 4, 0]));
 }
 
 /// A handle of transaction 2 stops, and asks whether it is committed, where the mark is 1 at first. Its credits lie in one value
@@ -62,13 +60,18 @@ fn answers<J: JournalName, R: Abort>(
     held.join(pool, credits);
     let ticket = mark.ticket(raiser, HandleNo(1), Tid(2));
     let handle = Handle::new(pool, raiser, ticket);
-    assert_eq!(rt; (handle.number().0, handle.tid().0), (1, 2));
-    assert_eq!(rt; (held.count(), pool.word(seat)), (2, 2));
+    let name = (handle.number().0, handle.tid().0);
+    let open = (held.count(), pool.word(seat));
     held.split(pool, 1).give_back(pool);
     let ticket = handle.end(raiser);
-    assert_eq!(rt; (held.count(), pool.word(seat)), (1, 1));
+    let stopped = (held.count(), pool.word(seat));
     held.give_back(pool);
-    assert_eq!(rt; (pool.word(seat), mark.seen(seat).0), (0, 1));
+    let left = (pool.word(seat), u64::from(mark.seen(seat).0));
+    expect(
+        rt,
+        &(name, [open, stopped, left]),
+        &((1, 2), [(2, 2), (1, 1), (0, 1)]),
+    );
     asks(rt, mark, raiser, seat, ticket);
 }
 
@@ -80,20 +83,22 @@ fn asks<J: JournalName, R: Abort>(
     seat: &mut Seat<J>,
     ticket: Ticket<J>,
 ) {
-    assert!(rt; mark.status(&ticket, seat) == Status::Open);
+    let before = mark.status(&ticket, seat);
     let Err(ticket) = ticket.reach(mark) else {
         panic!(rt; "a receipt is given too early")
     };
     mark.raise(raiser, Tid(2));
     mark.raise(raiser, Tid(1));
-    assert_eq!(rt; mark.seen(seat).0, 2);
-    assert!(rt; mark.status(&ticket, seat) == Status::Committed);
+    let seen = mark.seen(seat).0;
+    let behind = mark.status(&ticket, seat);
     mark.compare(raiser, seat);
     let Ok(mut receipt) = ticket.reach(mark) else {
         panic!(rt; "no receipt is given")
     };
     mark.confirm(raiser, &mut receipt);
-    assert_eq!(rt; (receipt.handle().0, receipt.tid().0), (1, 2));
+    let named = (receipt.handle().0, receipt.tid().0);
+    let told = (before, behind, seen, named);
+    expect(rt, &told, &(Status::Open, Status::Committed, 2, (1, 2)));
 }
 
 /// How often each thread reserves.
@@ -128,8 +133,8 @@ fn two_at_once<J: JournalName + Send + Sync, R: Threads + Abort + Sync>(
         || -> bool { hammer(pool, first, &held) },
         || -> bool { hammer(pool, second, &held) },
     );
-    assert!(rt; one && other);
-    assert_eq!(rt; (pool.word(seat), refusal(pool, seat, 6)), (0, 0));
+    let left = (pool.word(seat), refusal(pool, seat, 6));
+    expect(rt, &(one && other, left), &(true, (0, 0)));
 }
 
 /// All of it on one board of 6 credits.

@@ -1,6 +1,7 @@
 //! A counter, and what it was when both last met.
 ghost use Rattle.std.specs.Prelude.{◌≡◌, ◌≤◌};
 
+use crate::bytes::expect;
 use meeting::{Follower, Meeting, MeetingName, Owner, Since, UnnamedMeeting};
 use std::marker::{Brand, Model};
 use std::process::Abort;
@@ -81,11 +82,11 @@ fn rises_between_meetings<J: MeetingName, R: Abort>(rt: &R, unnamed: UnnamedMeet
     let mut counter = Counter { count: 0, now };
     rise(&meeting, &mut counter);
     rise(&meeting, &mut counter);
-    assert_eq!(rt; meet(&meeting, &mut last, &mut counter), 2);
-    assert_eq!(rt; meet(&meeting, &mut last, &mut counter), 0);
+    let twice = meet(&meeting, &mut last, &mut counter);
+    let again = meet(&meeting, &mut last, &mut counter);
     rise(&meeting, &mut counter);
-    assert_eq!(rt; meet(&meeting, &mut last, &mut counter), 1);
-    assert_eq!(rt; last.count, 3);
+    let once = meet(&meeting, &mut last, &mut counter);
+    expect(rt, &[twice, again, once, last.count], &[2, 0, 1, 3]);
 }
 
 #[test]

@@ -1,6 +1,7 @@
 //! A number that rises, and shares of it that others took.
 ghost use Rattle.std.specs.Prelude.{◌≡◌, ◌≤◌, Some};
 
+use crate::bytes::expect;
 use parts::{Agreement, Part, Parts, PartsName, UnnamedParts, Whole};
 use std::marker::{Brand, Model};
 use std::process::Abort;
@@ -106,12 +107,13 @@ fn rises_between<J: PartsName, R: Abort>(rt: &R, unnamed: UnnamedParts<u64, u64,
     rise(&parts, &mut total);
     let mut other = none(&parts, &mut total);
     rise(&parts, &mut total);
-    assert_eq!(rt; take(&parts, &mut total, &mut one), 2);
+    let twice = take(&parts, &mut total, &mut one);
     rise(&parts, &mut total);
-    assert_eq!(rt; take(&parts, &mut total, &mut one), 1);
-    assert_eq!(rt; take(&parts, &mut total, &mut other), 3);
+    let once = take(&parts, &mut total, &mut one);
+    let by_the_other = take(&parts, &mut total, &mut other);
     rise(&parts, &mut total);
-    assert_eq!(rt; lacking(&parts, &mut total, &mut one), 1);
+    let lacking = lacking(&parts, &mut total, &mut one);
+    expect(rt, &[twice, once, by_the_other, lacking], &[2, 1, 3, 1]);
 }
 
 #[test]
