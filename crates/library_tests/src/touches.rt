@@ -1,17 +1,12 @@
 //! Touches, with what they cost and leave worked out by hand.
+ghost use Rattle.std.specs.Prelude.{◌≡◌, false};
 
+use crate::bytes::expect;
+use crate::copies::shown;
 use journal_front::{Record, Touch, Transaction, Unrecorded};
-use journal_model::{BlockNo, Entry, HandleNo, Op, Sealed, Step, Tid};
+use journal_model::{BlockNo, Entry, HandleNo, JournalError, Op, Sealed, Step, Tid};
 use std::alloc::Global;
 use std::test::Fail;
-
-/// The first byte of a block's copy, 0 for a revoke, or nothing where the block has no entry.
-fn shown(entry: Option<&Entry>) -> Option<u8> {
-    match entry? {
-        Entry::Copy(copy) => copy.bytes().first().copied(),
-        Entry::Revoke => Some(0),
-    }
-}
 
 /// Touches of blocks by handles: each one's handle and block, the byte that it writes, or 0 for a revoke, and whether it is
 /// the first touch of its block.
@@ -24,22 +19,51 @@ const TOUCHES: [(u64, u64, u8, bool); 6] = [
     (2, 5, 0, false),
 ];
 
-/// The touches of a handle that has one credit left each time.
-fn touched(alloc: Global) -> Result<Transaction<Vec<Sealed>>, Fail> {
-    let mut transaction = Transaction::new(alloc, Tid(2));
+/// The touches of handles that have one credit left each time. It answers whether just those are the first of their blocks of which that
+/// is told.
+fn touch_all(transaction: &mut Transaction<Vec<Sealed>>) -> Result<bool, JournalError>
+    requires { transaction.old.locked ≡ false }
+{
     transaction.join(HandleNo(1))?;
     transaction.join(HandleNo(2))?;
+    let mut as_told = true;
     for (handle, block, byte, first) in TOUCHES {
         let (handle, block) = (HandleNo(handle), BlockNo(block));
         let touch = match byte {
             0 => transaction.touch_revoke(handle, 1, block)?,
             _ => transaction.touch_write(handle, 1, block, &[byte])?,
         };
-        if (touch == Touch::First) != first {
-            return Err("another touch is the first".into());
-        }
+        as_told = as_told && (touch == Touch::First) == first;
     }
-    Ok(transaction)
+    Ok(as_told)
+}
+
+/// The nth of some entries: its block, and what it shows.
+fn nth(entries: &[(BlockNo, Entry)], n: usize) -> Option<(u64, Option<u8>)> {
+    let (block, entry) = entries.get(n)?;
+    Some((block.0, shown(Some(entry))))
+}
+
+/// The first three entries that a transaction hands over.
+fn handed_over(
+    transaction: &Transaction<Vec<Sealed>>,
+) -> Result<[Option<(u64, Option<u8>)>; 3], JournalError> {
+    let batch = transaction.batch()?;
+    let entries = batch.entries.as_slice();
+    Ok([nth(entries, 0), nth(entries, 1), nth(entries, 2)])
+}
+
+/// Locks transaction 2 and seals it. It answers the record of it.
+fn sealed<R: Record>(alloc: Global, transaction: &mut Transaction<R>) -> Result<R, JournalError> {
+    let mut record = R::new(alloc);
+    record.make_room()?;
+    transaction.lock();
+    transaction.finish();
+    if !transaction.is_locked() || transaction.tid().0 > 2 {
+        return Err(JournalError::NotRunning);
+    }
+    transaction.seal(&mut record);
+    Ok(record)
 }
 
 /// The number of the last sealed transaction, and how many handles and steps it has.
@@ -48,36 +72,35 @@ fn counts(record: &[Sealed]) -> Option<(u32, usize, usize)> {
     Some((sealed.tid.0, sealed.handles.len(), sealed.steps.len()))
 }
 
+/// Seals a transaction. It answers the counts of the record.
+fn sealed_counts(
+    alloc: Global,
+    transaction: &mut Transaction<Vec<Sealed>>,
+) -> Result<Option<(u32, usize, usize)>, JournalError> {
+    Ok(counts(&sealed(alloc, transaction)?))
+}
+
 #[test]
 fn the_place_stays_and_the_last_operation_decides(rt: HostRuntime) -> Result<(), Fail> {
-    let mut transaction = touched(rt.alloc())?;
-    assert!(rt;
-        transaction
-            .touch_revoke(HandleNo(1), 0, BlockNo(7))
-            .is_err()
-    );
-    let batch = transaction.batch()?;
-    let mut blocks = Vec::new(rt.alloc());
-    for (block, entry) in batch.entries.as_slice() {
-        blocks.push((block.0, shown(Some(entry))))?;
-    }
-    assert_eq!(rt;
-        blocks.as_slice(),
-        [(9, Some(0x33)), (5, Some(0))].as_slice()
-    );
-    transaction.lock();
+    let mut transaction = Transaction::new(rt.alloc(), Tid(2));
+    let told = touch_all(&mut transaction);
+    let unpaid = transaction
+        .touch_revoke(HandleNo(1), 0, BlockNo(7))
+        .is_err();
+    expect(&rt, &(told, unpaid), &(Ok(true), true));
+    let entries = [Some((9, Some(0x33))), Some((5, Some(0))), None];
+    expect(&rt, &handed_over(&transaction), &Ok(entries));
+    let counts = sealed_counts(rt.alloc(), &mut transaction);
+    expect(&rt, &counts, &Ok(Some((2, 2, 6))));
+    let next = (transaction.tid().0, transaction.len());
+    let committing = shown(transaction.newest(BlockNo(9)));
     transaction.finish();
-    if !transaction.is_locked() || transaction.tid().0 > 2 {
-        return Err("it is not locked, or has another number".into());
-    }
-    let mut record = <Vec<Sealed> as Record>::new(rt.alloc());
-    record.make_room()?;
-    transaction.seal(&mut record);
-    assert_eq!(rt; counts(&record), Some((2, 2, 6)));
-    assert_eq!(rt; (transaction.tid().0, transaction.len()), (3, 0));
-    assert_eq!(rt; shown(transaction.newest(BlockNo(9))), Some(0x33));
-    transaction.finish();
-    assert!(rt; transaction.newest(BlockNo(9)).is_none());
+    let is_gone = transaction.newest(BlockNo(9)).is_none();
+    expect(
+        &rt,
+        &(next, committing, is_gone),
+        &((3, 0), Some(0x33), true),
+    );
     Ok(())
 }
 
@@ -89,31 +112,35 @@ fn holders(entry: Option<&Entry>) -> Option<usize> {
     }
 }
 
+/// Writes block 7 once. It answers how many hold its bytes then, and once the entries are handed over, once the transaction is sealed, and
+/// once what was handed over and then the record is dropped; and the counts of the record.
+fn held_by_turns(
+    alloc: Global,
+    transaction: &mut Transaction<Vec<Sealed>>,
+) -> Result<([Option<usize>; 5], Option<(u32, usize, usize)>), JournalError>
+    requires { transaction.old.locked ≡ false }
+{
+    transaction.join(HandleNo(1))?;
+    let _touch = transaction.touch_write(HandleNo(1), 1, BlockNo(7), &[0x44])?;
+    let written = holders(transaction.get(BlockNo(7)));
+    let batch = transaction.batch()?;
+    let handed = holders(transaction.get(BlockNo(7)));
+    let record = sealed(alloc, transaction)?;
+    let counts = counts(&record);
+    let kept = holders(transaction.newest(BlockNo(7)));
+    drop(batch);
+    let recorded = holders(transaction.newest(BlockNo(7)));
+    drop(record);
+    let alone = holders(transaction.newest(BlockNo(7)));
+    Ok(([written, handed, kept, recorded, alone], counts))
+}
+
 #[test]
 fn a_write_copies_its_bytes_once(rt: HostRuntime) -> Result<(), Fail> {
-    let block = BlockNo(7);
-    let mut record = <Vec<Sealed> as Record>::new(rt.alloc());
-    record.make_room()?;
-    let mut transaction: Transaction<Vec<Sealed>> = Transaction::new(rt.alloc(), Tid(2));
-    transaction.join(HandleNo(1))?;
-    let _touch = transaction.touch_write(HandleNo(1), 1, block, &[0x44])?;
-    assert_eq!(rt; holders(transaction.get(block)), Some(2));
-    let batch = transaction.batch()?;
-    assert_eq!(rt; holders(transaction.get(block)), Some(3));
-    transaction.lock();
-    transaction.finish();
-    if transaction.tid().0 > 2 {
-        return Err("it has another number".into());
-    }
-    transaction.seal(&mut record);
-    assert_eq!(rt;
-        (counts(&record), holders(transaction.newest(block))),
-        (Some((2, 1, 1)), Some(3))
-    );
-    drop(batch);
-    assert_eq!(rt; holders(transaction.newest(block)), Some(2));
-    drop(record);
-    assert_eq!(rt; holders(transaction.newest(block)), Some(1));
+    let mut transaction = Transaction::new(rt.alloc(), Tid(2));
+    let told = held_by_turns(rt.alloc(), &mut transaction);
+    let held = [Some(2), Some(3), Some(3), Some(2), Some(1)];
+    expect(&rt, &told, &Ok((held, Some((2, 1, 1)))));
     Ok(())
 }
 
@@ -122,22 +149,36 @@ fn byte_of(n: usize) -> u8 {
     (n % 251) as u8
 }
 
-/// A transaction in which one handle wrote block 7 a thousand times, and no other block. It takes no further handles.
-fn written_often<R: Record>(alloc: Global) -> Result<Transaction<R>, Fail> {
-    let mut transaction = Transaction::new(alloc, Tid(2));
+/// One handle writes block 7 a thousand times, and no other block.
+fn write_often<R: Record>(transaction: &mut Transaction<R>) -> Result<(), JournalError>
+    requires { transaction.old.locked ≡ false }
+{
     transaction.join(HandleNo(1))?;
     for n in 0..1000 {
         let _touch = transaction.touch_write(HandleNo(1), 1, BlockNo(7), &[byte_of(n)])?;
     }
-    transaction.lock();
-    transaction.finish();
-    Ok(transaction)
+    Ok(())
 }
 
-/// What it leaves of block 7, and how many hold those bytes.
-fn left<R: Record>(transaction: &Transaction<R>) -> (usize, Option<u8>, Option<usize>) {
+/// What a transaction leaves of block 7: how many entries it has, what it shows of the block, and how many hold those bytes.
+type Left = (usize, Option<u8>, Option<usize>);
+
+/// What a transaction leaves of block 7.
+fn left<R: Record>(transaction: &Transaction<R>) -> Left {
     let entry = transaction.newest(BlockNo(7));
     (transaction.len(), shown(entry), holders(entry))
+}
+
+/// Writes block 7 often, and seals that. It answers what is left of the block before, and the record.
+fn written_often<R: Record>(
+    alloc: Global,
+    transaction: &mut Transaction<R>,
+) -> Result<(Left, R), JournalError>
+    requires { transaction.old.locked ≡ false }
+{
+    write_often(transaction)?;
+    let left = left(transaction);
+    Ok((left, sealed(alloc, transaction)?))
 }
 
 /// Whether the step is the nth write.
@@ -152,39 +193,63 @@ fn is_write(step: &Step, n: usize) -> bool {
     }
 }
 
+/// Whether each step of a transaction is the write that was made in its turn.
+fn are_writes(steps: &[Step]) -> bool {
+    let mut are_writes = true;
+    for (n, step) in steps.iter().enumerate() {
+        are_writes = are_writes && is_write(step, n);
+    }
+    are_writes
+}
+
+/// The counts of a record, and whether it has each write.
+fn recorded(record: &[Sealed]) -> (Option<(u32, usize, usize)>, bool) {
+    let are_writes = match record.last() {
+        Some(sealed) => are_writes(sealed.steps.as_slice()),
+        None => false,
+    };
+    (counts(record), are_writes)
+}
+
+/// What is left of block 7 before and behind the seal of many writes of it, and what the record has.
+fn recorded_often(
+    alloc: Global,
+    transaction: &mut Transaction<Vec<Sealed>>,
+) -> Result<([Left; 2], (Option<(u32, usize, usize)>, bool)), JournalError>
+    requires { transaction.old.locked ≡ false }
+{
+    let (before, record) = written_often(alloc, transaction)?;
+    let recorded = recorded(&record);
+    drop(record);
+    Ok(([before, left(transaction)], recorded))
+}
+
 #[test]
 fn a_record_of_data_keeps_each_write(rt: HostRuntime) -> Result<(), Fail> {
-    let mut record = <Vec<Sealed> as Record>::new(rt.alloc());
-    record.make_room()?;
-    let mut transaction = written_often(rt.alloc())?;
-    assert_eq!(rt; left(&transaction), (1, Some(byte_of(999)), Some(2)));
-    if !transaction.is_locked() || transaction.tid().0 > 2 {
-        return Err("it is not locked, or has another number".into());
-    }
-    transaction.finish();
-    transaction.seal(&mut record);
-    assert_eq!(rt; counts(&record), Some((2, 1, 1000)));
-    for sealed in &record {
-        for (n, step) in sealed.steps.as_slice().iter().enumerate() {
-            assert!(rt; is_write(step, n));
-        }
-    }
-    drop(record);
-    assert_eq!(rt; left(&transaction), (0, Some(byte_of(999)), Some(1)));
+    let mut transaction = Transaction::new(rt.alloc(), Tid(2));
+    let told = recorded_often(rt.alloc(), &mut transaction);
+    let last = Some(byte_of(999));
+    let left = [(1, last, Some(2)), (0, last, Some(1))];
+    expect(&rt, &told, &Ok((left, (Some((2, 1, 1000)), true))));
     Ok(())
+}
+
+/// What is left of block 7 before and behind the seal of many writes of it, in a record for contracts alone.
+fn unrecorded_often(
+    alloc: Global,
+    transaction: &mut Transaction<Unrecorded>,
+) -> Result<[Left; 2], JournalError>
+    requires { transaction.old.locked ≡ false }
+{
+    let (before, _record) = written_often(alloc, transaction)?;
+    Ok([before, left(transaction)])
 }
 
 #[test]
 fn a_record_for_contracts_alone_keeps_the_last_write(rt: HostRuntime) -> Result<(), Fail> {
-    let mut record = Unrecorded::new(rt.alloc());
-    record.make_room()?;
-    let mut transaction = written_often(rt.alloc())?;
-    assert_eq!(rt; left(&transaction), (1, Some(byte_of(999)), Some(1)));
-    if !transaction.is_locked() || transaction.tid().0 > 2 {
-        return Err("it is not locked, or has another number".into());
-    }
-    transaction.finish();
-    transaction.seal(&mut record);
-    assert_eq!(rt; left(&transaction), (0, Some(byte_of(999)), Some(1)));
+    let mut transaction = Transaction::new(rt.alloc(), Tid(2));
+    let told = unrecorded_often(rt.alloc(), &mut transaction);
+    let last = Some(byte_of(999));
+    expect(&rt, &told, &Ok([(1, last, Some(1)), (0, last, Some(1))]));
     Ok(())
 }
