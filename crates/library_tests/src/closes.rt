@@ -1,82 +1,74 @@
 //! A close that has to finish a commit first: all memory that it takes it asks for before its first call of the device. In the gate no
 //! request is refused: `bench/refused_memory.py` runs this test once for each request, and refuses it.
+use crate::logs::{formatted, opened};
+use crate::newest::{change, journal_on};
 use block_device::MemDevice;
-use group_commit::{Journal, Ticket};
-use journal_model::{BlockNo, JournalError, Sealed};
+use group_commit::{Journal, Parts};
+use journal_model::{JournalError, Sealed};
 use std::alloc::Global;
 use std::test::Fail;
 
-/// Bytes of a block.
-const BLOCK_SIZE: usize = 1024;
+/// A journal whose record is kept as data.
+type Kept = Journal<MemDevice, Vec<Sealed>>;
 
-/// Blocks of the log.
-const LOG_BLOCKS: u32 = 33;
-
-/// Writes a block through a handle of its own.
-fn write_block(
-    journal: &mut Journal<MemDevice, Vec<Sealed>>,
-    block: BlockNo,
-) -> Result<Ticket, JournalError> {
-    if journal.block_size() != BLOCK_SIZE {
-        return Err(JournalError::BadBlockSize);
-    }
-    let mut handle = journal.try_start(1)?;
-    let written = journal.write(&mut handle, block, &[7; BLOCK_SIZE]);
-    let ticket = journal.stop(handle);
-    written?;
-    Ok(ticket)
-}
-
-/// A journal on a new log.
-fn new_journal(alloc: Global) -> Result<Journal<MemDevice, Vec<Sealed>>, JournalError> {
-    let mut device = MemDevice::new(alloc, BLOCK_SIZE, u64::from(LOG_BLOCKS), 64);
-    recovery::format(&mut device, LOG_BLOCKS, &[7; 16], false)?;
-    match recovery::open(alloc, device) {
-        Ok(opened) => match Journal::new(alloc, opened) {
-            Ok(journal) => Ok(journal),
-            Err((_, e)) => Err(e),
-        },
-        Err((_, e)) => Err(e),
-    }
-}
-
-/// A journal in which one transaction is being committed, and another one has a block.
-fn with_a_commit_under_way(alloc: Global) -> Result<Journal<MemDevice, Vec<Sealed>>, JournalError> {
-    let mut journal = new_journal(alloc)?;
-    let ticket = write_block(&mut journal, BlockNo(9))?;
+/// Writes a block, and takes five turns of its commit, of which the first one seals; then writes another block.
+fn commit_beside(journal: &mut Kept) -> Result<(), JournalError> {
+    let ticket = change(journal, 9, 7)?;
     journal.request(&ticket)?;
     for _ in 0..4 {
         journal.commit_turn()?;
     }
-    let _running = write_block(&mut journal, BlockNo(10))?;
+    let _running = change(journal, 10, 7)?;
+    Ok(())
+}
+
+/// A journal in which one transaction is being committed, and another one has a block.
+fn with_a_commit_under_way(alloc: Global) -> Result<Kept, JournalError> {
+    let opened = opened(alloc, formatted(alloc, 33, 64)?)?;
+    let mut journal = journal_on(alloc, opened)?;
+    commit_beside(&mut journal)?;
     Ok(journal)
+}
+
+/// What a journal left: how many transactions are sealed, how many of them are committed, and how many writes its device was given.
+fn counts(parts: &Parts<MemDevice, Vec<Sealed>>) -> (usize, u64, u64) {
+    (parts.sealed.len(), parts.committed, parts.device.writes())
+}
+
+/// What it would leave without a close.
+fn unclosed(alloc: Global) -> Result<(usize, u64, u64), JournalError> {
+    Ok(counts(&with_a_commit_under_way(alloc)?.into_parts()))
+}
+
+/// Closes a journal in which a commit is under way, and no handle is open. It answers why that was refused, and what is left.
+fn closed(alloc: Global) -> Result<(Option<JournalError>, (usize, u64, u64)), JournalError> {
+    let journal = with_a_commit_under_way(alloc)?;
+    if journal.has_open_handles() {
+        return Ok((
+            Some(JournalError::NotRunning),
+            counts(&journal.into_parts()),
+        ));
+    }
+    match journal.close() {
+        Ok(parts) => Ok((None, counts(&parts))),
+        Err((parts, e)) => Ok((Some(e), counts(&parts))),
+    }
 }
 
 /// It prints what came of the close, once there was memory for what comes before it.
 #[test]
 fn a_close_takes_its_memory_before_its_first_call(rt: HostRuntime) -> Result<(), Fail> {
-    let alloc = rt.alloc();
-    let Ok(before) = with_a_commit_under_way(alloc) else {
+    let (Ok(before), Ok((refusal, left))) = (unclosed(rt.alloc()), closed(rt.alloc())) else {
         return Ok(());
     };
-    let before = before.into_parts();
-    assert!(&rt; before.sealed.len() == 1 && before.committed == 0);
-    let Ok(journal) = with_a_commit_under_way(alloc) else {
-        return Ok(());
-    };
-    assert!(&rt; !journal.has_open_handles());
-    match journal.close() {
-        Ok(parts) => {
-            assert!(&rt; parts.sealed.len() == 2 && parts.committed == 2);
+    assert_eq!(&rt; (before.0, before.1), (1, 0));
+    match refusal {
+        None => {
+            assert_eq!(&rt; (left.0, left.1), (2, 2));
             println!(rt; "closed")?;
         }
-        Err((parts, e)) => {
-            if e == JournalError::Memory {
-                assert!(&rt; parts.sealed.len() == 1 && parts.committed == 0);
-                assert!(&rt; parts.device.writes() == before.device.writes());
-            } else {
-                assert!(&rt; e == JournalError::Device);
-            }
+        Some(e) => {
+            assert!(&rt; e == JournalError::Device || e == JournalError::Memory && left == before);
             println!(rt; "refused {e:?}")?;
         }
     }

@@ -2,8 +2,10 @@
 //! nothing noted.
 ghost use Rattle.std.specs.Prelude.{◌≡◌};
 
-use block_device::{FailOnce, MemDevice};
-use group_commit::{Journal, Ticket, Turn};
+use crate::bytes::expect;
+use crate::logs::{BLOCK_SIZE, formatted, opened};
+use block_device::{Device, FailOnce, MemDevice};
+use group_commit::{Journal, Record, Ticket, Turn};
 use journal_model::{BlockNo, JournalError};
 use recovery::Opened;
 use shared_journal::{Journal as Shared, JournalName, LaidJournal, MeetingName, PartsName, lay};
@@ -17,109 +19,158 @@ use std::test::Fail;
 type Read = Journal<FailOnce<MemDevice>>;
 
 /// An empty log, opened on a device of which this call fails; 0 is none.
-fn opened<R: Abort>(
-    rt: &R,
-    alloc: Global,
-    fail: u64,
-) -> Result<Opened<FailOnce<MemDevice>>, JournalError> {
-    let mut device = MemDevice::new(alloc, 1024, 33, 64);
-    recovery::format(&mut device, 33, &[7; 16], false)?;
-    let Ok(opened) = recovery::open(alloc, FailOnce::new(device, fail)) else {
-        panic!(rt; "the log is refused")
-    };
-    Ok(opened)
+fn empty(alloc: Global, fail: u64) -> Result<Opened<FailOnce<MemDevice>>, JournalError> {
+    opened(alloc, FailOnce::new(formatted(alloc, 33, 64)?, fail))
 }
 
-/// A journal on it.
-fn journal<R: Abort>(rt: &R, alloc: Global, fail: u64) -> Result<Read, JournalError> {
-    match Journal::new(alloc, opened(rt, alloc, fail)?) {
+/// A journal on an opened log.
+pub fn journal_on<D: Device + Drop, K: Record>(
+    alloc: Global,
+    opened: Opened<D>,
+) -> Result<Journal<D, K>, JournalError> {
+    match Journal::new(alloc, opened) {
         Ok(journal) => Ok(journal),
         Err((_, e)) => Err(e),
     }
 }
 
+/// A journal on an empty log of a device of which this call fails.
+fn journal(alloc: Global, fail: u64) -> Result<Read, JournalError> {
+    journal_on(alloc, empty(alloc, fail)?)
+}
+
 /// The first byte of a block, as a read without a handle sees it.
 fn first(journal: &mut Read, block: u64) -> Result<u8, JournalError> {
-    let mut bytes = [0xee; 1024];
-    if journal.block_size() != 1024 {
+    let mut bytes = [0xee; BLOCK_SIZE];
+    if journal.block_size() != BLOCK_SIZE {
         return Err(JournalError::TooMany);
     }
     journal.read_newest(BlockNo(block), &mut bytes)?;
     Ok(bytes[0])
 }
 
-/// A handle writes a byte to block 9, or revokes it where the byte is 0, and stops; its transaction is asked for.
-fn change<R: Abort>(rt: &R, journal: &mut Read, byte: u8) -> Ticket {
-    let Ok(mut handle) = journal.try_start(1) else {
-        panic!(rt; "the handle is refused")
-    };
-    let changed = if byte == 0 {
-        journal.revoke(&mut handle, BlockNo(9))
-    } else if journal.block_size() == 1024 {
-        journal.write(&mut handle, BlockNo(9), &[byte; 1024])
-    } else {
-        Err(JournalError::TooMany)
+/// A handle writes a byte to a block, or revokes it where the byte is 0, and stops; its transaction is asked for.
+pub fn change<D: Device, K: Record>(
+    journal: &mut Journal<D, K>,
+    block: u64,
+    byte: u8,
+) -> Result<Ticket, JournalError> {
+    if journal.block_size() != BLOCK_SIZE {
+        return Err(JournalError::BadBlockSize);
+    }
+    let mut handle = journal.try_start(1)?;
+    let changed = match byte {
+        0 => journal.revoke(&mut handle, BlockNo(block)),
+        _ => journal.write(&mut handle, BlockNo(block), &[byte; BLOCK_SIZE]),
     };
     let ticket = journal.stop(handle);
-    assert!(rt; changed.is_ok());
-    ticket
+    changed?;
+    Ok(ticket)
+}
+
+/// Commits a ticket's transaction.
+fn commit(journal: &mut Read, ticket: Ticket) -> Result<(), JournalError> {
+    match journal.commit(ticket) {
+        Ok(_) => Ok(()),
+        Err((_, e)) => Err(e),
+    }
+}
+
+/// Block 9 as it is read before it is written, behind the write, while that is being committed, behind another write, and once the first one
+/// is committed; and whether its commit was under way.
+fn read_by_turns(journal: &mut Read) -> Result<([u8; 5], bool), JournalError> {
+    let empty = first(journal, 9)?;
+    let one = change(journal, 9, 0x11)?;
+    let running = first(journal, 9)?;
+    journal.request(&one)?;
+    let is_sealed = matches!(journal.commit_turn()?, Turn::Sealed(_));
+    let committing = first(journal, 9)?;
+    let _two = change(journal, 9, 0x22)?;
+    let newer = first(journal, 9)?;
+    commit(journal, one)?;
+    Ok((
+        [empty, running, committing, newer, first(journal, 9)?],
+        is_sealed,
+    ))
 }
 
 #[test]
 fn a_read_without_a_handle_sees_the_newest_copy(rt: HostRuntime) -> Result<(), Fail> {
-    let mut journal = journal(&rt, rt.alloc(), 0)?;
-    assert_eq!(rt; first(&mut journal, 9), Ok(0));
-    let one = change(&rt, &mut journal, 0x11);
-    assert_eq!(rt; first(&mut journal, 9), Ok(0x11));
-    assert!(rt; journal.request(&one).is_ok());
-    assert!(rt; matches!(journal.commit_turn(), Ok(Turn::Sealed(_))));
-    assert_eq!(rt; first(&mut journal, 9), Ok(0x11));
-    let _two = change(&rt, &mut journal, 0x22);
-    assert_eq!(rt; first(&mut journal, 9), Ok(0x22));
-    assert!(rt; journal.commit(one).is_ok());
-    assert_eq!(rt; first(&mut journal, 9), Ok(0x22));
+    let told = read_by_turns(&mut journal(rt.alloc(), 0)?);
+    expect(&rt, &told, &Ok(([0, 0x11, 0x11, 0x22, 0x22], true)));
     Ok(())
+}
+
+/// Block 9 as it is read once it is committed and once it is home, and block 10; and whether the journal has as many entries as before.
+fn read_committed(journal: &mut Read) -> Result<([u8; 3], bool), JournalError> {
+    let one = change(journal, 9, 0x11)?;
+    commit(journal, one)?;
+    let before = journal.entries();
+    let committed = first(journal, 9)?;
+    journal.release_all()?;
+    let bytes = [committed, first(journal, 9)?, first(journal, 10)?];
+    Ok((bytes, journal.entries() == before))
+}
+
+/// How many transactions are committed behind the close of a journal without open handles.
+fn closed(journal: Read) -> Option<u64> {
+    if journal.has_open_handles() {
+        return None;
+    }
+    match journal.close() {
+        Ok(parts) => Some(parts.committed),
+        Err(_) => None,
+    }
 }
 
 #[test]
 fn a_read_without_a_handle_sees_what_is_committed_and_what_is_home(
     rt: HostRuntime,
 ) -> Result<(), Fail> {
-    let mut journal = journal(&rt, rt.alloc(), 0)?;
-    let one = change(&rt, &mut journal, 0x11);
-    assert!(rt; journal.commit(one).is_ok());
-    let before = journal.entries();
-    assert_eq!(rt; first(&mut journal, 9), Ok(0x11));
-    assert!(rt; journal.release_all().is_ok());
-    assert_eq!(rt; first(&mut journal, 9), Ok(0x11));
-    assert_eq!(rt; first(&mut journal, 10), Ok(0));
-    assert_eq!(rt; journal.entries(), before);
-    assert!(rt; !journal.has_open_handles());
-    let Ok(parts) = journal.close() else {
-        panic!(rt; "the close is refused")
-    };
-    assert_eq!(rt; parts.committed, 1);
+    let mut journal = journal(rt.alloc(), 0)?;
+    let told = read_committed(&mut journal);
+    expect(
+        &rt,
+        &(told, closed(journal)),
+        &(Ok(([0x11, 0x11, 0], true)), Some(1)),
+    );
     Ok(())
+}
+
+/// What comes of reads of a block that is not there, of one that is revoked, and of that once the revoke is committed.
+fn read_refused(journal: &mut Read) -> Result<[Result<u8, JournalError>; 3], JournalError> {
+    let beyond = first(journal, 64);
+    let one = change(journal, 9, 0)?;
+    let revoked = first(journal, 9);
+    commit(journal, one)?;
+    Ok([beyond, revoked, first(journal, 9)])
 }
 
 #[test]
 fn a_read_without_a_handle_is_refused(rt: HostRuntime) -> Result<(), Fail> {
-    let mut journal = journal(&rt, rt.alloc(), 0)?;
-    assert_eq!(rt; first(&mut journal, 64), Err(JournalError::BadBlock));
-    let one = change(&rt, &mut journal, 0);
-    assert_eq!(rt; first(&mut journal, 9), Err(JournalError::Revoked));
-    assert!(rt; journal.commit(one).is_ok());
-    assert_eq!(rt; first(&mut journal, 9), Ok(0));
+    let told = read_refused(&mut journal(rt.alloc(), 0)?);
+    let expected = [
+        Err(JournalError::BadBlock),
+        Err(JournalError::Revoked),
+        Ok(0),
+    ];
+    expect(&rt, &told, &Ok(expected));
     Ok(())
+}
+
+/// What comes of two reads of block 10, and whether the journal is aborted between them.
+fn read_twice(journal: &mut Read) -> (Result<u8, JournalError>, bool, Result<u8, JournalError>) {
+    let once = first(journal, 10);
+    let is_aborted = journal.is_aborted();
+    (once, is_aborted, first(journal, 10))
 }
 
 #[test]
 fn a_read_without_a_handle_fails_with_the_device(rt: HostRuntime) -> Result<(), Fail> {
-    let calls = opened(&rt, rt.alloc(), 0)?.into_device().calls();
-    let mut journal = journal(&rt, rt.alloc(), calls.saturating_add(1))?;
-    assert_eq!(rt; first(&mut journal, 10), Err(JournalError::Device));
-    assert!(rt; journal.is_aborted());
-    assert_eq!(rt; first(&mut journal, 10), Err(JournalError::Aborted));
+    let calls = empty(rt.alloc(), 0)?.into_device().calls();
+    let told = read_twice(&mut journal(rt.alloc(), calls.saturating_add(1))?);
+    let expected = (Err(JournalError::Device), true, Err(JournalError::Aborted));
+    expect(&rt, &told, &expected);
     Ok(())
 }
 
@@ -161,7 +212,7 @@ fn only_read<J: JournalName + PartsName + MeetingName, R: Wait + Abort>(
 fn a_read_without_a_handle_makes_no_transaction_of_a_shared_journal(
     rt: HostRuntime,
 ) -> Result<(), Fail> {
-    let Ok(laid) = lay(rt.alloc(), opened(&rt, rt.alloc(), 0)?) else {
+    let Ok(laid) = lay(rt.alloc(), empty(rt.alloc(), 0)?) else {
         panic!(rt; "the journal is refused")
     };
     let committed = only_read::<Brand, _>(&rt, laid);
