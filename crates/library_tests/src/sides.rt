@@ -1,9 +1,11 @@
 //! A front that goes on while the engine commits.
 ghost use Rattle.std.specs.Prelude.{◌≡◌};
 
+use crate::bytes::expect;
+use crate::logs::{formatted, opened};
 use block_device::MemDevice;
 use journal_model::{BlockNo, JournalError, Tid};
-use journal_sides::{FrontSide, UnnamedSides, meet, seal};
+use journal_sides::{EngineSide, FrontSide, SidesMeeting, UnnamedSides, meet, seal};
 use journal_steps::Turn;
 use log_engine::Progress;
 use meeting::MeetingName;
@@ -11,13 +13,42 @@ use std::marker::Brand;
 use std::process::Abort;
 use std::test::Fail;
 
-/// A handle revokes one block, and stops.
-fn revoke_one<J: MeetingName, R: Abort>(rt: &R, front: &mut FrontSide<J, MemDevice>, block: u64) {
+/// A handle revokes one block, and stops. It answers whether it could.
+fn revoke_one<J: MeetingName>(front: &mut FrontSide<J, MemDevice>, block: u64) -> bool {
     let Ok(mut handle) = front.try_start(1) else {
-        panic!(rt; "the handle is refused")
+        return false;
     };
-    assert!(rt; front.revoke(&mut handle, BlockNo(block)).is_ok());
+    let revoked = front.revoke(&mut handle, BlockNo(block)).is_ok();
     front.stop(handle);
+    revoked
+}
+
+/// A handle revokes one block, and its transaction's commit is asked for. It answers whether that could be.
+fn revoke_and_request<J: MeetingName>(
+    front: &mut FrontSide<J, MemDevice>,
+    block: u64,
+    tid: u32,
+) -> bool {
+    revoke_one(front, block) && front.request_commit(Tid(tid)).is_ok()
+}
+
+/// Why no further handle is started, or nothing where one is.
+fn refusal<J: MeetingName>(front: &mut FrontSide<J, MemDevice>) -> Option<JournalError> {
+    match front.try_start(1) {
+        Ok(handle) => {
+            front.stop(handle);
+            None
+        }
+        Err(e) => Some(e),
+    }
+}
+
+/// Whether a call of the engine is a step of a commit, and not its last one.
+fn is_step<J: MeetingName>(
+    meeting: &SidesMeeting<J, MemDevice>,
+    engine: &mut EngineSide<J, MemDevice>,
+) -> bool {
+    matches!(engine.commit_step(meeting), Ok(Progress::Step))
 }
 
 /// While one transaction is committed by steps of the engine alone, handles of the next one work; the front knows of the commit once
@@ -26,48 +57,42 @@ fn goes_on<J: MeetingName, R: Abort>(rt: &R, unnamed: UnnamedSides<MemDevice>)
     requires { unnamed.meeting ≡ J.meeting }
 {
     let (meeting, mut front, mut engine) = unnamed.named::<J>();
-    revoke_one(rt, &mut front, 9);
-    assert!(rt; front.request_commit(Tid(2)).is_ok());
-    match front.try_start(1) {
-        Ok(handle) => {
-            front.stop(handle);
-            panic!(rt; "the transaction takes a further handle")
-        }
-        Err(e) => assert!(rt; e == JournalError::NotRunning),
-    }
-    assert!(rt;
-        matches!(
-            seal(&meeting, &mut front, &mut engine),
-            Ok(Some(Turn::Sealed(Tid(2))))
-        )
-    );
-    assert!(rt; matches!(engine.commit_step(&meeting), Ok(Progress::Step)));
-    revoke_one(rt, &mut front, 10);
-    assert!(rt; front.request_commit(Tid(3)).is_ok());
-    assert!(rt; matches!(seal(&meeting, &mut front, &mut engine), Ok(None)));
+    let first = revoke_and_request(&mut front, 9, 2);
+    let refused = refusal(&mut front);
+    let sealed = seal(&meeting, &mut front, &mut engine);
+    let mut are_steps = is_step(&meeting, &mut engine);
+    let second = revoke_and_request(&mut front, 10, 3);
+    let waits = seal(&meeting, &mut front, &mut engine);
     for _ in 0..4 {
-        assert!(rt; matches!(engine.commit_step(&meeting), Ok(Progress::Step)));
+        are_steps = is_step(&meeting, &mut engine) && are_steps;
     }
-    assert!(rt; matches!(engine.commit_step(&meeting), Ok(Progress::Done(Tid(2)))));
-    assert!(rt; front.mark() == Tid(1));
+    let is_done = matches!(engine.commit_step(&meeting), Ok(Progress::Done(Tid(2))));
+    let before = front.mark();
     meet(&meeting, &mut front, &mut engine);
-    assert!(rt; front.mark() == Tid(2));
-    assert!(rt;
-        matches!(
-            seal(&meeting, &mut front, &mut engine),
-            Ok(Some(Turn::Sealed(Tid(3))))
-        )
+    let marks = [before, front.mark()];
+    let last = seal(&meeting, &mut front, &mut engine);
+    let seals = [
+        Ok(Some(Turn::Sealed(Tid(2)))),
+        Ok(None),
+        Ok(Some(Turn::Sealed(Tid(3)))),
+    ];
+    expect(rt, &[sealed, waits, last], &seals);
+    let handles = (first, refused, second, front.entries());
+    expect(
+        rt,
+        &handles,
+        &(true, Some(JournalError::NotRunning), true, 0),
     );
-    assert!(rt; front.entries() == 0);
+    expect(
+        rt,
+        &(are_steps, is_done, marks),
+        &(true, true, [Tid(1), Tid(2)]),
+    );
 }
 
 #[test]
 fn a_front_goes_on_while_the_engine_commits(rt: HostRuntime) -> Result<(), Fail> {
-    let mut device = MemDevice::new(rt.alloc(), 1024, 1024, 4096);
-    recovery::format(&mut device, 1024, &[7; 16], false)?;
-    let Ok(opened) = recovery::open(rt.alloc(), device) else {
-        panic!(rt; "the log is refused")
-    };
+    let opened = opened(rt.alloc(), formatted(rt.alloc(), 1024, 4096)?)?;
     let Ok(unnamed) = UnnamedSides::new(rt.alloc(), opened) else {
         panic!(rt; "the journal is refused")
     };

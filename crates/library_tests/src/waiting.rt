@@ -1,10 +1,12 @@
 //! Calls that wait, while another thread takes commit turns: for credits, for a seal, for a commit, and over a device that fails.
 ghost use Rattle.std.specs.Prelude.{◌≡◌};
 
-use block_device::{Device, MemDevice, StopAt};
+use crate::bytes::expect;
+use crate::logs::{formatted, laid_on};
+use block_device::{Device, StopAt};
 use journal_model::{BlockNo, JournalError, Tid};
 use shared_journal::{
-    Handle, Journal, JournalName, LaidJournal, MeetingName, PartsName, Seat, Turn, lay,
+    Handle, Journal, JournalName, LaidJournal, MeetingName, PartsName, Seat, Turn,
 };
 use std::alloc::Global;
 use std::marker::Brand;
@@ -170,7 +172,7 @@ fn waited<
     let Some(other) = journal.split_seat(&mut seat) else {
         panic!(rt; "there is no further seat")
     };
-    assert_eq!(rt; prepare(rt, &journal, &mut seat, before), Ok(()));
+    expect(rt, &prepare(rt, &journal, &mut seat, before), &Ok(()));
     match journal.try_start(rt, &mut seat, 1) {
         Ok(handle) => {
             journal.stop(rt, handle);
@@ -185,53 +187,47 @@ fn waited<
     }
 }
 
-/// A device in memory with an empty log of 33 blocks: a transaction has six credits at most.
-fn formatted(alloc: Global) -> Result<MemDevice, Fail> {
-    let mut device = MemDevice::new(alloc, 1024, 33, 64);
-    recovery::format(&mut device, 33, &[7; 16], false)?;
-    Ok(device)
-}
-
 /// What comes of waits over a device, where this was made of its journal before.
 fn waited_over<D: Device + Drop + Send, R: Threads + Wait + Abort + Sync>(
     rt: &R,
     alloc: Global,
     device: D,
     before: &Before,
-) -> (Result<(Tid, Tid), JournalError>, u64) {
-    let Ok(opened) = recovery::open(alloc, device) else {
-        panic!(rt; "the log is refused")
-    };
-    let Ok(laid) = lay(alloc, opened) else {
-        panic!(rt; "the journal is refused")
-    };
-    waited::<Brand, _, _>(rt, laid, before)
+) -> Result<(Result<(Tid, Tid), JournalError>, u64), JournalError> {
+    let laid = laid_on(alloc, device)?;
+    Ok(waited::<Brand, _, _>(rt, laid, before))
+}
+
+/// The same over a device in memory with an empty log of 33 blocks: a transaction has six credits at most.
+fn waited_in_memory<R: Threads + Wait + Abort + Sync>(
+    rt: &R,
+    alloc: Global,
+    before: &Before,
+) -> Result<(Result<(Tid, Tid), JournalError>, u64), JournalError> {
+    waited_over(rt, alloc, formatted(alloc, 33, 64)?, before)
 }
 
 /// A start locks the transaction whose entries hold the credits, and comes through behind its seal; so does a restart.
 #[test]
 fn a_start_waits_for_credits(rt: HostRuntime) -> Result<(), Fail> {
-    let (gone, committed) = waited_over(&rt, rt.alloc(), formatted(rt.alloc())?, &Before::Full);
-    assert_eq!(rt; gone, Ok((Tid(3), Tid(4))));
-    assert_eq!(rt; committed, 3);
+    let told = waited_in_memory(&rt, rt.alloc(), &Before::Full)?;
+    expect(&rt, &told, &(Ok((Tid(3), Tid(4))), 3));
     Ok(())
 }
 
 /// A start waits for the seal of a locked transaction, though credits are left.
 #[test]
 fn a_start_waits_for_a_seal(rt: HostRuntime) -> Result<(), Fail> {
-    let (gone, committed) = waited_over(&rt, rt.alloc(), formatted(rt.alloc())?, &Before::Locked);
-    assert_eq!(rt; gone, Ok((Tid(3), Tid(4))));
-    assert_eq!(rt; committed, 3);
+    let told = waited_in_memory(&rt, rt.alloc(), &Before::Locked)?;
+    expect(&rt, &told, &(Ok((Tid(3), Tid(4))), 3));
     Ok(())
 }
 
 /// The credits that a start waits for never come back, since the commit before fails; it is told so.
 #[test]
 fn a_start_ends_with_the_device(rt: HostRuntime) -> Result<(), Fail> {
-    let device = StopAt::new(formatted(rt.alloc())?, 1);
-    let (gone, committed) = waited_over(&rt, rt.alloc(), device, &Before::Sealed);
-    assert_eq!(rt; gone, Err(JournalError::Aborted));
-    assert_eq!(rt; committed, 0);
+    let device = StopAt::new(formatted(rt.alloc(), 33, 64)?, 1);
+    let told = waited_over(&rt, rt.alloc(), device, &Before::Sealed)?;
+    expect(&rt, &told, &(Err(JournalError::Aborted), 0));
     Ok(())
 }
