@@ -2,11 +2,12 @@
 //! and the home area as the record says.
 ghost use Rattle.std.specs.Prelude.{◌≡◌};
 
+use crate::bytes::expect;
+use crate::logs::{formatted, laid_on};
 use block_device::{Device, MemDevice};
 use journal_model::{Area, BlockNo, HandleNo, JournalError, Op, Sealed, Step};
 use shared_journal::{
     Handle, Journal, JournalName, LaidJournal, MeetingName, Parts, PartsName, Record, Seat, Ticket,
-    lay,
 };
 use std::alloc::Global;
 use std::marker::Brand;
@@ -323,23 +324,16 @@ fn worked<J: JournalName + PartsName + MeetingName + Send + Sync, R: Threads + W
     ) else {
         panic!(rt; "there is no further seat")
     };
-    assert!(rt; all_four(rt, &journal, [one, two, three, seat]));
+    let done = all_four(rt, &journal, [one, two, three, seat]);
     let Ok(parts) = journal.close() else {
         panic!(rt; "the close is refused")
     };
-    assert!(rt; is_right(parts));
+    expect(rt, &(done, is_right(parts)), &(true, true));
 }
 
 /// One run, over a ring that goes round several times.
 fn run<R: Threads + Wait + Abort + Sync>(rt: &R, alloc: Global) -> Result<(), JournalError> {
-    let mut device = MemDevice::new(alloc, 1024, 65, HOME_BLOCKS);
-    recovery::format(&mut device, 65, &[7; 16], false)?;
-    let Ok(opened) = recovery::open(alloc, device) else {
-        panic!(rt; "the log is refused")
-    };
-    let Ok(laid) = lay(alloc, opened) else {
-        panic!(rt; "the journal is refused")
-    };
+    let laid = laid_on(alloc, formatted(alloc, 65, HOME_BLOCKS)?)?;
     worked::<Brand, _>(rt, laid);
     Ok(())
 }

@@ -2,10 +2,12 @@
 //! another thread waits for the engine.
 ghost use Rattle.std.specs.Prelude.{◌≡◌};
 
-use block_device::{Device, DeviceFault, MemDevice};
-use journal_model::{Area, BlockNo};
+use crate::bytes::expect;
+use crate::logs::{formatted, laid_on};
+use block_device::{Device, DeviceFault};
+use journal_model::{Area, BlockNo, JournalError};
 use shared_journal::{
-    CheckTurn, Journal, JournalName, LaidJournal, MeetingName, PartsName, Seat, Ticket, Turn, lay,
+    CheckTurn, Journal, JournalName, LaidJournal, MeetingName, PartsName, Seat, Ticket, Turn,
 };
 use std::alloc::Global;
 use std::marker::Brand;
@@ -314,7 +316,8 @@ fn overtaken<
     else {
         panic!(rt; "there is no further seat")
     };
-    assert!(rt; commit_and_overtake(rt, &journal, [one, two, seat], gate));
+    let done = commit_and_overtake(rt, &journal, [one, two, seat], gate);
+    expect(rt, &done, &true);
     let Ok(parts) = journal.close() else {
         panic!(rt; "the close is refused")
     };
@@ -326,26 +329,17 @@ fn is_overtaken<R: Threads + Wait + Abort + Sync>(
     rt: &R,
     alloc: Global,
     area: Area,
-) -> Result<(), Fail> {
-    let mut device = MemDevice::new(alloc, 1024, 1024, 4096);
-    recovery::format(&mut device, 1024, &[7; 16], false)?;
+) -> Result<(), JournalError> {
     let gate = Overtaking::new(area);
-    let Ok(opened) = recovery::open(
-        alloc,
-        HeldDevice {
-            device,
-            gate: &gate,
-        },
-    ) else {
-        panic!(rt; "the log is refused")
+    let device = HeldDevice {
+        device: formatted(alloc, 1024, 4096)?,
+        gate: &gate,
     };
-    let Ok(laid) = lay(alloc, opened) else {
-        panic!(rt; "the journal is refused")
-    };
+    let laid = laid_on(alloc, device)?;
     let committed = overtaken::<Brand, _, _>(rt, laid, &gate);
-    assert_eq!(rt; committed, 2);
-    assert!(rt; gate.held.load(Ordering::SeqCst) != 0);
-    assert_eq!(rt; gate.given_up.load(Ordering::SeqCst), 0);
+    let has_held = gate.held.load(Ordering::SeqCst) != 0;
+    let has_given_up = gate.given_up.load(Ordering::SeqCst) != 0;
+    expect(rt, &(committed, has_held, has_given_up), &(2, true, false));
     Ok(())
 }
 
@@ -353,11 +347,13 @@ fn is_overtaken<R: Threads + Wait + Abort + Sync>(
 /// held the front's, it would wait for the held write, and the gate would give up.
 #[test]
 fn a_handle_writes_while_a_commit_is_held(rt: HostRuntime) -> Result<(), Fail> {
-    is_overtaken(&rt, rt.alloc(), Area::Log)
+    is_overtaken(&rt, rt.alloc(), Area::Log)?;
+    Ok(())
 }
 
 /// The same of a write of a checkpoint round.
 #[test]
 fn a_handle_writes_while_a_checkpoint_is_held(rt: HostRuntime) -> Result<(), Fail> {
-    is_overtaken(&rt, rt.alloc(), Area::Home)
+    is_overtaken(&rt, rt.alloc(), Area::Home)?;
+    Ok(())
 }
