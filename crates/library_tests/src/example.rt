@@ -1,5 +1,6 @@
 //! The examples, over a device in memory: of a journal, and of one that threads share.
 
+use crate::bytes::expect;
 use block_device::MemDevice;
 use journal_example::work;
 use std::test::Fail;
@@ -10,7 +11,8 @@ fn two_blocks_change_together(rt: HostRuntime) -> Result<(), Fail> {
     let Ok(done) = work(rt.alloc(), MemDevice::new(rt.alloc(), 1024, 33, 64)) else {
         return Err("a call is refused".into());
     };
-    assert_eq!(rt; (done.tid.0, done.first, done.home), (2, 0x11, 1));
+    let told = (done.tid.0, done.first, done.home);
+    expect(&rt, &told, &(2, 0x11, 1));
     Ok(())
 }
 
@@ -21,7 +23,7 @@ fn two_threads_change_blocks(rt: HostRuntime) -> Result<(), Fail> {
     let Ok(done) = threads_example::work(&rt, rt.alloc(), device) else {
         return Err("a call is refused".into());
     };
-    assert_eq!(rt; done.safe, 4);
-    assert!(rt; 2 <= done.home && done.home <= 4);
+    let is_home = 2 <= done.home && done.home <= 4;
+    expect(&rt, &(done.safe, is_home), &(4, true));
     Ok(())
 }

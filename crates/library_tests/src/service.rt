@@ -5,22 +5,21 @@ ghost use Rattle.std.specs.Prelude.{◌≡◌};
 mod gates;
 mod refused;
 
+use crate::bytes::expect;
+use crate::logs::{BLOCK_SIZE, formatted, laid_on, lay_on, opened};
 use block_device::{Device, FailOnce, MemDevice};
 use gates::{Meeting, Overtaking};
 use journal_model::{Block, BlockNo, JournalError, Sealed, Tid};
-use shared_journal::{JournalName, LaidJournal, MeetingName, PartsName, Tally, lay};
+use recovery::Opened;
+use shared_journal::{JournalName, LaidJournal, MeetingName, PartsName, Tally};
 use std::alloc::{AllocError, Global};
 use std::marker::Brand;
-use std::process::Abort;
 use std::sync::Wait;
 use std::test::Fail;
 use std::thread::Threads;
 use volume_service::{
     ClientOutcome, Gate, HandlePlan, HeldDevice, OpenGate, Outcome, Service, Touch,
 };
-
-/// Bytes of a block.
-const BLOCK_SIZE: usize = 1024;
 
 /// Blocks of the log: a transaction has six credits at most.
 const LOG_BLOCKS: u32 = 33;
@@ -123,46 +122,6 @@ fn count<J: JournalName + PartsName + MeetingName>(
     summary
 }
 
-/// Lays a journal on the log of a device.
-fn laid_on<D: Device + Drop, R: Abort>(
-    rt: &R,
-    alloc: Global,
-    device: D,
-) -> LaidJournal<D, Vec<Sealed>> {
-    let Ok(opened) = recovery::open(alloc, device) else {
-        panic!(rt; "the log is refused")
-    };
-    let Ok(laid) = lay(alloc, opened) else {
-        panic!(rt; "the journal is refused")
-    };
-    laid
-}
-
-/// Runs clients over a laid journal. It answers what came of them, and the device.
-fn run<
-    J: JournalName + PartsName + MeetingName + Send + Sync,
-    D: Device + Send + Drop,
-    G: Gate + Sync,
-    R: Threads + Wait + Abort + Sync,
->(
-    rt: &R,
-    alloc: Global,
-    laid: LaidJournal<D, Vec<Sealed>>,
-    plans: &[Vec<HandlePlan>],
-    gate: &G,
-) -> (Summary, D)
-    requires board { laid.board ≡ J.board }
-    requires parts { laid.parts ≡ J.parts }
-    requires meeting { laid.meeting ≡ J.meeting }
-    requires capacity { laid.capacity ≡ J.capacity }
-    requires block_size { laid.block_size ≡ J.block_size }
-{
-    let Ok(ended) = try_run::<J, D, G, R>(rt, alloc, laid, plans, gate) else {
-        panic!(rt; "a thread is refused")
-    };
-    ended
-}
-
 /// Runs clients over a laid journal. It answers what came of them, and the device, or why they were not run.
 fn try_run<
     J: JournalName + PartsName + MeetingName + Send + Sync,
@@ -213,60 +172,97 @@ fn summary_of<J: JournalName + PartsName + MeetingName, D: Device + Drop>(
     (summary, parts.device)
 }
 
-/// A device in memory with a new log.
-fn formatted<R: Abort>(rt: &R, alloc: Global) -> MemDevice {
-    let mut device = MemDevice::new(alloc, BLOCK_SIZE, u64::from(LOG_BLOCKS), 64);
-    let Ok(()) = recovery::format(&mut device, LOG_BLOCKS, &[7; 16], false) else {
-        panic!(rt; "the log is not made")
+/// Runs clients over a journal on the log of a device. It answers what came of them, and the device.
+fn run_on<D: Device + Send + Drop, G: Gate + Sync, R: Threads + Wait + Sync>(
+    rt: &R,
+    alloc: Global,
+    device: D,
+    plans: &[Vec<HandlePlan>],
+    gate: &G,
+) -> Result<(Summary, D), JournalError> {
+    let laid = laid_on(alloc, device)?;
+    try_run::<Brand, _, _, _>(rt, alloc, laid, plans, gate)
+}
+
+/// Runs clients over a new log in memory. It answers what came of them.
+fn run<G: Gate + Sync, R: Threads + Wait + Sync>(
+    rt: &R,
+    alloc: Global,
+    plans: &[Vec<HandlePlan>],
+    gate: &G,
+) -> Result<Summary, JournalError> {
+    let (summary, _device) = run_on(rt, alloc, formatted(alloc, LOG_BLOCKS, 64)?, plans, gate)?;
+    Ok(summary)
+}
+
+/// The counts of what came of clients: how many were refused something, how many handles were stopped, and how many have receipts.
+fn counts(summary: &Summary) -> (usize, usize, usize) {
+    (summary.refused, summary.handles, summary.receipts)
+}
+
+/// What comes of the first run of two clients that does not make two to four transactions and four receipts, or leaves a credit taken.
+fn first_wrong_run<R: Threads + Wait + Sync>(
+    rt: &R,
+    alloc: Global,
+    plans: &[Vec<HandlePlan>],
+) -> Result<Option<Summary>, JournalError> {
+    let none = Tally {
+        word: 0,
+        entries: 0,
     };
-    device
+    for _ in 0..RUNS {
+        let summary = run(rt, alloc, plans, &OpenGate)?;
+        let is_right = 2 <= summary.committed && summary.committed <= 4 && summary.tally == none;
+        if !is_right || counts(&summary) != (0, 4, 4) {
+            return Ok(Some(summary));
+        }
+    }
+    Ok(None)
 }
 
 #[test]
 fn two_clients_run(rt: HostRuntime) -> Result<(), Fail> {
-    let alloc = rt.alloc();
-    let plans = two_clients(alloc)?;
-    for _ in 0..RUNS {
-        let laid = laid_on(&rt, alloc, formatted(&rt, alloc));
-        let (summary, _device) = run::<Brand, _, _, _>(&rt, alloc, laid, &plans, &OpenGate);
-        assert!(rt; summary.committed >= 2 && summary.committed <= 4);
-        assert_eq!(rt;
-            (summary.refused, summary.handles, summary.receipts),
-            (0, 4, 4)
-        );
-        assert_eq!(rt;
-            summary.tally,
-            Tally {
-                word: 0,
-                entries: 0
-            }
-        );
-    }
+    let plans = two_clients(rt.alloc())?;
+    expect(&rt, &first_wrong_run(&rt, rt.alloc(), &plans), &Ok(None));
     Ok(())
+}
+
+/// What comes of eight clients of many handles, and whether the credits that are taken are those of entries.
+fn run_many<R: Threads + Wait + Sync>(
+    rt: &R,
+    alloc: Global,
+    plans: &[Vec<HandlePlan>],
+) -> Result<((usize, usize, usize), bool), JournalError> {
+    let summary = run(rt, alloc, plans, &OpenGate)?;
+    Ok((
+        counts(&summary),
+        summary.tally.word == summary.tally.entries,
+    ))
 }
 
 #[test]
 fn many_clients_share_a_short_ring(rt: HostRuntime) -> Result<(), Fail> {
-    let alloc = rt.alloc();
-    let plans = many_clients(alloc, 8, 40)?;
-    let laid = laid_on(&rt, alloc, formatted(&rt, alloc));
-    let (summary, _device) = run::<Brand, _, _, _>(&rt, alloc, laid, &plans, &OpenGate);
-    assert_eq!(rt;
-        (summary.refused, summary.handles, summary.receipts),
-        (0, 320, 160)
-    );
-    assert!(rt; summary.tally.word == summary.tally.entries);
+    let plans = many_clients(rt.alloc(), 8, 40)?;
+    let told = run_many(&rt, rt.alloc(), &plans);
+    expect(&rt, &told, &Ok(((0, 320, 160), true)));
     Ok(())
+}
+
+/// How many receipts clients have, and whether the gate gave up.
+fn run_at_once<R: Threads + Wait + Sync>(
+    rt: &R,
+    alloc: Global,
+    plans: &[Vec<HandlePlan>],
+) -> Result<(usize, bool), JournalError> {
+    let gate = Meeting::new();
+    let summary = run(rt, alloc, plans, &gate)?;
+    Ok((summary.receipts, gate.failed()))
 }
 
 #[test]
 fn two_handles_are_open_at_once(rt: HostRuntime) -> Result<(), Fail> {
-    let alloc = rt.alloc();
-    let plans = two_clients(alloc)?;
-    let gate = Meeting::new();
-    let laid = laid_on(&rt, alloc, formatted(&rt, alloc));
-    let (summary, _device) = run::<Brand, _, _, _>(&rt, alloc, laid, &plans, &gate);
-    assert!(rt; !gate.failed() && summary.receipts == 4);
+    let plans = two_clients(rt.alloc())?;
+    expect(&rt, &run_at_once(&rt, rt.alloc(), &plans), &Ok((4, false)));
     Ok(())
 }
 
@@ -293,45 +289,77 @@ fn greedy_plans(alloc: Global) -> Result<Vec<Vec<HandlePlan>>, AllocError> {
     Ok(plans)
 }
 
+/// How many handles were stopped and how many have receipts, and whether the gate held a write, and gave up.
+fn run_held<R: Threads + Wait + Sync>(
+    rt: &R,
+    alloc: Global,
+    plans: &[Vec<HandlePlan>],
+) -> Result<((usize, usize), (bool, bool)), JournalError> {
+    let gate = Overtaking::new();
+    let device = HeldDevice::new(formatted(alloc, LOG_BLOCKS, 64)?, &gate);
+    let (summary, _device) = run_on(rt, alloc, device, plans, &gate)?;
+    Ok((
+        (summary.handles, summary.receipts),
+        (gate.has_held(), gate.failed()),
+    ))
+}
+
 /// The second handle can't start before the first one's transaction is sealed. The first write of the log is held until it has written:
 /// whoever works on the front does not wait for the device.
 #[test]
 fn a_client_writes_while_a_commit_is_held(rt: HostRuntime) -> Result<(), Fail> {
-    let alloc = rt.alloc();
-    let plans = greedy_plans(alloc)?;
-    let gate = Overtaking::new();
-    let held = HeldDevice::new(formatted(&rt, alloc), &gate);
-    let laid = laid_on(&rt, alloc, held);
-    let (summary, _device) = run::<Brand, _, _, _>(&rt, alloc, laid, &plans, &gate);
-    assert!(rt; gate.has_held() && !gate.failed());
-    assert_eq!(rt; (summary.handles, summary.receipts), (2, 1));
+    let plans = greedy_plans(rt.alloc())?;
+    let told = run_held(&rt, rt.alloc(), &plans);
+    expect(&rt, &told, &Ok(((2, 1), (true, false))));
     Ok(())
 }
 
 /// How many calls the device makes at least: those of the opening, and of 16 commits of six copies each.
 const FAILING_CALLS: u64 = 100;
 
+/// Whether clients over a log of which a call fails are refused with Aborted, and what is left of the device opens to all transactions of
+/// which a client has a receipt.
+fn fails_well<R: Threads + Wait + Sync>(
+    rt: &R,
+    alloc: Global,
+    opened: Opened<FailOnce<MemDevice>>,
+    plans: &[Vec<HandlePlan>],
+) -> Result<bool, JournalError> {
+    let laid = lay_on(alloc, opened)?;
+    let (summary, device) = try_run::<Brand, _, _, _>(rt, alloc, laid, plans, &OpenGate)?;
+    let is_told = summary.refused > 0 && summary.why == Some(JournalError::Aborted);
+    let left = opened_left(alloc, device.into_inner().crash(&[]))?;
+    let acknowledged = summary.acknowledged.unwrap_or(Tid(0));
+    Ok(is_told && left > u64::from(acknowledged.0))
+}
+
+/// Which transaction an opening of a device finds to be the next one.
+fn opened_left(alloc: Global, device: MemDevice) -> Result<u64, JournalError> {
+    Ok(u64::from(opened(alloc, device)?.report().ends_at))
+}
+
+/// The first call with which that is not so, of those with which the opening does not fail.
+fn first_bad<R: Threads + Wait + Sync>(
+    rt: &R,
+    alloc: Global,
+    plans: &[Vec<HandlePlan>],
+) -> Result<Option<u64>, JournalError> {
+    for call in 1..=FAILING_CALLS {
+        let device = FailOnce::new(formatted(alloc, LOG_BLOCKS, 64)?, call);
+        if let Ok(opened) = opened(alloc, device) {
+            if !fails_well(rt, alloc, opened, plans)? {
+                return Ok(Some(call));
+            }
+        }
+    }
+    Ok(None)
+}
+
 /// Each call of the device fails in turn, under eight clients: each of them ends with its receipts or with Aborted, and what is left
 /// of the device opens to all transactions of which a client has a receipt.
 #[test]
 fn a_device_fails_once_under_eight_clients(rt: HostRuntime) -> Result<(), Fail> {
-    let alloc = rt.alloc();
-    let plans = many_clients(alloc, 8, 6)?;
-    for call in 1..=FAILING_CALLS {
-        let device = FailOnce::new(formatted(&rt, alloc), call);
-        if let Ok(opened) = recovery::open(alloc, device) {
-            let Ok(laid) = lay(alloc, opened) else {
-                panic!(rt; "the journal is refused")
-            };
-            let (summary, device) = run::<Brand, _, _, _>(&rt, alloc, laid, &plans, &OpenGate);
-            assert!(rt; summary.refused > 0 && summary.why == Some(JournalError::Aborted));
-            let left = device.into_inner().crash(&[]);
-            let Ok(opened) = recovery::open(alloc, left) else {
-                panic!(rt; "what is left is refused")
-            };
-            let acknowledged = summary.acknowledged.unwrap_or(Tid(0));
-            assert!(rt; opened.report().ends_at > u64::from(acknowledged.0));
-        }
-    }
+    let plans = many_clients(rt.alloc(), 8, 6)?;
+    expect(&rt, &first_bad(&rt, rt.alloc(), &plans), &Ok(None));
     Ok(())
 }

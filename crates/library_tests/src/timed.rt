@@ -1,4 +1,6 @@
 //! The command `bench` with clients in threads of their own, over a device in memory, also one of which a call fails.
+use crate::bytes::expect;
+use crate::logs::{formatted, opened};
 use block_device::{Device, FailOnce, MemDevice};
 use commit_times::threads::bench;
 use jbench_words::watch::Unwatched;
@@ -16,10 +18,8 @@ use std::time::Clock;
 const FAILING_CALLS: u64 = 150;
 
 /// An empty log of 33 blocks, which are few: there is a round each few commits.
-fn formatted(alloc: Global) -> Result<MemDevice, JournalError> {
-    let mut device = MemDevice::new(alloc, 1024, 33, 64);
-    recovery::format(&mut device, 33, &[0xaa; 16], false)?;
-    Ok(device)
+fn few_blocks(alloc: Global) -> Result<MemDevice, JournalError> {
+    formatted(alloc, 33, 64)
 }
 
 /// What `bench` prints of four clients on this device, and whether all was done.
@@ -47,40 +47,73 @@ fn said<R: Threads + Wait + Sync, C: Clock + Sync, D: Device + Send + Drop>(
     }
 }
 
+/// Whether the log of a device is clean.
+fn is_clean(alloc: Global, device: MemDevice) -> bool {
+    match opened(alloc, device) {
+        Ok(opened) => opened.report().clean,
+        Err(_) => false,
+    }
+}
+
+/// Whether clients of a new log said how long all their transactions took, and in how many commits, and left a clean log.
+fn is_durable<R: Threads + Wait + Sync, C: Clock + Sync>(
+    rt: &R,
+    clock: &C,
+    alloc: Global,
+    out: &mut Vec<u8>,
+    err: &mut Vec<u8>,
+) -> Result<[bool; 3], Fail> {
+    let Some(device) = said(rt, clock, alloc, few_blocks(alloc)?, out, err)? else {
+        return Err("a refusal".into());
+    };
+    let is_clean = is_clean(alloc, device);
+    let text = from_utf8(out)?;
+    Ok([
+        text.starts_with("transactions 200 in "),
+        text.contains("\ncommits "),
+        is_clean,
+    ])
+}
+
 /// All transactions are durable, in no more commits than there are transactions, and the log is clean.
 #[test]
 fn clients_commit_at_once(rt: HostRuntime) -> Result<(), Fail> {
-    let alloc = rt.alloc();
-    let (mut out, mut err) = (Vec::new(alloc), Vec::new(alloc));
-    let Ok(device) = formatted(alloc) else {
-        return Err("no log".into());
-    };
-    let Some(device) = said(&rt, &rt, alloc, device, &mut out, &mut err)? else {
-        return Err("a refusal".into());
-    };
-    let text = from_utf8(&out)?;
-    assert!(rt; text.starts_with("transactions 200 in "));
-    assert!(rt; text.contains("\ncommits "));
-    let Ok(opened) = recovery::open(alloc, device) else {
-        return Err("the log is refused".into());
-    };
-    assert!(rt; opened.report().clean);
+    let (mut out, mut err) = (Vec::new(rt.alloc()), Vec::new(rt.alloc()));
+    let told = is_durable(&rt, &rt, rt.alloc(), &mut out, &mut err)?;
+    expect(&rt, &told, &[true, true, true]);
     Ok(())
+}
+
+/// Whether clients end where this call of the device fails, and the failure is told, not that the journal was then aborted.
+fn is_told<R: Threads + Wait + Sync, C: Clock + Sync>(
+    rt: &R,
+    clock: &C,
+    alloc: Global,
+    call: u64,
+) -> Result<bool, Fail> {
+    let (mut out, mut err) = (Vec::new(alloc), Vec::new(alloc));
+    let device = FailOnce::new(few_blocks(alloc)?, call);
+    let has_failed = said(rt, clock, alloc, device, &mut out, &mut err)?.is_none();
+    Ok(has_failed && err.as_slice() == b"jbench: refusal 2 Device\n".as_slice())
+}
+
+/// The first call of the device with which that is not so.
+fn first_untold<R: Threads + Wait + Sync, C: Clock + Sync>(
+    rt: &R,
+    clock: &C,
+    alloc: Global,
+) -> Result<Option<u64>, Fail> {
+    for call in 1..=FAILING_CALLS {
+        if !is_told(rt, clock, alloc, call)? {
+            return Ok(Some(call));
+        }
+    }
+    Ok(None)
 }
 
 /// Each call of the device fails in turn: all clients end, and the failure is told, not that the journal was then aborted.
 #[test]
 fn a_device_fails_once_under_clients(rt: HostRuntime) -> Result<(), Fail> {
-    let alloc = rt.alloc();
-    for call in 1..=FAILING_CALLS {
-        let (mut out, mut err) = (Vec::new(alloc), Vec::new(alloc));
-        let Ok(device) = formatted(alloc) else {
-            return Err("no log".into());
-        };
-        let device = FailOnce::new(device, call);
-        let left = said(&rt, &rt, alloc, device, &mut out, &mut err)?;
-        assert!(rt; left.is_none());
-        assert_eq!(rt; from_utf8(&err)?, "jbench: refusal 2 Device\n");
-    }
+    expect(&rt, &first_untold(&rt, &rt, rt.alloc())?, &None);
     Ok(())
 }

@@ -1,6 +1,7 @@
 //! Clients of whose run one request for memory may be refused, whichever it is. In the gate none is: `bench/refused_memory.py` runs this
 //! test once for each request, and refuses it.
-use super::{BLOCK_SIZE, LOG_BLOCKS, Summary, try_run, two_clients};
+use super::{LOG_BLOCKS, Summary, try_run, two_clients};
+use crate::logs::BLOCK_SIZE;
 use block_device::{Device, MemDevice};
 use journal_model::{Area, JournalError, Sealed, Tid};
 use recovery::Opened;
@@ -63,9 +64,10 @@ fn laid_again<R: Abort>(
 /// The first byte of a block of home.
 fn first_byte<R: Abort>(rt: &R, device: &mut MemDevice, block: u64) -> u8 {
     let mut bytes = [0; BLOCK_SIZE];
-    assert!(rt; device.block_size() == BLOCK_SIZE);
-    assert!(rt; block < device.blocks(Area::Home));
-    assert!(rt; device.read(Area::Home, block, &mut bytes).is_ok());
+    let is_read = device.block_size() == BLOCK_SIZE
+        && block < device.blocks(Area::Home)
+        && device.read(Area::Home, block, &mut bytes).is_ok();
+    assert!(rt; is_read);
     bytes[0]
 }
 
@@ -83,15 +85,21 @@ fn judge<R: Abort>(rt: &R, summary: &Summary) {
     assert!(rt; summary.tally.word == summary.tally.entries);
 }
 
+/// What a stop then leaves: which transaction would be the next one, and the first bytes of blocks 3 and 4.
+fn left<R: Abort>(rt: &R, alloc: Global, device: MemDevice) -> (u64, u8, u8) {
+    let opened = opened(rt, alloc, device.crash(&[]));
+    let ends_at = opened.report().ends_at;
+    let mut device = opened.into_device();
+    let third = first_byte(rt, &mut device, 3);
+    (ends_at, third, first_byte(rt, &mut device, 4))
+}
+
 /// Looks at what a stop then leaves. It opens to each transaction of which a client has a receipt, and the last writes of a client that
 /// was refused nothing are there: of the first one 2 in block 3, of the second one 3 in block 4 and 4 in block 3.
 fn judge_left<R: Abort>(rt: &R, alloc: Global, summary: &Summary, device: MemDevice) {
-    let opened = opened(rt, alloc, device.crash(&[]));
+    let (ends_at, third, fourth) = left(rt, alloc, device);
     let acknowledged = summary.acknowledged.unwrap_or(Tid(0));
-    assert!(rt; opened.report().ends_at > u64::from(acknowledged.0));
-    let mut device = opened.into_device();
-    let third = first_byte(rt, &mut device, 3);
-    let fourth = first_byte(rt, &mut device, 4);
+    assert!(rt; ends_at > u64::from(acknowledged.0));
     let is_last = third == 2 || third == 4;
     match summary.why {
         None => assert!(rt; is_last && fourth == 3),
