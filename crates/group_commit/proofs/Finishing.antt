@@ -160,7 +160,7 @@ module _ {D : Type 0} (state : D → DeviceState) where
   went-went a b c one two = record { on = on-on a b c one.on two.on; running = two.running; faults = two.faults ∙ one.faults }
 
   pub went-wrong : (a b c : JournalValue D) → Went state a b → WentWrong state b c → WentWrong state a c
-  went-wrong a b c one two = record { on = on-on a b c one.on two.on; faults = two.faults ∙ ap one_more_fault one.faults }
+  went-wrong a b c one two = record { on = on-on a b c one.on two.on; aborted = two.aborted; faults = two.faults ∙ ap one_more_fault one.faults }
 
   -- where nothing changed before it
   pub went-from : (old ready new : JournalValue D) → ready ≡ old → Went state ready new → Went state old new
@@ -259,6 +259,7 @@ module _ {D : Type 0} (state : D → DeviceState) where
             shape = shape;
             path = by-fault old new CommitFault (λ directs. refl) fails;
           };
+          aborted = ap (λ (x : Engine). x.aborted) engine;
           faults = counted;
         },
       )
@@ -325,6 +326,7 @@ module _ {D : Type 0} (state : D → DeviceState) where
             shape = shape;
             path = by-fault old new CheckpointFault (λ directs. refl) fails;
           };
+          aborted = ap (λ (x : Engine). x.aborted) engine;
           faults = counted;
         },
         ap (λ (x : Engine). x.stage) engine ∙ begins.stage,

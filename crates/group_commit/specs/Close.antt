@@ -83,9 +83,10 @@ pub record Went {D : Type 0} (state : D → DeviceState) (old new : JournalValue
   pub running : new.journal.engine.aborted ≡ false
   pub faults : (state new.device).faults ≡ (state old.device).faults
 
--- or it has, in the last of them
+-- or it has, in the last of them, so that the journal is aborted
 pub record WentWrong {D : Type 0} (state : D → DeviceState) (old new : JournalValue D) : Type 0 where
   pub on : GoesOn state old new
+  pub aborted : new.journal.engine.aborted ≡ true
   pub faults : (state new.device).faults ≡ one_more_fault (state old.device).faults
 
 -- all is sealed that a close seals, so that behind a seal the next transaction runs, which no handle has joined; of the front
