@@ -59,24 +59,25 @@ stepped-log e CommitFlush = record { measures = refl; layout = refl; ring = refl
 commit-log : (old new : Engine) (disk after : Disk) → CommitSteps old disk new after → KeepsLog old new
 commit-log old new disk after step = subst (KeepsLog old) (sym step.engine) (stepped-log old old.stage)
 
--- a round leaves the commit too
+-- a round leaves the commit too, and commits nothing
 record KeepsStage (old new : Engine) : Type 0 where
   log : KeepsLog old new
   stage : new.stage ≡ old.stage
+  count : new.committed ≡ old.committed
 
 begun-stage : (e : Engine) (round : Round) → KeepsStage e (begun_from e round)
-begun-stage e NoRound = record { log = record { measures = refl; layout = refl; ring = refl; aborted = refl; committed = omega arith }; stage = refl }
-begun-stage e (Copies transaction block) = record { log = record { measures = refl; layout = refl; ring = refl; aborted = refl; committed = omega arith }; stage = refl }
-begun-stage e TailWrite = record { log = record { measures = refl; layout = refl; ring = refl; aborted = refl; committed = omega arith }; stage = refl }
-begun-stage e TailFlush = record { log = record { measures = refl; layout = refl; ring = refl; aborted = refl; committed = omega arith }; stage = refl }
+begun-stage e NoRound = record { log = record { measures = refl; layout = refl; ring = refl; aborted = refl; committed = omega arith }; stage = refl; count = refl }
+begun-stage e (Copies transaction block) = record { log = record { measures = refl; layout = refl; ring = refl; aborted = refl; committed = omega arith }; stage = refl; count = refl }
+begun-stage e TailWrite = record { log = record { measures = refl; layout = refl; ring = refl; aborted = refl; committed = omega arith }; stage = refl; count = refl }
+begun-stage e TailFlush = record { log = record { measures = refl; layout = refl; ring = refl; aborted = refl; committed = omega arith }; stage = refl; count = refl }
 
 call-stage : (e : Engine) (round : Round) (call : Call) (new : Engine) → RoundCall e round call new → KeepsStage e new
 call-stage e round call new (CopyHome transaction block i b v next) =
-    record { log = record { measures = refl; layout = refl; ring = refl; aborted = refl; committed = omega arith }; stage = refl }
+    record { log = record { measures = refl; layout = refl; ring = refl; aborted = refl; committed = omega arith }; stage = refl; count = refl }
 call-stage e round call new (FlushHome transaction block none) =
-    record { log = record { measures = refl; layout = refl; ring = refl; aborted = refl; committed = omega arith }; stage = refl }
-call-stage e round call new WriteTail = record { log = record { measures = refl; layout = refl; ring = refl; aborted = refl; committed = omega arith }; stage = refl }
-call-stage e round call new FlushTail = record { log = record { measures = refl; layout = refl; ring = refl; aborted = refl; committed = omega arith }; stage = refl }
+    record { log = record { measures = refl; layout = refl; ring = refl; aborted = refl; committed = omega arith }; stage = refl; count = refl }
+call-stage e round call new WriteTail = record { log = record { measures = refl; layout = refl; ring = refl; aborted = refl; committed = omega arith }; stage = refl; count = refl }
+call-stage e round call new FlushTail = record { log = record { measures = refl; layout = refl; ring = refl; aborted = refl; committed = omega arith }; stage = refl; count = refl }
 
 round-stage : (old new : Engine) (disk after : Disk) → RoundSteps old disk new after → KeepsStage old new
 round-stage old new disk after step =
@@ -93,6 +94,7 @@ round-stage old new disk after step =
         committed = omega arith;
       };
       stage = two.stage ∙ one.stage;
+      count = two.count ∙ one.count;
     }
 
 module _ {D : Type 0} (state : D → DeviceState) where
@@ -264,10 +266,11 @@ module _ {D : Type 0} (state : D → DeviceState) where
         },
       )
 
-  -- a step of a round is on the way, and leaves the commit
+  -- a step of a round is on the way, and leaves the commit and the front
   pub check-went : (turn : CheckTurn) (old new : JournalValue D) → old.journal.engine.aborted ≡ false → CheckTurnDid state turn old new →
       (state new.device).shape ≡ (state old.device).shape → (state new.device).faults ≡ (state old.device).faults →
-      Went state old new × (new.journal.engine.stage ≡ old.journal.engine.stage)
+      Went state old new × (new.journal.engine.stage ≡ old.journal.engine.stage) × (new.journal.engine.committed ≡ old.journal.engine.committed)
+      × (new.journal.front ≡ old.journal.front)
   check-went IdleCheck old new running did shape faults = (
     record {
       on = record {
@@ -283,6 +286,8 @@ module _ {D : Type 0} (state : D → DeviceState) where
       faults = faults;
     },
     ap (λ (j : Journal). j.engine.stage) did.1,
+    ap (λ (j : Journal). j.engine.committed) did.1,
+    ap (λ (j : Journal). j.front) did.1,
   )
   check-went StepCheck old new running did shape faults =
       let keeps = round-stage old.journal.engine new.journal.engine (state old.device).disk (state new.device).disk did.0.engine in (
@@ -292,6 +297,8 @@ module _ {D : Type 0} (state : D → DeviceState) where
           faults = faults;
         },
         keeps.stage,
+        keeps.count,
+        did.0.front,
       )
   check-went (Released tid) old new running did shape faults =
       let keeps = round-stage old.journal.engine new.journal.engine (state old.device).disk (state new.device).disk did.0.engine in (
@@ -301,12 +308,15 @@ module _ {D : Type 0} (state : D → DeviceState) where
           faults = faults;
         },
         keeps.stage,
+        keeps.count,
+        did.0.front,
       )
 
-  -- one that is refused has failed
+  -- one that is refused has failed, and leaves the commit
   pub check-wrong : (old new : JournalValue D) (e : JournalError) → old.journal.engine.aborted ≡ false → CheckTurnRefused state old new e →
       (state new.device).shape ≡ (state old.device).shape →
       (e ≡ Device) × WentWrong state old new × (new.journal.engine.stage ≡ old.journal.engine.stage)
+      × (new.journal.engine.committed ≡ old.journal.engine.committed)
   check-wrong old new e running (CheckAborted is same stays counted) shape = absurd (true≢false (sym is ∙ running))
   check-wrong old new e running (CheckFailed fails counted) shape =
       let told : new.journal.front ≡ aborting old.journal.front = fails.tells.front ∙ ap (λ (f : Front). aborting f) fails.fails.front in
@@ -330,6 +340,7 @@ module _ {D : Type 0} (state : D → DeviceState) where
           faults = counted;
         },
         ap (λ (x : Engine). x.stage) engine ∙ begins.stage,
+        ap (λ (x : Engine). x.committed) engine ∙ begins.count,
       )
 
   -- what is committed is released: the whole ring is free

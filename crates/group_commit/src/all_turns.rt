@@ -82,7 +82,8 @@ impl<D: Device, R: Record> Journal<D, R> {
         Ok(self.mark())
     }
 
-    /// Takes checkpoint turns until all that is committed is home, and its blocks of the ring are free.
+    /// Takes checkpoint turns until all that is committed is home, and its blocks of the ring are free. It takes no step of a commit: one
+    /// that is under way is where it was, and the handles and credits are as they were.
     ///
     /// # Errors
     ///
@@ -93,6 +94,9 @@ impl<D: Device, R: Record> Journal<D, R> {
         ensures ok { OnOk result (Went D.state self.old self.new) }
         ensures released { OnOk result (NothingToRelease self.new.journal.engine) }
         ensures free { OnOk result (self.new.journal.engine.start ≡ self.new.journal.engine.tail) }
+        ensures stage { self.new.journal.engine.stage ≡ self.old.journal.engine.stage }
+        ensures committed { self.new.journal.engine.committed ≡ self.old.journal.engine.committed }
+        ensures front { OnOk result (self.new.journal.front ≡ self.old.journal.front) }
         ensures err { IfErr result (ReleaseRefused D.state self.old self.new) }
         ensures honest { D.honest self.new.device → D.honest self.old.device }
     {

@@ -101,6 +101,8 @@ pub(crate) fn release_all<D: Device, R: Record>(
     ensures released { OnOk result (NothingToRelease journal.new.journal.engine) }
     ensures free { OnOk result (journal.new.journal.engine.start ≡ journal.new.journal.engine.tail) }
     ensures stage { journal.new.journal.engine.stage ≡ journal.old.journal.engine.stage }
+    ensures committed { journal.new.journal.engine.committed ≡ journal.old.journal.engine.committed }
+    ensures front { OnOk result (journal.new.journal.front ≡ journal.old.journal.front) }
     ensures err { IfErr result (λ e. (e ≡ DeviceFailed) × WentWrong D.state journal.old journal.new) }
     ensures honest { D.honest journal.new.device → D.honest journal.old.device }
 {

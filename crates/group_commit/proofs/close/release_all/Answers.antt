@@ -16,6 +16,12 @@ returns-in_err-checkpoint_turn-clause-stage g c =
     let wrong = check-wrong g.D.Device.state _ _ _ c.loop-journal.invariant.went.running c.in_err-checkpoint_turn.ensures.err c.checkpoint_turn.ensures.device.shape in
     wrong.2 ∙ c.loop-journal.invariant.stage
 
+-- and has committed nothing
+pub returns-in_err-checkpoint_turn-clause-committed : goal.returns-in_err-checkpoint_turn-clause-committed
+returns-in_err-checkpoint_turn-clause-committed g c =
+    let wrong = check-wrong g.D.Device.state _ _ _ c.loop-journal.invariant.went.running c.in_err-checkpoint_turn.ensures.err c.checkpoint_turn.ensures.device.shape in
+    wrong.3 ∙ c.loop-journal.invariant.committed
+
 -- a step that was made keeps it
 pub loop-journal-preserved : goal.loop-journal-preserved
 loop-journal-preserved g c =
@@ -25,5 +31,7 @@ loop-journal-preserved g c =
     record {
       went = went-went g.D.Device.state _ _ _ before.went step.0;
       stage = step.1 ∙ before.stage;
+      committed = step.2 ∙ before.committed;
+      front = step.3 ∙ before.front;
       honest = λ honest. before.honest (c.checkpoint_turn.ensures.device.honest honest);
     }

@@ -3,11 +3,13 @@ use Rattle.log_engine.specs.Left.{round_calls}
 use Rattle.group_commit.specs.Close.{Went}
 use Rattle.group_commit.proofs.close.release_all.Given as goal
 
--- steps of rounds were made, and none has failed
+-- steps of rounds were made, and none has failed; they leave the commit and the front
 abbrev pub invariant-loop-journal : goal.invariant-loop-journal
 invariant-loop-journal g l = record {
   went : Went g.D.Device.state l.fn.journal l.journal;
   stage : l.journal.journal.engine.stage ≡ l.fn.journal.journal.engine.stage;
+  committed : l.journal.journal.engine.committed ≡ l.fn.journal.journal.engine.committed;
+  front : l.journal.journal.front ≡ l.fn.journal.journal.front;
   honest : g.D.Device.honest l.journal.device → g.D.Device.honest l.fn.journal.device;
 }
 
