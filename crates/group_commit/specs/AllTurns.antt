@@ -3,6 +3,7 @@ use Rattle.std.specs.Prelude.{◌≡◌, ℕ, ◌<◌, true, false, [], length}
 use Rattle.journal_model.specs.declared.refusal.JournalError.{JournalError}
 use Rattle.journal_model.specs.declared.refusal.JournalError.TheVariants.{Aborted, Device, Memory, NotRunning}
 use Rattle.block_device.specs.State.{DeviceState}
+use Rattle.journal_world.specs.declared.stage.Stage.TheVariants.{Idle}
 use Rattle.journal_world.specs.Front.{Front}
 use Rattle.journal_steps.specs.Journal.{Requests}
 use Rattle.journal_steps.specs.Values.{JournalValue}
@@ -36,11 +37,12 @@ pub data AllTurnsRefused {D : Type 0} (state : D → DeviceState) (old new : Jou
   StaysReady : old.journal.engine.aborted ≡ false → IsReadyToSeal old.journal.front → 0 < length old.journal.front.running.handles → Went state old new →
       new.journal.engine.committed ≡ length new.journal.front.sealed → AllTurnsRefused state old new Memory
 
--- a request of the transaction, and behind it all that can be committed: nothing else is done
+-- a request of the transaction, and behind it all that can be committed, so that nothing is being committed: nothing else is done
 pub record CommitsThrough {D : Type 0} (state : D → DeviceState) (tid : ℕ) (old new : JournalValue D) : Type 0 where
   pub asked : JournalValue D
   pub requests : Requests state tid old asked
   pub commits : CommitsAll state asked new
+  pub idle : new.journal.engine.stage ≡ Idle
 
 -- why a transaction is not committed behind a request: it could not be asked for; turns were refused behind the request; or all turns
 -- were taken, and it is not ready for its seal

@@ -7,7 +7,7 @@ use Rattle.group_commit.proofs.journal.Journal.commit_through.Goals as goal
 
 -- the request and all turns were made
 pub returns-clause-turns : goal.returns-clause-turns
-returns-clause-turns g c = record { asked = _; requests = c.in_ok-request_commit.ensures.ok; commits = c.in_ok-mark.ensures.ok }
+returns-clause-turns g c = record { asked = _; requests = c.in_ok-request_commit.ensures.ok; commits = c.in_ok-mark.ensures.ok; idle = c.in_ok-mark.ensures.idle }
 
 -- turns were refused behind the request
 pub returns-in_err-mark-clause-err : goal.returns-in_err-mark-clause-err
@@ -31,7 +31,7 @@ returns-then-mark-tid-clause-err g c =
     let found = c.mark.view_is in
     let asked = c.tid.view_is in
     let told = c.in_ok-mark.ensures.mark in
-    CommitRefused.StillOpen (record { asked = _; requests = c.in_ok-request_commit.ensures.ok; commits = c.in_ok-mark.ensures.ok }) (omega arith) refl
+    CommitRefused.StillOpen (record { asked = _; requests = c.in_ok-request_commit.ensures.ok; commits = c.in_ok-mark.ensures.ok; idle = c.in_ok-mark.ensures.idle }) (omega arith) refl
 
 pub returns-then-mark-tid-clause-path : goal.returns-then-mark-tid-clause-path
 returns-then-mark-tid-clause-path g c =
