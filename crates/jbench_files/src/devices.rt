@@ -72,18 +72,20 @@ impl Unmade {
     }
 }
 
-/// Opens a log to be read, and takes the lock of a reader. A block has as many bytes as its superblock says, where a block may have so
-/// many, else 1024.
+/// Opens a log to be read, without a home area, and takes the lock of a reader. A block has as many bytes as its superblock says, where
+/// a block may have so many, else 1024.
 ///
 /// # Errors
 ///
-/// There is no regular file of this path, it can't be read, or another program writes it.
+/// There is no regular file of this path, it can't be read, another program writes it, or memory ran out.
 pub fn open_log<C: Contents, R: Files<File = File>>(
     alloc: Global,
     contents: C,
     rt: &R,
     path: &str,
-) -> io::Result<FileDevice<C>> {
+) -> io::Result<FileDevice<C>>
+    ensures home { IfOk result (λ device. device.home_file ≡ None) }
+{
     log_in(
         alloc,
         contents,
@@ -91,18 +93,20 @@ pub fn open_log<C: Contents, R: Files<File = File>>(
     )
 }
 
-/// Opens a log to be read and written, and takes the lock of a writer. A block has as many bytes as for `open_log`. Its superblock is
-/// written once more first, just as it reads, and synced, as `device_of` does it with what an opening relies on.
+/// Opens a log to be read and written, without a home area, and takes the lock of a writer. A block has as many bytes as for `open_log`.
+/// Its superblock is written once more first, just as it reads, and synced, as `device_of` does it with what an opening relies on.
 ///
 /// # Errors
 ///
-/// There is no regular file of this path, it can't be read, written or synced, or another program has it.
+/// There is no regular file of this path, it can't be read, written or synced, another program has it, or memory ran out.
 pub fn open_log_to_write<C: Contents, R: Files<File = File>>(
     alloc: Global,
     contents: C,
     rt: &R,
     path: &str,
-) -> io::Result<FileDevice<C>> {
+) -> io::Result<FileDevice<C>>
+    ensures home { IfOk result (λ device. device.home_file ≡ None) }
+{
     let log = ReadyLog::with_superblock(take(rt, path, open_there(rt, path)?)?)?;
     log_in(alloc, contents, log.into_file())
 }
@@ -137,7 +141,7 @@ pub fn device_of<C: Contents>(
 ///
 /// # Errors
 ///
-/// The log can't be read, or nothing can be told of a file.
+/// The log can't be read, nothing can be told of a file, or memory ran out.
 pub fn device_to_read<C: Contents>(
     alloc: Global,
     contents: C,
@@ -168,8 +172,8 @@ fn device_over<C: Contents>(
 ///
 /// # Errors
 ///
-/// A block can't have so many bytes, and both files are as they were; or a file can't be made so long, filled or synced, and what
-/// both held may be lost.
+/// A block can't have so many bytes, and both files are as they were; or a file can't be made so long, filled or synced, or memory ran
+/// out, and what both held may be lost.
 pub fn make_device<C: Contents>(
     alloc: Global,
     contents: C,
@@ -191,7 +195,8 @@ pub fn make_device<C: Contents>(
 ///
 /// # Errors
 ///
-/// A block can't have so many bytes, and the log is as it was; or it can't be made so long or synced, and what it held may be lost.
+/// A block can't have so many bytes, and the log is as it was; or it can't be made so long or synced, nothing can be told of the home
+/// area's file, or memory ran out, and what the log held may be lost.
 pub fn make_log_device<C: Contents>(
     alloc: Global,
     contents: C,
