@@ -6,25 +6,34 @@ use block_device::MemDevice;
 use group_commit::{Journal, Parts};
 use journal_model::{JournalError, Sealed};
 use std::alloc::Global;
+use std::ops::Range;
 use std::test::Fail;
 
 /// A journal whose record is kept as data.
 type Kept = Journal<MemDevice, Vec<Sealed>>;
 
-/// Writes a block, and takes five turns of its commit, of which the first one seals; then writes another block.
+/// Blocks of the log: a transaction of all that the running one has fits.
+const LOG_BLOCKS: u32 = 129;
+
+/// The blocks that the running transaction has: more than the lists and tables of a journal have room for before they grow.
+const RUNNING: Range<u64> = 10..30;
+
+/// Writes a block, and takes four turns of its commit, of which the first one seals; then writes others.
 fn commit_beside(journal: &mut Kept) -> Result<(), JournalError> {
     let ticket = change(journal, 9, 7)?;
     journal.request(&ticket)?;
     for _ in 0..4 {
         journal.commit_turn()?;
     }
-    let _running = change(journal, 10, 7)?;
+    for block in RUNNING {
+        let _running = change(journal, block, 7)?;
+    }
     Ok(())
 }
 
-/// A journal in which one transaction is being committed, and another one has a block.
+/// A journal in which one transaction is being committed, and another one has blocks.
 fn with_a_commit_under_way(alloc: Global) -> Result<Kept, JournalError> {
-    let opened = opened(alloc, formatted(alloc, 33, 64)?)?;
+    let opened = opened(alloc, formatted(alloc, LOG_BLOCKS, 64)?)?;
     let mut journal = journal_on(alloc, opened)?;
     commit_beside(&mut journal)?;
     Ok(journal)
