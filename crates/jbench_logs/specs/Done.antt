@@ -8,12 +8,13 @@ use Rattle.log_model.specs.declared.log.Text.{Text}
 use Rattle.block_device.specs.State.{DeviceState, Stays}
 use Rattle.journal_world.specs.Opening.{IsOpening}
 use Rattle.log_epochs.specs.OpeningRun.{IsMoment}
-use Rattle.recovery.specs.Before.{BeforeRefused, IsMomentBefore, IsOpeningBefore, TellsBefore}
-use Rattle.recovery.specs.BeforeSteps.{HasDoneBefore}
 use Rattle.recovery.specs.Making.{IsMakingMoment}
 use Rattle.recovery.specs.Opening.{IsDone, IsFormatted, OpeningRefused, Tells}
-use Rattle.recovery.specs.Planned.{IsPlanned, IsPlannedBefore}
+use Rattle.recovery.specs.Planned.{IsPlanned}
 use Rattle.recovery.specs.Upgrade.{IsUpgradeBroken, IsUpgraded}
+use Rattle.damaged_logs.specs.Before.{BeforeRefused, IsMomentBefore, IsOpeningBefore, TellsBefore}
+use Rattle.damaged_logs.specs.BeforeSteps.{HasDoneBefore}
+use Rattle.damaged_logs.specs.Planned.{IsPlannedBefore}
 use Rattle.jbench_logs.specs.declared.damage.Taken.{Taken}
 use Rattle.jbench_logs.specs.declared.plans.Planned.{Planned}
 use Rattle.jbench_logs.specs.Said.{opened_line}

@@ -1,7 +1,7 @@
 //! The command `recover --before-damage`, over devices: opens a log in spite of a damaged block, or of one that is ahead.
 ghost use Rattle.std.specs.Prelude.{◌≡◌, ◌≢◌, IfErr, IfOk, MatchResult};
 ghost use Rattle.block_device.specs.State.{EachMoment};
-ghost use Rattle.recovery.specs.Before.{BeforeRefused, IsMomentBefore};
+ghost use Rattle.damaged_logs.specs.Before.{BeforeRefused, IsMomentBefore};
 ghost use Rattle.jbench_words.specs.declared.fault.Status.TheVariants.{Fine, Refused};
 ghost use Rattle.jbench_logs.specs.Done.{IsRecoveredBefore, IsRefusedBy, IsTakenBefore};
 
@@ -76,7 +76,7 @@ fn open_watched<D: Device + Drop, H: Watch + Drop>(
         (λ opened. D.honest opened.0 → EachMoment (IsMomentBefore (D.state device).shape (D.state device).disk) (D.state device) (D.state opened.0))
         (λ e. D.honest e.0 → EachMoment (IsMomentBefore (D.state device).shape (D.state device).disk) (D.state device) (D.state e.0)) }
 {
-    match recovery::open_before_damage(alloc, Watched::new(device, watch)) {
+    match damaged_logs::open_before_damage(alloc, Watched::new(device, watch)) {
         Ok((opened, stopped_by)) => {
             let taken = Taken {
                 report: opened.report(),

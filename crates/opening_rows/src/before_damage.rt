@@ -2,10 +2,10 @@
 use crate::opening::{home_text, opened_or_refused};
 use crate::told::report_text;
 use block_device::MemDevice;
+use damaged_logs::open_before_damage;
 use format_rows::RowError;
 use format_rows::telling::refusal_text;
 use log_rows::logs::{device_of, log_of};
-use recovery::open_before_damage;
 use std::alloc::Global;
 
 /// What such an opening answers, and the device behind it.

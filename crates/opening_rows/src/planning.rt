@@ -1,10 +1,11 @@
 //! Rows of what openings would do.
 use crate::told::report_text;
+use damaged_logs::plan_before_damage;
 use format_rows::RowError;
 use format_rows::telling::refusal_text;
 use journal_model::JournalError;
 use log_rows::logs::{device_of, log_of};
-use recovery::{Plan, plan_before_damage, plan_opening};
+use recovery::{Plan, plan_opening};
 use std::alloc::Global;
 
 /// The line of a plan.

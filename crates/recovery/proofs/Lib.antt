@@ -1,34 +1,30 @@
--- The lemmas of this crate: none above it cites them.
-mod BeforeCalls
-mod BeforeImages
-mod BeforeReading
-mod BeforeRecovering
+-- The lemmas of this crate that crates above it cite.
+pub mod CopiesReplayed
+pub mod Examining
+pub mod LastCopies
+pub mod MadeCalls
+pub mod NewestHome
+pub mod OpeningMoments
+pub mod Plans
+pub mod Recovering
+-- The others.
 mod Beginnings
 mod ChainChanges
 mod ChoiceSteps
 mod Choosing
-mod CopiesReplayed
 mod CopyRuns
 mod CopySteps
 mod CountRuns
-mod Examining
 mod GatherRuns
-mod LastCopies
-mod MadeCalls
 mod MakingMoments
-mod NewestHome
 mod Noting
 mod OpeningDone
-mod OpeningMoments
 mod OpeningPaths
 mod PassCalls
 mod PlaceNotes
-mod Plans
 mod Reading
-mod Recovering
 mod ReplayRuns
 mod SameLogs
-mod Surveys
 mod Testing
 mod UnfinishedTables
 mod UpgradeCalls

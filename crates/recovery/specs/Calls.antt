@@ -2,7 +2,6 @@
 use Rattle.std.specs.Prelude.{◌≡◌, ◌==◌, ℕ, if◌then◌else◌, List, [], ◌∷◌, ◌++◌, map}
 use Rattle.journal_model.specs.declared.number.Area.TheVariants.{Log, Home}
 use Rattle.journal_model.specs.Disk.{Disk}
-use Rattle.log_model.specs.declared.log.Text.{Text}
 use Rattle.log_model.specs.Opening.{super_of}
 use Rattle.block_device.specs.State.{DeviceState, Moves, Stays}
 use Rattle.journal_world.specs.Call.{Call, IsAfterFault, after_success}
@@ -60,7 +59,3 @@ pub record HasBegun (calls : List Call) (old new : DeviceState) : Type 0 where
   pub between : DeviceState
   pub made : HasMade done old between
   pub interrupted : IsInterrupted due between new
-
--- the calls of an opening in spite of what stopped it, where it leaves this superblock
-abbrev pub before_calls : List Text → List ℕ → List Call
-before_calls texts superblock = Flush Log ∷ writes_home (home_copies texts) ++ cleaning_calls superblock

@@ -1,6 +1,4 @@
 pub mod HomeCopies
-pub mod Before
-pub mod BeforeSteps
 pub mod Calls
 pub mod Choice
 pub mod Gather

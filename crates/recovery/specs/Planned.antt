@@ -1,11 +1,8 @@
 -- What an opening would do to a disk, found out without doing it.
-use Rattle.std.specs.Prelude.{◌≡◌, ℕ, ◌+◌, Bool, List, length, Option}
-use Rattle.journal_model.specs.declared.refusal.JournalError.{JournalError}
+use Rattle.std.specs.Prelude.{◌≡◌, ℕ, Bool, length}
 use Rattle.journal_model.specs.Disk.{Disk, Shape, reading}
-use Rattle.log_model.specs.declared.log.Text.{Text}
 use Rattle.log_epochs.specs.OpeningRun.{IsFoundOn}
 use Rattle.log_epochs.specs.OpeningSteps.{Found, next_of}
-use Rattle.recovery.specs.Before.{Takes, TellsBefore}
 use Rattle.recovery.specs.HomeCopies.{home_copies}
 use Rattle.recovery.specs.Opening.{Tells}
 
@@ -16,12 +13,3 @@ pub record IsPlanned (shape : Shape) (disk : Disk) (clean : Bool) (ends_at trans
   pub tells : Tells shape (reading disk) clean ends_at transactions
   pub blocks_are : blocks ≡ length (home_copies found.texts)
   pub next_is : next ≡ next_of found
-
--- the same of an opening that takes what stands before the damage, in spite of this refusal
-pub record IsPlannedBefore (shape : Shape) (disk : Disk) (stopped : Option JournalError) (clean : Bool) (ends_at transactions blocks next : ℕ) : Type 0 where
-  pub texts : List Text
-  pub greatest : ℕ
-  pub takes : Takes shape (reading disk) texts greatest stopped
-  pub tells : TellsBefore (reading disk) texts clean ends_at transactions
-  pub blocks_are : blocks ≡ length (home_copies texts)
-  pub next_is : next ≡ greatest + 1

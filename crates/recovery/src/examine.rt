@@ -55,8 +55,14 @@ pub(crate) fn examine<D: Device>(alloc: Global, device: &mut D) -> Result<Examin
     })
 }
 
-/// Reads block 0 and tests it.
-pub(crate) fn read_super<D: Device>(
+/// Reads block 0 of a log area that has one, and tests it. The answer is the block, and the fields of its superblock. Memory is taken
+/// only where the device's blocks are larger than 4096 bytes, which no log's are. Nothing is written.
+/// Source: fs/jbd2/journal.c by behaviour; the tests are those of `Super::read`.
+///
+/// # Errors
+///
+/// `BadMagic` to `ErrnoSet`: the superblock; `Device` where the read failed; `Memory` where memory ran out for such a large block.
+pub fn read_super<D: Device>(
     alloc: Global,
     device: &mut D,
 ) -> Result<(BlockBuffer, Log), JournalError>
@@ -139,8 +145,14 @@ fn count_transactions<D: Device>(
     scan(device, log, Some(home_blocks), finder)
 }
 
-/// The lowest place of a ring block that begins with the magic and has a sequence above the limit.
-pub(crate) fn lowest_ahead<D: Device>(
+/// The lowest place of a ring block that begins with the magic and has a sequence above the limit, or none. The limit is the number
+/// behind the last transaction of the chain. One block is read at a time, no memory is taken, and nothing is written.
+/// Source: this project's own.
+///
+/// # Errors
+///
+/// `Device` where a read failed.
+pub fn lowest_ahead<D: Device>(
     device: &mut D,
     log: &Log,
     limit: u64,

@@ -216,8 +216,9 @@ impl<D: Device> Opened<D> {
     }
 }
 
-/// The number of the next transaction, behind the transactions that end at this number.
-pub(crate) fn number_from(limit: u64) -> u32
+/// The number of the next transaction, where this is the greatest number in use: in a log that `open` takes, the one behind its last
+/// complete transaction.
+pub fn number_from(limit: u64) -> u32
     requires { limit < greatest_number }
     ensures { result ≡ limit + 1 }
 {

@@ -6,13 +6,11 @@ ghost use Rattle.log_model.specs.Opening.{greatest_number, layout_of};
 ghost use Rattle.block_device.specs.Call.{OnlyReads};
 ghost use Rattle.log_format.specs.Accepted.{IsAccepted};
 ghost use Rattle.log_scan.specs.Scanning.{IsChainOf};
-ghost use Rattle.recovery.specs.Before.{BeforeRefused};
 ghost use Rattle.recovery.specs.Gather.{IsReplayRefused, count_chosen, tables_of};
 ghost use Rattle.recovery.specs.HomeCopies.{home_copies};
 ghost use Rattle.recovery.specs.Opening.{OpeningRefused};
-ghost use Rattle.recovery.specs.Planned.{IsPlanned, IsPlannedBefore};
+ghost use Rattle.recovery.specs.Planned.{IsPlanned};
 
-use crate::before_damage::{ReadLog, read_log};
 use crate::examine::{Examined, examine};
 use crate::gathering::{Tables, number_of};
 use crate::opening::{Report, number_from};
@@ -58,39 +56,6 @@ pub fn plan_opening<D: Device>(alloc: Global, device: &mut D) -> Result<Plan, Jo
     })
 }
 
-/// What `open_before_damage` would do to the log of this device, and what it would pass over, with nothing written and nothing
-/// flushed.
-///
-/// # Errors
-///
-/// Those of `open_before_damage`; nothing is written.
-pub fn plan_before_damage<D: Device>(
-    alloc: Global,
-    device: &mut D,
-) -> Result<(Plan, Option<JournalError>), JournalError>
-    ensures planned { IfOk result (λ r. D.honest device.new → IsPlannedBefore (D.state device.old).shape (D.state device.old).disk r.1 r.0.report.clean r.0.report.ends_at r.0.report.transactions r.0.blocks r.0.next) }
-    ensures refused { IfErr result (BeforeRefused (D.honest device.new) (D.state device.old) (D.state device.new)) }
-    ensures no_fault { OnOk result ((D.state device.new).faults ≡ (D.state device.old).faults) }
-    ensures device { OnlyReads D.state D.honest device.old device.new }
-{
-    if device.blocks(Area::Log) == 0 {
-        return Err(JournalError::BadLength);
-    }
-    let ReadLog {
-        examined,
-        greatest,
-        stopped_by,
-    } = read_log(alloc, device)?;
-    let report = report_of(&examined);
-    let blocks = count_home(device, examined)?;
-    let plan = Plan {
-        report,
-        blocks,
-        next: Tid(number_from(greatest)),
-    };
-    Ok((plan, stopped_by))
-}
-
 /// What an opening tells of a log that was read.
 fn report_of(examined: &Examined) -> Report
     requires { examined.now.log.s_sequence + examined.now.transactions < 2 ^ 64 }
@@ -128,8 +93,15 @@ fn count_home<D: Device>(device: &mut D, examined: Examined) -> Result<u64, Jour
     count_copies(device, &log, transactions, &tables, &mut finder)
 }
 
-/// How many copies of a log go home by its tables: those that `replay` writes.
-fn count_copies<D: Device>(
+/// How many copies of a log that is not clean go home by its tables: those that `replay` writes. `transactions` is what `scan`
+/// answered, and `tables` what `gather` did. One block is read at a time, and no copy is; no memory is taken, and nothing is
+/// written. Their numbers fit, as `gather` says.
+///
+/// # Errors
+///
+/// Those of `replay`: `Device` where a read failed, and `Damage` where the log reads otherwise than it did to `scan`, at the place
+/// where that shows.
+pub fn count_copies<D: Device>(
     device: &mut D,
     log: &Log,
     transactions: u64,

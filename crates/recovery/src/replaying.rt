@@ -155,8 +155,15 @@ fn copy_home<D: Device>(
     Ok(())
 }
 
-/// Makes home durable, and then says in the superblock that the log is clean.
-pub(crate) fn clean_log<D: Device>(
+/// Makes home durable, and then says in the superblock that the log is clean: a flush of home, the write of block 0, and a flush of
+/// the log. `superblock` is block 0 as it was read, in the bytes of one block, and becomes what is written; `next` is the number of
+/// the next transaction.
+/// Source: fs/jbd2/recovery.c by behaviour.
+///
+/// # Errors
+///
+/// `Device` where the device failed: the superblock may have been written, and then home is durable.
+pub fn clean_log<D: Device>(
     device: &mut D,
     superblock: &mut [u8],
     next: u32,

@@ -1,4 +1,4 @@
-use Rattle.recovery.specs.Before.{IsMomentBefore}
+use Rattle.damaged_logs.specs.Before.{IsMomentBefore}
 use Rattle.jbench_logs.proofs.ReadsBehind.{each-read}
 use Rattle.jbench_logs.proofs.damage.recover_before_damage.Goals as goal
 

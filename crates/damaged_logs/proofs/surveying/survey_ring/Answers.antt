@@ -1,7 +1,7 @@
 use Rattle.std.proofs.Common.{ℕ, ◌+◌, ap}
-use Rattle.recovery.proofs.Surveys.{surveyed-limit, surveyed-ring}
-use Rattle.recovery.proofs.surveying.survey_ring.Goals as goal
-use Rattle.recovery.proofs.surveying.survey_ring.Goals.{then-is_some+in_ok-greatest, else-is_some}
+use Rattle.damaged_logs.proofs.Surveys.{surveyed-limit, surveyed-ring}
+use Rattle.damaged_logs.proofs.surveying.survey_ring.Goals as goal
+use Rattle.damaged_logs.proofs.surveying.survey_ring.Goals.{then-is_some+in_ok-greatest, else-is_some}
 
 -- the log is surveyed: the ring is gone over once more where a block is ahead
 pub returns-clause-surveyed : goal.returns-clause-surveyed

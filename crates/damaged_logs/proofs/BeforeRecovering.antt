@@ -17,20 +17,20 @@ use Rattle.journal_world.specs.Opening.{IsOpenedLog}
 use Rattle.log_epochs.proofs.CleanLogs.{clean-tail}
 use Rattle.log_scan.specs.Scanning.{IsChainOf}
 use Rattle.log_scan.proofs.Listed.{damage-around, damage-device}
-use Rattle.recovery.specs.Before.{BeforeRefused, IsMomentBefore, IsOpeningBefore, TellsBefore}
-use Rattle.recovery.specs.Before.BeforeRefused.{ByReading}
-use Rattle.recovery.specs.Before.IsMomentBefore.{Unwritten}
-use Rattle.recovery.specs.BeforeSteps.{HoldsTexts, IsBrokenBefore, IsDoneBefore, IsReadBefore, IsReadBeforeOn}
-use Rattle.recovery.specs.BeforeSteps.IsBrokenBefore.{Reading, Writing}
-use Rattle.recovery.specs.Calls.{HasBegun, HasMade, before_calls, cleaning_calls, writes_home}
+use Rattle.recovery.specs.Calls.{HasBegun, HasMade, cleaning_calls, writes_home}
 use Rattle.recovery.specs.Gather.{IsReplayRefused, TablesValue, tables_of}
 use Rattle.recovery.specs.HomeCopies.{home_copies}
 use Rattle.recovery.specs.Opening.{IsWellRead}
 use Rattle.recovery.specs.Values.{IsNextNamed}
-use Rattle.recovery.proofs.BeforeCalls.{before-along, begun-along, left-along, left-before, made-along, made-before}
-use Rattle.recovery.proofs.BeforeReading.{before-later, chain-held}
 use Rattle.recovery.proofs.MadeCalls.{made-begun, made-joins, made-one, stays-made}
 use Rattle.recovery.proofs.Recovering.{clean-named, texts-flushed}
+use Rattle.damaged_logs.specs.Before.{BeforeRefused, IsMomentBefore, IsOpeningBefore, TellsBefore}
+use Rattle.damaged_logs.specs.Before.BeforeRefused.{ByReading}
+use Rattle.damaged_logs.specs.Before.IsMomentBefore.{Unwritten}
+use Rattle.damaged_logs.specs.BeforeSteps.{HoldsTexts, IsBrokenBefore, IsDoneBefore, IsReadBefore, IsReadBeforeOn, before_calls}
+use Rattle.damaged_logs.specs.BeforeSteps.IsBrokenBefore.{Reading, Writing}
+use Rattle.damaged_logs.proofs.BeforeCalls.{before-along, begun-along, left-along, left-before, made-along, made-before}
+use Rattle.damaged_logs.proofs.BeforeReading.{before-later, chain-held}
 
 -- an option that is none, and one that is not
 pub none-there : (stopped : Option JournalError) (answer : Bool) → is_some stopped ≡ not answer → answer ≡ true → stopped ≡ None

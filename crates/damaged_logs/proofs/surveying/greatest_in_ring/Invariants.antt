@@ -1,8 +1,8 @@
 use Rattle.std.proofs.Common.{◌≡◌, ◌≤◌}
 use Rattle.journal_model.specs.Disk.{reading}
 use Rattle.block_device.specs.Call.{OnlyReads}
-use Rattle.recovery.proofs.Surveys.{IsGreatestUpTo}
-use Rattle.recovery.proofs.surveying.greatest_in_ring.Given as goal
+use Rattle.damaged_logs.proofs.Surveys.{IsGreatestUpTo}
+use Rattle.damaged_logs.proofs.surveying.greatest_in_ring.Given as goal
 
 -- the greatest number of the blocks before the place
 abbrev pub invariant-loop-place : goal.invariant-loop-place

@@ -1,5 +1,5 @@
 //! Opening a log in spite of a damaged block, or of blocks that are ahead: the complete transactions before the damage are taken.
-ghost use Rattle.std.specs.Prelude.{◌≡◌, ◌≢◌, ◌+◌, ◌<◌, ◌≤◌, ◌++◌, List, ℕ, length, OnErr, OnOk, IfOk, IfErr, MatchResult};
+ghost use Rattle.std.specs.Prelude.{◌≡◌, ◌≢◌, ◌+◌, ◌<◌, ◌≤◌, ◌==◌, ◌^◌, ◌++◌, List, ℕ, length, OnErr, OnOk, IfOk, IfErr, MatchResult};
 ghost use Rattle.journal_model.specs.declared.number.Area.TheVariants.{Log as LogArea};
 ghost use Rattle.journal_model.specs.declared.refusal.JournalError.TheVariants.{BadLength, Device as DeviceFailed};
 ghost use Rattle.journal_model.specs.Disk.{reading};
@@ -10,35 +10,40 @@ ghost use Rattle.block_device.specs.Call.{OnlyReads};
 ghost use Rattle.block_device.specs.State.{EachMoment};
 ghost use Rattle.log_format.specs.Accepted.{IsAccepted};
 ghost use Rattle.log_format.specs.Size.{IsBlockSize};
-ghost use Rattle.recovery.specs.Before.{BeforeRefused, IsMomentBefore, IsOpeningBefore, TellsBefore};
-ghost use Rattle.recovery.specs.BeforeSteps.{HasDoneBefore, HoldsTexts, IsBrokenBefore, IsDoneBefore, IsReadBefore, IsReadBeforeOn};
 ghost use Rattle.recovery.specs.Calls.{HasBegun, HasMade, cleaning_calls, writes_home};
 ghost use Rattle.recovery.specs.Gather.{IsReplayRefused, tables_of};
 ghost use Rattle.recovery.specs.HomeCopies.{home_copies};
 ghost use Rattle.recovery.specs.Values.{IsNextNamed};
+ghost use Rattle.damaged_logs.specs.Before.{BeforeRefused, IsMomentBefore, IsOpeningBefore, TellsBefore};
+ghost use Rattle.damaged_logs.specs.BeforeSteps.{HasDoneBefore, HoldsTexts, IsBrokenBefore, IsDoneBefore, IsReadBefore, IsReadBeforeOn};
 
-use crate::examine::{Examined, read_super};
-use crate::gathering::gather;
-use crate::opening::{Opened, Report, number_from};
-use crate::replaying::{clean_log, replay};
 use crate::surveying::survey_ring;
 use block_device::Device;
 use journal_model::layout::GREATEST_NUMBER;
 use journal_model::{Area, JournalError, Tid};
-use log_scan::Finder;
+use log_scan::{Finder, Log};
+use recovery::{Opened, Report, Tables, clean_log, gather, number_from, read_super, replay};
 use std::alloc::Global;
 
 /// A log that was read, whatever stands in it.
 #[derive(Drop)]
 pub(crate) struct ReadLog {
-    pub(crate) examined: Examined,
+    /// Block 0.
+    pub(crate) superblock: Vec<u8>,
+    /// The fields of its superblock.
+    pub(crate) log: Log,
+    /// How many complete transactions its chain has.
+    pub(crate) transactions: u64,
+    /// What replay goes by.
+    pub(crate) tables: Tables,
+    pub(crate) finder: Finder,
     /// The greatest number in use.
     pub(crate) greatest: u64,
     /// Why `open` refuses it.
     pub(crate) stopped_by: Option<JournalError>,
 }
 
-/// Opens the log of a device that `open` refuses with `Damage` or `Ahead`, and takes what can be taken of it: the complete
+/// Opens the log of a device that `recovery::open` refuses with `Damage` or `Ahead`, and takes what can be taken of it: the complete
 /// transactions that stand before the damaged block, or where a block is ahead, those of the chain as it is read. They are replayed
 /// to home, and the log is left clean. What stands behind the damage is given up, also complete transactions of which the chain
 /// can't be followed to them.
@@ -86,12 +91,7 @@ pub fn open_before_damage<D: Device>(
     let mut device = device;
     match recover_before(alloc, &mut device) {
         Ok((superblock, next, report, stopped_by)) => {
-            let opened = Opened {
-                device,
-                superblock,
-                next,
-                report,
-            };
+            let opened = Opened::from_parts(device, superblock, next, report);
             Ok((opened, stopped_by))
         }
         Err(e) => Err((device, e)),
@@ -114,22 +114,15 @@ fn recover_before<D: Device>(
     ensures shape { (D.state device.new).shape ≡ (D.state device.old).shape }
     ensures honest { D.honest device.new → D.honest device.old }
 {
-    let ReadLog {
-        examined,
-        greatest,
-        stopped_by,
-    } = read_log(alloc, device)?;
+    let read = read_log(alloc, device)?;
     device.flush(Area::Log)?;
-    let next = number_from(greatest);
-    let report = Report {
-        clean: examined.log.is_clean(),
-        ends_at: examined.log.first_number() + examined.transactions,
-        transactions: examined.transactions,
-    };
+    let next = number_from(read.greatest);
+    let report = report_of(&read);
+    let stopped_by = read.stopped_by;
     if report.clean && stopped_by.is_none() {
-        return Ok((examined.superblock, Tid(next), report, stopped_by));
+        return Ok((read.superblock, Tid(next), report, stopped_by));
     }
-    let superblock = leave_clean(device, examined, next)?;
+    let superblock = leave_clean(device, read, next)?;
     Ok((superblock, Tid(next), report, stopped_by))
 }
 
@@ -137,9 +130,9 @@ fn recover_before<D: Device>(
 /// what replay goes by. Nothing is written, and all memory that is needed is taken.
 pub(crate) fn read_log<D: Device>(alloc: Global, device: &mut D) -> Result<ReadLog, JournalError>
     requires some { 0 < (D.state device.old).shape.log_blocks }
-    ensures read { IfOk result (λ r. IsReadBefore (D.state device.old).shape r.examined.superblock.items r.examined.log r.examined.transactions r.greatest r.stopped_by) }
-    ensures layout { IfOk result (λ r. r.examined.finder.layout ≡ layout_of r.examined.log) }
-    ensures on { IfOk result (λ r. D.honest device.new → (texts : List Text) × IsReadBeforeOn (D.state device.old).shape (D.state device.old).disk r.examined.superblock.items r.examined.log r.examined.transactions r.examined.tables r.greatest r.stopped_by texts) }
+    ensures read { IfOk result (λ r. IsReadBefore (D.state device.old).shape r.superblock.items r.log r.transactions r.greatest r.stopped_by) }
+    ensures layout { IfOk result (λ r. r.finder.layout ≡ layout_of r.log) }
+    ensures on { IfOk result (λ r. D.honest device.new → (texts : List Text) × IsReadBeforeOn (D.state device.old).shape (D.state device.old).disk r.superblock.items r.log r.transactions r.tables r.greatest r.stopped_by texts) }
     ensures faults { OnOk result ((D.state device.new).faults ≡ (D.state device.old).faults) }
     ensures refused { IfErr result (BeforeRefused (D.honest device.new) (D.state device.old) (D.state device.new)) }
     ensures device { OnlyReads D.state D.honest device.old device.new }
@@ -153,49 +146,59 @@ pub(crate) fn read_log<D: Device>(alloc: Global, device: &mut D) -> Result<ReadL
     let superblock = block.bytes().to_vec(alloc)?;
     let tables = gather(alloc, device, &log, found.transactions, &mut finder)?;
     Ok(ReadLog {
-        examined: Examined {
-            superblock,
-            log,
-            transactions: found.transactions,
-            tables,
-            finder,
-        },
+        superblock,
+        log,
+        transactions: found.transactions,
+        tables,
+        finder,
         greatest: found.greatest,
         stopped_by: found.stopped_by,
     })
 }
 
+/// What is told of a log that was read.
+pub(crate) fn report_of(read: &ReadLog) -> Report
+    requires { read.now.log.s_sequence + read.now.transactions < 2 ^ 64 }
+    ensures clean { result.clean ≡ (read.now.log.s_start == 0) }
+    ensures ends { result.ends_at ≡ read.now.log.s_sequence + read.now.transactions }
+    ensures transactions { result.transactions ≡ read.now.transactions }
+{
+    Report {
+        clean: read.log.is_clean(),
+        ends_at: read.log.first_number() + read.transactions,
+        transactions: read.transactions,
+    }
+}
+
 /// Replays a log that was read and flushed, and leaves it clean with this number. The answer is block 0.
-fn leave_clean<D: Device>(
-    device: &mut D,
-    examined: Examined,
-    next: u32,
-) -> Result<Vec<u8>, JournalError>
-    requires layout { examined.finder.layout ≡ layout_of examined.log }
-    requires accepted { IsAccepted (D.state device.old).shape.block_size (D.state device.old).shape.log_blocks examined.log }
-    requires numbers { examined.log.s_sequence + examined.transactions ≤ greatest_number }
-    requires clean { examined.log.s_start ≡ 0 → examined.transactions ≡ 0 }
-    requires size { length examined.superblock.items ≡ (D.state device.old).shape.block_size }
-    ensures superblock { IfOk result (λ b. b.items ≡ with_tail examined.superblock.items next 0) }
-    ensures made { OnOk result (D.honest device.new → (texts : List Text) → HoldsTexts examined.log (D.state device.old).shape.home_blocks (reading (D.state device.old).disk) texts →
-        examined.transactions ≡ length texts → (examined.log.s_start ≢ 0 → examined.tables ≡ tables_of examined.log.s_sequence texts) →
-        HasMade (writes_home (home_copies texts) ++ cleaning_calls (with_tail examined.superblock.items next 0)) (D.state device.old) (D.state device.new)) }
-    ensures begun { OnErr result (D.honest device.new → (texts : List Text) → HoldsTexts examined.log (D.state device.old).shape.home_blocks (reading (D.state device.old).disk) texts →
-        examined.transactions ≡ length texts → (examined.log.s_start ≢ 0 → examined.tables ≡ tables_of examined.log.s_sequence texts) →
-        HasBegun (writes_home (home_copies texts) ++ cleaning_calls (with_tail examined.superblock.items next 0)) (D.state device.old) (D.state device.new)) }
-    ensures refused { IfErr result (IsReplayRefused (D.honest device.new) examined.log examined.transactions (D.state device.old) (D.state device.new)) }
+fn leave_clean<D: Device>(device: &mut D, read: ReadLog, next: u32) -> Result<Vec<u8>, JournalError>
+    requires layout { read.finder.layout ≡ layout_of read.log }
+    requires accepted { IsAccepted (D.state device.old).shape.block_size (D.state device.old).shape.log_blocks read.log }
+    requires numbers { read.log.s_sequence + read.transactions ≤ greatest_number }
+    requires clean { read.log.s_start ≡ 0 → read.transactions ≡ 0 }
+    requires size { length read.superblock.items ≡ (D.state device.old).shape.block_size }
+    ensures superblock { IfOk result (λ b. b.items ≡ with_tail read.superblock.items next 0) }
+    ensures made { OnOk result (D.honest device.new → (texts : List Text) → HoldsTexts read.log (D.state device.old).shape.home_blocks (reading (D.state device.old).disk) texts →
+        read.transactions ≡ length texts → (read.log.s_start ≢ 0 → read.tables ≡ tables_of read.log.s_sequence texts) →
+        HasMade (writes_home (home_copies texts) ++ cleaning_calls (with_tail read.superblock.items next 0)) (D.state device.old) (D.state device.new)) }
+    ensures begun { OnErr result (D.honest device.new → (texts : List Text) → HoldsTexts read.log (D.state device.old).shape.home_blocks (reading (D.state device.old).disk) texts →
+        read.transactions ≡ length texts → (read.log.s_start ≢ 0 → read.tables ≡ tables_of read.log.s_sequence texts) →
+        HasBegun (writes_home (home_copies texts) ++ cleaning_calls (with_tail read.superblock.items next 0)) (D.state device.old) (D.state device.new)) }
+    ensures refused { IfErr result (IsReplayRefused (D.honest device.new) read.log read.transactions (D.state device.old) (D.state device.new)) }
     ensures unmarked { IfErr result (λ e. e ≢ DeviceFailed → (D.state device.new).disk LogArea ≡ (D.state device.old).disk LogArea) }
     ensures faults { OnOk result ((D.state device.new).faults ≡ (D.state device.old).faults) }
     ensures shape { (D.state device.new).shape ≡ (D.state device.old).shape }
     ensures honest { D.honest device.new → D.honest device.old }
 {
-    let Examined {
+    let ReadLog {
         superblock,
         log,
         transactions,
         tables,
         finder,
-    } = examined;
+        greatest: _,
+        stopped_by: _,
+    } = read;
     let mut finder = finder;
     let mut superblock = superblock;
     replay(device, &log, transactions, &tables, &mut finder)?;

@@ -6,13 +6,13 @@ ghost use Rattle.block_device.specs.Call.{OnlyReads};
 ghost use Rattle.block_device.specs.State.{IsDeviceFailure};
 ghost use Rattle.log_format.specs.Accepted.{IsAccepted};
 ghost use Rattle.log_scan.specs.Scanning.{IsWithinRing};
-ghost use Rattle.recovery.specs.Before.{IsGreatest};
-ghost use Rattle.recovery.specs.BeforeSteps.{HasEnd, IsSurveyed, refusal_of};
+ghost use Rattle.damaged_logs.specs.Before.{IsGreatest};
+ghost use Rattle.damaged_logs.specs.BeforeSteps.{HasEnd, IsSurveyed, refusal_of};
 
-use crate::examine::lowest_ahead;
 use block_device::Device;
 use journal_model::{Area, JournalError};
 use log_scan::{ChainEnd, Finder, Log, find_end};
+use recovery::lowest_ahead;
 
 /// What the ring of a log holds.
 #[derive(Clone, Copy)]

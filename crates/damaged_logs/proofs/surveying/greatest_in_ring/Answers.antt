@@ -3,8 +3,8 @@ use Rattle.journal_model.specs.Disk.{Disk, reading}
 use Rattle.block_device.proofs.OneCall.{reads-on}
 use Rattle.log_model.specs.Superblock.{Super}
 use Rattle.log_scan.specs.Finding.{IsSequenceOf, log_block}
-use Rattle.recovery.proofs.Surveys.{up-to-more}
-use Rattle.recovery.proofs.surveying.greatest_in_ring.Goals as goal
+use Rattle.damaged_logs.proofs.Surveys.{up-to-more}
+use Rattle.damaged_logs.proofs.surveying.greatest_in_ring.Goals as goal
 
 -- one more block is looked at
 pub loop-place-preserved : goal.loop-place-preserved

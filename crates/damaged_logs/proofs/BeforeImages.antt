@@ -20,12 +20,12 @@ use Rattle.journal_world.proofs.HomeCopies.{adds-none, adds-written, write-adds}
 use Rattle.journal_world.proofs.Places.{IsWrite, held-after, held-durable, held-flushed}
 use Rattle.log_epochs.proofs.CleanLogs.{clean-tail}
 use Rattle.log_epochs.proofs.Replaying.{SameLog, same-log_lap}
-use Rattle.recovery.specs.Before.{AreTaken, GivesSame, IsMomentBefore, Takes}
-use Rattle.recovery.specs.Before.AreTaken.{OfChain, OfClean}
-use Rattle.recovery.specs.Before.IsMomentBefore.{Past}
 use Rattle.recovery.specs.Calls.{disk_after, writes_home}
 use Rattle.recovery.specs.HomeCopies.{home_copies}
 use Rattle.recovery.proofs.CopiesReplayed.{copies-replayed}
+use Rattle.damaged_logs.specs.Before.{AreTaken, GivesSame, IsMomentBefore, Takes}
+use Rattle.damaged_logs.specs.Before.AreTaken.{OfChain, OfClean}
+use Rattle.damaged_logs.specs.Before.IsMomentBefore.{Past}
 
 -- what may be added twice is added once
 pub adds-joined : (may : Addition) (a b c : Disk) → HomeAddsOnly may a b → HomeAddsOnly may b c → HomeAddsOnly may a c

@@ -2,8 +2,8 @@ use Rattle.std.proofs.Common.{◌∙◌, ℕ, List, arith, subst, sym}
 use Rattle.std.proofs.lemmas.Result.{err_from_is_err_and}
 use Rattle.block_device.specs.State.{DeviceState}
 use Rattle.recovery.specs.Opening.{IsWellRead}
-use Rattle.recovery.proofs.BeforeReading.{before-later, gather-before, numbers-before, read-on, reading-before, want-before}
-use Rattle.recovery.proofs.before_damage.read_log.Goals as goal
+use Rattle.damaged_logs.proofs.BeforeReading.{before-later, gather-before, numbers-before, read-on, reading-before, want-before}
+use Rattle.damaged_logs.proofs.before_damage.read_log.Goals as goal
 
 -- block 0 is refused, or could not be read
 pub returns-in_err-block-clause-refused : goal.returns-in_err-block-clause-refused

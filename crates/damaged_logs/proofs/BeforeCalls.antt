@@ -17,17 +17,18 @@ use Rattle.journal_world.specs.Call.IsAfterFault.{Undone}
 use Rattle.journal_world.specs.Opening.{IsOpenedLog}
 use Rattle.journal_world.proofs.Places.{held-durable, held-flushed, is_write-fault, is_write-written}
 use Rattle.log_epochs.proofs.CleanLogs.{clean-tail, opened-log}
-use Rattle.recovery.specs.Before.{IsMomentBefore, IsOpeningBefore, Takes}
-use Rattle.recovery.specs.Before.IsMomentBefore.{Unwritten}
-use Rattle.recovery.specs.Calls.{HasBegun, HasMade, IsInterrupted, before_calls, cleaning_calls, disk_after, writes_home}
+use Rattle.recovery.specs.Calls.{HasBegun, HasMade, IsInterrupted, cleaning_calls, disk_after, writes_home}
 use Rattle.recovery.specs.Calls.IsInterrupted.{Before, Within}
 use Rattle.recovery.specs.HomeCopies.{home_copies}
-use Rattle.recovery.proofs.BeforeImages.{CopiesDone, CopiesGo, none-live, done-flushed, done-moment, done-written, go-done, go-fault, go-flushed, go-moment, go-written, tail_of, taken-accepted}
 use Rattle.recovery.proofs.CopiesReplayed.{copies-replayed}
 use Rattle.recovery.proofs.LastCopies.{BlockCopies}
 use Rattle.recovery.proofs.MadeCalls.{disk_after-append}
 use Rattle.recovery.proofs.NewestHome.{home-copies-newest}
 use Rattle.recovery.proofs.OpeningMoments.{BeforeEach, past-each}
+use Rattle.damaged_logs.specs.Before.{IsMomentBefore, IsOpeningBefore, Takes}
+use Rattle.damaged_logs.specs.Before.IsMomentBefore.{Unwritten}
+use Rattle.damaged_logs.specs.BeforeSteps.{before_calls}
+use Rattle.damaged_logs.proofs.BeforeImages.{CopiesDone, CopiesGo, none-live, done-flushed, done-moment, done-written, go-done, go-fault, go-flushed, go-moment, go-written, tail_of, taken-accepted}
 
 -- P holds before each of these calls, behind one that fails, and behind all of them
 abbrev pub AllAlong : (Disk → Type 0) → List Call → Disk → Type 0

@@ -17,13 +17,13 @@ use Rattle.block_device.proofs.OneCall.{stays-joins}
 use Rattle.log_scan.specs.Finding.{most_bytes}
 use Rattle.log_scan.proofs.Listed.{damage-around}
 use Rattle.log_epochs.proofs.Keeping.{one-limit}
-use Rattle.recovery.specs.Before.{AreTaken, BeforeRefused, HasGreatest, IsGreatest, IsPassedOver, Takes}
-use Rattle.recovery.specs.Before.AreTaken.{OfChain, OfClean}
-use Rattle.recovery.specs.Before.BeforeRefused.{ByDevice, ByMemory, ByNumber as RefusedByNumber, ByReading, BySuperblock}
-use Rattle.recovery.specs.BeforeSteps.{HoldsTexts, IsReadBeforeOn, IsSurveyed}
 use Rattle.recovery.specs.Gather.{IsGatherRefused, TablesValue, tables_of}
 use Rattle.recovery.specs.Opening.{IsReadingRefused, IsRefusedLog, IsTested, IsWellRead}
 use Rattle.recovery.proofs.Examining.{IsLayout, later-failure, limit-image, on-stays, refused-image, taken}
+use Rattle.damaged_logs.specs.Before.{AreTaken, BeforeRefused, HasGreatest, IsGreatest, IsPassedOver, Takes}
+use Rattle.damaged_logs.specs.Before.AreTaken.{OfChain, OfClean}
+use Rattle.damaged_logs.specs.Before.BeforeRefused.{ByDevice, ByMemory, ByNumber as RefusedByNumber, ByReading, BySuperblock}
+use Rattle.damaged_logs.specs.BeforeSteps.{HoldsTexts, IsReadBeforeOn, IsSurveyed}
 use Rattle.log_scan.specs.Scanning.{IsChainOf}
 
 -- an image that passes the tests is refused for its numbers alone

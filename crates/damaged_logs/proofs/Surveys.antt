@@ -16,10 +16,10 @@ use Rattle.block_device.specs.State.{DeviceState, Stays}
 use Rattle.log_scan.specs.declared.scanning.ChainEnd.{ChainEnd}
 use Rattle.log_scan.specs.Finding.{IsSequenceOf, log_block}
 use Rattle.log_scan.specs.Scanning.{AreTextsOf, IsDamageOf}
-use Rattle.recovery.specs.Before.{IsGreatest}
-use Rattle.recovery.specs.BeforeSteps.{HasEnd, HoldsTexts, IsSurveyed, refusal_of}
 use Rattle.recovery.specs.Opening.{HasTransactions, IsLowestAhead, IsRefusedLog, IsTested, NoneAhead}
 use Rattle.recovery.specs.Opening.IsRefusedLog.{ForAhead, ForDamage}
+use Rattle.damaged_logs.specs.Before.{IsGreatest}
+use Rattle.damaged_logs.specs.BeforeSteps.{HasEnd, HoldsTexts, IsSurveyed, refusal_of}
 
 -- the greatest number in use among the blocks before a place
 pub record IsGreatestUpTo (s : Super) (image : Image) (limit place greatest : ℕ) : Type 0 where

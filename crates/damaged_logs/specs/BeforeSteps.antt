@@ -1,5 +1,5 @@
 -- What is found on the way of an opening in spite of what stopped it, and which calls it makes.
-use Rattle.std.specs.Prelude.{◌≡◌, ◌≢◌, ◌⊎◌, ℕ, ◌+◌, ◌<◌, ◌≤◌, List, [], ◌∷◌, length, Option, None, Some, MatchOption}
+use Rattle.std.specs.Prelude.{◌≡◌, ◌≢◌, ◌⊎◌, ℕ, ◌+◌, ◌<◌, ◌≤◌, List, [], ◌∷◌, ◌++◌, length, Option, None, Some, MatchOption}
 use Rattle.journal_model.specs.declared.number.Area.TheVariants.{Log}
 use Rattle.journal_model.specs.declared.refusal.JournalError.{JournalError}
 use Rattle.journal_model.specs.declared.refusal.JournalError.TheVariants.{Ahead, Damage, SequenceEnd}
@@ -10,11 +10,13 @@ use Rattle.log_model.specs.Superblock.{Super, with_tail}
 use Rattle.block_device.specs.State.{DeviceState, Stays}
 use Rattle.log_scan.specs.declared.scanning.ChainEnd.{ChainEnd}
 use Rattle.log_scan.specs.Scanning.{IsChainOf, IsEndOf}
+use Rattle.journal_world.specs.Call.{Call}
 use Rattle.journal_world.specs.Call.Call.{Flush}
-use Rattle.recovery.specs.Before.{IsGreatest, Takes}
-use Rattle.recovery.specs.Calls.{HasBegun, HasMade, before_calls}
+use Rattle.recovery.specs.Calls.{HasBegun, HasMade, cleaning_calls, writes_home}
 use Rattle.recovery.specs.Gather.{TablesValue, tables_of}
+use Rattle.recovery.specs.HomeCopies.{home_copies}
 use Rattle.recovery.specs.Opening.{IsRefusedLog, IsTested, IsWellRead}
+use Rattle.damaged_logs.specs.Before.{IsGreatest, Takes}
 
 -- the refusal of an opening that finds this block damaged, or none, and this one the lowest that is ahead, or none
 abbrev pub refusal_of : Option ℕ → Option ℕ → Option JournalError
@@ -56,6 +58,10 @@ pub record IsReadBeforeOn (shape : Shape) (disk : Disk) (superblock : List ℕ) 
   pub count : transactions ≡ length texts
   pub holds : HoldsTexts fields shape.home_blocks (reading disk) texts
   pub tables_are : fields.s_start ≢ 0 → tables ≡ tables_of fields.s_sequence texts
+
+-- the calls of an opening in spite of what stopped it, where it leaves this superblock
+abbrev pub before_calls : List Text → List ℕ → List Call
+before_calls texts superblock = Flush Log ∷ writes_home (home_copies texts) ++ cleaning_calls superblock
 
 -- a clean log that nothing stopped was flushed, and that is all
 pub record IsLeftClean (old new : DeviceState) (stopped : Option JournalError) (superblock : List ℕ) (texts : List Text) (greatest : ℕ) : Type 0 where
