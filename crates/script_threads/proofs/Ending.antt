@@ -12,7 +12,7 @@ use Rattle.journal_script.specs.Clients.{HasTouchedAll, handles_of}
 use Rattle.journal_script.specs.declared.clients.ClientHandle.{ClientHandle}
 use Rattle.journal_script.specs.declared.clients.ClientScript.{ClientScript}
 use Rattle.journal_script.specs.declared.script.NamedBlocks.{NamedBlocks}
-use Rattle.shared_journal.specs.Known.{TicketKnown, own_of_ticket}
+use Rattle.locked_journal.specs.Known.{TicketKnown, own_of_ticket}
 use Rattle.volume_service.specs.Ending.{Stands}
 use Rattle.volume_service.specs.Plan.{Came, planned_steps, touch_step}
 use Rattle.volume_service.specs.Plan.Came.{Awaited, Unawaited}

@@ -11,7 +11,7 @@ use Rattle.journal_script.specs.Clients.{HasTouchedAll, IsClientScriptOf, handle
 use Rattle.journal_script.specs.declared.clients.ClientHandle.{ClientHandle}
 use Rattle.journal_script.specs.declared.clients.ClientScript.{ClientScript}
 use Rattle.journal_script.specs.declared.script.NamedBlocks.{NamedBlocks}
-use Rattle.shared_journal.specs.Known.{TicketKnown}
+use Rattle.locked_journal.specs.Known.{TicketKnown}
 use Rattle.volume_service.specs.Ending.{IsLeftBy}
 use Rattle.volume_service.specs.Plan.{planned_steps}
 use Rattle.volume_service.specs.declared.plan.HandlePlan.{HandlePlan}

@@ -15,36 +15,17 @@ use Rattle.block_device.specs.declared.device.Device as Device
 use Rattle.handle.specs.contracts.seat.Seat as HandleSeat
 use Rattle.handle.specs.declared.place.JournalName as JournalName
 use Rattle.journal_front.specs.declared.record.Record as Record
-use Rattle.journal_front.specs.contracts.front.Front as Front
 use Rattle.journal_front.specs.contracts.record.Unrecorded as Unrecorded
-use Rattle.journal_front.specs.contracts.transaction.Transaction as Transaction
 use Rattle.log_engine.specs.contracts.engine.Engine as Engine
 use Rattle.journal_sides.specs.contracts.engine_side.EngineSide as EngineSide
 use Rattle.journal_sides.specs.contracts.engine_side.EngineSide.TheInside as engine_inside
-use Rattle.journal_sides.specs.contracts.front_side.FrontSide as FrontSide
-use Rattle.journal_sides.specs.contracts.front_side.FrontSide.TheInside as front_inside
 use Rattle.meeting.specs.declared.view.MeetingName as MeetingName
 use Rattle.parts.specs.declared.view.PartsName as PartsName
+use Rattle.locked_journal.proofs.Sent.{locked_send}
 use Rattle.shared_journal.specs.contracts.journal.Journal as Journal
-use Rattle.shared_journal.specs.contracts.locked.Locked as Locked
-use Rattle.shared_journal.specs.contracts.locked.Locked.TheInside as inside
-
-transaction_send : (R : RattleType) (r : Record.Ghosts R.Denot) → IsSend R → IsSend (Transaction.the_row R r)
-transaction_send R r sr = search (history.the_send, sendable, crosses, maps.crosses) depth 400 fits 200000
-
-front_send : (R : RattleType) (r : Record.Ghosts R.Denot) → IsSend R → IsSend (Front.the_row R r)
-front_send R r sr = search (transaction_send, sendable, crosses, maps.crosses) depth 400 fits 200000
 
 engine_send : (D : RattleType) (d : Device.Ghosts D.Denot) → IsSend D → IsSend (Engine.the_row D d)
 engine_send D d sd = search (history.the_send, sendable, crosses, maps.crosses) depth 400 fits 200000
-
--- the front's side
-front_side_send : (J D R : RattleType) (m : MeetingName.Ghosts J.Denot) (d : Device.Ghosts D.Denot) (r : Record.Ghosts R.Denot) → IsSend J → IsSend D → IsSend R →
-    IsSend (FrontSide.the_row J D R m d r)
-front_side_send J D R m d r sj sd sr =
-    view_send _ _ _ _ _
-    (recorded_send _ _ (front_inside.the_type J D R m d r).to (front_inside.the_type J D R m d r).to_one
-    (struct_send (shape (front_inside.the_type J D R m d r)) (front_send R r sr, (search (seat.the_send, sendable, crosses) depth 400 fits 200000, tt))))
 
 -- the engine's
 engine_side_send : (J D : RattleType) (m : MeetingName.Ghosts J.Denot) (d : Device.Ghosts D.Denot) → IsSend J → IsSend D → IsSend (EngineSide.the_row J D m d)
@@ -52,29 +33,6 @@ engine_side_send J D m d sj sd =
     view_send _ _ _ _ _
     (recorded_send _ _ (engine_inside.the_type J D m d).to (engine_inside.the_type J D m d).to_one
     (struct_send (shape (engine_inside.the_type J D m d)) (engine_send D d sd, (search (seat.the_send, sendable, crosses) depth 400 fits 200000, tt))))
-
-inside_send : (J D R : RattleType) (j : JournalName.Ghosts J.Denot) (p : PartsName.Ghosts J.Denot) (m : MeetingName.Ghosts J.Denot) (d : Device.Ghosts D.Denot)
-    (r : Record.Ghosts R.Denot) → IsSend J → IsSend D → IsSend R → IsSend (inside.the_row J D R p j m d r)
-inside_send J D R j p m d r sj sd sr =
-    recorded_send _ _ (inside.the_type J D R p j m d r).to (inside.the_type J D R p j m d r).to_one
-    (struct_send (shape (inside.the_type J D R p j m d r)) (
-      front_side_send J D R m d r sj sd sr,
-      (
-        search (seat.the_send, sendable, crosses) depth 400 fits 200000,
-        (
-          search (seat.the_send, sendable, crosses) depth 400 fits 200000,
-          (
-            search (table.the_field_send, seat.the_send, sendable, crosses) depth 400 fits 200000,
-            (search (seat.the_send, sendable, crosses) depth 400 fits 200000, tt),
-          ),
-        ),
-      ),
-    ))
-
--- what lies under the front's lock
-locked_send : (J D R : RattleType) (j : JournalName.Ghosts J.Denot) (p : PartsName.Ghosts J.Denot) (m : MeetingName.Ghosts J.Denot) (d : Device.Ghosts D.Denot)
-    (r : Record.Ghosts R.Denot) → IsSend J → IsSend D → IsSend R → IsSend (Locked.the_row J D R p j m d r)
-locked_send J D R j p m d r sj sd sr = view_send _ _ _ _ _ (inside_send J D R j p m d r sj sd sr)
 
 -- a journal that threads share
 pub journal_sync : (J D R : RattleType) (j : JournalName.Ghosts J.Denot) (p : PartsName.Ghosts J.Denot) (m : MeetingName.Ghosts J.Denot) (d : Device.Ghosts D.Denot)

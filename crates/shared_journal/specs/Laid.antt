@@ -3,7 +3,7 @@ use Rattle.std.specs.Prelude.{ℕ}
 use Rattle.atomic_table.specs.Seated.{TableId}
 use Rattle.block_device.specs.State.{DeviceState}
 use Rattle.handle.specs.Values.{Laid}
-use Rattle.shared_journal.specs.Locked.{IsHeld}
+use Rattle.locked_journal.specs.Locked.{IsHeld}
 use Rattle.journal_sides.specs.Sides.{SidesValue}
 use Rattle.journal_steps.specs.Values.{JournalValue}
 

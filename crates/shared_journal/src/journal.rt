@@ -13,23 +13,20 @@ ghost use Rattle.journal_steps.specs.Values.{JournalValue};
 ghost use Rattle.journal_sides.specs.Sides.{HeldNewestDid, HeldReadDid};
 ghost use Rattle.group_commit.specs.Extension.{Extends};
 ghost use Rattle.own_steps.specs.Own.{BearsOut};
+ghost use Rattle.locked_journal.specs.Known.{own_of_ticket};
 ghost use Rattle.shared_journal.specs.Ends.{AtTheEnd, IsClosedWell, IsNotClosed};
-ghost use Rattle.shared_journal.specs.Known.{own_of_ticket};
 ghost use Rattle.shared_journal.specs.Moments.{AtOneMoment, JoinedThen, StoppedThen};
 ghost use Rattle.shared_journal.specs.Turns.{CheckTurnThen, FailureKnownThen, MetThen, RefusalTold, RoundRefusedThen, RoundThen, StepRefusedThen, StepThen, ToldThen, TurnRefusedThen, TurnThen, TurnTold};
 ghost use Rattle.shared_journal.specs.Refusals.{CouldNotJoin, IsExtendRefusal, IsJoinRefusal, IsReadRefusal, IsTouchRefusal, MayHavePaid, StartRefused};
 
 use crate::changes::Changes;
 use crate::closing::close;
-use crate::locked::{Counters, Locked, Tally};
-use crate::open_handle::Handle;
-use crate::sole::Sole;
-use crate::stopped::{Receipt, Ticket};
 use block_device::Device;
 use group_commit::{CheckTurn, Journal as OneJournal, Parts, Record, Turn, Unrecorded};
 use handle::{Credits, JournalName, Seat};
 use journal_model::{BlockNo, JournalError, Status, Tid};
 use journal_sides::{EngineSide, SidesMeeting};
+use locked_journal::{Counters, Handle, Locked, Receipt, Sole, Tally, Ticket};
 use log_engine::Progress;
 use meeting::MeetingName;
 use parts::PartsName;
@@ -126,7 +123,7 @@ impl<J: JournalName + PartsName + MeetingName, D: Device, R: Record> Journal<J, 
         ensures answer { StatusIs result ticket.now.ticket.tid seat.new.seen }
         ensures seat { Looks seat.old seat.new }
     {
-        self.counters.mark.status(&ticket.inner, seat)
+        ticket.status(&self.counters.mark, seat)
     }
 
     /// The receipt for a ticket whose transaction is committed, as far as the mark tells: it knows what the ticket knew. It takes no

@@ -11,13 +11,12 @@ ghost use Rattle.handle.specs.Rule.{greatest_allotment, greatest_capacity};
 ghost use Rattle.handle.specs.Values.{fresh_seat};
 
 use crate::journal::Journal;
-use crate::known::UnnamedKnowing;
-use crate::locked::{Counters, Locked};
 use block_device::Device;
 use group_commit::{Record, Unrecorded};
 use handle::{JournalName, LaidBoard, Seat, board};
 use journal_model::{JournalError, Tid};
 use journal_sides::UnnamedSides;
+use locked_journal::{Counters, Locked, UnnamedKnowing};
 use log_format::Super;
 use log_ring::Layout;
 use meeting::MeetingName;
@@ -112,14 +111,7 @@ impl<D: Device, R: Record> LaidJournal<D, R> {
         let (pool, mark, raiser, mut seat) = board.named::<J>();
         let credits = pool.none(&mut seat);
         let (meeting, journal, engine) = sides.named::<J>();
-        let (knowing, recorded) = knowing.named::<J>(journal.front());
-        let locked = Locked {
-            journal,
-            credits,
-            raiser,
-            knowing,
-            recorded,
-        };
+        let locked = Locked::of(journal, credits, raiser, knowing);
         let counters = Counters { pool, mark };
         (
             Journal::of(counters, meeting, locked, engine, block_size),

@@ -3,18 +3,18 @@ ghost use Rattle.std.specs.Prelude.{◌≡◌, [], IfErr, IfOk, IfNone, IfSome, 
 ghost use Rattle.journal_model.specs.declared.refusal.JournalError.TheVariants.{Aborted};
 ghost use Rattle.handle.specs.Values.{Grants, fresh_ticket};
 ghost use Rattle.journal_steps.specs.Values.{JournalValue};
-ghost use Rattle.shared_journal.specs.Known.{LooksOn};
+ghost use Rattle.locked_journal.specs.Known.{LooksOn};
+ghost use Rattle.locked_journal.specs.Locking.{LocksEntered};
 ghost use Rattle.shared_journal.specs.Moments.{AtOneMoment, JoinedThen, StoppedThen};
 ghost use Rattle.shared_journal.specs.Refusals.{StartRefused};
-ghost use Rattle.shared_journal.specs.Waiting.{BehindTries, LocksEntered, NotStarted, TriesAgain};
+ghost use Rattle.shared_journal.specs.Waiting.{BehindTries, NotStarted, TriesAgain};
 
 use crate::journal::Journal;
-use crate::open_handle::Handle;
-use crate::stopped::{Receipt, Ticket};
 use block_device::Device;
 use group_commit::Record;
 use handle::{JournalName, Seat};
 use journal_model::JournalError;
+use locked_journal::{Handle, Receipt, Ticket};
 use meeting::MeetingName;
 use parts::PartsName;
 use std::sync::Wait;

@@ -3,7 +3,7 @@ ghost use Rattle.std.specs.Prelude.{◌≡◌, ℕ, ◌<◌, length, slice_index
 ghost use Rattle.std.specs.List.{AllZip};
 ghost use Rattle.journal_world.specs.Front.{transactions};
 ghost use Rattle.own_steps.specs.Own.{BearsOut};
-ghost use Rattle.shared_journal.specs.Known.{own_of_ticket};
+ghost use Rattle.locked_journal.specs.Known.{own_of_ticket};
 ghost use Rattle.volume_service.specs.Ending.{IsLeftBy, Stands};
 ghost use Rattle.volume_service.specs.Plan.{Came, IsClientRefusal, ServeRefused};
 
