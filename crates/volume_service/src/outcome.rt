@@ -38,6 +38,17 @@ pub struct Served<J: JournalName + PartsName, R: Record> {
     pub seat: Seat<J>,
 }
 
+/// What clients answered, over a journal that is still there.
+#[derive(Drop)]
+pub struct ServedClients<J: JournalName, A> {
+    /// Of each client, at its place.
+    pub answers: Vec<A>,
+    /// Taken once all clients had ended.
+    pub tally: Tally,
+    /// The seat that took it, for what its owner does next.
+    pub seat: Seat<J>,
+}
+
 /// What came of clients, and of their journal.
 #[derive(Drop)]
 pub struct Outcome<J: JournalName + PartsName, D: Device + Drop, R: Record> {

@@ -6,8 +6,10 @@ ghost use Rattle.volume_service.specs.Plan.{Came, IsClientRefusal, ServeRefused}
 use crate::bell::Bell;
 use crate::client::Client;
 use crate::gate::Gate;
-use crate::outcome::{ClientOutcome, Served};
+use crate::outcome::{Served, ServedClients};
 use crate::plan::HandlePlan;
+use crate::planned::PlanClient;
+use crate::session::Session;
 use crate::worker::{Checkpointer, Committer, Kick, Shared};
 use block_device::Device;
 use crossbeam_channel::{Sender, bounded};
@@ -15,6 +17,8 @@ use journal_model::JournalError;
 use shared_journal::{Journal, JournalName, MeetingName, PartsName, Record, Seat};
 use std::alloc::{AllocError, Global};
 use std::collections::VecDeque;
+use std::marker::PhantomData;
+use std::snapshot::Snapshot;
 use std::sync::Wait;
 use std::sync::atomic::AtomicU64;
 use std::thread;
@@ -26,13 +30,27 @@ const MOST_KICKS: usize = 64;
 /// How many rounds may be asked for: one that has not begun, whoever asks.
 const MOST_ROUNDS: usize = 2;
 
-/// What a client's thread promises: where it was refused nothing, each handle of this plan came to what the plan says; and it ends for no
-/// other cause than those of a client.
-#[derive(Clone, Copy)]
-struct FollowsPlan<'p>(&'p [HandlePlan]);
+/// What a client's thread promises: its answer keeps what this client promised.
+#[derive(Drop)]
+struct Keeps<
+    J: JournalName + PartsName + MeetingName,
+    D: Device,
+    R: Record,
+    G: Gate,
+    C: Client<J, D, R, G>,
+> {
+    client: Snapshot<C>,
+    of: PhantomData<(J, D, R, G)>,
+}
 
-impl<'p, J: JournalName + PartsName, R: Record> Promise<ClientOutcome<J, R>> for FollowsPlan<'p> {
-    ghost kept_by = { λ p r. IfNone r.refusal (AllZip (λ h o. Came h o.tid o.receipt o.ticket) p.0.now r.handles.items) × IfSome r.refusal IsClientRefusal };
+impl<
+    J: JournalName + PartsName + MeetingName,
+    D: Device,
+    R: Record,
+    G: Gate,
+    C: Client<J, D, R, G>,
+> Promise<C::Answer> for Keeps<J, D, R, G, C> {
+    ghost kept_by = { λ p r. C.keeps p.client.value r };
 }
 
 /// As many seats as are wanted, of allotments that differ by few; fewer where no further seat can be split off.
@@ -86,7 +104,71 @@ pub fn serve<
     ensures refused { IfOk result (λ o. (k : ℕ) (c : _) → k < length plans.now → IfSome (slice_index_or o.clients.items k c).refusal IsClientRefusal) }
     ensures err { IfErr result ServeRefused }
 {
-    let mut seats = seats(alloc, journal, seat, plans.len().saturating_add(2))?;
+    let clients = planned(alloc, plans)?;
+    let served = serve_clients(rt, alloc, journal, seat, clients, gate)?;
+    let ServedClients {
+        answers,
+        tally,
+        seat,
+    } = served;
+    Ok(Served {
+        clients: answers,
+        tally,
+        seat,
+    })
+}
+
+/// A client for each plan.
+fn planned<'p>(
+    alloc: Global,
+    plans: &'p [Vec<HandlePlan>],
+) -> Result<Vec<PlanClient<'p>>, AllocError>
+    ensures all { IfOk result (λ clients. vec_len clients ≡ length plans.now) }
+    ensures each { IfOk result (λ clients. (k : ℕ) (c : _) (p : _) → k < length plans.now →
+        (slice_index_or clients.items k c).plan.now ≡ (slice_index_or plans.now k p).items) }
+{
+    let mut clients = Vec::new(alloc);
+    for plan in plans {
+        clients.push(PlanClient {
+            alloc,
+            plan: plan.as_slice(),
+        })?;
+    }
+    Ok(clients)
+}
+
+/// Runs one thread a client, one that commits and one that writes home, over a journal that its caller keeps, and joins all of them. The
+/// client at place `k` has the session of number `k`, and its answer has that place.
+///
+/// # Errors
+///
+/// `Memory` where a list, a channel or a thread can't be had, `TooMany` where there are more clients than seats can be split off (1,022):
+/// the clients that were started have ended, and what they answered is lost. There is no other: what a client is refused stands in what
+/// it answers, if it says so there.
+pub fn serve_clients<
+    'x,
+    J: JournalName + PartsName + MeetingName + Send + Sync,
+    D: Device + Send,
+    R: Record + Send,
+    G: Gate + Sync,
+    C: Client<J, D, R, G> + Send + Drop + 'x,
+    W: Threads + Wait + Sync,
+>(
+    rt: &W,
+    alloc: Global,
+    journal: &'x Journal<J, D, R>,
+    seat: Seat<J>,
+    clients: Vec<C>,
+    gate: &'x G,
+) -> Result<ServedClients<J, C::Answer>, JournalError>
+where
+    C::Answer: Send + Drop + 'x,
+    ensures all { IfOk result (λ o. vec_len o.answers ≡ vec_len clients) }
+    ensures kept { IfOk result (λ o. (k : ℕ) (a : _) (c : _) → k < vec_len clients → C.keeps (slice_index_or clients.items k c) (slice_index_or o.answers.items k a)) }
+    ensures tally { IfOk result (λ o. o.tally.word ≡ o.seat.credit_found) }
+    ensures err { IfErr result ServeRefused }
+{
+    let mut seats = seats(alloc, journal, seat, clients.len().saturating_add(2))?;
     let (Some(mine), Some(committers)) = (seats.pop_front(), seats.pop_front()) else {
         return Err(JournalError::TooMany);
     };
@@ -99,11 +181,11 @@ pub fn serve<
         asked: &asked,
         gate,
     };
-    let clients = run_all(rt, alloc, &shared, committers, seats, plans)?;
+    let answers = run_all(rt, alloc, &shared, committers, seats, clients)?;
     let mut mine = mine;
     let tally = journal.tally(rt, &mut mine);
-    Ok(Served {
-        clients,
+    Ok(ServedClients {
+        answers,
         tally,
         seat: mine,
     })
@@ -116,6 +198,7 @@ fn run_all<
     D: Device + Send,
     R: Record + Send,
     G: Gate + Sync,
+    C: Client<J, D, R, G> + Send + Drop + 'x,
     W: Threads + Wait + Sync,
 >(
     rt: &W,
@@ -123,16 +206,16 @@ fn run_all<
     shared: &'x Shared<'x, J, D, R, G>,
     seat: Seat<J>,
     seats: VecDeque<Seat<J>>,
-    plans: &[Vec<HandlePlan>],
-) -> Result<Vec<ClientOutcome<J, R>>, JournalError>
-    ensures all { IfOk result (λ clients. vec_len clients ≡ length plans.now) }
-    ensures followed { IfOk result (λ clients. (k : ℕ) (c : _) (p : _) → k < length plans.now → IfNone (slice_index_or clients.items k c).refusal
-        (AllZip (λ h e. Came h e.tid e.receipt e.ticket) (slice_index_or plans.now k p).items (slice_index_or clients.items k c).handles.items)) }
-    ensures refused { IfOk result (λ clients. (k : ℕ) (c : _) → k < length plans.now → IfSome (slice_index_or clients.items k c).refusal IsClientRefusal) }
+    clients: Vec<C>,
+) -> Result<Vec<C::Answer>, JournalError>
+where
+    C::Answer: Send + Drop + 'x,
+    ensures all { IfOk result (λ answers. vec_len answers ≡ vec_len clients) }
+    ensures kept { IfOk result (λ answers. (k : ℕ) (a : _) (c : _) → k < vec_len clients → C.keeps (slice_index_or clients.items k c) (slice_index_or answers.items k a)) }
     ensures err { IfErr result ServeRefused }
 {
     thread::scope(thread::scope_env(), rt, |scope| {
-        run_in(rt, scope, alloc, shared, seat, seats, plans)
+        run_in(rt, scope, alloc, shared, seat, seats, clients)
     })
 }
 
@@ -144,6 +227,7 @@ fn run_in<
     D: Device + Send,
     R: Record + Send,
     G: Gate + Sync,
+    C: Client<J, D, R, G> + Send + Drop + 's,
     W: Threads + Wait + Sync,
 >(
     rt: &'s W,
@@ -152,12 +236,12 @@ fn run_in<
     shared: &'s Shared<'s, J, D, R, G>,
     seat: Seat<J>,
     seats: VecDeque<Seat<J>>,
-    plans: &'s [Vec<HandlePlan>],
-) -> Result<Vec<ClientOutcome<J, R>>, JournalError>
-    ensures all { IfOk result (λ clients. vec_len clients ≡ length plans.now) }
-    ensures followed { IfOk result (λ clients. (k : ℕ) (c : _) (p : _) → k < length plans.now → IfNone (slice_index_or clients.items k c).refusal
-        (AllZip (λ h e. Came h e.tid e.receipt e.ticket) (slice_index_or plans.now k p).items (slice_index_or clients.items k c).handles.items)) }
-    ensures refused { IfOk result (λ clients. (k : ℕ) (c : _) → k < length plans.now → IfSome (slice_index_or clients.items k c).refusal IsClientRefusal) }
+    clients: Vec<C>,
+) -> Result<Vec<C::Answer>, JournalError>
+where
+    C::Answer: Send + Drop + 's,
+    ensures all { IfOk result (λ answers. vec_len answers ≡ vec_len clients) }
+    ensures kept { IfOk result (λ answers. (k : ℕ) (a : _) (c : _) → k < vec_len clients → C.keeps (slice_index_or clients.items k c) (slice_index_or answers.items k a)) }
     ensures err { IfErr result ServeRefused }
 {
     let (kicks, kicked) = bounded(alloc, MOST_KICKS)?;
@@ -177,7 +261,7 @@ fn run_in<
             rounds: asked,
         },
     )?;
-    let running = start_all(rt, scope, alloc, shared, kicks, seats, plans)?;
+    let running = start_all(rt, scope, alloc, shared, kicks, seats, clients)?;
     match join_promised(rt, running) {
         Ok(ended) => Ok(ended),
         Err(_) => Err(JournalError::Memory),
@@ -245,7 +329,7 @@ fn start_checkpointer<
     }
 }
 
-/// Starts a client for each plan. None but they can send a kick from then on.
+/// Starts each client. None but they can send a kick from then on.
 fn start_all<
     's,
     E,
@@ -253,6 +337,7 @@ fn start_all<
     D: Device + Send,
     R: Record + Send,
     G: Gate + Sync,
+    C: Client<J, D, R, G> + Send + Drop + 's,
     W: Wait + Sync,
 >(
     rt: &'s W,
@@ -261,26 +346,28 @@ fn start_all<
     shared: &'s Shared<'s, J, D, R, G>,
     kicks: Sender<Kick>,
     seats: VecDeque<Seat<J>>,
-    plans: &'s [Vec<HandlePlan>],
-) -> Result<Vec<PromisedHandle<ClientOutcome<J, R>, FollowsPlan<'s>>>, JournalError>
-    ensures all { IfOk result (λ running. vec_len running ≡ length plans.now) }
-    ensures each { IfOk result (λ running. (k : ℕ) (h : _) (p : _) → k < length plans.now →
-        (slice_index_or running.items k h).promise.0.now ≡ (slice_index_or plans.now k p).items) }
+    clients: Vec<C>,
+) -> Result<Vec<PromisedHandle<C::Answer, Keeps<J, D, R, G, C>>>, JournalError>
+where
+    C::Answer: Send + Drop + 's,
+    ensures all { IfOk result (λ running. vec_len running ≡ vec_len clients) }
+    ensures each { IfOk result (λ running. (k : ℕ) (h : _) (c : _) → k < vec_len clients →
+        (slice_index_or running.items k h).promise.client.value ≡ slice_index_or clients.items k c) }
     ensures err { IfErr result ServeRefused }
 {
     let mut seats = seats;
     let mut running = Vec::new(alloc);
-    for number in 0..plans.len() {
+    for client in clients {
         let Some(seat) = seats.pop_front() else {
             return Err(JournalError::TooMany);
         };
-        let client = Client {
+        let session = Session {
             shared,
-            number,
+            number: running.len(),
             seat,
             kicks: kicks.clone()?,
         };
-        let thread = start_client(rt, scope, alloc, client, &plans[number])?;
+        let thread = start_client(rt, scope, session, client)?;
         if running.push(thread).is_err() {
             return Err(JournalError::Memory);
         }
@@ -296,19 +383,40 @@ fn start_client<
     D: Device + Send,
     R: Record + Send,
     G: Gate + Sync,
+    C: Client<J, D, R, G> + Send + Drop + 's,
     W: Wait + Sync,
 >(
     rt: &'s W,
     scope: &'s Scope<'s, E>,
-    alloc: Global,
-    client: Client<'s, J, D, R, G>,
-    plan: &'s [HandlePlan],
-) -> Result<PromisedHandle<ClientOutcome<J, R>, FollowsPlan<'s>>, JournalError>
-    ensures follows { IfOk result (λ thread. thread.promise.0.now ≡ plan.now) }
+    session: Session<'s, J, D, R, G>,
+    client: C,
+) -> Result<PromisedHandle<C::Answer, Keeps<J, D, R, G, C>>, JournalError>
+where
+    C::Answer: Send + Drop + 's,
+    ensures of { IfOk result (λ thread. thread.promise.client.value ≡ client) }
     ensures err { IfErr result ServeRefused }
 {
-    match scope.spawn_with(FollowsPlan(plan), move || client.run(rt, alloc, plan)) {
+    let promise = Keeps {
+        client: Snapshot::of(&client),
+        of: PhantomData,
+    };
+    match scope.spawn_with(promise, move || run_client(rt, session, client)) {
         Ok(thread) => Ok(thread),
         Err(_) => Err(JournalError::Memory),
     }
+}
+
+/// Does what a client does, by a session of its own, which ends with it.
+fn run_client<
+    J: JournalName + PartsName + MeetingName,
+    D: Device,
+    R: Record,
+    G: Gate,
+    C: Client<J, D, R, G>,
+    W: Wait,
+>(rt: &W, session: Session<'_, J, D, R, G>, client: C) -> C::Answer
+    ensures { C.keeps client result }
+{
+    let mut session = session;
+    client.run(rt, &mut session)
 }
