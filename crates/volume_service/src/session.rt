@@ -8,7 +8,7 @@ ghost use Rattle.handle.specs.Values.{fresh_ticket};
 ghost use Rattle.journal_front.specs.Front.{IsOpenHandle, Spends, TouchRefused};
 ghost use Rattle.journal_steps.specs.Journal.{Does, NewestRefused, NotesRead, ReadRefused, ReadsNewest};
 ghost use Rattle.journal_steps.specs.Values.{JournalValue};
-ghost use Rattle.shared_journal.specs.Known.{LooksOn};
+ghost use Rattle.locked_journal.specs.Known.{LooksOn};
 ghost use Rattle.shared_journal.specs.Moments.{AtOneMoment, JoinedThen, StoppedThen};
 ghost use Rattle.shared_journal.specs.Refusals.{IsReadRefusal, IsTouchRefusal, MayHavePaid};
 ghost use Rattle.volume_service.specs.Session.{NotAwaited, NotOpened, RefusedBytes};
