@@ -8,14 +8,14 @@ ghost use Rattle.std.specs.Prelude.{◌≡◌};
 
 use anyhow::{Result, bail};
 use block_device::Device;
-use journal_model::{Block, BlockNo, JournalError};
+use journal_model::{BlockNo, JournalError};
 use recovery::Opened;
-use shared_journal::{JournalName, LaidJournal, MeetingName, PartsName, Unrecorded, lay};
+use shared_journal::{Handle, JournalName, LaidJournal, MeetingName, PartsName, Record, lay};
 use std::alloc::{AllocError, Global};
 use std::marker::Brand;
 use std::sync::Wait;
 use std::thread::Threads;
-use volume_service::{ClientOutcome, HandlePlan, OpenGate, Touch, serve};
+use volume_service::{Client, Gate, OpenGate, Session, serve_clients};
 
 /// Blocks of the log, at least 17. A transaction takes at most a quarter of them.
 const LOG_BLOCKS: u32 = 33;
@@ -75,62 +75,102 @@ fn change_at_once<
     requires block_size { laid.block_size ≡ J.block_size }
 {
     let (journal, seat) = laid.named::<J>();
-    let plans = plans(alloc, journal.block_size());
-    let served = match plans {
-        Ok(plans) => serve(rt, alloc, &journal, seat, &plans, &OpenGate),
+    let served = match writers(alloc) {
+        Ok(writers) => serve_clients(rt, alloc, &journal, seat, writers, &OpenGate),
         Err(_) => Err(JournalError::Memory),
     };
     match (served, journal.close()) {
         (Ok(served), Ok(parts)) => Ok(Done {
-            safe: safe_changes(&served.clients)?,
+            safe: safe_changes(&served.answers)?,
             home: parts.committed,
         }),
         (Err(e), _) | (_, Err((_, e))) => Err(e),
     }
 }
 
-/// What each thread does: two handles, one behind the other.
-fn plans(alloc: Global, block_size: usize) -> Result<Vec<Vec<HandlePlan>>, AllocError> {
-    let mut plans = Vec::new(alloc);
-    for client in 0..2u8 {
-        let mut plan = Vec::new(alloc);
-        plan.push(change(alloc, block_size, BlockNo(10 + u64::from(client)), client)?)?;
-        plan.push(change(alloc, block_size, BlockNo(9), client)?)?;
-        plans.push(plan)?;
+/// The two threads, each with a block of its own.
+fn writers(alloc: Global) -> Result<Vec<Writer>, AllocError> {
+    let mut writers = Vec::new(alloc);
+    for byte in 0..2u8 {
+        writers.push(Writer {
+            alloc,
+            own: BlockNo(10 + u64::from(byte)),
+            byte: byte + 1,
+        })?;
     }
-    Ok(plans)
+    Ok(writers)
 }
 
-/// A handle that writes one block, and waits until it is safe.
-fn change(
+/// A client: it fills a block of its own with its byte, and then one that both change.
+#[derive(Clone, Copy, Debug)]
+struct Writer {
+    /// For the bytes of a block.
     alloc: Global,
-    block_size: usize,
-    block: BlockNo,
+    /// The block of its own.
+    own: BlockNo,
+    /// Its byte.
     byte: u8,
-) -> Result<HandlePlan, AllocError> {
-    let bytes = Block::new(vec![in alloc; byte; block_size]?)?;
-    let mut touches = Vec::new(alloc);
-    touches.push(Touch::Write(block, bytes))?;
-    Ok(HandlePlan {
-        credits: 1,
-        touches,
-        waits: true,
-    })
 }
 
-/// How many changes were told to be safe. A thread that met a refusal ended with it.
-fn safe_changes<J: JournalName + PartsName + MeetingName>(
-    clients: &[ClientOutcome<J, Unrecorded>],
-) -> Result<usize, JournalError> {
-    let mut safe = 0usize;
-    for client in clients {
-        if let Some(e) = client.refusal {
-            return Err(e);
+impl<J: JournalName + PartsName + MeetingName, D: Device, R: Record, G: Gate> Client<J, D, R, G>
+    for Writer {
+    type Answer = Result<usize, JournalError>;
+
+    /// Answers how many changes are safe, or the first refusal.
+    fn run<W: Wait>(
+        self,
+        rt: &W,
+        session: &mut Session<'_, J, D, R, G>,
+    ) -> Result<usize, JournalError>
+        ensures { Unit {0} }
+    {
+        self.change(rt, session, self.own)?;
+        self.change(rt, session, BlockNo(9))?;
+        Ok(2)
+    }
+}
+
+impl Writer {
+    /// Fills a block through a handle of its own, and waits until that is safe. The handle is stopped also where a call is refused.
+    fn change<J: JournalName + PartsName + MeetingName, D: Device, R: Record, G: Gate, W: Wait>(
+        &self,
+        rt: &W,
+        session: &mut Session<'_, J, D, R, G>,
+        block: BlockNo,
+    ) -> Result<(), JournalError> {
+        let mut handle = session.start(rt, 1)?;
+        let filled = self.fill(rt, session, &mut handle, block);
+        let ticket = session.stop(rt, handle);
+        filled?;
+        session.wait(rt, ticket)?;
+        Ok(())
+    }
+
+    /// Fills a block, where it is not full of this byte already.
+    fn fill<'s, J: JournalName + PartsName + MeetingName, D: Device, R: Record, G: Gate, W: Wait>(
+        &self,
+        rt: &W,
+        session: &Session<'s, J, D, R, G>,
+        handle: &mut Handle<'s, J, R>,
+        block: BlockNo,
+    ) -> Result<(), JournalError> {
+        let mut bytes = vec![in self.alloc; 0u8; session.block_size()]?;
+        session.read(rt, handle, block, bytes.as_mut_slice())?;
+        if bytes.iter().any(|byte| *byte != self.byte) {
+            bytes.as_mut_slice().fill(self.byte);
+            session.write(rt, handle, block, &bytes)?;
         }
-        for handle in &client.handles {
-            if handle.receipt.is_some() {
-                safe = safe.saturating_add(1);
-            }
+        Ok(())
+    }
+}
+
+/// How many changes are safe in all, or the first refusal.
+fn safe_changes(answers: &[Result<usize, JournalError>]) -> Result<usize, JournalError> {
+    let mut safe = 0usize;
+    for answer in answers {
+        match answer {
+            Ok(changes) => safe = safe.saturating_add(*changes),
+            Err(e) => return Err(*e),
         }
     }
     Ok(safe)
