@@ -3,6 +3,7 @@
 ghost use Rattle.std.specs.Prelude.{◌≡◌};
 
 mod gates;
+mod own;
 mod refused;
 
 use crate::bytes::expect;

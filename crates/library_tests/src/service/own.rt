@@ -1,0 +1,111 @@
+//! Clients of a type of one's own, over a device in memory.
+ghost use Rattle.std.specs.Prelude.{◌≡◌};
+
+use super::LOG_BLOCKS;
+use crate::bytes::expect;
+use crate::logs::{formatted, laid_on};
+use block_device::{Device, MemDevice};
+use journal_model::{BlockNo, JournalError};
+use shared_journal::{JournalName, LaidJournal, MeetingName, PartsName, Record};
+use std::alloc::Global;
+use std::marker::Brand;
+use std::sync::Wait;
+use std::test::Fail;
+use std::thread::Threads;
+use volume_service::{Client, Gate, OpenGate, Session, serve_clients};
+
+/// Writes a block and revokes another, lets its handle stop, writes the second one by a handle that it waits for, and reads what it wrote.
+#[derive(Clone, Copy, Debug)]
+struct Looker {
+    alloc: Global,
+    block: u64,
+}
+
+/// What a client tells: its number, the most credits, the byte that the first write left, and why a short buffer was refused.
+type Told = (usize, u64, Option<u8>, Result<(), JournalError>);
+
+impl<J: JournalName + PartsName + MeetingName, D: Device, R: Record, G: Gate> Client<J, D, R, G>
+    for Looker {
+    type Answer = Result<Told, JournalError>;
+
+    fn run<W: Wait>(
+        self,
+        rt: &W,
+        session: &mut Session<'_, J, D, R, G>,
+    ) -> Result<Told, JournalError>
+        ensures { Unit {0} }
+    {
+        let mut bytes = vec![in self.alloc; 7u8; session.block_size()]?;
+        let mut handle = session.start(rt, 2)?;
+        let wrote = session.write(rt, &mut handle, BlockNo(self.block), &bytes);
+        let revoked = session.revoke(rt, &mut handle, BlockNo(self.block + 1));
+        let _ticket = session.stop(rt, handle);
+        wrote?;
+        revoked?;
+        let mut handle = session.start(rt, 1)?;
+        let wrote = session.write(rt, &mut handle, BlockNo(self.block + 1), &bytes);
+        let ticket = session.stop(rt, handle);
+        wrote?;
+        session.wait(rt, ticket)?;
+        bytes.as_mut_slice().fill(0);
+        session.read_newest(rt, BlockNo(self.block), bytes.as_mut_slice())?;
+        let short = session.read_newest(rt, BlockNo(self.block), &mut []);
+        Ok((
+            session.number(),
+            session.capacity(),
+            bytes.first().copied(),
+            short,
+        ))
+    }
+}
+
+/// Runs two clients over a laid journal, and closes it. It answers what each told, and how many transactions are home.
+fn look<J: JournalName + PartsName + MeetingName + Send + Sync, R: Threads + Wait + Sync>(
+    rt: &R,
+    alloc: Global,
+    laid: LaidJournal<MemDevice>,
+) -> Result<(Vec<Result<Told, JournalError>>, bool), JournalError>
+    requires board { laid.board ≡ J.board }
+    requires parts { laid.parts ≡ J.parts }
+    requires meeting { laid.meeting ≡ J.meeting }
+    requires capacity { laid.capacity ≡ J.capacity }
+    requires block_size { laid.block_size ≡ J.block_size }
+{
+    let (journal, seat) = laid.named::<J>();
+    let served = match lookers(alloc) {
+        Ok(lookers) => serve_clients(rt, alloc, &journal, seat, lookers, &OpenGate),
+        Err(e) => Err(e),
+    };
+    let closed = journal.close().is_ok();
+    Ok((served?.answers, closed))
+}
+
+/// Two clients, of blocks of their own.
+fn lookers(alloc: Global) -> Result<Vec<Looker>, JournalError> {
+    let mut lookers = Vec::new(alloc);
+    lookers.push(Looker { alloc, block: 3 })?;
+    lookers.push(Looker { alloc, block: 8 })?;
+    Ok(lookers)
+}
+
+/// The same over a new log in memory.
+fn run_on<R: Threads + Wait + Sync>(
+    rt: &R,
+    alloc: Global,
+) -> Result<(Vec<Result<Told, JournalError>>, bool), JournalError> {
+    let laid = laid_on(alloc, formatted(alloc, LOG_BLOCKS, 64)?)?;
+    look::<Brand, _>(rt, alloc, laid)
+}
+
+#[test]
+fn clients_of_a_type_of_ones_own_run(rt: HostRuntime) -> Result<(), Fail> {
+    let short = Err(JournalError::BadBlock);
+    let Ok((told, closed)) = run_on(&rt, rt.alloc()) else {
+        return Err("the clients are not run".into());
+    };
+    expect(&rt, &told.len(), &2);
+    expect(&rt, &told.first(), &Some(&Ok((0, 6, Some(7), short))));
+    expect(&rt, &told.last(), &Some(&Ok((1, 6, Some(7), short))));
+    expect(&rt, &closed, &true);
+    Ok(())
+}
