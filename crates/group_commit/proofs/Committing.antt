@@ -17,6 +17,7 @@ use Rattle.group_commit.specs.AllTurns.CommitsAll.{WithRunning, WithoutRunning}
 use Rattle.group_commit.specs.AllTurns.ReleaseRefused.{ReleaseFailed}
 use Rattle.group_commit.specs.Close.{ComesTo, HasSealed, LastRefused, Went, WentWrong, locked_journal}
 use Rattle.group_commit.specs.Close.LastRefused.{FailedBefore, FailedBehind, LeftUnsealed, NotMadeReady}
+use Rattle.group_commit.specs.Rounds.{MakesNoRound, MakesRoomAlone}
 use Rattle.group_commit.proofs.Leading.{comes-same, comes-step}
 
 module _ {D : Type 0} (state : D → DeviceState) where
@@ -45,15 +46,15 @@ module _ {D : Type 0} (state : D → DeviceState) where
 
   -- where the running transaction was not ready, all that can be committed is behind the commit that was under way
   pub none-ready : {T : Type 0} (r : Result T JournalError) (old new : JournalValue D) → (IsReadyToSeal old.journal.front → ⊥) →
-      OnOk r (Went state old new) → OnOk r (CommitsAll state old new)
-  none-ready (Ok x) old new unready went = WithoutRunning unready went
-  none-ready (Err e) old new unready went = tt
+      OnOk r (Went state old new) → OnOk r (MakesNoRound old.journal.engine new.journal.engine) → OnOk r (CommitsAll state old new)
+  none-ready (Ok x) old new unready went none = WithoutRunning unready went none
+  none-ready (Err e) old new unready went none = tt
 
   -- and else it is sealed
   pub ready-sealed : {T : Type 0} (r : Result T JournalError) (old new : JournalValue D) → IsReadyToSeal old.journal.front →
-      OnOk r (HasSealed state old new) → OnOk r (CommitsAll state old new)
-  ready-sealed (Ok x) old new ready has = WithRunning ready has
-  ready-sealed (Err e) old new ready has = tt
+      OnOk r (HasSealed state old new) → OnOk r (MakesRoomAlone state old new) → OnOk r (CommitsAll state old new)
+  ready-sealed (Ok x) old new ready has room = WithRunning ready has room
+  ready-sealed (Err e) old new ready has room = tt
 
   -- or the device failed in its commit
   pub turns-failed : {T : Type 0} (r : Result T JournalError) (old new : JournalValue D) → old.journal.engine.aborted ≡ false →

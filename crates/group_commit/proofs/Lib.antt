@@ -4,3 +4,4 @@ mod Extending
 mod Finishing
 mod Leading
 mod Committing
+mod NoRounds

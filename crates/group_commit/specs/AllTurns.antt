@@ -8,6 +8,7 @@ use Rattle.journal_world.specs.Front.{Front}
 use Rattle.journal_steps.specs.Journal.{Requests}
 use Rattle.journal_steps.specs.Values.{JournalValue}
 use Rattle.group_commit.specs.Close.{HasSealed, Went, WentWrong}
+use Rattle.group_commit.specs.Rounds.{MakesNoRound, MakesRoomAlone}
 
 -- why rounds do not come to their end: the device failed before, and nothing was done; or it failed in one of them
 pub data ReleaseRefused {D : Type 0} (state : D → DeviceState) (old new : JournalValue D) : JournalError → Type 0 where
@@ -18,10 +19,11 @@ pub data ReleaseRefused {D : Type 0} (state : D → DeviceState) (old new : Jour
 abbrev pub IsReadyToSeal : Front → Type 0
 IsReadyToSeal f = (f.locked ≡ true) × (f.open_handles ≡ [])
 
--- all that can be committed is: where the running transaction was ready, it too; and else what was sealed before
+-- all that can be committed is: where the running transaction was ready, it too, behind rounds where the ring had no room for it; and else
+-- what was sealed before, with no round
 pub data CommitsAll {D : Type 0} (state : D → DeviceState) (old new : JournalValue D) : Type 0 where
-  WithRunning : IsReadyToSeal old.journal.front → HasSealed state old new → CommitsAll state old new
-  WithoutRunning : (IsReadyToSeal old.journal.front → ⊥) → Went state old new → CommitsAll state old new
+  WithRunning : IsReadyToSeal old.journal.front → HasSealed state old new → MakesRoomAlone state old new → CommitsAll state old new
+  WithoutRunning : (IsReadyToSeal old.journal.front → ⊥) → Went state old new → MakesNoRound old.journal.engine new.journal.engine → CommitsAll state old new
 
 -- Why not all that can be committed is: the device failed before, and nothing was done; it failed in a step, and nothing was sealed;
 -- the running transaction was ready, and it failed in a step behind the seal; or that was ready, and memory ran out for its seal. Then
@@ -37,7 +39,7 @@ pub data AllTurnsRefused {D : Type 0} (state : D → DeviceState) (old new : Jou
   StaysReady : old.journal.engine.aborted ≡ false → IsReadyToSeal old.journal.front → 0 < length old.journal.front.running.handles → Went state old new →
       new.journal.engine.committed ≡ length new.journal.front.sealed → AllTurnsRefused state old new Memory
 
--- a request of the transaction, and behind it all that can be committed, so that nothing is being committed: nothing else is done
+-- a request of the transaction, and behind it all that can be committed, so that nothing is being committed
 pub record CommitsThrough {D : Type 0} (state : D → DeviceState) (tid : ℕ) (old new : JournalValue D) : Type 0 where
   pub asked : JournalValue D
   pub requests : Requests state tid old asked

@@ -2,3 +2,4 @@ pub mod Close
 pub mod Extension
 pub mod Values
 pub mod AllTurns
+pub mod Rounds

@@ -5,6 +5,7 @@ ghost use Rattle.journal_model.specs.declared.refusal.JournalError.TheVariants.{
 ghost use Rattle.journal_world.specs.declared.stage.Stage.TheVariants.{Idle};
 ghost use Rattle.log_epochs.specs.EngineWorld.Phase.{Running};
 ghost use Rattle.group_commit.specs.Close.{CloseRefused, ComesTo, HasSealed, IsFinished, LastRefused, Went, WentWrong};
+ghost use Rattle.group_commit.specs.Rounds.{MakesNoRound, MakesRoomAlone};
 ghost use Rattle.journal_steps.specs.Journal.{HasRoomFor, NothingToRelease};
 
 use crate::journal::Journal;
@@ -44,6 +45,7 @@ pub(crate) fn seal_last<D: Device, R: Record>(
     requires joined { 0 < length journal.old.journal.front.running.handles }
     requires stopped { journal.old.journal.front.open_handles ≡ [] }
     ensures ok { OnOk result (HasSealed D.state journal.old journal.new) }
+    ensures rounds { OnOk result (MakesRoomAlone D.state journal.old journal.new) }
     ensures idle { OnOk result (journal.new.journal.engine.stage ≡ Idle) }
     ensures err { IfErr result (LastRefused D.state journal.old journal.new) }
     ensures path { ComesTo journal.old.journal (D.state journal.old.device).disk journal.new.journal (D.state journal.new.device).disk Running }
@@ -63,6 +65,7 @@ pub(crate) fn finish_commit<D: Device, R: Record>(
 ) -> Result<(), JournalError>
     requires { journal.old.journal.engine.aborted ≡ false }
     ensures ok { OnOk result (Went D.state journal.old journal.new) }
+    ensures rounds { OnOk result (MakesNoRound journal.old.journal.engine journal.new.journal.engine) }
     ensures idle { OnOk result (journal.new.journal.engine.stage ≡ Idle) }
     ensures err { IfErr result (λ e. (e ≡ DeviceFailed) × WentWrong D.state journal.old journal.new) }
     ensures honest { D.honest journal.new.device → D.honest journal.old.device }
@@ -79,6 +82,7 @@ pub(crate) fn finish_commit<D: Device, R: Record>(
 fn make_room<D: Device, R: Record>(journal: &mut Journal<D, R>) -> Result<(), JournalError>
     requires { journal.old.journal.engine.aborted ≡ false }
     ensures ok { OnOk result (Went D.state journal.old journal.new) }
+    ensures rounds { OnOk result (MakesRoomAlone D.state journal.old journal.new) }
     ensures idle { OnOk result (journal.new.journal.engine.stage ≡ Idle) }
     ensures room { OnOk result (HasRoomFor journal.new.journal) }
     ensures err { IfErr result (λ e. (e ≡ DeviceFailed) × WentWrong D.state journal.old journal.new) }

@@ -8,7 +8,7 @@ use Rattle.group_commit.proofs.all_turns.commit_ready.Goals as goal
 -- where the running transaction was ready it is sealed
 pub returns-then-is_ready-clause-ok : goal.returns-then-is_ready-clause-ok
 returns-then-is_ready-clause-ok g c =
-    ready-sealed g.D.Device.state c.seal_last.result _ _ (c.is_ready.ensures.0 c.if-is_ready.true) c.seal_last.ensures.ok
+    ready-sealed g.D.Device.state c.seal_last.result _ _ (c.is_ready.ensures.0 c.if-is_ready.true) c.seal_last.ensures.ok c.seal_last.ensures.rounds
 
 -- or it is not
 pub returns-then-is_ready-clause-err : goal.returns-then-is_ready-clause-err
@@ -20,6 +20,7 @@ returns-then-is_ready-clause-err g c =
 pub returns-clause-ok : goal.returns-clause-ok
 returns-clause-ok g c =
     none-ready g.D.Device.state c.finish_commit.result _ _ (λ ready. true≢false (sym (c.is_ready.ensures.1 ready) ∙ c.if-is_ready.false)) c.finish_commit.ensures.ok
+    c.finish_commit.ensures.rounds
 
 -- or the device failed in its commit
 pub returns-clause-err : goal.returns-clause-err

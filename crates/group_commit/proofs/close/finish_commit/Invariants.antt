@@ -1,11 +1,13 @@
 use Rattle.log_engine.specs.Left.{commit_calls}
 use Rattle.group_commit.specs.Close.{Went}
+use Rattle.group_commit.specs.Rounds.{MakesNoRound}
 use Rattle.group_commit.proofs.close.finish_commit.Given as goal
 
--- steps of the commit were made, and none has failed
+-- steps of the commit were made, and none of a round, and none has failed
 abbrev pub invariant-loop-journal : goal.invariant-loop-journal
 invariant-loop-journal g l = record {
   went : Went g.D.Device.state l.fn.journal l.journal;
+  rounds : MakesNoRound l.fn.journal.journal.engine l.journal.journal.engine;
   honest : g.D.Device.honest l.journal.device → g.D.Device.honest l.fn.journal.device;
 }
 

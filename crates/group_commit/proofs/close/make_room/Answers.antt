@@ -1,5 +1,8 @@
 use Rattle.std.proofs.lemmas.Result.{err_from_is_err_and}
 use Rattle.group_commit.proofs.Finishing.{room-made, went-on, wrong-on}
+use Rattle.std.proofs.Common.{sym, ◌∙◌}
+use Rattle.std.proofs.lemmas.Bool.{true≢false}
+use Rattle.group_commit.proofs.NoRounds.{room-there, room-wanted}
 use Rattle.group_commit.proofs.close.make_room.Goals as goal
 
 -- the device failed in the commit that was under way
@@ -20,3 +23,14 @@ returns-clause-ok g c = went-on g.D.Device.state c.release_all.result _ _ _ c.in
 -- and fail behind it
 pub returns-clause-err : goal.returns-clause-err
 returns-clause-err g c = wrong-on g.D.Device.state c.release_all.result _ _ _ c.in_ok-finish_commit.ensures.ok c.release_all.ensures.err
+
+-- no round where there is room
+pub returns-then-has_room-clause-rounds : goal.returns-then-has_room-clause-rounds
+returns-then-has_room-clause-rounds g c =
+    room-there g.D.Device.state _ _ c.in_ok-finish_commit.ensures.ok c.in_ok-finish_commit.ensures.idle c.in_ok-finish_commit.ensures.rounds
+
+-- and rounds where there is none
+pub returns-clause-rounds : goal.returns-clause-rounds
+returns-clause-rounds g c =
+    room-wanted g.D.Device.state c.release_all.result _ _ _ c.in_ok-finish_commit.ensures.ok c.in_ok-finish_commit.ensures.idle
+    c.in_ok-finish_commit.ensures.rounds (λ has. true≢false (sym (c.has_room.ensures.1 has) ∙ c.if-has_room.false))

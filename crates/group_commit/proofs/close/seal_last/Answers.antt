@@ -5,7 +5,9 @@ use Rattle.journal_world.specs.Journal.{batch_of}
 use Rattle.journal_steps.specs.Values.{JournalValue}
 use Rattle.group_commit.specs.Close.{GoesOn, LastRefused, WentWrong}
 use Rattle.group_commit.proofs.Finishing.{last-failed, last-uncommitted, same-running, seal-done, seal-refused, sealed-on, way-locked, way-on, went-from}
+use Rattle.group_commit.specs.Rounds.{MakesRoomAlone}
 use Rattle.group_commit.proofs.Leading.{comes-same}
+use Rattle.group_commit.proofs.NoRounds.{seal-rounds, sealed-rounds}
 use Rattle.group_commit.proofs.close.seal_last.Goals as goal
 
 -- memory ran out before anything was done
@@ -77,3 +79,9 @@ returns-clause-ok g c =
     let joined = subst (λ (t : Transaction). 0 < length t.handles) (sym (same-running g.D.Device.state _ _ went.on)) c.requires.joined in
     let has = seal-done g.D.Device.state _ _ _ went c.seal_running.ensures.told joined c.in_ok-seal_running.ensures.ok c.seal_running.ensures.device in
     sealed-on g.D.Device.state c.finish_commit.result _ _ _ has c.finish_commit.ensures.ok
+
+-- the rounds are those that made room
+pub returns-clause-rounds : goal.returns-clause-rounds
+returns-clause-rounds g c =
+    let room = subst (λ (v : JournalValue g.row.D.Denot). MakesRoomAlone g.D.Device.state v c.make_room.new.journal) c.ready_batch.ensures.same c.in_ok-make_room.ensures.rounds in
+    sealed-rounds g.D.Device.state c.finish_commit.result _ c.make_room.new.journal c.seal_running.new.self _ room (seal-rounds g.D.Device.state c.make_room.new.journal c.seal_running.new.self c.in_ok-seal_running.ensures.ok) c.finish_commit.ensures.rounds
