@@ -8,8 +8,8 @@ use std::sync::Wait;
 /// What a client does. `serve_clients` starts a thread for each client, moves it there with a session of its own, and hands out what each
 /// has answered. Whether the value may go there is found by the checker, from its fields: nothing is to be shown by hand.
 ///
-/// A client that waits for no other, and stops each of its handles, ends. One that waits for another client while it has an open handle
-/// may wait for ever: a transaction is committed once all of its handles have stopped.
+/// A client waits for others in `Session::start` and `Session::wait`. One that does so while it has an open handle may wait for ever: a
+/// transaction is committed once all of its handles have stopped.
 pub trait Client<J: JournalName + PartsName + MeetingName, D: Device, R: Record, G: Gate> {
     /// What it answers when it ends.
     type Answer;

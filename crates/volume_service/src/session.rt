@@ -25,8 +25,8 @@ use std::sync::Wait;
 
 /// A client's place at the service. It may go to another thread, and ends with its client; the workers end once no client is left.
 ///
-/// A client may have several handles at once, but no start waits for a handle of its own: one that asks for more credits than the others
-/// leave, or behind a commit that was asked for while its handle is open, waits for ever.
+/// A client may have several handles at once. While it has one open, a start of another may wait for ever: for credits that its own
+/// handle holds, or for a commit that its own handle holds up.
 #[derive(Drop)]
 pub struct Session<
     's,
