@@ -76,6 +76,6 @@ module _ {D : Type 0} (state : D → DeviceState) where
     idle = room.idle;
     first = room.first;
     none = λ has. rounds-behind old.journal.engine mid.journal.engine new.journal.engine (room.none has)
-    (rounds-behind mid.journal.engine sealed.journal.engine new.journal.engine seal commit);
+        (rounds-behind mid.journal.engine sealed.journal.engine new.journal.engine seal commit);
   }
   sealed-rounds (Err e) old mid sealed new room seal commit = tt
