@@ -36,14 +36,15 @@ impl<J: JournalName + PartsName + MeetingName, D: Device, R: Record, G: Gate> Cl
         ensures { Unit {0} }
     {
         let mut bytes = vec![in self.alloc; 7u8; session.block_size()]?;
+        let next = BlockNo(self.block.saturating_add(1));
         let mut handle = session.start(rt, 2)?;
         let wrote = session.write(rt, &mut handle, BlockNo(self.block), &bytes);
-        let revoked = session.revoke(rt, &mut handle, BlockNo(self.block + 1));
+        let revoked = session.revoke(rt, &mut handle, next);
         let _ticket = session.stop(rt, handle);
         wrote?;
         revoked?;
         let mut handle = session.start(rt, 1)?;
-        let wrote = session.write(rt, &mut handle, BlockNo(self.block + 1), &bytes);
+        let wrote = session.write(rt, &mut handle, next, &bytes);
         let ticket = session.stop(rt, handle);
         wrote?;
         session.wait(rt, ticket)?;
