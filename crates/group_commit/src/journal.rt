@@ -2,6 +2,7 @@
 ghost use Rattle.std.specs.Prelude.{◌≡◌, ◌<◌, ◌≤◌, ◌≢◌, ◌↔◌, true, false, length, [], IfOk, IfErr, MatchResult, OnOk, IsTrue, Some, None};
 ghost use Rattle.journal_model.specs.declared.refusal.JournalError.TheVariants.{Aborted, Device as DeviceFailed, Memory};
 ghost use Rattle.journal_model.specs.Disk.{Image, Leaves};
+ghost use Rattle.journal_model.specs.Record.{IsLegal};
 ghost use Rattle.journal_model.specs.Transaction.{entries};
 ghost use Rattle.block_device.specs.State.{MakesAtMostOneCall, one_more_fault};
 ghost use Rattle.journal_world.specs.declared.stage.Stage.TheVariants.{Idle};
@@ -17,6 +18,7 @@ ghost use Rattle.block_device.specs.Call.{MakesOneCall, OnlyReads};
 ghost use Rattle.log_engine.specs.Close.{IsAllReleased};
 ghost use Rattle.log_engine.specs.Left.{commit_calls};
 ghost use Rattle.journal_steps.specs.Journal.{Agrees, CheckTurnDid, CheckTurnRefused, Does, FitsQuarter, HasRoomFor, IsDuringCheckTurn, IsDuringTurn, LeavesFewerRounds, NewestRefused, NotesRead, OpensNow, OpensOver, ReadRefused, ReadsNewest, Requests, SealIsDue, TurnDid, TurnRefused};
+ghost use Rattle.journal_steps.specs.Legal.{KeepsLegal};
 ghost use Rattle.journal_steps.specs.Values.{together};
 ghost use Rattle.group_commit.specs.AllTurns.{IsReadyToSeal};
 ghost use Rattle.group_commit.specs.Close.{CloseDid, CloseRefused, EndsWith, SealRefused, closing, locked_journal};
@@ -56,12 +58,14 @@ pub struct Parts<D, R = Unrecorded> {
 impl<D: Device, R: Record> Model for Journal<D, R> {
     ghost use Rattle.journal_steps.specs.Values.{JournalValue};
     ghost use Rattle.journal_steps.specs.Journal.{Agrees};
+    ghost use Rattle.journal_steps.specs.Legal.{KeepsLegal};
 
     ghost Value = { JournalValue D };
 
     ghost view = { λ j. record { device = j.engine.device; journal = record { front = j.front; engine = j.engine.engine } } };
 
-    ghost invariant = { λ j. Agrees (record { front = j.front; engine = j.engine.engine }) };
+    ghost invariant = { λ j. Agrees (record { front = j.front; engine = j.engine.engine })
+        × KeepsLegal D.honest (record { device = j.engine.device; journal = record { front = j.front; engine = j.engine.engine } }) };
 }
 
 impl<D: Device, R: Record> Journal<D, R> {
@@ -96,7 +100,8 @@ impl<D: Device, R: Record> Journal<D, R> {
 
     /// A journal of a front and an engine that agree.
     pub fn of(front: Front<R>, engine: Engine<D>) -> Self
-        requires { Agrees (together front engine).journal }
+        requires agrees { Agrees (together front engine).journal }
+        requires legal { KeepsLegal D.honest (together front engine) }
         ensures { result ≡ together front engine }
     {
         Journal { front, engine }
@@ -504,6 +509,7 @@ impl<D: Device, R: Record> Journal<D, R> {
         ensures agrees { Agrees self.now.journal }
         ensures shape { self.now.journal.engine.shape ≡ (D.state self.now.device).shape }
         ensures quarter { FitsQuarter self.now.journal }
+        ensures legal { KeepsLegal D.honest self.now }
     {
         self.engine.recall_invariant();
         steps::recall_quarter(&self.front, &self.engine);
@@ -574,6 +580,9 @@ impl<D: Device, R: Record> Journal<D, R> {
         ensures honest { MatchResult result
             (λ parts. D.honest parts.device → D.honest self.device)
             (λ e. D.honest e.0.device → D.honest self.device) }
+        ensures legal { MatchResult result
+            (λ parts. D.honest parts.device → IsLegal (R.transactions parts.sealed))
+            (λ e. D.honest e.0.device → IsLegal (R.transactions e.0.sealed)) }
     {
         let mut journal = self;
         match finish(&mut journal) {
@@ -605,6 +614,9 @@ impl<D: Device, R: Record> Journal<D, R> {
         ensures honest { MatchResult result
             (λ parts. D.honest parts.device → D.honest self.device)
             (λ e. D.honest e.0.device → D.honest self.device) }
+        ensures legal { MatchResult result
+            (λ parts. D.honest parts.device → IsLegal (R.transactions parts.sealed))
+            (λ e. D.honest e.0.device → IsLegal (R.transactions e.0.sealed)) }
     {
         self.engine.recall_invariant();
         let Journal { front, engine } = self;
@@ -633,6 +645,7 @@ impl<D: Device, R: Record> Journal<D, R> {
         ensures sealed { R.transactions result.sealed ≡ self.journal.front.sealed }
         ensures committed { result.committed ≡ self.journal.engine.committed }
         ensures opens { D.honest self.device → OpensNow self.journal (D.state self.device).disk }
+        ensures legal { D.honest self.device → IsLegal (R.transactions result.sealed) }
     {
         let Journal { front, engine } = self;
         let (device, committed) = engine.into_parts();

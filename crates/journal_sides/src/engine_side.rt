@@ -17,9 +17,9 @@ pub struct Alone<D> {
 }
 
 impl<D: Device> Since<Engine<D>> for Alone<D> {
-    ghost use Rattle.journal_sides.specs.Alone.{RanAlone};
+    ghost use Rattle.journal_sides.specs.Alone.{IsSince};
 
-    ghost since = { λ met now. RanAlone D.state met now };
+    ghost since = { λ met now. IsSince D.state D.honest met now };
 }
 
 /// Where the two sides of the journal that J names meet.

@@ -9,6 +9,7 @@ ghost use Rattle.journal_world.specs.Journal.Event.{FrontStep};
 ghost use Rattle.journal_world.specs.Sound.{IsPlain};
 ghost use Rattle.journal_front.specs.Front.{ExtendRefused, IsOpenHandle, JoinRefused, ReserveRefused, Spends, TouchRefused};
 ghost use Rattle.journal_steps.specs.Journal.{Agrees, Does, Requests};
+ghost use Rattle.journal_steps.specs.Legal.{KeepsLegal};
 ghost use Rattle.group_commit.specs.Extension.{Extends, ExtensionRefused, StartRefused, Starts};
 
 use block_device::Device;
@@ -34,7 +35,7 @@ impl<J: MeetingName, D: Device, R: Record> Model for FrontSide<J, D, R> {
 
     ghost view = { λ s. together s.front s.met };
 
-    ghost invariant = { λ s. IsFrontSide D.state s.front s.met };
+    ghost invariant = { λ s. IsFrontSide D.state D.honest s.front s.met };
 }
 
 impl<J: MeetingName, D: Device, R: Record> FrontSide<J, D, R> {
@@ -51,6 +52,7 @@ impl<J: MeetingName, D: Device, R: Record> FrontSide<J, D, R> {
         ensures plain { IsPlain self.now.journal.engine }
         ensures agrees { Agrees self.now.journal }
         ensures shape { self.now.journal.engine.shape ≡ (D.state self.now.device).shape }
+        ensures legal { KeepsLegal D.honest self.now }
     {
         let _front = &self.front;
     }

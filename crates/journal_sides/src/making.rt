@@ -28,6 +28,7 @@ pub struct UnnamedSides<D: Device, R: Record = Unrecorded> {
 
 impl<D: Device, R: Record> Model for UnnamedSides<D, R> {
     ghost use Rattle.journal_steps.specs.Journal.{Agrees};
+    ghost use Rattle.journal_steps.specs.Legal.{KeepsLegal};
     ghost use Rattle.journal_steps.specs.Values.{together};
     ghost use Rattle.journal_sides.specs.Sides.{SidesValue};
 
@@ -35,7 +36,7 @@ impl<D: Device, R: Record> Model for UnnamedSides<D, R> {
 
     ghost view = { λ s. record { meeting = s.meeting; journal = together s.front s.engine } };
 
-    ghost invariant = { λ s. Agrees (together s.front s.engine).journal };
+    ghost invariant = { λ s. Agrees (together s.front s.engine).journal × KeepsLegal D.honest (together s.front s.engine) };
 }
 
 impl<D: Device, R: Record> UnnamedSides<D, R> {

@@ -1,4 +1,5 @@
 pub mod Direct
 pub mod Journal
+pub mod Legal
 pub mod Values
 pub mod Handles

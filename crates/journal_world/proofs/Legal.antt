@@ -123,3 +123,10 @@ legal-read ts t h b finished v home sees legal =
         let last : last_effect b (ts ++ t ∷ []) ≡ Some (Copy w) = sym (last-steps b (ts ++ t ∷ [])) ∙ written in
         let copy : Ok w ≡ Ok v = sym (ap (λ o. answer_of o (last_effect b (drop finished (ts ++ t ∷ []))) home) last) ∙ sees in
         sym (ap bytes_of is) ∙ sym (ap answered copy)
+
+-- without the last one
+pub legal-less : (ts : History) (t : Transaction) → IsLegal (ts ++ t ∷ []) → IsLegal ts
+legal-less ts t legal before rest h b v w split written =
+    let read : Step = record { handle = h; block = b; op = Read v } in
+    legal before (rest ++ t.steps) h b v w
+    (steps-last ts t ∙ ap (λ ss. ss ++ t.steps) split ∙ append_assoc before (read ∷ rest) t.steps) written

@@ -21,6 +21,7 @@ pub mod Kept
 pub mod Lasts
 pub mod Left
 pub mod LeftToHome
+pub mod Legal
 pub mod Onward
 pub mod OpenHandles
 pub mod Openings
@@ -44,7 +45,6 @@ mod Chains
 mod Committing
 mod Due
 mod Laps
-mod Legal
 mod OwnBlocks
 mod Releasing
 mod Replayed

@@ -12,6 +12,7 @@ ghost use Rattle.journal_steps.specs.Direct.{DirectSyncRefused, DirectWriteRefus
 ghost use Rattle.group_commit.specs.Extension.{Extends, Starts};
 ghost use Rattle.journal_front.specs.Front.{ExtendRefused, IsOpenHandle, JoinRefused, Spends, TouchRefused};
 ghost use Rattle.journal_steps.specs.Journal.{Does, NewestRefused, NotesRead, ReadRefused, ReadsNewest, Requests, TurnRefused};
+ghost use Rattle.journal_steps.specs.Legal.{KeepsLegal};
 ghost use Rattle.journal_steps.specs.Values.{JournalValue};
 ghost use Rattle.journal_sides.specs.Sides.{HeldNewestDid, HeldReadDid, HoldsCopy, Meets, MeetsAnd, SealDid, engine_of};
 ghost use Rattle.own_steps.specs.Own.{BearsOut};
@@ -574,9 +575,10 @@ impl<J: JournalName + PartsName + MeetingName, D: Device, R: Record> Locked<J, D
     }
 
     /// Shows that the record bears a receipt out: its handle stands there once, in a committed transaction, the one of the receipt, with
-    /// just the steps that the receipt knows. Nothing changes.
+    /// just the steps that the receipt knows; and that the record is legal, where reads of the device were honest so far. Nothing changes.
     pub fn audit(&mut self, counters: &Counters<J>, receipt: &mut Receipt<J, R>)
         ensures stands { BearsOut self.old.journal.engine.committed (transactions self.old.journal.front) (own_of_ticket receipt.old) }
+        ensures legal { KeepsLegal D.honest self.old }
         ensures same { (self.new ≡ self.old) × (receipt.new ≡ receipt.old) }
     {
         self.journal.recall_invariant();

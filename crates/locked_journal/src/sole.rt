@@ -1,6 +1,7 @@
 //! A journal that nobody shares any longer: what its owner learns of it stays so, since nobody else makes a step.
 ghost use Rattle.std.specs.Prelude.{◌≡◌};
 ghost use Rattle.journal_world.specs.Front.{transactions};
+ghost use Rattle.journal_steps.specs.Legal.{KeepsLegal};
 ghost use Rattle.journal_sides.specs.Sides.{Meets};
 ghost use Rattle.own_steps.specs.Own.{BearsOut};
 ghost use Rattle.locked_journal.specs.Known.{own_of_ticket};
@@ -71,10 +72,12 @@ impl<J: JournalName + PartsName + MeetingName, D: Device, R: Record> Sole<J, D, 
     }
 
     /// Shows that the journal's record bears a receipt out: its handle stands there once, in a committed transaction, the one of the
-    /// receipt, with just the steps that the receipt knows. Nothing changes, so that is so of the record that `into_single` hands out.
+    /// receipt, with just the steps that the receipt knows; and the record is legal, where reads of the device were honest so far. Nothing
+    /// changes, so that is so of the record that `into_single` hands out.
     /// Source: this project's own.
     pub fn audit(&mut self, receipt: &mut Receipt<J, R>)
         ensures stands { BearsOut self.old.journal.engine.committed (transactions self.old.journal.front) (own_of_ticket receipt.old) }
+        ensures legal { KeepsLegal D.honest self.old }
         ensures same { (self.new ≡ self.old) × (receipt.new ≡ receipt.old) }
     {
         self.journal.recall_invariant();

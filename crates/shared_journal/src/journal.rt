@@ -9,6 +9,7 @@ ghost use Rattle.handle.specs.Values.{Grants, Halves, Looks, LooksAgain, Reserve
 ghost use Rattle.journal_front.specs.Front.{ExtendRefused, IsOpenHandle, Spends, TouchRefused};
 ghost use Rattle.journal_steps.specs.Direct.{DirectSyncRefused, DirectWriteRefused, MayWriteDirectly};
 ghost use Rattle.journal_steps.specs.Journal.{Does, NewestRefused, NotesRead, ReadRefused, ReadsNewest, Requests};
+ghost use Rattle.journal_steps.specs.Legal.{KeepsLegal};
 ghost use Rattle.journal_steps.specs.Values.{JournalValue};
 ghost use Rattle.journal_sides.specs.Sides.{HeldNewestDid, HeldReadDid};
 ghost use Rattle.group_commit.specs.Extension.{Extends};
@@ -603,11 +604,11 @@ impl<J: JournalName + PartsName + MeetingName, D: Device, R: Record> Journal<J, 
     }
 
     /// Shows that the journal's record bears a receipt out: its handle stands there once, in a committed transaction, the one of the
-    /// receipt, with just the steps that the receipt knows.
+    /// receipt, with just the steps that the receipt knows; and that the record is legal, where reads of the device were honest so far.
     /// Source: this project's own.
     pub fn audit<W: Wait>(&self, rt: &W, receipt: &mut Receipt<J, R>)
         ensures stands { AtOneMoment (λ (old new : JournalValue D). BearsOut old.journal.engine.committed (transactions old.journal.front) (own_of_ticket receipt.old)
-            × (new ≡ old)) }
+            × KeepsLegal D.honest old × (new ≡ old)) }
         ensures same { receipt.new ≡ receipt.old }
     {
         self.locked.lock(rt).audit(&self.counters, receipt);

@@ -55,3 +55,7 @@ pub returns-in-Err-clause-moves : goal.returns-in-Err-clause-moves
 returns-in-Err-clause-moves g c =
     parts-end g.D.Device.state c.args.self c.finish.new.journal _ _ _ c.finish.ensures.path c.into_parts.ensures.device
     c.into_parts.ensures.sealed c.into_parts.ensures.committed
+
+-- what was sealed is legal
+pub returns-in-Err-clause-legal : goal.returns-in-Err-clause-legal
+returns-in-Err-clause-legal g c = λ honest. c.into_parts.ensures.legal (subst g.D.Device.honest c.into_parts.ensures.device honest)

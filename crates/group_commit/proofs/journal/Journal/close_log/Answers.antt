@@ -6,6 +6,8 @@ use Rattle.journal_steps.specs.Journal.{OpensOver}
 use Rattle.journal_steps.specs.Values.{JournalValue}
 use Rattle.group_commit.proofs.Closed.{close-wrong, closed-over, log-closed, log-failed, opens-closed}
 use Rattle.group_commit.proofs.Finishing.{all-sealed}
+use Rattle.journal_model.specs.Record.{IsLegal}
+use Rattle.journal_steps.proofs.LegalSteps.{legal-sealed}
 use Rattle.group_commit.proofs.journal.Journal.close_log.Goals as goal
 
 -- the log is clean, and opens to all that was sealed
@@ -16,7 +18,7 @@ returns-in-Ok-clause-closed g c =
     let closed = c.in-Ok.ensures.closed in
     let back = c.in-Ok.ensures.honest in
     rw (← c.self.view_is) (λ honest image leaves.
-    subst (λ (ts : History). IsClosed e.shape ts image) (sym c.into_sealed-sealed.ensures) (closed-over f e _ c.self.invariant (closed (back honest)) image leaves))
+    subst (λ (ts : History). IsClosed e.shape ts image) (sym c.into_sealed-sealed.ensures) (closed-over f e _ c.self.invariant.0 (closed (back honest)) image leaves))
 
 -- all that was sealed is committed
 pub returns-in-Ok-clause-ok : goal.returns-in-Ok-clause-ok
@@ -24,7 +26,7 @@ returns-in-Ok-clause-ok g c =
     let f = c.self.inside.front in
     let e = c.self.inside.engine.engine in
     let all = subst (λ (v : JournalValue g.row.D.Denot). IsAllReleased v.journal.engine) (sym c.self.view_is) c.requires.all in
-    let every : e.committed ≡ length f.sealed = all-sealed g.D.Device.state (record { front = f; engine = e }) c.self.invariant c.recall_invariant.ensures.plain all.idle in
+    let every : e.committed ≡ length f.sealed = all-sealed g.D.Device.state (record { front = f; engine = e }) c.self.invariant.0 c.recall_invariant.ensures.plain all.idle in
     let told : c.committed-committed.result ≡ e.committed = c.committed-committed.ensures in
     let size : length (g.R.Record.transactions c.into_sealed-sealed.result) ≡ length f.sealed = ap length c.into_sealed-sealed.ensures in
     rw (← c.self.view_is) (c.into_sealed-sealed.ensures, omega arith)
@@ -36,7 +38,7 @@ returns-in-Err-clause-err g c =
     let e = c.self.inside.engine.engine in
     let running = subst (λ (v : JournalValue g.row.D.Denot). v.journal.engine.aborted ≡ false) (sym c.self.view_is) c.requires.running in
     let all = subst (λ (v : JournalValue g.row.D.Denot). IsAllReleased v.journal.engine) (sym c.self.view_is) c.requires.all in
-    let count : e.committed ≡ length f.sealed = all-sealed g.D.Device.state (record { front = f; engine = e }) c.self.invariant c.recall_invariant.ensures.plain all.idle in
+    let count : e.committed ≡ length f.sealed = all-sealed g.D.Device.state (record { front = f; engine = e }) c.self.invariant.0 c.recall_invariant.ensures.plain all.idle in
     let size : length (g.R.Record.transactions c.into_sealed-sealed.result) ≡ length f.sealed = ap length c.into_sealed-sealed.ensures in
     let wrong = close-wrong g.D.Device.state _ _ _ running c.in-Err.ensures.err in
     rw (← c.self.view_is) (wrong.0, c.into_sealed-sealed.ensures, omega arith, wrong.1)
@@ -50,13 +52,13 @@ returns-in-Err-clause-opens g c =
     let moments = c.in-Err.ensures.moments in
     let back = c.in-Err.ensures.honest in
     let all = subst (λ (v : JournalValue g.row.D.Denot). IsAllReleased v.journal.engine) (sym c.self.view_is) c.requires.all in
-    let every : e.committed ≡ length f.sealed = all-sealed g.D.Device.state (record { front = f; engine = e }) c.self.invariant c.recall_invariant.ensures.plain all.idle in
+    let every : e.committed ≡ length f.sealed = all-sealed g.D.Device.state (record { front = f; engine = e }) c.self.invariant.0 c.recall_invariant.ensures.plain all.idle in
     let told : c.committed-committed.result ≡ e.committed = c.committed-committed.ensures in
     let count : length f.sealed ≡ c.committed-committed.result = omega arith in
     let disk = (g.D.Device.state c.in-Err.device).disk in
     rw (← c.self.view_is) (λ honest.
     subst (λ (ts : History). OpensOver e.shape ts c.committed-committed.result (length ts) disk) (sym c.into_sealed-sealed.ensures)
-    (subst (λ (n : ℕ). OpensOver e.shape f.sealed n (length f.sealed) disk) count (opens-closed f e disk c.self.invariant (moments (back honest)).now.opens)))
+    (subst (λ (n : ℕ). OpensOver e.shape f.sealed n (length f.sealed) disk) count (opens-closed f e disk c.self.invariant.0 (moments (back honest)).now.opens)))
 
 -- behind a close too, each image with the count of what its log has
 pub returns-in-Ok-clause-opens : goal.returns-in-Ok-clause-opens
@@ -67,13 +69,13 @@ returns-in-Ok-clause-opens g c =
     let closed = c.in-Ok.ensures.closed in
     let back = c.in-Ok.ensures.honest in
     let all = subst (λ (v : JournalValue g.row.D.Denot). IsAllReleased v.journal.engine) (sym c.self.view_is) c.requires.all in
-    let every : e.committed ≡ length f.sealed = all-sealed g.D.Device.state (record { front = f; engine = e }) c.self.invariant c.recall_invariant.ensures.plain all.idle in
+    let every : e.committed ≡ length f.sealed = all-sealed g.D.Device.state (record { front = f; engine = e }) c.self.invariant.0 c.recall_invariant.ensures.plain all.idle in
     let told : c.committed-committed.result ≡ e.committed = c.committed-committed.ensures in
     let count : length f.sealed ≡ c.committed-committed.result = omega arith in
     let disk = (g.D.Device.state c.in-Ok.device).disk in
     rw (← c.self.view_is) (λ honest.
     subst (λ (ts : History). OpensOver e.shape ts c.committed-committed.result (length ts) disk) (sym c.into_sealed-sealed.ensures)
-    (subst (λ (n : ℕ). OpensOver e.shape f.sealed n (length f.sealed) disk) count (opens-closed f e disk c.self.invariant (closed (back honest)).opens)))
+    (subst (λ (n : ℕ). OpensOver e.shape f.sealed n (length f.sealed) disk) count (opens-closed f e disk c.self.invariant.0 (closed (back honest)).opens)))
 
 -- the engine's moves are the journal's
 pub returns-in-Ok-clause-moves : goal.returns-in-Ok-clause-moves
@@ -81,12 +83,12 @@ returns-in-Ok-clause-moves g c =
     let f = c.self.inside.front in
     let e = c.self.inside.engine.engine in
     let all = subst (λ (v : JournalValue g.row.D.Denot). IsAllReleased v.journal.engine) (sym c.self.view_is) c.requires.all in
-    let every : e.committed ≡ length f.sealed = all-sealed g.D.Device.state (record { front = f; engine = e }) c.self.invariant c.recall_invariant.ensures.plain all.idle in
+    let every : e.committed ≡ length f.sealed = all-sealed g.D.Device.state (record { front = f; engine = e }) c.self.invariant.0 c.recall_invariant.ensures.plain all.idle in
     let told : c.committed-committed.result ≡ e.committed = c.committed-committed.ensures in
     let size : length (g.R.Record.transactions c.into_sealed-sealed.result) ≡ length f.sealed = ap length c.into_sealed-sealed.ensures in
     let count : c.committed-committed.result ≡ length (g.R.Record.transactions c.into_sealed-sealed.result) = omega arith in
     rw (← c.self.view_is)
-    (log-closed g.D.Device.state f c.self.inside.engine _ _ _ c.self.invariant c.recall_invariant.ensures.plain all c.in-Ok.ensures.ok
+    (log-closed g.D.Device.state f c.self.inside.engine _ _ _ c.self.invariant.0 c.recall_invariant.ensures.plain all c.in-Ok.ensures.ok
     c.into_sealed-sealed.ensures count)
 
 -- those of a failure too
@@ -96,8 +98,18 @@ returns-in-Err-clause-moves g c =
     let e = c.self.inside.engine.engine in
     let running = subst (λ (v : JournalValue g.row.D.Denot). v.journal.engine.aborted ≡ false) (sym c.self.view_is) c.requires.running in
     let all = subst (λ (v : JournalValue g.row.D.Denot). IsAllReleased v.journal.engine) (sym c.self.view_is) c.requires.all in
-    let every : e.committed ≡ length f.sealed = all-sealed g.D.Device.state (record { front = f; engine = e }) c.self.invariant c.recall_invariant.ensures.plain all.idle in
+    let every : e.committed ≡ length f.sealed = all-sealed g.D.Device.state (record { front = f; engine = e }) c.self.invariant.0 c.recall_invariant.ensures.plain all.idle in
     let size : length (g.R.Record.transactions c.into_sealed-sealed.result) ≡ length f.sealed = ap length c.into_sealed-sealed.ensures in
     let count : c.committed-committed.result ≡ e.committed = c.committed-committed.ensures in
     rw (← c.self.view_is)
     (log-failed g.D.Device.state f c.self.inside.engine _ _ _ _ running c.in-Err.ensures.err c.into_sealed-sealed.ensures count)
+
+-- what was sealed is legal
+pub returns-in-Ok-clause-legal : goal.returns-in-Ok-clause-legal
+returns-in-Ok-clause-legal g c = λ honest.
+    subst IsLegal (sym c.into_sealed-sealed.ensures) (legal-sealed c.self.inside.front (c.self.invariant.1 (c.in-Ok.ensures.honest honest)))
+
+-- what was sealed is legal
+pub returns-in-Err-clause-legal : goal.returns-in-Err-clause-legal
+returns-in-Err-clause-legal g c = λ honest.
+    subst IsLegal (sym c.into_sealed-sealed.ensures) (legal-sealed c.self.inside.front (c.self.invariant.1 (c.in-Err.ensures.honest honest)))

@@ -1,5 +1,6 @@
 use Rattle.std.proofs.Common.{refl}
 use Rattle.journal_steps.proofs.Kept.{kept-give_back}
+use Rattle.journal_steps.proofs.LegalSteps.{kept_legal-give_back}
 use Rattle.group_commit.proofs.journal.Journal.give_back.Goals as goal
 
 -- the front takes the credits back, and nothing else changes
@@ -10,5 +11,7 @@ returns-clause-gives g c =
 -- front and engine agree
 pub invariant_of-self : goal.invariant_of-self
 invariant_of-self g c =
-    kept-give_back c.self.inside.front c.take_back.new.self c.self.inside.engine.engine c.self.invariant _ c.take_back.ensures.granted
-    c.take_back.ensures.other
+    (
+    kept-give_back c.self.inside.front c.take_back.new.self c.self.inside.engine.engine c.self.invariant.0 _ c.take_back.ensures.granted
+    c.take_back.ensures.other,
+    λ honest. kept_legal-give_back c.self.inside.front c.take_back.new.self (c.self.invariant.1 honest) _ c.take_back.ensures.granted c.take_back.ensures.other)

@@ -3,12 +3,13 @@ use Rattle.std.specs.Prelude.{Some, None, []}
 use Rattle.journal_model.specs.Layout.{Layout}
 use Rattle.log_model.specs.Room.{IsCapacity}
 use Rattle.journal_world.specs.Engine.{Engine}
-use Rattle.journal_world.specs.Front.{fresh_front}
+use Rattle.journal_world.specs.Front.{Front, fresh_front}
 use Rattle.journal_world.specs.Journal.{fresh_engine}
 use Rattle.journal_world.specs.Opening.{IsOpenedLog}
 use Rattle.journal_model.specs.Disk.{Disk, Shape}
 use Rattle.log_epochs.specs.EngineWorld.Begins.{Made}
 use Rattle.journal_steps.proofs.Turning.{fresh-agrees, fresh-itself, fresh-journal}
+use Rattle.journal_steps.proofs.LegalSteps.{legal-fresh}
 use Rattle.group_commit.proofs.journal.Journal.new.Goals as goal
 
 -- front and engine agree
@@ -19,10 +20,12 @@ invariant_of-result g c =
     let front =
     c.new-front.ensures ∙ ap₂ (λ (l : Layout) (blocks : ℕ). fresh_front l blocks capacity c.next-next.result) c.layout-layout.ensures.layout c.home_blocks.ensures
     ∙ ap (fresh_front c.in_ok-engine.engine.engine.layout c.in_ok-engine.engine.engine.shape.home_blocks capacity) c.next-next.ensures.next in
+    (
     fresh-agrees _ _ _ _ _ engine front
     (subst (λ (l : Layout). IsCapacity l c.in_ok-engine.engine.engine.ring.blocks c.capacity-credits.result) c.layout-layout.ensures.layout
     (subst (λ (blocks : ℕ). IsCapacity c.layout-layout.result blocks c.capacity-credits.result) c.ring_blocks.ensures c.capacity-credits.ensures))
-    (subst (λ (n : ℕ). 0 < n) c.next-next.ensures.next c.next-next.ensures.some)
+    (subst (λ (n : ℕ). 0 < n) c.next-next.ensures.next c.next-next.ensures.some),
+    λ honest. legal-fresh c.new-front.result 0 (ap (λ (f : Front). f.sealed) c.new-front.ensures) (ap (λ (f : Front). f.running.steps) c.new-front.ensures))
 
 -- the journal is fresh
 pub returns-clause-fresh : goal.returns-clause-fresh

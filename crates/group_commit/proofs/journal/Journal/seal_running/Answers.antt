@@ -5,6 +5,8 @@ use Rattle.journal_world.specs.Front.{Front}
 use Rattle.journal_world.specs.Journal.{batch_of}
 use Rattle.journal_steps.specs.Values.{JournalValue}
 use Rattle.group_commit.proofs.Finishing.{all-sealed, seal-wrong}
+use Rattle.journal_steps.proofs.Kept.{kept-lock}
+use Rattle.journal_steps.proofs.LegalSteps.{kept_legal-lock}
 use Rattle.group_commit.proofs.journal.Journal.seal_running.Goals as goal
 
 -- the lock leaves its entries
@@ -30,9 +32,16 @@ returns-in_err-seal-clause-err g c =
 pub returns-in_err-seal-clause-all : goal.returns-in_err-seal-clause-all
 returns-in_err-seal-clause-all g c =
     let idle = subst (λ (v : JournalValue g.row.D.Denot). v.journal.engine.stage ≡ Idle) (sym c.self.view_is) c.requires.idle in
-    rw (← c.self.view_is) (all-sealed g.D.Device.state _ c.self.invariant c.recall_invariant.ensures.plain idle)
+    rw (← c.self.view_is) (all-sealed g.D.Device.state _ c.self.invariant.0 c.recall_invariant.ensures.plain idle)
 
 pub returns-clause-all : goal.returns-clause-all
 returns-clause-all g c =
     let idle = subst (λ (v : JournalValue g.row.D.Denot). v.journal.engine.stage ≡ Idle) (sym c.self.view_is) c.requires.idle in
-    rw (← c.self.view_is) (all-sealed g.D.Device.state _ c.self.invariant c.recall_invariant.ensures.plain idle)
+    rw (← c.self.view_is) (all-sealed g.D.Device.state _ c.self.invariant.0 c.recall_invariant.ensures.plain idle)
+
+-- front and engine agree behind the lock, and the record is as it was
+pub invariant_of-self : goal.invariant_of-self
+invariant_of-self g c = (
+  kept-lock c.self.inside.front c.lock.new.self c.self.inside.engine.engine c.self.invariant.0 c.lock.ensures.joined c.lock.ensures.empty,
+  λ honest. kept_legal-lock c.self.inside.front c.lock.new.self (c.self.invariant.1 honest) c.lock.ensures.joined c.lock.ensures.empty,
+)

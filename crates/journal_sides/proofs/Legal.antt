@@ -1,0 +1,40 @@
+-- A record stays legal where both sides meet, and behind what is done there.
+use Rattle.std.proofs.Common.{sym, subst}
+use Rattle.std.specs.Prelude.{◌≡◌, Option, Some, None, Result, Ok, Err, IfErr, IfOk}
+use Rattle.journal_model.specs.declared.refusal.JournalError.{JournalError}
+use Rattle.journal_model.specs.Disk.{Disk}
+use Rattle.journal_model.specs.Record.{IsLegal}
+use Rattle.block_device.specs.State.{DeviceState}
+use Rattle.journal_world.specs.Front.{transactions}
+use Rattle.journal_world.specs.Front.FrontEvent.{Raise}
+use Rattle.journal_world.specs.Journal.{Journal}
+use Rattle.journal_world.specs.Journal.Event.{AbortMark, Finish, FrontStep}
+use Rattle.journal_steps.specs.declared.turn.Turn.{Turn}
+use Rattle.journal_steps.specs.Journal.{TurnRefused}
+use Rattle.journal_steps.specs.Legal.{KeepsLegal}
+use Rattle.journal_steps.specs.Values.{JournalValue}
+use Rattle.journal_steps.proofs.LegalSteps.{legal-happens, refused-legal, same-legal, turn_of-legal}
+use Rattle.journal_sides.specs.Sides.{CatchesUp, Finishes, SealDid, Tells}
+use Rattle.journal_sides.specs.Sides.Finishes.{NoneFinished, OneFinished}
+use Rattle.journal_sides.specs.Sides.Tells.{NotTold, Told}
+
+tells-legal : (old : Journal) (disk : Disk) (new : Journal) → Tells old disk new → IsLegal (transactions old.front) → IsLegal (transactions new.front)
+tells-legal old disk new (NotTold same) legal = subst (λ (j : Journal). IsLegal (transactions j.front)) (sym same) legal
+tells-legal old disk new (Told step) legal = legal-happens old disk AbortMark new disk step legal
+
+finishes-legal : (old : Journal) (disk : Disk) (new : Journal) → Finishes old disk new → IsLegal (transactions old.front) → IsLegal (transactions new.front)
+finishes-legal old disk new (NoneFinished same) legal = subst (λ (j : Journal). IsLegal (transactions j.front)) (sym same) legal
+finishes-legal old disk new (OneFinished done finishes raises) legal =
+    legal-happens done disk (FrontStep (Raise done.front.finished)) new disk raises (legal-happens old disk Finish done disk finishes legal)
+
+-- the front catches up
+pub caught-legal : (old : Journal) (disk : Disk) (new : Journal) → CatchesUp old disk new → IsLegal (transactions old.front) → IsLegal (transactions new.front)
+caught-legal old disk new caught legal = finishes-legal caught.told disk new caught.finishes (tells-legal old disk caught.told caught.tells legal)
+
+-- a seal, whatever it answers
+pub seal-legal : {D : Type 0} (state : D → DeviceState) (honest : D → Type 0) (old new : JournalValue D) → (honest new.device → honest old.device) →
+    KeepsLegal honest old → (r : Result (Option Turn) JournalError) → IfOk r (λ t. SealDid state t old new) → IfErr r (λ e. TurnRefused state old new e) →
+    KeepsLegal honest new
+seal-legal state honest old new back legal (Ok (Some turn)) ok err = turn_of-legal state honest old new back legal turn ok.1
+seal-legal state honest old new back legal (Ok None) ok err = same-legal state honest old new back legal ok.1
+seal-legal state honest old new back legal (Err e) ok err = refused-legal state honest old new back legal e err
