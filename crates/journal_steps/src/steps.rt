@@ -12,6 +12,7 @@ ghost use Rattle.journal_world.specs.Journal.{batch_of};
 ghost use Rattle.journal_world.specs.Journal.Event.{DirectSync, DirectWrite, ReadBlock};
 ghost use Rattle.block_device.specs.Call.{MakesOneCall, OnlyReads};
 ghost use Rattle.log_engine.specs.Left.{commit_calls};
+ghost use Rattle.journal_steps.specs.declared.turn.CheckTurn.TheVariants.{Idle as IdleCheck};
 ghost use Rattle.journal_steps.specs.Journal.{Agrees, CheckTurnDid, CheckTurnRefused, Does, FitsQuarter, HandsOut, HasRoomFor, IsDuringCheckTurn, IsDuringTurn, LeavesFewerRounds, NewestRefused, NoCopy, NotesRead, OpensNow, ReadRefused, ReadsNewest, SealIsDue, TurnDid, TurnRefused, need_of};
 ghost use Rattle.journal_steps.specs.Direct.{DirectSyncRefused, DirectWriteRefused, IsDuringDirectSync, IsDuringDirectWrite, MayWriteDirectly};
 ghost use Rattle.journal_front.specs.Front.{MayStep};
@@ -344,7 +345,7 @@ pub fn room_for<D: Device, R: Record>(front: &Front<R>, engine: &Engine<D>) -> O
     engine.room_for(copies, revokes)
 }
 
-/// Takes the next step of a checkpoint round: at most one device call.
+/// Takes the next step of a checkpoint round: at most one device call, and none where it answers Idle.
 ///
 /// # Errors
 ///
@@ -359,6 +360,7 @@ pub fn checkpoint_turn<D: Device, R: Record>(
     ensures ok { IfOk result (λ turn. CheckTurnDid D.state turn (together front.old engine.old) (together front.new engine.new)) }
     ensures err { IfErr result (λ e. CheckTurnRefused D.state (together front.old engine.old) (together front.new engine.new) e) }
     ensures fewer { IfOk result (λ turn. LeavesFewerRounds turn engine.old.engine engine.new.engine) }
+    ensures idle { IfOk result (λ turn. turn ≡ IdleCheck → engine.new.device ≡ engine.old.device) }
     ensures no_fault { OnOk result ((D.state engine.new.device).faults ≡ (D.state engine.old.device).faults) }
     ensures device { MakesOneCall D.state D.honest (IsDuringCheckTurn (together front.old engine.old).journal (D.state engine.old.device).disk) engine.old.device engine.new.device }
 {
