@@ -256,6 +256,7 @@ impl<D: Device, R: Record> Journal<D, R> {
         ensures ok { OnOk result (D.honest self.new.device → Does D.state self.old (ReadBlock handle.old.number block into.new) self.new) }
         // Also where reads were not honest. Where a copy is kept there is no device call.
         ensures noted { OnOk result (NotesRead D.state self.old handle.old block into.new self.new) }
+        ensures legal { KeepsLegal D.honest self.new }
         ensures err { IfErr result (ReadRefused D.state self.old handle.old block self.new) }
         ensures untouched { IfErr result (λ e. into.new ≡ into.old) }
         ensures device { OnlyReads D.state D.honest self.old.device self.new.device }

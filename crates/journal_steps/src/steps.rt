@@ -14,6 +14,7 @@ ghost use Rattle.block_device.specs.Call.{MakesOneCall, OnlyReads};
 ghost use Rattle.log_engine.specs.Left.{commit_calls};
 ghost use Rattle.journal_steps.specs.declared.turn.CheckTurn.TheVariants.{Idle as IdleCheck};
 ghost use Rattle.journal_steps.specs.Journal.{Agrees, CheckTurnDid, CheckTurnRefused, Does, FitsQuarter, HandsOut, HasRoomFor, IsDuringCheckTurn, IsDuringTurn, LeavesFewerRounds, NewestRefused, NoCopy, NotesRead, OpensNow, ReadRefused, ReadsNewest, SealIsDue, TurnDid, TurnRefused, need_of};
+ghost use Rattle.journal_steps.specs.Legal.{KeepsLegal};
 ghost use Rattle.journal_steps.specs.Direct.{DirectSyncRefused, DirectWriteRefused, IsDuringDirectSync, IsDuringDirectWrite, MayWriteDirectly};
 ghost use Rattle.journal_front.specs.Front.{MayStep};
 ghost use Rattle.journal_steps.specs.Values.{together};
@@ -73,6 +74,7 @@ fn note<R: Record>(
 /// or its number is not below 2^32 (in a log with numbers of 64 bits 2^48); `NoCredit` where the handle is none of this journal's
 /// open ones; `Revoked` where the block's last entry in the transactions that are not committed is a revoke: nothing changes.
 /// `Memory` where it ran out for the step: the journal stays as it is. `Device` where the device failed: the journal is aborted.
+/// Whatever it answers, a record that was legal stays so.
 pub fn read<D: Device, R: Record>(
     front: &mut Front<R>,
     engine: &mut Engine<D>,
@@ -85,6 +87,7 @@ pub fn read<D: Device, R: Record>(
     ensures agrees { Agrees (together front.new engine.new).journal }
     ensures ok { OnOk result (D.honest engine.new.device → Does D.state (together front.old engine.old) (ReadBlock handle.now.number block into.new) (together front.new engine.new)) }
     ensures noted { OnOk result (NotesRead D.state (together front.old engine.old) handle.now block into.new (together front.new engine.new)) }
+    ensures legal { KeepsLegal D.honest (together front.old engine.old) → KeepsLegal D.honest (together front.new engine.new) }
     ensures err { IfErr result (ReadRefused D.state (together front.old engine.old) handle.now block (together front.new engine.new)) }
     ensures untouched { IfErr result (λ e. into.new ≡ into.old) }
     ensures device { OnlyReads D.state D.honest engine.old.device engine.new.device }
