@@ -63,7 +63,8 @@ impl<D: Device, R: Record> Journal<D, R> {
 
     /// Commits all that can be: takes the steps that are left of the commit that is under way; then, where the running transaction takes
     /// no further handles and all of its handles have stopped, seals it, behind checkpoint rounds where the ring has no room for it, and
-    /// commits it. It answers the number of the last transaction that is told to be committed.
+    /// commits it. It answers the number of the last transaction that is told to be committed. It calls the device for these steps alone,
+    /// and at each moment of it a stop opens as between them.
     ///
     /// # Errors
     ///
@@ -93,7 +94,8 @@ impl<D: Device, R: Record> Journal<D, R> {
     }
 
     /// Takes checkpoint turns until all that is committed is home, and its blocks of the ring are free. It takes no step of a commit: one
-    /// that is under way is where it was, and the handles and credits are as they were.
+    /// that is under way is where it was, and the handles and credits are as they were. It calls the device for the steps of its rounds
+    /// alone, and at each moment of it a stop opens as between them.
     ///
     /// # Errors
     ///

@@ -581,7 +581,9 @@ impl<D: Device, R: Record> Journal<D, R> {
             (λ parts. CloseDid self.journal (D.state self.device).disk (R.transactions parts.sealed) parts.committed (D.state parts.device).disk)
             (λ e. EndsWith self.journal (D.state self.device).disk (R.transactions e.0.sealed) e.0.committed (D.state e.0.device).disk Shut) }
         ensures no_fault { IfOk result (λ parts. (D.state parts.device).faults ≡ (D.state self.device).faults) }
-        ensures calls { MatchResult result (λ parts. CallsForClose D.state self parts.device) (λ e. CallsForClose D.state self e.0.device) }
+        ensures calls { MatchResult result
+            (λ parts. CallsForClose D.state self parts.device (R.transactions parts.sealed))
+            (λ e. CallsForClose D.state self e.0.device (R.transactions e.0.sealed)) }
         ensures moments { MatchResult result
             (λ parts. D.honest parts.device → EachMoment (IsDuringTurns self.journal (D.state self.device).disk) (D.state self.device) (D.state parts.device))
             (λ e. D.honest e.0.device → EachMoment (IsDuringTurns self.journal (D.state self.device).disk) (D.state self.device) (D.state e.0.device)) }
@@ -620,8 +622,8 @@ impl<D: Device, R: Record> Journal<D, R> {
             (λ e. EndsWith self.journal (D.state self.device).disk (R.transactions e.0.sealed) e.0.committed (D.state e.0.device).disk Shut) }
         ensures no_fault { IfOk result (λ parts. (D.state parts.device).faults ≡ (D.state self.device).faults) }
         ensures calls { MatchResult result
-            (λ parts. (D.state parts.device).calls ≤ (D.state self.device).calls + 2)
-            (λ e. (D.state e.0.device).calls ≤ (D.state self.device).calls + 2) }
+            (λ parts. Agrees self.journal × ((D.state parts.device).calls ≤ (D.state self.device).calls + 2))
+            (λ e. Agrees self.journal × ((D.state e.0.device).calls ≤ (D.state self.device).calls + 2)) }
         ensures moments { MatchResult result
             (λ parts. D.honest parts.device → EachMoment (IsDuringRounds self.journal (D.state self.device).disk) (D.state self.device) (D.state parts.device))
             (λ e. D.honest e.0.device → EachMoment (IsDuringRounds self.journal (D.state self.device).disk) (D.state self.device) (D.state e.0.device)) }
@@ -661,6 +663,7 @@ impl<D: Device, R: Record> Journal<D, R> {
         ensures device { result.device ≡ self.device }
         ensures sealed { R.transactions result.sealed ≡ self.journal.front.sealed }
         ensures committed { result.committed ≡ self.journal.engine.committed }
+        ensures agrees { Agrees self.journal }
         ensures opens { D.honest self.device → OpensNow self.journal (D.state self.device).disk }
         ensures legal { D.honest self.device → IsLegal (R.transactions result.sealed) }
     {

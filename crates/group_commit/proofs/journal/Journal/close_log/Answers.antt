@@ -115,12 +115,12 @@ pub returns-in-Err-clause-legal : goal.returns-in-Err-clause-legal
 returns-in-Err-clause-legal g c = λ honest.
     subst IsLegal (sym c.into_sealed-sealed.ensures) (legal-sealed c.self.inside.front (c.self.invariant.1 (c.in-Err.ensures.honest honest)))
 
--- the calls are the engine's
+-- front and engine agree before it, and the calls are the engine's
 pub returns-in-Ok-clause-calls : goal.returns-in-Ok-clause-calls
-returns-in-Ok-clause-calls g c = rw (← c.self.view_is) c.in-Ok.ensures.calls
+returns-in-Ok-clause-calls g c = rw (← c.self.view_is) (c.self.invariant.0, c.in-Ok.ensures.calls)
 
 pub returns-in-Err-clause-calls : goal.returns-in-Err-clause-calls
-returns-in-Err-clause-calls g c = rw (← c.self.view_is) c.in-Err.ensures.calls
+returns-in-Err-clause-calls g c = rw (← c.self.view_is) (c.self.invariant.0, c.in-Err.ensures.calls)
 
 -- and so are the moments
 pub returns-in-Ok-clause-moments : goal.returns-in-Ok-clause-moments
