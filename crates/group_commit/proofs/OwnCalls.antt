@@ -27,14 +27,14 @@ use Rattle.group_commit.specs.Calls.MakesOwnCalls.{NoCall, HandsOver, OneMore}
 use Rattle.group_commit.specs.Close.{locked_journal}
 
 module _ {D : Type 0} (state : D → DeviceState) where
-  -- calls behind others
-  behind : (a b c : EngineValue D) → MakesOwnCalls state a b → MakesOwnCalls state b c → MakesOwnCalls state a c
-  behind a b c first NoCall = first
-  behind a b c first (HandsOver mid new batch before accepts same) = HandsOver mid c batch (behind a b mid first before) accepts same
-  behind a b c first (OneMore mid new before step one) = OneMore mid c (behind a b mid first before) step one
+  -- calls after others
+  own-after : (a b c : EngineValue D) → MakesOwnCalls state a b → MakesOwnCalls state b c → MakesOwnCalls state a c
+  own-after a b c first NoCall = first
+  own-after a b c first (HandsOver mid new batch before accepts same) = HandsOver mid c batch (own-after a b mid first before) accepts same
+  own-after a b c first (OneMore mid new before step one) = OneMore mid c (own-after a b mid first before) step one
 
-  pub calls-behind : (a b c : JournalValue D) → CallsForTurns state a b → CallsForTurns state b c → CallsForTurns state a c
-  calls-behind a b c first second = record { own = behind (engine_in a) (engine_in b) (engine_in c) first.own second.own }
+  pub calls-after : (a b c : JournalValue D) → CallsForTurns state a b → CallsForTurns state b c → CallsForTurns state a c
+  calls-after a b c first second = record { own = own-after (engine_in a) (engine_in b) (engine_in c) first.own second.own }
 
   -- none where engine and device stay
   pub no-calls : (old new : JournalValue D) → new.journal.engine ≡ old.journal.engine → new.device ≡ old.device → CallsForTurns state old new

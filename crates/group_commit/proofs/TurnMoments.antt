@@ -31,9 +31,9 @@ adds-weaker may more old new weaker adds = record {
       ⊎_elim (λ (was : IsOneOf (held (old Home b)) v). inl was) (λ (added : may b v). inr (weaker b v added)) (adds.left b v holds);
 }
 
--- additions behind others
-adds-behind : (may : Addition) (old mid new : Disk) → HomeAddsOnly may old mid → HomeAddsOnly may mid new → HomeAddsOnly may old new
-adds-behind may old mid new first second = record {
+-- additions after others
+adds-after : (may : Addition) (old mid new : Disk) → HomeAddsOnly may old mid → HomeAddsOnly may mid new → HomeAddsOnly may old new
+adds-after may old mid new first second = record {
   reads = λ b.
       ⊎_elim
       (λ (same : (new Home b).reads ≡ (mid Home b).reads).
@@ -78,7 +78,7 @@ during-later j k old mid disk later before during =
     let fewer : j.engine.committed ≤ k.engine.committed = later.committed in
     record {
       home =
-          adds-behind (IsCopyOfTurns j) old mid disk before
+          adds-after (IsCopyOfTurns j) old mid disk before
           (adds-weaker (IsCopyOfTurns k) (IsCopyOfTurns j) mid disk
           (λ b v copy.
           let low : k.engine.committed ≤ copy.n = copy.low in
@@ -90,7 +90,7 @@ during-later j k old mid disk later before during =
           (opens-lower k.engine.shape during.sealed k.engine.committed j.engine.committed (length during.sealed) disk fewer during.opens);
     }
 
--- behind a seal there is no more to be sealed
+-- after a seal there is no more to be sealed
 after-seal : (f : Front) (handles : List ℕ) (ts : History) → f.running.handles ≡ handles → IsSealedInClose (sealed_with f handles) ts → IsSealedInClose f ts
 after-seal f [] ts none among = among
 after-seal f (h ∷ handles) ts some among =
@@ -155,7 +155,7 @@ module _ {D : Type 0} (state : D → DeviceState) where
   pub each-same : (old new : JournalValue D) → new.device ≡ old.device → OpensNow old.journal (state old.device).disk → HoldsDuringTurns state old new
   each-same old new same opens = each-device old old new same (each-still old opens)
 
-  -- the moments of one call behind those of another
+  -- the moments of one call after those of another
   each-on : (a b c : JournalValue D) → IsLater a.journal b.journal → HoldsDuringTurns state a b → HoldsDuringTurns state b c → HoldsDuringTurns state a c
   each-on a b c later first second =
       let P = IsDuringTurns a.journal (state a.device).disk in
@@ -181,11 +181,11 @@ module _ {D : Type 0} (state : D → DeviceState) where
         after-seal a.journal.front a.journal.front.running.handles ts refl (subst (λ (f : Front). IsSealedInClose f ts) has.front among);
   }
 
-  -- behind steps of commits and of rounds
+  -- after steps of commits and of rounds
   pub each-went : (a b c : JournalValue D) → GoesOn state a b → HoldsDuringTurns state a b → HoldsDuringTurns state b c → HoldsDuringTurns state a c
   each-went a b c on first second = each-on a b c (on-later a b on) first second
 
-  -- behind a seal
+  -- after a seal
   pub each-sealed : (a b c : JournalValue D) → HasSealed state a b → HoldsDuringTurns state a b → HoldsDuringTurns state b c → HoldsDuringTurns state a c
   each-sealed a b c has first second = each-on a b c (sealed-later a b has) first second
 
@@ -213,7 +213,7 @@ module _ {D : Type 0} (state : D → DeviceState) where
         (record { home = adds-none _ (state v.device).disk (state v.device).disk (λ b. refl); opens = opens });
   }
 
-  -- a step of a round behind others, which leave the front and what is committed
+  -- a step of a round after others, which leave the front and what is committed
   pub rounds-on : (a b c : JournalValue D) → GoesOn state a b → b.journal.front ≡ a.journal.front → b.journal.engine.committed ≡ a.journal.engine.committed →
       Agrees b.journal → HoldsDuringRounds state a b →
       EachMoment (IsDuringCheckTurn b.journal (state b.device).disk) (state b.device) (state c.device) → HoldsDuringRounds state a c
@@ -230,7 +230,7 @@ module _ {D : Type 0} (state : D → DeviceState) where
           let copies = during.home.adds b.journal.front.sealed agrees.batches in
           record {
             home =
-                adds-behind (IsCommittedCopy a.journal.front.sealed a.journal.engine.committed) (state a.device).disk (state b.device).disk disk first.each.now.home
+                adds-after (IsCommittedCopy a.journal.front.sealed a.journal.engine.committed) (state a.device).disk (state b.device).disk disk first.each.now.home
                 (subst (λ (n : ℕ). HomeAddsOnly (IsCommittedCopy a.journal.front.sealed n) (state b.device).disk disk) committed
                 (subst (λ (f : Front). HomeAddsOnly (IsCommittedCopy f.sealed b.journal.engine.committed) (state b.device).disk disk) front copies));
             opens =
@@ -239,7 +239,7 @@ module _ {D : Type 0} (state : D → DeviceState) where
                 (subst (λ (s : Shape). OpensOver s b.journal.front.sealed b.journal.engine.committed (length b.journal.front.sealed) disk) on.measures during.opens));
           }
 
-  -- the close of the log behind all that comes before it
+  -- the close of the log after all that comes before it
   each-finished : (a b : JournalValue D) (device : D) → IsFinished state a b → b.journal.engine.shape ≡ a.journal.engine.shape → HoldsDuringTurns state a b →
       EachRoundTo b device → EachTo a device
   each-finished a b device done shape first second =
@@ -250,7 +250,7 @@ module _ {D : Type 0} (state : D → DeviceState) where
       told : (disk : Disk) → IsDuringRounds b.journal (state b.device).disk disk → IsDuringTurns a.journal (state a.device).disk disk
       told disk during = record {
         home =
-            adds-behind (IsCopyOfTurns a.journal) (state a.device).disk (state b.device).disk disk first.each.now.home
+            adds-after (IsCopyOfTurns a.journal) (state a.device).disk (state b.device).disk disk first.each.now.home
             (adds-weaker (IsCommittedCopy b.journal.front.sealed b.journal.engine.committed) (IsCopyOfTurns a.journal) (state b.device).disk disk
             (λ n v copy. record { sealed = b.journal.front.sealed; among = inr done.sealed; n = b.journal.engine.committed; low = done.committed; copy = copy }) during.home);
         sealed = b.journal.front.sealed;
@@ -270,7 +270,7 @@ module _ {D : Type 0} (state : D → DeviceState) where
   each-closed honest (Ok x) in_ok in_err a b done shape first back each = λ now. each-finished a b (in_ok x) done shape (first (back now)) (each now)
   each-closed honest (Err e) in_ok in_err a b done shape first back each = λ now. each-finished a b (in_err e) done shape (first (back now)) (each now)
 
-  -- behind a request, which changes no more than the lock
+  -- after a request, which changes no more than the lock
   later-same : (a b : JournalValue D) → b ≡ a → IsLater a.journal b.journal
   later-same a b same =
       subst (λ (v : JournalValue D). IsLater a.journal v.journal) (sym same) (record { shape = refl; committed = omega arith; sealed = λ ts among. among })

@@ -35,7 +35,7 @@ engine_in v = record { device = v.device; engine = v.journal.engine }
 pub record CallsForTurns {D : Type 0} (state : D → DeviceState) (old new : JournalValue D) : Type 0 where
   pub own : MakesOwnCalls state (engine_in old) (engine_in new)
 
--- A close makes those of its turns, and two at most that close the log. The journal behind its turns has just these transactions
+-- A close makes those of its turns, and two at most that close the log. After its turns the journal has just these transactions
 -- sealed, and its engine has their batches.
 pub record CallsForClose {D : Type 0} (state : D → DeviceState) (old : JournalValue D) (device : D) (sealed : History) : Type 0 where
   pub last : JournalValue D

@@ -7,7 +7,7 @@ use Rattle.group_commit.proofs.Leading.{comes-nowhere}
 use Rattle.journal_steps.specs.Values.{JournalValue}
 use Rattle.group_commit.specs.Calls.{CallsForTurns}
 use Rattle.group_commit.specs.During.{HoldsDuringTurns}
-use Rattle.group_commit.proofs.OwnCalls.{calls-behind, same-calls}
+use Rattle.group_commit.proofs.OwnCalls.{calls-after, same-calls}
 use Rattle.group_commit.proofs.TurnMoments.{each-rounds, each-sealed, each-still}
 use Rattle.group_commit.proofs.close.finish.Goals as goal
 use Rattle.group_commit.proofs.close.finish.Goals.{then-has_joined+in_ok-seal_last, else-has_joined+in_ok-finish_commit}
@@ -81,7 +81,7 @@ returns-clause-calls g c =
       | then-has_joined+in_ok-seal_last w ↦ subst (CallsForTurns g.D.Device.state old) (sym w.journal-is) w.seal_last.ensures.calls
       | else-has_joined+in_ok-finish_commit w ↦ subst (CallsForTurns g.D.Device.state old) (sym w.journal-is) w.finish_commit.ensures.calls
     ] in
-    calls-behind g.D.Device.state _ _ _ calls c.release_all.ensures.calls
+    calls-after g.D.Device.state _ _ _ calls c.release_all.ensures.calls
 
 -- and their moments
 pub returns-clause-moments : goal.returns-clause-moments

@@ -4,7 +4,7 @@ use Rattle.std.proofs.lemmas.Result.{err_from_is_err_and}
 use Rattle.journal_world.specs.declared.stage.Stage.TheVariants.{Idle}
 use Rattle.group_commit.proofs.Finishing.{commit-went, commit-wrong, went-nowhere, went-went, went-wrong}
 use Rattle.group_commit.proofs.NoRounds.{no-rounds, rounds-behind, turn-rounds}
-use Rattle.group_commit.proofs.OwnCalls.{calls-behind, refused-calls, same-calls, turn-calls}
+use Rattle.group_commit.proofs.OwnCalls.{calls-after, refused-calls, same-calls, turn-calls}
 use Rattle.group_commit.proofs.TurnMoments.{each-commit, each-still, each-went}
 use Rattle.group_commit.proofs.close.finish_commit.Goals as goal
 
@@ -31,7 +31,7 @@ pub returns-in_err-commit_step-clause-calls : goal.returns-in_err-commit_step-cl
 returns-in_err-commit_step-clause-calls g c =
     let before = c.loop-journal.invariant in
     let busy = λ (idle : c.loop-journal.journal.journal.engine.stage ≡ Idle). true≢false (sym (c.is_idle.ensures.1 idle) ∙ c.loop-journal-test.true) in
-    calls-behind g.D.Device.state _ _ _ before.calls
+    calls-after g.D.Device.state _ _ _ before.calls
     (refused-calls g.D.Device.state _ _ _ before.went.running busy c.in_err-commit_step.ensures.err c.commit_step.ensures.device.calls)
 
 -- and what holds at its moments
@@ -52,7 +52,7 @@ loop-journal-preserved g c =
       went = went-went g.D.Device.state _ _ _ before.went step;
       rounds = rounds-behind _ _ _ before.rounds (turn-rounds g.D.Device.state _ _ _ busy c.in_ok-commit_step.ensures.ok);
       calls =
-          calls-behind g.D.Device.state _ _ _ before.calls
+          calls-after g.D.Device.state _ _ _ before.calls
           (turn-calls g.D.Device.state _ _ _ busy c.in_ok-commit_step.ensures.ok c.commit_step.ensures.device.calls);
       each = λ honest.
           let was = c.commit_step.ensures.device.honest honest in

@@ -3,7 +3,7 @@ use Rattle.group_commit.proofs.Finishing.{room-made, went-on, wrong-on}
 use Rattle.std.proofs.Common.{sym, ◌∙◌}
 use Rattle.std.proofs.lemmas.Bool.{true≢false}
 use Rattle.group_commit.proofs.NoRounds.{room-there, room-wanted}
-use Rattle.group_commit.proofs.OwnCalls.{calls-behind}
+use Rattle.group_commit.proofs.OwnCalls.{calls-after}
 use Rattle.group_commit.proofs.TurnMoments.{each-rounds, each-went}
 use Rattle.group_commit.proofs.close.make_room.Goals as goal
 
@@ -39,7 +39,7 @@ returns-clause-rounds g c =
 
 -- the calls are those of both
 pub returns-clause-calls : goal.returns-clause-calls
-returns-clause-calls g c = calls-behind g.D.Device.state _ _ _ c.finish_commit.ensures.calls c.release_all.ensures.calls
+returns-clause-calls g c = calls-after g.D.Device.state _ _ _ c.finish_commit.ensures.calls c.release_all.ensures.calls
 
 -- and so are the moments
 pub returns-clause-moments : goal.returns-clause-moments

@@ -1,7 +1,7 @@
 use Rattle.std.proofs.Common.{refl, ◌∙◌}
 use Rattle.std.proofs.lemmas.Result.{err_from_is_err_and}
 use Rattle.group_commit.proofs.Finishing.{check-went, check-wrong, went-nowhere, went-went, went-wrong}
-use Rattle.group_commit.proofs.OwnCalls.{calls-behind, check-calls, refused_check-calls, same-calls}
+use Rattle.group_commit.proofs.OwnCalls.{calls-after, check-calls, refused_check-calls, same-calls}
 use Rattle.group_commit.proofs.TurnMoments.{rounds-on, rounds-still}
 use Rattle.group_commit.proofs.close.release_all.Goals as goal
 
@@ -40,7 +40,7 @@ returns-in_err-checkpoint_turn-clause-committed g c =
 pub returns-in_err-checkpoint_turn-clause-calls : goal.returns-in_err-checkpoint_turn-clause-calls
 returns-in_err-checkpoint_turn-clause-calls g c =
     let before = c.loop-journal.invariant in
-    calls-behind g.D.Device.state _ _ _ before.calls
+    calls-after g.D.Device.state _ _ _ before.calls
     (refused_check-calls g.D.Device.state _ _ _ before.went.running c.in_err-checkpoint_turn.ensures.err c.checkpoint_turn.ensures.device.calls)
 
 -- and what holds at its moments
@@ -63,7 +63,7 @@ loop-journal-preserved g c =
       committed = step.2 ∙ before.committed;
       front = step.3 ∙ before.front;
       calls =
-          calls-behind g.D.Device.state _ _ _ before.calls
+          calls-after g.D.Device.state _ _ _ before.calls
           (check-calls g.D.Device.state _ _ _ c.in_ok-checkpoint_turn.ensures.ok c.in_ok-checkpoint_turn.ensures.idle c.checkpoint_turn.ensures.device.calls);
       each = λ honest.
           let was = c.checkpoint_turn.ensures.device.honest honest in

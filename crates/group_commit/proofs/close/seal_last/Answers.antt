@@ -10,7 +10,7 @@ use Rattle.group_commit.proofs.Leading.{comes-same}
 use Rattle.group_commit.proofs.NoRounds.{seal-rounds, sealed-rounds}
 use Rattle.group_commit.specs.Calls.{CallsForTurns}
 use Rattle.group_commit.specs.During.{HoldsDuringTurns}
-use Rattle.group_commit.proofs.OwnCalls.{calls-behind, no-calls, same-calls, seal-calls}
+use Rattle.group_commit.proofs.OwnCalls.{calls-after, no-calls, same-calls, seal-calls}
 use Rattle.group_commit.proofs.TurnMoments.{each-device, each-same, each-sealed}
 use Rattle.group_commit.proofs.close.seal_last.Goals as goal
 
@@ -102,15 +102,15 @@ returns-in_err-make_room-clause-calls g c =
 -- the seal that was refused makes none
 pub returns-in_err-seal_running-clause-calls : goal.returns-in_err-seal_running-clause-calls
 returns-in_err-seal_running-clause-calls g c =
-    calls-behind g.D.Device.state _ _ _
+    calls-after g.D.Device.state _ _ _
     (subst (λ (v : JournalValue g.row.D.Denot). CallsForTurns g.D.Device.state v c.make_room.new.journal) c.ready_batch.ensures.same c.make_room.ensures.calls)
     (no-calls g.D.Device.state _ _ (ap (λ (v : JournalValue g.row.D.Denot). v.journal.engine) c.in_err-seal_running.ensures.err.1) c.seal_running.ensures.device)
 
--- and behind the seal those of its commit
+-- and after the seal those of its commit
 pub returns-clause-calls : goal.returns-clause-calls
 returns-clause-calls g c =
-    calls-behind g.D.Device.state _ _ _
-    (calls-behind g.D.Device.state _ _ _
+    calls-after g.D.Device.state _ _ _
+    (calls-after g.D.Device.state _ _ _
     (subst (λ (v : JournalValue g.row.D.Denot). CallsForTurns g.D.Device.state v c.make_room.new.journal) c.ready_batch.ensures.same c.make_room.ensures.calls)
     (seal-calls g.D.Device.state _ _ c.in_ok-seal_running.ensures.ok c.seal_running.ensures.device))
     c.finish_commit.ensures.calls

@@ -3,7 +3,7 @@ use Rattle.std.proofs.lemmas.Result.{err_from_is_err_and}
 use Rattle.group_commit.specs.AllTurns.{CommitRefused}
 use Rattle.group_commit.proofs.Committing.{asked-way}
 use Rattle.group_commit.proofs.Finishing.{ways}
-use Rattle.group_commit.proofs.OwnCalls.{asked-calls, calls-behind, same-calls}
+use Rattle.group_commit.proofs.OwnCalls.{asked-calls, calls-after, same-calls}
 use Rattle.group_commit.proofs.TurnMoments.{each-asked, each-same}
 use Rattle.group_commit.proofs.journal.Journal.commit_through.Goals as goal
 
@@ -50,15 +50,15 @@ returns-in_err-request_commit-clause-moments g c = λ honest.
 -- else those of the turns
 pub returns-in_err-mark-clause-calls : goal.returns-in_err-mark-clause-calls
 returns-in_err-mark-clause-calls g c =
-    calls-behind g.D.Device.state _ _ _ (asked-calls g.D.Device.state _ _ _ c.in_ok-request_commit.ensures.ok c.request_commit.ensures.device) c.commit_all.ensures.calls
+    calls-after g.D.Device.state _ _ _ (asked-calls g.D.Device.state _ _ _ c.in_ok-request_commit.ensures.ok c.request_commit.ensures.device) c.commit_all.ensures.calls
 
 pub returns-then-mark-tid-clause-calls : goal.returns-then-mark-tid-clause-calls
 returns-then-mark-tid-clause-calls g c =
-    calls-behind g.D.Device.state _ _ _ (asked-calls g.D.Device.state _ _ _ c.in_ok-request_commit.ensures.ok c.request_commit.ensures.device) c.commit_all.ensures.calls
+    calls-after g.D.Device.state _ _ _ (asked-calls g.D.Device.state _ _ _ c.in_ok-request_commit.ensures.ok c.request_commit.ensures.device) c.commit_all.ensures.calls
 
 pub returns-clause-calls : goal.returns-clause-calls
 returns-clause-calls g c =
-    calls-behind g.D.Device.state _ _ _ (asked-calls g.D.Device.state _ _ _ c.in_ok-request_commit.ensures.ok c.request_commit.ensures.device) c.commit_all.ensures.calls
+    calls-after g.D.Device.state _ _ _ (asked-calls g.D.Device.state _ _ _ c.in_ok-request_commit.ensures.ok c.request_commit.ensures.device) c.commit_all.ensures.calls
 
 -- and their moments
 pub returns-in_err-mark-clause-moments : goal.returns-in_err-mark-clause-moments
