@@ -5,3 +5,5 @@ mod Finishing
 mod Leading
 mod Committing
 mod NoRounds
+mod OwnCalls
+mod TurnMoments

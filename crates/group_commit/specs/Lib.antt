@@ -2,4 +2,6 @@ pub mod Close
 pub mod Extension
 pub mod Values
 pub mod AllTurns
+pub mod Calls
+pub mod During
 pub mod Rounds

@@ -3,7 +3,9 @@ ghost use Rattle.std.specs.Prelude.{◌≡◌, ◌≤◌, false, IfErr, IfOk, On
 ghost use Rattle.journal_world.specs.declared.stage.Stage.TheVariants.{Idle};
 ghost use Rattle.log_epochs.specs.EngineWorld.Phase.{Running};
 ghost use Rattle.group_commit.specs.AllTurns.{AllTurnsRefused, CommitRefused, CommitsAll, CommitsThrough, ReleaseRefused};
+ghost use Rattle.group_commit.specs.Calls.{CallsForTurns};
 ghost use Rattle.group_commit.specs.Close.{ComesTo, Went};
+ghost use Rattle.group_commit.specs.During.{HoldsDuringRounds, HoldsDuringTurns};
 ghost use Rattle.journal_steps.specs.Journal.{NothingToRelease};
 
 use crate::close::{finish_commit, release_all, seal_last};
@@ -29,6 +31,8 @@ impl<D: Device, R: Record> Journal<D, R> {
         ensures err { IfErr result (λ e. (e.0 ≡ ticket) × CommitRefused D.state ticket.tid self.old self.new e.1) }
         ensures path { ComesTo self.old.journal (D.state self.old.device).disk self.new.journal (D.state self.new.device).disk Running }
         ensures shape { (D.state self.new.device).shape ≡ (D.state self.old.device).shape }
+        ensures calls { CallsForTurns D.state self.old self.new }
+        ensures moments { D.honest self.new.device → HoldsDuringTurns D.state self.old self.new }
         ensures honest { D.honest self.new.device → D.honest self.old.device }
     {
         match self.commit_through(ticket.tid()) {
@@ -44,8 +48,11 @@ impl<D: Device, R: Record> Journal<D, R> {
         ensures err { IfErr result (CommitRefused D.state tid self.old self.new) }
         ensures path { ComesTo self.old.journal (D.state self.old.device).disk self.new.journal (D.state self.new.device).disk Running }
         ensures shape { (D.state self.new.device).shape ≡ (D.state self.old.device).shape }
+        ensures calls { CallsForTurns D.state self.old self.new }
+        ensures moments { D.honest self.new.device → HoldsDuringTurns D.state self.old self.new }
         ensures honest { D.honest self.new.device → D.honest self.old.device }
     {
+        self.recall_invariant();
         self.request_commit(tid)?;
         let mark = self.commit_all()?;
         if mark.0 < tid.0 {
@@ -56,7 +63,8 @@ impl<D: Device, R: Record> Journal<D, R> {
 
     /// Commits all that can be: takes the steps that are left of the commit that is under way; then, where the running transaction takes
     /// no further handles and all of its handles have stopped, seals it, behind checkpoint rounds where the ring has no room for it, and
-    /// commits it. It answers the number of the last transaction that is told to be committed.
+    /// commits it. It answers the number of the last transaction that is told to be committed. It calls the device for these steps alone,
+    /// and at each moment of it a stop opens as between them.
     ///
     /// # Errors
     ///
@@ -73,8 +81,11 @@ impl<D: Device, R: Record> Journal<D, R> {
         ensures err { IfErr result (AllTurnsRefused D.state self.old self.new) }
         ensures path { ComesTo self.old.journal (D.state self.old.device).disk self.new.journal (D.state self.new.device).disk Running }
         ensures shape { (D.state self.new.device).shape ≡ (D.state self.old.device).shape }
+        ensures calls { CallsForTurns D.state self.old self.new }
+        ensures moments { D.honest self.new.device → HoldsDuringTurns D.state self.old self.new }
         ensures honest { D.honest self.new.device → D.honest self.old.device }
     {
+        self.recall_invariant();
         if self.is_aborted() {
             return Err(JournalError::Aborted);
         }
@@ -83,7 +94,8 @@ impl<D: Device, R: Record> Journal<D, R> {
     }
 
     /// Takes checkpoint turns until all that is committed is home, and its blocks of the ring are free. It takes no step of a commit: one
-    /// that is under way is where it was, and the handles and credits are as they were.
+    /// that is under way is where it was, and the handles and credits are as they were. It calls the device for the steps of its rounds
+    /// alone, and at each moment of it a stop opens as between them.
     ///
     /// # Errors
     ///
@@ -98,8 +110,11 @@ impl<D: Device, R: Record> Journal<D, R> {
         ensures committed { self.new.journal.engine.committed ≡ self.old.journal.engine.committed }
         ensures front { OnOk result (self.new.journal.front ≡ self.old.journal.front) }
         ensures err { IfErr result (ReleaseRefused D.state self.old self.new) }
+        ensures calls { CallsForTurns D.state self.old self.new }
+        ensures moments { D.honest self.new.device → HoldsDuringRounds D.state self.old self.new }
         ensures honest { D.honest self.new.device → D.honest self.old.device }
     {
+        self.recall_invariant();
         if self.is_aborted() {
             return Err(JournalError::Aborted);
         }
@@ -116,6 +131,8 @@ fn commit_ready<D: Device, R: Record>(journal: &mut Journal<D, R>) -> Result<(),
     ensures err { IfErr result (AllTurnsRefused D.state journal.old journal.new) }
     ensures path { ComesTo journal.old.journal (D.state journal.old.device).disk journal.new.journal (D.state journal.new.device).disk Running }
     ensures shape { (D.state journal.new.device).shape ≡ (D.state journal.old.device).shape }
+    ensures calls { CallsForTurns D.state journal.old journal.new }
+    ensures moments { D.honest journal.new.device → HoldsDuringTurns D.state journal.old journal.new }
     ensures honest { D.honest journal.new.device → D.honest journal.old.device }
 {
     journal.recall_invariant();

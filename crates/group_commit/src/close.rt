@@ -4,6 +4,8 @@ ghost use Rattle.std.specs.Prelude.{◌≡◌, ◌<◌, ◌≤◌, false, length
 ghost use Rattle.journal_model.specs.declared.refusal.JournalError.TheVariants.{Device as DeviceFailed};
 ghost use Rattle.journal_world.specs.declared.stage.Stage.TheVariants.{Idle};
 ghost use Rattle.log_epochs.specs.EngineWorld.Phase.{Running};
+ghost use Rattle.group_commit.specs.Calls.{CallsForTurns};
+ghost use Rattle.group_commit.specs.During.{HoldsDuringRounds, HoldsDuringTurns};
 ghost use Rattle.group_commit.specs.Close.{CloseRefused, ComesTo, HasSealed, IsFinished, LastRefused, Went, WentWrong};
 ghost use Rattle.group_commit.specs.Rounds.{MakesNoRound, MakesRoomAlone};
 ghost use Rattle.journal_steps.specs.Journal.{HasRoomFor, NothingToRelease};
@@ -23,8 +25,11 @@ pub(crate) fn finish<D: Device, R: Record>(journal: &mut Journal<D, R>) -> Resul
     ensures path { ComesTo journal.old.journal (D.state journal.old.device).disk journal.new.journal (D.state journal.new.device).disk Running }
     ensures measures { journal.new.journal.engine.shape ≡ journal.old.journal.engine.shape }
     ensures shape { (D.state journal.new.device).shape ≡ (D.state journal.old.device).shape }
+    ensures calls { CallsForTurns D.state journal.old journal.new }
+    ensures moments { D.honest journal.new.device → HoldsDuringTurns D.state journal.old journal.new }
     ensures honest { D.honest journal.new.device → D.honest journal.old.device }
 {
+    journal.recall_invariant();
     if journal.is_aborted() {
         return Err(JournalError::Aborted);
     }
@@ -51,8 +56,11 @@ pub(crate) fn seal_last<D: Device, R: Record>(
     ensures path { ComesTo journal.old.journal (D.state journal.old.device).disk journal.new.journal (D.state journal.new.device).disk Running }
     ensures measures { journal.new.journal.engine.shape ≡ journal.old.journal.engine.shape }
     ensures shape { (D.state journal.new.device).shape ≡ (D.state journal.old.device).shape }
+    ensures calls { CallsForTurns D.state journal.old journal.new }
+    ensures moments { D.honest journal.new.device → HoldsDuringTurns D.state journal.old journal.new }
     ensures honest { D.honest journal.new.device → D.honest journal.old.device }
 {
+    journal.recall_invariant();
     let batch = journal.ready_batch()?;
     make_room(journal)?;
     journal.seal_running(batch)?;
@@ -68,8 +76,11 @@ pub(crate) fn finish_commit<D: Device, R: Record>(
     ensures rounds { OnOk result (MakesNoRound journal.old.journal.engine journal.new.journal.engine) }
     ensures idle { OnOk result (journal.new.journal.engine.stage ≡ Idle) }
     ensures err { IfErr result (λ e. (e ≡ DeviceFailed) × WentWrong D.state journal.old journal.new) }
+    ensures calls { CallsForTurns D.state journal.old journal.new }
+    ensures moments { D.honest journal.new.device → HoldsDuringTurns D.state journal.old journal.new }
     ensures honest { D.honest journal.new.device → D.honest journal.old.device }
 {
+    journal.recall_invariant();
     while !journal.is_idle() {
         journal.recall_invariant();
         journal.commit_step()?;
@@ -86,6 +97,8 @@ fn make_room<D: Device, R: Record>(journal: &mut Journal<D, R>) -> Result<(), Jo
     ensures idle { OnOk result (journal.new.journal.engine.stage ≡ Idle) }
     ensures room { OnOk result (HasRoomFor journal.new.journal) }
     ensures err { IfErr result (λ e. (e ≡ DeviceFailed) × WentWrong D.state journal.old journal.new) }
+    ensures calls { CallsForTurns D.state journal.old journal.new }
+    ensures moments { D.honest journal.new.device → HoldsDuringTurns D.state journal.old journal.new }
     ensures honest { D.honest journal.new.device → D.honest journal.old.device }
 {
     finish_commit(journal)?;
@@ -108,9 +121,13 @@ pub(crate) fn release_all<D: Device, R: Record>(
     ensures committed { journal.new.journal.engine.committed ≡ journal.old.journal.engine.committed }
     ensures front { OnOk result (journal.new.journal.front ≡ journal.old.journal.front) }
     ensures err { IfErr result (λ e. (e ≡ DeviceFailed) × WentWrong D.state journal.old journal.new) }
+    ensures calls { CallsForTurns D.state journal.old journal.new }
+    ensures moments { D.honest journal.new.device → HoldsDuringRounds D.state journal.old journal.new }
     ensures honest { D.honest journal.new.device → D.honest journal.old.device }
 {
+    journal.recall_invariant();
     loop {
+        journal.recall_invariant();
         match journal.checkpoint_turn()? {
             CheckTurn::Idle => {
                 journal.recall_invariant();

@@ -1,10 +1,10 @@
 //! The journal that callers hold: a front and an engine.
-ghost use Rattle.std.specs.Prelude.{◌≡◌, ◌<◌, ◌≤◌, ◌≢◌, ◌↔◌, true, false, length, [], IfOk, IfErr, MatchResult, OnOk, IsTrue, Some, None};
+ghost use Rattle.std.specs.Prelude.{◌≡◌, ◌+◌, ◌<◌, ◌≤◌, ◌≢◌, ◌↔◌, true, false, length, [], IfOk, IfErr, MatchResult, OnOk, IsTrue, Some, None};
 ghost use Rattle.journal_model.specs.declared.refusal.JournalError.TheVariants.{Aborted, Device as DeviceFailed, Memory};
 ghost use Rattle.journal_model.specs.Disk.{Image, Leaves};
 ghost use Rattle.journal_model.specs.Record.{IsLegal};
 ghost use Rattle.journal_model.specs.Transaction.{entries};
-ghost use Rattle.block_device.specs.State.{MakesAtMostOneCall, one_more_fault};
+ghost use Rattle.block_device.specs.State.{EachMoment, MakesAtMostOneCall, one_more_fault};
 ghost use Rattle.journal_world.specs.declared.stage.Stage.TheVariants.{Idle};
 ghost use Rattle.journal_world.specs.Front.{held, next_handle};
 ghost use Rattle.journal_world.specs.Front.FrontEvent.{GiveBack, Join, Reserve, RevokeBlock, StopHandle, WriteBlock};
@@ -17,10 +17,13 @@ ghost use Rattle.log_epochs.specs.JournalWorld.{Begins};
 ghost use Rattle.block_device.specs.Call.{MakesOneCall, OnlyReads};
 ghost use Rattle.log_engine.specs.Close.{IsAllReleased};
 ghost use Rattle.log_engine.specs.Left.{commit_calls};
+ghost use Rattle.journal_steps.specs.declared.turn.CheckTurn.TheVariants.{Idle as IdleCheck};
 ghost use Rattle.journal_steps.specs.Journal.{Agrees, CheckTurnDid, CheckTurnRefused, Does, FitsQuarter, HasRoomFor, IsDuringCheckTurn, IsDuringTurn, LeavesFewerRounds, NewestRefused, NotesRead, OpensNow, OpensOver, ReadRefused, ReadsNewest, Requests, SealIsDue, TurnDid, TurnRefused};
 ghost use Rattle.journal_steps.specs.Legal.{KeepsLegal};
 ghost use Rattle.journal_steps.specs.Values.{together};
 ghost use Rattle.group_commit.specs.AllTurns.{IsReadyToSeal};
+ghost use Rattle.group_commit.specs.Calls.{CallsForClose};
+ghost use Rattle.group_commit.specs.During.{IsDuringRounds, IsDuringTurns};
 ghost use Rattle.group_commit.specs.Close.{CloseDid, CloseRefused, EndsWith, SealRefused, closing, locked_journal};
 ghost use Rattle.journal_front.specs.Front.{IsOpenHandle, JoinRefused, ReserveRefused, Spends, TouchRefused};
 ghost use Rattle.group_commit.specs.Values.{StatusIs};
@@ -253,6 +256,7 @@ impl<D: Device, R: Record> Journal<D, R> {
         ensures ok { OnOk result (D.honest self.new.device → Does D.state self.old (ReadBlock handle.old.number block into.new) self.new) }
         // Also where reads were not honest. Where a copy is kept there is no device call.
         ensures noted { OnOk result (NotesRead D.state self.old handle.old block into.new self.new) }
+        ensures legal { KeepsLegal D.honest self.new }
         ensures err { IfErr result (ReadRefused D.state self.old handle.old block self.new) }
         ensures untouched { IfErr result (λ e. into.new ≡ into.old) }
         ensures device { OnlyReads D.state D.honest self.old.device self.new.device }
@@ -439,8 +443,8 @@ impl<D: Device, R: Record> Journal<D, R> {
         steps::seal_batch(&mut self.front, &mut self.engine, batch)
     }
 
-    /// Takes the next step of a checkpoint round: at most one device call. A round writes committed copies home, and frees
-    /// the log blocks of the transactions that were committed when it began.
+    /// Takes the next step of a checkpoint round: at most one device call, and none where it answers Idle. A round writes committed
+    /// copies home, and frees the log blocks of the transactions that were committed when it began.
     ///
     /// # Errors
     ///
@@ -451,6 +455,7 @@ impl<D: Device, R: Record> Journal<D, R> {
         ensures ok { IfOk result (λ turn. CheckTurnDid D.state turn self.old self.new) }
         ensures err { IfErr result (λ e. CheckTurnRefused D.state self.old self.new e) }
         ensures fewer { IfOk result (λ turn. LeavesFewerRounds turn self.old.journal.engine self.new.journal.engine) }
+        ensures idle { IfOk result (λ turn. turn ≡ IdleCheck → self.new.device ≡ self.old.device) }
         ensures no_fault { OnOk result ((D.state self.new.device).faults ≡ (D.state self.old.device).faults) }
         ensures device { MakesOneCall D.state D.honest (IsDuringCheckTurn self.old.journal (D.state self.old.device).disk) self.old.device self.new.device }
     {
@@ -501,14 +506,15 @@ impl<D: Device, R: Record> Journal<D, R> {
         steps::room_for(&self.front, &self.engine).is_some()
     }
 
-    /// States what every journal keeps, for the proofs of callers: its engine knows what agrees, front and engine agree, and the
-    /// running transaction needs at most a quarter of the ring.
-    /// It does nothing.
+    /// States what every journal keeps, for the proofs of callers: its engine knows what agrees, front and engine agree, the
+    /// running transaction needs at most a quarter of the ring, and where reads were honest what a stop leaves opens and the record is
+    /// legal. It does nothing.
     pub fn recall_invariant(&self)
         ensures plain { IsPlain self.now.journal.engine }
         ensures agrees { Agrees self.now.journal }
         ensures shape { self.now.journal.engine.shape ≡ (D.state self.now.device).shape }
         ensures quarter { FitsQuarter self.now.journal }
+        ensures opens { D.honest self.now.device → OpensNow self.now.journal (D.state self.now.device).disk }
         ensures legal { KeepsLegal D.honest self.now }
     {
         self.engine.recall_invariant();
@@ -557,7 +563,8 @@ impl<D: Device, R: Record> Journal<D, R> {
     /// device opens as it says. `Aborted` after a device failure: nothing was done. `Device` where the device failed. `Memory`
     /// where it ran out for the seal of the running transaction, which is then not sealed: all memory that the close takes it asks
     /// for before its first call of the device, so that nothing was done. (The contract leaves room for a refusal behind the commit
-    /// that was under way, where all before it is committed. A whole ring has room for it, since it needs at most a quarter.)
+    /// that was under way, where all before it is committed. A whole ring has room for it, since it needs at most a quarter.) It makes
+    /// the device calls of its turns and two more at most, and at each moment of it a stop opens as between them.
     /// Source: fs/jbd2/journal.c by behaviour (`jbd2_journal_destroy`).
     pub fn close(self) -> Result<Parts<D, R>, (Parts<D, R>, JournalError)>
         requires { self.journal.front.open_handles ≡ [] }
@@ -574,6 +581,12 @@ impl<D: Device, R: Record> Journal<D, R> {
             (λ parts. CloseDid self.journal (D.state self.device).disk (R.transactions parts.sealed) parts.committed (D.state parts.device).disk)
             (λ e. EndsWith self.journal (D.state self.device).disk (R.transactions e.0.sealed) e.0.committed (D.state e.0.device).disk Shut) }
         ensures no_fault { IfOk result (λ parts. (D.state parts.device).faults ≡ (D.state self.device).faults) }
+        ensures calls { MatchResult result
+            (λ parts. CallsForClose D.state self parts.device (R.transactions parts.sealed))
+            (λ e. CallsForClose D.state self e.0.device (R.transactions e.0.sealed)) }
+        ensures moments { MatchResult result
+            (λ parts. D.honest parts.device → EachMoment (IsDuringTurns self.journal (D.state self.device).disk) (D.state self.device) (D.state parts.device))
+            (λ e. D.honest e.0.device → EachMoment (IsDuringTurns self.journal (D.state self.device).disk) (D.state self.device) (D.state e.0.device)) }
         ensures shape { MatchResult result
             (λ parts. (D.state parts.device).shape ≡ (D.state self.device).shape)
             (λ e. (D.state e.0.device).shape ≡ (D.state self.device).shape) }
@@ -608,6 +621,12 @@ impl<D: Device, R: Record> Journal<D, R> {
             (λ parts. CloseDid self.journal (D.state self.device).disk (R.transactions parts.sealed) parts.committed (D.state parts.device).disk)
             (λ e. EndsWith self.journal (D.state self.device).disk (R.transactions e.0.sealed) e.0.committed (D.state e.0.device).disk Shut) }
         ensures no_fault { IfOk result (λ parts. (D.state parts.device).faults ≡ (D.state self.device).faults) }
+        ensures calls { MatchResult result
+            (λ parts. Agrees self.journal × ((D.state parts.device).calls ≤ (D.state self.device).calls + 2))
+            (λ e. Agrees self.journal × ((D.state e.0.device).calls ≤ (D.state self.device).calls + 2)) }
+        ensures moments { MatchResult result
+            (λ parts. D.honest parts.device → EachMoment (IsDuringRounds self.journal (D.state self.device).disk) (D.state self.device) (D.state parts.device))
+            (λ e. D.honest e.0.device → EachMoment (IsDuringRounds self.journal (D.state self.device).disk) (D.state self.device) (D.state e.0.device)) }
         ensures shape { MatchResult result
             (λ parts. (D.state parts.device).shape ≡ (D.state self.device).shape)
             (λ e. (D.state e.0.device).shape ≡ (D.state self.device).shape) }
@@ -644,6 +663,7 @@ impl<D: Device, R: Record> Journal<D, R> {
         ensures device { result.device ≡ self.device }
         ensures sealed { R.transactions result.sealed ≡ self.journal.front.sealed }
         ensures committed { result.committed ≡ self.journal.engine.committed }
+        ensures agrees { Agrees self.journal }
         ensures opens { D.honest self.device → OpensNow self.journal (D.state self.device).disk }
         ensures legal { D.honest self.device → IsLegal (R.transactions result.sealed) }
     {

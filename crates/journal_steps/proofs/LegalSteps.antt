@@ -5,6 +5,7 @@ use Rattle.std.proofs.lemmas.Bool.Decides.{leb_tells}
 use Rattle.journal_model.specs.declared.entry.Entry.TheVariants.{Copy, Revoke as RevokeEntry}
 use Rattle.journal_model.specs.declared.number.Area.TheVariants.{Home}
 use Rattle.journal_model.specs.declared.refusal.JournalError.{JournalError}
+use Rattle.journal_model.specs.declared.refusal.JournalError.TheVariants.{Memory}
 use Rattle.journal_model.specs.declared.transaction.Op.TheVariants.{Write, Revoke}
 use Rattle.journal_model.specs.Disk.{Disk}
 use Rattle.journal_model.specs.Record.{IsLegal}
@@ -151,6 +152,12 @@ module _ {D : Type 0} (state : D → DeviceState) (honest : D → Type 0) (old n
       OnOk r (honest new.device → Does state old (ReadBlock h.number b v) new) → IfErr r (λ e. ReadRefused state old h b new e) → KeepsLegal honest new
   read-legal (Ok a) h b v ok err = λ is. does-legal (ReadBlock h.number b v) (ok is) is
   read-legal (Err e) h b v ok err = read-refused h b e err
+
+  -- the same, where what it saw is noted, or memory ran out for it
+  pub noted-legal : {A : Type 0} (r : Result A JournalError) (h b : ℕ) (v before : List ℕ) → OnOk r (honest new.device → Does state old (ReadBlock h b v) new) →
+      IfErr r (λ e. (e ≡ Memory) × (new.journal.front ≡ old.journal.front) × (v ≡ before)) → KeepsLegal honest new
+  noted-legal (Ok a) h b v before ok err = λ is. does-legal (ReadBlock h b v) (ok is) is
+  noted-legal (Err e) h b v before ok err = λ is. subst (λ (f : Front). IsLegal (transactions f)) (sym err.1) (legal (back is))
 
   newest-refused : (b : ℕ) (e : JournalError) → NewestRefused state old b new e → KeepsLegal honest new
   newest-refused b e (NewestAborted aborted same is) = same-legal same

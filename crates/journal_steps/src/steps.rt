@@ -12,7 +12,9 @@ ghost use Rattle.journal_world.specs.Journal.{batch_of};
 ghost use Rattle.journal_world.specs.Journal.Event.{DirectSync, DirectWrite, ReadBlock};
 ghost use Rattle.block_device.specs.Call.{MakesOneCall, OnlyReads};
 ghost use Rattle.log_engine.specs.Left.{commit_calls};
+ghost use Rattle.journal_steps.specs.declared.turn.CheckTurn.TheVariants.{Idle as IdleCheck};
 ghost use Rattle.journal_steps.specs.Journal.{Agrees, CheckTurnDid, CheckTurnRefused, Does, FitsQuarter, HandsOut, HasRoomFor, IsDuringCheckTurn, IsDuringTurn, LeavesFewerRounds, NewestRefused, NoCopy, NotesRead, OpensNow, ReadRefused, ReadsNewest, SealIsDue, TurnDid, TurnRefused, need_of};
+ghost use Rattle.journal_steps.specs.Legal.{KeepsLegal};
 ghost use Rattle.journal_steps.specs.Direct.{DirectSyncRefused, DirectWriteRefused, IsDuringDirectSync, IsDuringDirectWrite, MayWriteDirectly};
 ghost use Rattle.journal_front.specs.Front.{MayStep};
 ghost use Rattle.journal_steps.specs.Values.{together};
@@ -72,6 +74,7 @@ fn note<R: Record>(
 /// or its number is not below 2^32 (in a log with numbers of 64 bits 2^48); `NoCredit` where the handle is none of this journal's
 /// open ones; `Revoked` where the block's last entry in the transactions that are not committed is a revoke: nothing changes.
 /// `Memory` where it ran out for the step: the journal stays as it is. `Device` where the device failed: the journal is aborted.
+/// Whatever it answers, a record that was legal stays so.
 pub fn read<D: Device, R: Record>(
     front: &mut Front<R>,
     engine: &mut Engine<D>,
@@ -84,6 +87,7 @@ pub fn read<D: Device, R: Record>(
     ensures agrees { Agrees (together front.new engine.new).journal }
     ensures ok { OnOk result (D.honest engine.new.device → Does D.state (together front.old engine.old) (ReadBlock handle.now.number block into.new) (together front.new engine.new)) }
     ensures noted { OnOk result (NotesRead D.state (together front.old engine.old) handle.now block into.new (together front.new engine.new)) }
+    ensures legal { KeepsLegal D.honest (together front.old engine.old) → KeepsLegal D.honest (together front.new engine.new) }
     ensures err { IfErr result (ReadRefused D.state (together front.old engine.old) handle.now block (together front.new engine.new)) }
     ensures untouched { IfErr result (λ e. into.new ≡ into.old) }
     ensures device { OnlyReads D.state D.honest engine.old.device engine.new.device }
@@ -344,7 +348,7 @@ pub fn room_for<D: Device, R: Record>(front: &Front<R>, engine: &Engine<D>) -> O
     engine.room_for(copies, revokes)
 }
 
-/// Takes the next step of a checkpoint round: at most one device call.
+/// Takes the next step of a checkpoint round: at most one device call, and none where it answers Idle.
 ///
 /// # Errors
 ///
@@ -359,6 +363,7 @@ pub fn checkpoint_turn<D: Device, R: Record>(
     ensures ok { IfOk result (λ turn. CheckTurnDid D.state turn (together front.old engine.old) (together front.new engine.new)) }
     ensures err { IfErr result (λ e. CheckTurnRefused D.state (together front.old engine.old) (together front.new engine.new) e) }
     ensures fewer { IfOk result (λ turn. LeavesFewerRounds turn engine.old.engine engine.new.engine) }
+    ensures idle { IfOk result (λ turn. turn ≡ IdleCheck → engine.new.device ≡ engine.old.device) }
     ensures no_fault { OnOk result ((D.state engine.new.device).faults ≡ (D.state engine.old.device).faults) }
     ensures device { MakesOneCall D.state D.honest (IsDuringCheckTurn (together front.old engine.old).journal (D.state engine.old.device).disk) engine.old.device engine.new.device }
 {

@@ -13,6 +13,7 @@ ghost use Rattle.journal_world.specs.Engine.{Accepts, HasRoom};
 ghost use Rattle.journal_world.specs.Journal.{fresh_engine};
 ghost use Rattle.journal_world.specs.Opening.{IsOpenedLog};
 ghost use Rattle.journal_world.specs.Sound.{IsPlain, OpensBetween};
+ghost use Rattle.log_ledger.specs.declared.progress.Progress.TheVariants.{Idle as NoProgress};
 ghost use Rattle.log_ledger.specs.Steps.{MayHandOver};
 ghost use Rattle.block_device.specs.Call.{MakesOneCall, OnlyReads};
 ghost use Rattle.log_engine.specs.Close.{CloseDid, CloseRefused, IsAllReleased, IsClosedLog, IsDuringClose};
@@ -241,7 +242,8 @@ impl<D: Device> Engine<D> {
     }
 
     /// Makes the device call of the checkpoint round that is due, if one is. A round begins where a committed transaction
-    /// is not released, and releases all that are committed then; commits may come between its steps. It takes no memory.
+    /// is not released, and releases all that are committed then; commits may come between its steps. It takes no memory. Where
+    /// it answers Idle it has called no device.
     ///
     /// # Errors
     ///
@@ -252,6 +254,7 @@ impl<D: Device> Engine<D> {
         ensures err { IfErr result (λ e. RoundRefused self.old.engine (D.state self.old.device) self.new.engine (D.state self.new.device) e) }
         ensures no_fault { OnOk result ((D.state self.new.device).faults ≡ (D.state self.old.device).faults) }
         ensures fewer { IfOk result (λ p. LeavesFewer round_calls p self.old.engine self.new.engine) }
+        ensures idle { IfOk result (λ p. p ≡ NoProgress → self.new.device ≡ self.old.device) }
         ensures device { MakesOneCall D.state D.honest (IsDuringRound self.old.engine (D.state self.old.device).disk) self.old.device self.new.device }
     {
         if self.ledger.aborted {

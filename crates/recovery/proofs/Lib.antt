@@ -15,6 +15,7 @@ mod Choosing
 mod CopyRuns
 mod CopySteps
 mod CountRuns
+mod Counting
 mod GatherRuns
 mod MakingMoments
 mod Noting

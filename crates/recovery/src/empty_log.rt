@@ -1,5 +1,5 @@
 //! Making an empty log.
-ghost use Rattle.std.specs.Prelude.{◌≡◌, ◌<◌, ◌≤◌, length, OnOk, IfErr, MatchResult};
+ghost use Rattle.std.specs.Prelude.{◌≡◌, ◌+◌, ◌<◌, ◌≤◌, length, OnOk, IfErr, MatchResult};
 ghost use Rattle.journal_model.specs.declared.number.Area.TheVariants.{Log};
 ghost use Rattle.log_model.specs.Superblock.{greatest_length, least_length};
 ghost use Rattle.log_format.specs.Size.{IsBlockSize};
@@ -18,7 +18,8 @@ const MOST_BYTES: usize = 4096;
 /// Makes an empty log of `maxlen` blocks, 17 to 1,048,576, the superblock among them, with this UUID. All of its blocks behind
 /// the superblock become zeros; what lies behind the log in its area is made durable as it reads, and home isn't touched. The
 /// superblock is written once the zeros are durable: so a stop within it, or behind a device failure, leaves in block 0
-/// what might have stood there before, or the whole empty log; what the ring had may be gone.
+/// what might have stood there before, or the whole empty log; what the ring had may be gone. It makes one write for each block, two
+/// flushes, and no other call.
 ///
 /// # Errors
 ///
@@ -36,6 +37,7 @@ pub fn format<D: Device>(
     // Whatever the answer is: home stays, and the superblock comes last.
     ensures moments { EachMoment (IsMakingMoment (D.state device.old).shape maxlen uuid.now wide (D.state device.old).disk) (D.state device.old) (D.state device.new) }
     ensures no_fault { OnOk result ((D.state device.new).faults ≡ (D.state device.old).faults) }
+    ensures calls { (D.state device.new).calls ≤ (D.state device.old).calls + (maxlen + 2) }
     ensures shape { (D.state device.new).shape ≡ (D.state device.old).shape }
     ensures honest { D.honest device.new → D.honest device.old }
 {
@@ -69,6 +71,7 @@ fn write_log<D: Device>(
     ensures ok { OnOk result (IsFormatted (D.state device.old).shape maxlen uuid.now wide (D.state device.old).disk (D.state device.new).disk) }
     ensures moments { EachMoment (IsMakingMoment (D.state device.old).shape maxlen uuid.now wide (D.state device.old).disk) (D.state device.old) (D.state device.new) }
     ensures faults { MatchResult result (λ _. (D.state device.new).faults ≡ (D.state device.old).faults) (λ e. IsDeviceFailure (D.state device.old) (D.state device.new) e) }
+    ensures calls { (D.state device.new).calls ≤ (D.state device.old).calls + (maxlen + 2) }
     ensures shape { (D.state device.new).shape ≡ (D.state device.old).shape }
     ensures honest { D.honest device.new → D.honest device.old }
 {
@@ -89,6 +92,7 @@ fn write_zeros<D: Device>(device: &mut D, zeros: &[u8], maxlen: u64) -> Result<(
     ensures ok { OnOk result (HasZeros zeros.now maxlen (D.state device.old).disk (D.state device.new).disk) }
     ensures moments { EachMoment (IsZeroingMoment zeros.now maxlen (D.state device.old).disk) (D.state device.old) (D.state device.new) }
     ensures faults { MatchResult result (λ _. (D.state device.new).faults ≡ (D.state device.old).faults) (λ e. IsDeviceFailure (D.state device.old) (D.state device.new) e) }
+    ensures calls { (D.state device.new).calls + 1 ≤ (D.state device.old).calls + maxlen }
     ensures shape { (D.state device.new).shape ≡ (D.state device.old).shape }
     ensures honest { D.honest device.new → D.honest device.old }
 {

@@ -4,7 +4,7 @@ ghost use Rattle.journal_model.specs.declared.number.Area.TheVariants.{Log as Lo
 ghost use Rattle.journal_model.specs.Disk.{reading};
 ghost use Rattle.log_model.specs.Opening.{greatest_number, layout_of, ring_of};
 ghost use Rattle.block_device.specs.Call.{OnlyReads};
-ghost use Rattle.block_device.specs.State.{IsDeviceFailure};
+ghost use Rattle.block_device.specs.State.{IsDeviceFailure, IsFailure, MakesAtMostOneCall};
 ghost use Rattle.log_format.specs.Accepted.{IsAccepted};
 ghost use Rattle.log_scan.specs.Finding.{most_bytes};
 ghost use Rattle.log_scan.specs.Scanning.{IsWithinRing};
@@ -12,9 +12,9 @@ ghost use Rattle.log_epochs.specs.OpeningSteps.{Found};
 ghost use Rattle.recovery.specs.Opening.{HasTransactions, IsExamined, IsExaminedOn, IsLowestAhead, IsReadingRefused, IsTestRefused, IsTested, IsWellRead, NoneAhead, OpeningRefused};
 
 use crate::gathering::{Tables, gather};
-use block_device::{Device, read_block};
+use block_device::Device;
 use journal_model::layout::GREATEST_NUMBER;
-use journal_model::{Area, JournalError};
+use journal_model::{Area, Block, JournalError};
 use log_format::Super;
 use log_scan::{BlockBuffer, Finder, Log, scan};
 use std::alloc::Global;
@@ -70,6 +70,7 @@ pub fn read_super<D: Device>(
     ensures well { IfOk result (λ r. IsWellRead (D.state device.old).shape r.0 r.1) }
     ensures read { IfOk result (λ r. D.honest device.new → r.0 ≡ reading (D.state device.old).disk LogArea 0) }
     ensures faults { MatchResult result (λ _. (D.state device.new).faults ≡ (D.state device.old).faults) (IsReadingRefused (D.honest device.new) (D.state device.old) (D.state device.new)) }
+    ensures calls { MakesAtMostOneCall (D.state device.old) (D.state device.new) }
     ensures device { OnlyReads D.state D.honest device.old device.new }
 {
     if device.block_size() > BlockBuffer::MOST_BYTES {
@@ -86,9 +87,10 @@ fn refusal_of_large<D: Device>(alloc: Global, device: &mut D) -> JournalError
     requires some { 0 < (D.state device.old).shape.log_blocks }
     requires large { most_bytes < (D.state device.old).shape.block_size }
     ensures refused { IsReadingRefused (D.honest device.new) (D.state device.old) (D.state device.new) result }
+    ensures calls { MakesAtMostOneCall (D.state device.old) (D.state device.new) }
     ensures device { OnlyReads D.state D.honest device.old device.new }
 {
-    let block = match read_block(alloc, device, Area::Log, 0) {
+    let block = match read_large(alloc, device) {
         Ok(block) => block,
         Err(e) => return e,
     };
@@ -97,6 +99,24 @@ fn refusal_of_large<D: Device>(alloc: Global, device: &mut D) -> JournalError
         Ok(_) => JournalError::BadBlockSize,
         Err(e) => e,
     }
+}
+
+/// Block 0, in memory, by one call.
+///
+/// # Errors
+///
+/// `Device`: the read failed. `Memory`: nothing was read.
+fn read_large<D: Device>(alloc: Global, device: &mut D) -> Result<Block, JournalError>
+    requires { 0 < (D.state device.old).shape.log_blocks }
+    ensures bytes { IfOk result (λ block. D.honest device.new → block ≡ reading (D.state device.old).disk LogArea 0) }
+    ensures size { IfOk result (λ block. length block ≡ (D.state device.old).shape.block_size) }
+    ensures faults { MatchResult result (λ _. (D.state device.new).faults ≡ (D.state device.old).faults) (IsFailure (D.state device.old) (D.state device.new)) }
+    ensures calls { MakesAtMostOneCall (D.state device.old) (D.state device.new) }
+    ensures device { OnlyReads D.state D.honest device.old device.new }
+{
+    let mut bytes = vec![in alloc; 0; device.block_size()]?;
+    device.read(Area::Log, 0, &mut bytes)?;
+    Ok(Block::new(bytes)?)
 }
 
 /// How many complete transactions a log has, where nothing that stands in its ring is refused. It takes no memory.

@@ -103,10 +103,10 @@ pub fn open<D: Device>(alloc: Global, device: D) -> Result<Opened<D>, (D, Journa
     }
     let mut device = device;
     match recover(alloc, &mut device) {
-        Ok((superblock, next, report)) => Ok(Opened {
+        Ok((superblock, number, report)) => Ok(Opened {
             device,
             superblock,
-            next,
+            next: Tid(number),
             report,
         }),
         Err(e) => Err((device, e)),
@@ -227,7 +227,7 @@ pub fn number_from(limit: u64) -> u32
 
 /// Reads the log, replays it and leaves it clean. The answer is block 0, the number of the next transaction and what was
 /// found.
-fn recover<D: Device>(alloc: Global, device: &mut D) -> Result<(Vec<u8>, Tid, Report), JournalError>
+fn recover<D: Device>(alloc: Global, device: &mut D) -> Result<(Vec<u8>, u32, Report), JournalError>
     requires some { 0 < (D.state device.old).shape.log_blocks }
     ensures named { IfOk result (λ r. IsNextNamed (D.state device.new).shape r.0.items r.1) }
     ensures done { IfOk result (λ r. D.honest device.new → IsDoneWith (D.state device.old) (D.state device.new) r.0.items r.1) }
@@ -254,11 +254,11 @@ fn recover<D: Device>(alloc: Global, device: &mut D) -> Result<(Vec<u8>, Tid, Re
         transactions,
     };
     if report.clean {
-        return Ok((superblock, Tid(next), report));
+        return Ok((superblock, next, report));
     }
     let mut finder = finder;
     let mut superblock = superblock;
     replay(device, &log, transactions, &tables, &mut finder)?;
     clean_log(device, &mut superblock, next)?;
-    Ok((superblock, Tid(next), report))
+    Ok((superblock, next, report))
 }

@@ -1,5 +1,5 @@
 //! Upgrading an empty log: its block numbers get 64 bits.
-ghost use Rattle.std.specs.Prelude.{◌≡◌, ◌≢◌, ◌<◌, ℕ, List, length, IfErr, IfOk, MatchResult, OnErr, OnOk};
+ghost use Rattle.std.specs.Prelude.{◌≡◌, ◌≢◌, ◌+◌, ◌<◌, ◌≤◌, ℕ, List, length, IfErr, IfOk, MatchResult, OnErr, OnOk};
 ghost use Rattle.journal_model.specs.declared.refusal.JournalError.TheVariants.{BadLength};
 ghost use Rattle.log_model.specs.Superblock.{super_in, wide_features, widened};
 ghost use Rattle.block_device.specs.State.{EachMoment, IsDeviceFailure};
@@ -17,8 +17,8 @@ use std::alloc::Global;
 
 /// Gives an empty log block numbers of 64 bits: its superblock gets their feature, and every other byte of it stays. The answer is
 /// the log's s_sequence. Nothing is read but block 0, and home isn't touched. The calls that it makes are those of `upgrade_calls`
-/// (`specs/Upgrade.antt`): a flush of the log, one write of the superblock, a flush of the log. From the first flush on, whatever a
-/// stop leaves opens to the same transactions, and the next one has the same number.
+/// (`specs/Upgrade.antt`): a flush of the log, one write of the superblock, a flush of the log; with the read there is no other call.
+/// From the first flush on, whatever a stop leaves opens to the same transactions, and the next one has the same number.
 ///
 /// # Errors
 ///
@@ -38,6 +38,7 @@ pub fn upgrade<D: Device>(alloc: Global, device: &mut D) -> Result<u32, JournalE
         (λ _. 0 < (D.state device.old).shape.log_blocks)
         (λ e. (D.state device.old).shape.log_blocks ≡ 0 → (device.new ≡ device.old) × (e ≡ BadLength)) }
     ensures no_fault { OnOk result ((D.state device.new).faults ≡ (D.state device.old).faults) }
+    ensures calls { (D.state device.new).calls ≤ (D.state device.old).calls + 4 }
     ensures shape { (D.state device.new).shape ≡ (D.state device.old).shape }
     ensures honest { D.honest device.new → D.honest device.old }
 {
@@ -77,6 +78,7 @@ fn write_widened<D: Device>(
     ensures made { OnOk result (HasMade (upgrade_calls superblock.old) (D.state device.old) (D.state device.new)) }
     ensures begun { OnErr result (HasBegun (upgrade_calls superblock.old) (D.state device.old) (D.state device.new)) }
     ensures faults { MatchResult result (λ _. (D.state device.new).faults ≡ (D.state device.old).faults) (IsDeviceFailure (D.state device.old) (D.state device.new)) }
+    ensures calls { (D.state device.new).calls ≤ (D.state device.old).calls + 3 }
     ensures shape { (D.state device.new).shape ≡ (D.state device.old).shape }
     ensures honest { D.honest device.new → D.honest device.old }
 {

@@ -4,6 +4,11 @@ use Rattle.std.proofs.lemmas.Result.{err_from_is_err_and}
 use Rattle.group_commit.specs.Close.{CloseRefused, HasSealed}
 use Rattle.group_commit.proofs.Finishing.{last-refused, none-sealed, sealed-refused, way-on, wrong-refused}
 use Rattle.group_commit.proofs.Leading.{comes-nowhere}
+use Rattle.journal_steps.specs.Values.{JournalValue}
+use Rattle.group_commit.specs.Calls.{CallsForTurns}
+use Rattle.group_commit.specs.During.{HoldsDuringTurns}
+use Rattle.group_commit.proofs.OwnCalls.{calls-after, same-calls}
+use Rattle.group_commit.proofs.TurnMoments.{each-rounds, each-sealed, each-still}
 use Rattle.group_commit.proofs.close.finish.Goals as goal
 use Rattle.group_commit.proofs.close.finish.Goals.{then-has_joined+in_ok-seal_last, else-has_joined+in_ok-finish_commit}
 
@@ -59,3 +64,41 @@ returns-clause-path g c =
           (none-sealed g.D.Device.state _ _ w.in_ok-finish_commit.ensures.ok (λ some. true≢false (sym (c.has_joined.ensures.1 some) ∙ w.if-has_joined.false)))
     ] in
     way-on g.D.Device.state c.release_all.result _ _ _ has.path c.release_all.ensures.ok c.release_all.ensures.err
+
+-- the calls: none where the device had failed
+pub returns-then-is_aborted-clause-calls : goal.returns-then-is_aborted-clause-calls
+returns-then-is_aborted-clause-calls g c = same-calls g.D.Device.state _ _ refl
+
+pub returns-then-is_aborted-clause-moments : goal.returns-then-is_aborted-clause-moments
+returns-then-is_aborted-clause-moments g c = λ honest. each-still g.D.Device.state _ (c.recall_invariant.ensures.opens honest)
+
+-- else those of both steps
+pub returns-clause-calls : goal.returns-clause-calls
+returns-clause-calls g c =
+    let old = c.args.journal.now in
+    let calls : CallsForTurns g.D.Device.state old c.if-has_joined.journal =
+    elim c.if-has_joined.branch [
+      | then-has_joined+in_ok-seal_last w ↦ subst (CallsForTurns g.D.Device.state old) (sym w.journal-is) w.seal_last.ensures.calls
+      | else-has_joined+in_ok-finish_commit w ↦ subst (CallsForTurns g.D.Device.state old) (sym w.journal-is) w.finish_commit.ensures.calls
+    ] in
+    calls-after g.D.Device.state _ _ _ calls c.release_all.ensures.calls
+
+-- and their moments
+pub returns-clause-moments : goal.returns-clause-moments
+returns-clause-moments g c = λ honest.
+    let old = c.args.journal.now in
+    let has : HasSealed g.D.Device.state old c.if-has_joined.journal =
+    elim c.if-has_joined.branch [
+      | then-has_joined+in_ok-seal_last w ↦ subst (HasSealed g.D.Device.state old) (sym w.journal-is) w.in_ok-seal_last.ensures.ok
+      | else-has_joined+in_ok-finish_commit w ↦
+          subst (HasSealed g.D.Device.state old) (sym w.journal-is)
+          (none-sealed g.D.Device.state _ _ w.in_ok-finish_commit.ensures.ok (λ some. true≢false (sym (c.has_joined.ensures.1 some) ∙ w.if-has_joined.false)))
+    ] in
+    let first : g.D.Device.honest c.if-has_joined.journal.device → HoldsDuringTurns g.D.Device.state old c.if-has_joined.journal =
+    elim c.if-has_joined.branch [
+      | then-has_joined+in_ok-seal_last w ↦
+          subst (λ (v : JournalValue g.row.D.Denot). g.D.Device.honest v.device → HoldsDuringTurns g.D.Device.state old v) (sym w.journal-is) w.seal_last.ensures.moments
+      | else-has_joined+in_ok-finish_commit w ↦
+          subst (λ (v : JournalValue g.row.D.Denot). g.D.Device.honest v.device → HoldsDuringTurns g.D.Device.state old v) (sym w.journal-is) w.finish_commit.ensures.moments
+    ] in
+    each-sealed g.D.Device.state _ _ _ has (first (c.release_all.ensures.honest honest)) (each-rounds g.D.Device.state _ _ (c.release_all.ensures.moments honest))

@@ -3,6 +3,8 @@ use Rattle.group_commit.proofs.Finishing.{room-made, went-on, wrong-on}
 use Rattle.std.proofs.Common.{sym, ◌∙◌}
 use Rattle.std.proofs.lemmas.Bool.{true≢false}
 use Rattle.group_commit.proofs.NoRounds.{room-there, room-wanted}
+use Rattle.group_commit.proofs.OwnCalls.{calls-after}
+use Rattle.group_commit.proofs.TurnMoments.{each-rounds, each-went}
 use Rattle.group_commit.proofs.close.make_room.Goals as goal
 
 -- the device failed in the commit that was under way
@@ -34,3 +36,13 @@ pub returns-clause-rounds : goal.returns-clause-rounds
 returns-clause-rounds g c =
     room-wanted g.D.Device.state c.release_all.result _ _ _ c.in_ok-finish_commit.ensures.ok c.in_ok-finish_commit.ensures.idle
     c.in_ok-finish_commit.ensures.rounds (λ has. true≢false (sym (c.has_room.ensures.1 has) ∙ c.if-has_room.false))
+
+-- the calls are those of both
+pub returns-clause-calls : goal.returns-clause-calls
+returns-clause-calls g c = calls-after g.D.Device.state _ _ _ c.finish_commit.ensures.calls c.release_all.ensures.calls
+
+-- and so are the moments
+pub returns-clause-moments : goal.returns-clause-moments
+returns-clause-moments g c = λ honest.
+    each-went g.D.Device.state _ _ _ c.in_ok-finish_commit.ensures.ok.on (c.finish_commit.ensures.moments (c.release_all.ensures.honest honest))
+    (each-rounds g.D.Device.state _ _ (c.release_all.ensures.moments honest))

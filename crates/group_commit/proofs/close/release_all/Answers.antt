@@ -1,7 +1,21 @@
-use Rattle.std.proofs.Common.{◌∙◌}
+use Rattle.std.proofs.Common.{refl, ◌∙◌}
 use Rattle.std.proofs.lemmas.Result.{err_from_is_err_and}
-use Rattle.group_commit.proofs.Finishing.{check-went, check-wrong, went-went, went-wrong}
+use Rattle.group_commit.proofs.Finishing.{check-went, check-wrong, went-nowhere, went-went, went-wrong}
+use Rattle.group_commit.proofs.OwnCalls.{calls-after, check-calls, refused_check-calls, same-calls}
+use Rattle.group_commit.proofs.TurnMoments.{rounds-on, rounds-still}
 use Rattle.group_commit.proofs.close.release_all.Goals as goal
+
+-- before the first step
+pub loop-journal-init : goal.loop-journal-init
+loop-journal-init g c = record {
+  went = went-nowhere g.D.Device.state _ c.requires;
+  stage = refl;
+  committed = refl;
+  front = refl;
+  calls = same-calls g.D.Device.state _ _ refl;
+  each = λ honest. rounds-still g.D.Device.state _ (c.recall_invariant.ensures.opens honest);
+  honest = λ honest. honest;
+}
 
 -- the step that was refused has failed
 pub returns-in_err-checkpoint_turn-clause-err : goal.returns-in_err-checkpoint_turn-clause-err
@@ -22,6 +36,21 @@ returns-in_err-checkpoint_turn-clause-committed g c =
     let wrong = check-wrong g.D.Device.state _ _ _ c.loop-journal.invariant.went.running c.in_err-checkpoint_turn.ensures.err c.checkpoint_turn.ensures.device.shape in
     wrong.3 ∙ c.loop-journal.invariant.committed
 
+-- with one call more
+pub returns-in_err-checkpoint_turn-clause-calls : goal.returns-in_err-checkpoint_turn-clause-calls
+returns-in_err-checkpoint_turn-clause-calls g c =
+    let before = c.loop-journal.invariant in
+    calls-after g.D.Device.state _ _ _ before.calls
+    (refused_check-calls g.D.Device.state _ _ _ before.went.running c.in_err-checkpoint_turn.ensures.err c.checkpoint_turn.ensures.device.calls)
+
+-- and what holds at its moments
+pub returns-in_err-checkpoint_turn-clause-moments : goal.returns-in_err-checkpoint_turn-clause-moments
+returns-in_err-checkpoint_turn-clause-moments g c = λ honest.
+    let before = c.loop-journal.invariant in
+    let was = c.checkpoint_turn.ensures.device.honest honest in
+    rounds-on g.D.Device.state _ _ _ before.went.on before.front before.committed c.recall_invariant-in-loop-journal.ensures.agrees (before.each was)
+    (c.checkpoint_turn.ensures.device.moments was)
+
 -- a step that was made keeps it
 pub loop-journal-preserved : goal.loop-journal-preserved
 loop-journal-preserved g c =
@@ -33,5 +62,12 @@ loop-journal-preserved g c =
       stage = step.1 ∙ before.stage;
       committed = step.2 ∙ before.committed;
       front = step.3 ∙ before.front;
+      calls =
+          calls-after g.D.Device.state _ _ _ before.calls
+          (check-calls g.D.Device.state _ _ _ c.in_ok-checkpoint_turn.ensures.ok c.in_ok-checkpoint_turn.ensures.idle c.checkpoint_turn.ensures.device.calls);
+      each = λ honest.
+          let was = c.checkpoint_turn.ensures.device.honest honest in
+          rounds-on g.D.Device.state _ _ _ before.went.on before.front before.committed c.recall_invariant-in-loop-journal.ensures.agrees (before.each was)
+          (c.checkpoint_turn.ensures.device.moments was);
       honest = λ honest. before.honest (c.checkpoint_turn.ensures.device.honest honest);
     }

@@ -1,6 +1,8 @@
 use Rattle.std.proofs.Common.{◌≡◌}
 use Rattle.log_engine.specs.Left.{round_calls}
+use Rattle.group_commit.specs.Calls.{CallsForTurns}
 use Rattle.group_commit.specs.Close.{Went}
+use Rattle.group_commit.specs.During.{HoldsDuringRounds}
 use Rattle.group_commit.proofs.close.release_all.Given as goal
 
 -- steps of rounds were made, and none has failed; they leave the commit and the front
@@ -10,6 +12,8 @@ invariant-loop-journal g l = record {
   stage : l.journal.journal.engine.stage ≡ l.fn.journal.journal.engine.stage;
   committed : l.journal.journal.engine.committed ≡ l.fn.journal.journal.engine.committed;
   front : l.journal.journal.front ≡ l.fn.journal.journal.front;
+  calls : CallsForTurns g.D.Device.state l.fn.journal l.journal;
+  each : g.D.Device.honest l.journal.device → HoldsDuringRounds g.D.Device.state l.fn.journal l.journal;
   honest : g.D.Device.honest l.journal.device → g.D.Device.honest l.fn.journal.device;
 }
 

@@ -8,6 +8,10 @@ use Rattle.group_commit.proofs.Finishing.{last-failed, last-uncommitted, same-ru
 use Rattle.group_commit.specs.Rounds.{MakesRoomAlone}
 use Rattle.group_commit.proofs.Leading.{comes-same}
 use Rattle.group_commit.proofs.NoRounds.{seal-rounds, sealed-rounds}
+use Rattle.group_commit.specs.Calls.{CallsForTurns}
+use Rattle.group_commit.specs.During.{HoldsDuringTurns}
+use Rattle.group_commit.proofs.OwnCalls.{calls-after, no-calls, same-calls, seal-calls}
+use Rattle.group_commit.proofs.TurnMoments.{each-device, each-same, each-sealed}
 use Rattle.group_commit.proofs.close.seal_last.Goals as goal
 
 -- memory ran out before anything was done
@@ -85,3 +89,55 @@ pub returns-clause-rounds : goal.returns-clause-rounds
 returns-clause-rounds g c =
     let room = subst (λ (v : JournalValue g.row.D.Denot). MakesRoomAlone g.D.Device.state v c.make_room.new.journal) c.ready_batch.ensures.same c.in_ok-make_room.ensures.rounds in
     sealed-rounds g.D.Device.state c.finish_commit.result _ c.make_room.new.journal c.seal_running.new.self _ room (seal-rounds g.D.Device.state c.make_room.new.journal c.seal_running.new.self c.in_ok-seal_running.ensures.ok) c.finish_commit.ensures.rounds
+
+-- the calls: none where memory ran out
+pub returns-in_err-batch-clause-calls : goal.returns-in_err-batch-clause-calls
+returns-in_err-batch-clause-calls g c = same-calls g.D.Device.state _ _ c.ready_batch.ensures.same
+
+-- those that make room
+pub returns-in_err-make_room-clause-calls : goal.returns-in_err-make_room-clause-calls
+returns-in_err-make_room-clause-calls g c =
+    subst (λ (v : JournalValue g.row.D.Denot). CallsForTurns g.D.Device.state v c.make_room.new.journal) c.ready_batch.ensures.same c.make_room.ensures.calls
+
+-- the seal that was refused makes none
+pub returns-in_err-seal_running-clause-calls : goal.returns-in_err-seal_running-clause-calls
+returns-in_err-seal_running-clause-calls g c =
+    calls-after g.D.Device.state _ _ _
+    (subst (λ (v : JournalValue g.row.D.Denot). CallsForTurns g.D.Device.state v c.make_room.new.journal) c.ready_batch.ensures.same c.make_room.ensures.calls)
+    (no-calls g.D.Device.state _ _ (ap (λ (v : JournalValue g.row.D.Denot). v.journal.engine) c.in_err-seal_running.ensures.err.1) c.seal_running.ensures.device)
+
+-- and after the seal those of its commit
+pub returns-clause-calls : goal.returns-clause-calls
+returns-clause-calls g c =
+    calls-after g.D.Device.state _ _ _
+    (calls-after g.D.Device.state _ _ _
+    (subst (λ (v : JournalValue g.row.D.Denot). CallsForTurns g.D.Device.state v c.make_room.new.journal) c.ready_batch.ensures.same c.make_room.ensures.calls)
+    (seal-calls g.D.Device.state _ _ c.in_ok-seal_running.ensures.ok c.seal_running.ensures.device))
+    c.finish_commit.ensures.calls
+
+-- so it is with the moments
+pub returns-in_err-batch-clause-moments : goal.returns-in_err-batch-clause-moments
+returns-in_err-batch-clause-moments g c = λ honest.
+    let device = ap (λ (v : JournalValue g.row.D.Denot). v.device) c.ready_batch.ensures.same in
+    each-same g.D.Device.state _ _ device (c.recall_invariant.ensures.opens (subst g.D.Device.honest device honest))
+
+pub returns-in_err-make_room-clause-moments : goal.returns-in_err-make_room-clause-moments
+returns-in_err-make_room-clause-moments g c = λ honest.
+    subst (λ (v : JournalValue g.row.D.Denot). HoldsDuringTurns g.D.Device.state v c.make_room.new.journal) c.ready_batch.ensures.same (c.make_room.ensures.moments honest)
+
+pub returns-in_err-seal_running-clause-moments : goal.returns-in_err-seal_running-clause-moments
+returns-in_err-seal_running-clause-moments g c = λ honest.
+    each-device g.D.Device.state _ _ _ c.seal_running.ensures.device
+    (subst (λ (v : JournalValue g.row.D.Denot). HoldsDuringTurns g.D.Device.state v c.make_room.new.journal) c.ready_batch.ensures.same
+    (c.make_room.ensures.moments (subst g.D.Device.honest c.seal_running.ensures.device honest)))
+
+pub returns-clause-moments : goal.returns-clause-moments
+returns-clause-moments g c = λ honest.
+    let went = went-from g.D.Device.state c.args.journal.now _ _ c.ready_batch.ensures.same c.in_ok-make_room.ensures.ok in
+    let joined = subst (λ (t : Transaction). 0 < length t.handles) (sym (same-running g.D.Device.state _ _ went.on)) c.requires.joined in
+    let has = seal-done g.D.Device.state _ _ _ went c.seal_running.ensures.told joined c.in_ok-seal_running.ensures.ok c.seal_running.ensures.device in
+    each-sealed g.D.Device.state _ _ _ has
+    (each-device g.D.Device.state _ _ _ c.seal_running.ensures.device
+    (subst (λ (v : JournalValue g.row.D.Denot). HoldsDuringTurns g.D.Device.state v c.make_room.new.journal) c.ready_batch.ensures.same
+    (c.make_room.ensures.moments (subst g.D.Device.honest c.seal_running.ensures.device (c.finish_commit.ensures.honest honest)))))
+    (c.finish_commit.ensures.moments honest)

@@ -59,3 +59,7 @@ returns-in-Done-clause-ok g c =
     let new = c.checkpoint_step.new.self in
     let told = λ (p : Progress). RoundDid p old.engine (g.D.Device.state old.device).disk new.engine (g.D.Device.state new.device).disk in
     (done-check g.D.Device.state c.args.front.now _ _ _ _ _ (subst told c.in-Done.is c.in-Ok.ensures.ok))
+
+-- where nothing is due the device is not called
+pub returns-in-Idle-clause-idle : goal.returns-in-Idle-clause-idle
+returns-in-Idle-clause-idle g c = λ is. c.in-Ok.ensures.idle c.in-Idle.is

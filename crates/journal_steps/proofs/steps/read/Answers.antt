@@ -1,13 +1,16 @@
-use Rattle.std.proofs.Common.{◌≡◌, ℕ, List, Some, ap, refl, sym, ◌∙◌, length}
+use Rattle.std.proofs.Common.{◌≡◌, ℕ, List, Some, ap, refl, subst, sym, ◌∙◌, length}
 use Rattle.std.proofs.lemmas.List.{with_items_is}
 use Rattle.std.proofs.lemmas.Result.{err_from_is_err_and}
 use Rattle.journal_model.specs.declared.entry.Entry.TheVariants.{Copy, Revoke}
 use Rattle.journal_model.specs.Disk.{Shape}
 use Rattle.journal_model.specs.Layout.{Layout}
-use Rattle.journal_world.specs.Front.{Front, aborting}
+use Rattle.journal_model.specs.Record.{IsLegal}
+use Rattle.journal_world.specs.Front.{Front, aborting, transactions}
 use Rattle.journal_world.specs.Journal.{Journal}
 use Rattle.log_engine.specs.Engine.{EngineValue}
 use Rattle.journal_steps.specs.Journal.{ReadRefused}
+use Rattle.journal_steps.specs.Values.{together}
+use Rattle.journal_steps.proofs.LegalSteps.{noted-legal}
 use Rattle.journal_steps.proofs.Noting.{noted-agrees, noted-does, noted-notes, noted-refused, noted-sealed, unheld}
 use Rattle.journal_steps.proofs.Reading.{kept-pending, kept-whole, seen-kept, seen-read}
 use Rattle.journal_steps.proofs.Rounding.{agrees-read_refused, opens-read, opens-unread, refused-read}
@@ -186,3 +189,24 @@ returns-clause-opens g c =
     c.note-2.new.into c.args.into.now c.note-2.result c.in_ok-admit.ensures.ok c.requires.agrees whole c.in_default-read.ensures.ok.1 noted unnoted in
     λ honest. opens-read c.args.front.now c.note-2.new.front c.args.engine.now.engine c.read.new.self.engine _ _ sealed c.in_default-read.ensures.ok.1 c.read.ensures.device.stays.disk
     (opens-now _ _ c.requires.agrees (c.recall_invariant.ensures.opens honest))
+
+-- a record that was legal stays so
+pub returns-in-Some-clause-legal : goal.returns-in-Some-clause-legal
+returns-in-Some-clause-legal g c = λ legal.
+    noted-legal g.D.Device.state g.D.Device.honest (together c.args.front.now c.args.engine.now) (together c.note.new.front c.args.engine.now) (λ honest. honest)
+    legal c.note.result c.args.handle.now.number c.args.block c.note.new.into c.args.into.now (returns-in-Some-clause-ok g c) c.note.ensures.err
+
+pub returns-in_err-new-clause-legal : goal.returns-in_err-new-clause-legal
+returns-in_err-new-clause-legal g c = λ legal honest.
+    subst (λ (f : Front). IsLegal (transactions f)) (sym c.room_for_read.ensures.same) (legal (c.read.ensures.device.honest honest))
+
+pub returns-in-Err-clause-legal : goal.returns-in-Err-clause-legal
+returns-in-Err-clause-legal g c = λ legal honest.
+    let told = c.abort.ensures ∙ ap (λ (f : Front). aborting f) c.room_for_read.ensures.same in
+    subst (λ (f : Front). IsLegal (transactions f)) (sym told) (legal (c.read.ensures.device.honest honest))
+
+pub returns-clause-legal : goal.returns-clause-legal
+returns-clause-legal g c = λ legal.
+    noted-legal g.D.Device.state g.D.Device.honest (together c.args.front.now c.args.engine.now) (together c.note-2.new.front c.read.new.self)
+    c.read.ensures.device.honest legal c.note-2.result c.args.handle.now.number c.args.block c.note-2.new.into c.args.into.now (returns-clause-ok g c)
+    (rw c.room_for_read.ensures.same at c.note-2.ensures.err)

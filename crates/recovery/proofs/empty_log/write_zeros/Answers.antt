@@ -1,6 +1,7 @@
 use Rattle.std.proofs.Common.{◌≡◌, ◌∙◌, arith, refl, subst}
 use Rattle.std.specs.Prelude.{ℕ}
 use Rattle.recovery.specs.Opening.{HasZeros}
+use Rattle.recovery.proofs.Counting.{one-call}
 use Rattle.recovery.proofs.MakingMoments.{zeroing-none, zeroing-write}
 use Rattle.recovery.proofs.Zeroed.{zeros-more, zeros-none}
 use Rattle.recovery.proofs.empty_log.write_zeros.Goals as goal
@@ -13,6 +14,7 @@ loop-n-init g c = (
   refl,
   λ honest. honest,
   zeroing-none c.args.zeros.now c.args.maxlen (g.D.Device.state c.args.device.now),
+  omega arith,
 )
 
 -- one more block is zeros
@@ -25,6 +27,9 @@ loop-n-preserved g c = (
   λ honest. c.loop-n.invariant.3 (c.write.ensures.honest honest),
   zeroing-write c.args.zeros.now c.args.maxlen c.loop-n.n (g.D.Device.state c.args.device.now) (g.D.Device.state c.loop-n.device) (g.D.Device.state c.write.new.self)
       (omega arith) (omega arith) c.loop-n.invariant.4 c.write.ensures.writes,
+  (let before = c.loop-n.invariant.5 in
+      let one = one-call (g.D.Device.state c.loop-n.device) (g.D.Device.state c.write.new.self) c.write.ensures.calls in
+      omega arith),
 )
 
 -- all are

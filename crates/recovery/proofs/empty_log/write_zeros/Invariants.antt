@@ -1,4 +1,4 @@
-use Rattle.std.proofs.Common.{◌≡◌}
+use Rattle.std.proofs.Common.{◌≡◌, ◌+◌, ◌≤◌}
 use Rattle.block_device.specs.State.{EachMoment}
 use Rattle.recovery.specs.Making.{IsZeroingMoment}
 use Rattle.recovery.specs.Opening.{HasZeros}
@@ -12,3 +12,4 @@ invariant-loop-n g l =
     × ((g.D.Device.state l.device).faults ≡ (g.D.Device.state l.fn.device).faults)
     × (g.D.Device.honest l.device → g.D.Device.honest l.fn.device)
     × EachMoment (IsZeroingMoment l.zeros l.fn.maxlen (g.D.Device.state l.fn.device).disk) (g.D.Device.state l.fn.device) (g.D.Device.state l.device)
+    × ((g.D.Device.state l.device).calls + 1 ≤ (g.D.Device.state l.fn.device).calls + l.n)

@@ -12,7 +12,7 @@ returns-clause-refused g c =
     let refused =
     tested-for shape (length c.bytes.result.now) c.blocks-2.result c.bytes.result.now (Some c.in-Err-read.e)
     (ap length c.bytes.ensures ∙ c.in-Ok.ensures.size)
-    (c.blocks-2.ensures ∙ ap (λ (s : Shape). s.log_blocks) c.read_block.ensures.device.stays.shape) (c.in-Err-read.ensures.tests shape.home_blocks) in
+    (c.blocks-2.ensures ∙ ap (λ (s : Shape). s.log_blocks) c.read_large.ensures.device.stays.shape) (c.in-Err-read.ensures.tests shape.home_blocks) in
     inr (inr (
       refused-listed shape c.bytes.result.now c.in-Err-read.e refused,
       c.in-Ok.ensures.faults,

@@ -8,7 +8,7 @@ pub invariant_of-result : goal.invariant_of-result
 invariant_of-result g c = (
   c.in-Ok.ensures.named,
   λ honest.
-      done-log (g.D.Device.state c.args.device) (g.D.Device.state c.recover.new.device) c.in-Ok.superblock.items c.in-Ok.next
+      done-log (g.D.Device.state c.args.device) (g.D.Device.state c.recover.new.device) c.in-Ok.superblock.items c.in-Ok.number
       (c.in-Ok.ensures.done honest),
 )
 
@@ -20,17 +20,17 @@ returns-then-blocks-eq0-clause-refused g c =
 -- it is a whole opening
 pub returns-in-Ok-clause-opened : goal.returns-in-Ok-clause-opened
 returns-in-Ok-clause-opened g c = λ honest.
-    done-opening (g.D.Device.state c.args.device) (g.D.Device.state c.recover.new.device) c.in-Ok.superblock.items c.in-Ok.next (c.in-Ok.ensures.done honest)
+    done-opening (g.D.Device.state c.args.device) (g.D.Device.state c.recover.new.device) c.in-Ok.superblock.items c.in-Ok.number (c.in-Ok.ensures.done honest)
 
 -- and a run of the machine
 pub returns-in-Ok-clause-run : goal.returns-in-Ok-clause-run
 returns-in-Ok-clause-run g c = λ honest.
-    done-leads (g.D.Device.state c.args.device) (g.D.Device.state c.recover.new.device) c.in-Ok.superblock.items c.in-Ok.next (c.in-Ok.ensures.done honest)
+    done-leads (g.D.Device.state c.args.device) (g.D.Device.state c.recover.new.device) c.in-Ok.superblock.items c.in-Ok.number (c.in-Ok.ensures.done honest)
 
 -- each of its moments is the machine's
 pub returns-in-Ok-clause-moments : goal.returns-in-Ok-clause-moments
 returns-in-Ok-clause-moments g c = λ honest.
-    done-moments (g.D.Device.state c.args.device) (g.D.Device.state c.recover.new.device) c.in-Ok.superblock.items c.in-Ok.next (c.in-Ok.ensures.done honest)
+    done-moments (g.D.Device.state c.args.device) (g.D.Device.state c.recover.new.device) c.in-Ok.superblock.items c.in-Ok.number (c.in-Ok.ensures.done honest)
 
 -- and each of one that failed
 pub returns-in-Err-clause-moments : goal.returns-in-Err-clause-moments

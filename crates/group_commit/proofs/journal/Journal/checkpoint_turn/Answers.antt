@@ -10,3 +10,7 @@ returns-clause-device g c = rw (← c.self.view_is) c.checkpoint_turn.ensures.de
 pub invariant_of-self : goal.invariant_of-self
 invariant_of-self g c =
     (c.checkpoint_turn.ensures.agrees, check-legal g.D.Device.state g.D.Device.honest (together c.self.inside.front c.self.inside.engine) (together c.checkpoint_turn.new.front c.checkpoint_turn.new.engine) c.checkpoint_turn.ensures.device.honest c.self.invariant.1 c.checkpoint_turn.result c.checkpoint_turn.ensures.ok c.checkpoint_turn.ensures.err)
+
+-- where nothing is due it calls none
+pub returns-clause-idle : goal.returns-clause-idle
+returns-clause-idle g c = rw (← c.self.view_is) c.checkpoint_turn.ensures.idle

@@ -1,12 +1,15 @@
-use Rattle.std.proofs.Common.{subst, ◌≡◌, length, IfOk, MatchResult}
+use Rattle.std.proofs.Common.{ap, arith, subst, sym, ◌≡◌, ◌+◌, ◌≤◌, length, IfOk, MatchResult}
 use Rattle.journal_model.specs.declared.refusal.JournalError.TheVariants.{Device}
 use Rattle.journal_model.specs.Disk.{Image, Leaves, Shape}
-use Rattle.block_device.specs.State.{one_more_fault}
+use Rattle.block_device.specs.State.{EachMoment, one_more_fault}
 use Rattle.log_epochs.specs.JournalPromise.{IsClosed}
 use Rattle.log_epochs.specs.EngineWorld.Phase.{Shut}
+use Rattle.group_commit.specs.During.{IsDuringTurns}
 use Rattle.group_commit.specs.Close.{CloseDid, CloseRefused, EndsWith}
 use Rattle.journal_steps.specs.Journal.{OpensOver}
 use Rattle.group_commit.proofs.Closed.{both-weaker, did-behind, ends-behind, err-weaker, log-refused, parts-end}
+use Rattle.group_commit.proofs.OwnCalls.{calls-closed}
+use Rattle.group_commit.proofs.TurnMoments.{each-closed}
 use Rattle.group_commit.proofs.journal.Journal.close.Goals as goal
 
 -- the log is clean, and opens to all
@@ -59,3 +62,53 @@ returns-in-Err-clause-moves g c =
 -- what was sealed is legal
 pub returns-in-Err-clause-legal : goal.returns-in-Err-clause-legal
 returns-in-Err-clause-legal g c = λ honest. c.into_parts.ensures.legal (subst g.D.Device.honest c.into_parts.ensures.device honest)
+
+-- the calls: those of the turns, and two
+pub returns-in-Ok-clause-calls : goal.returns-in-Ok-clause-calls
+returns-in-Ok-clause-calls g c =
+    let state = g.D.Device.state in
+    let mid = c.finish.new.journal in
+    calls-closed state c.close_log.result (λ parts. parts.device) (λ e. e.0.device) (λ parts. g.R.Record.transactions parts.sealed)
+    (λ e. g.R.Record.transactions e.0.sealed) (λ parts. parts.committed ≡ length (g.R.Record.transactions parts.sealed)) (λ e. e.1 ≡ Device)
+    (λ e. e.0.committed ≡ mid.journal.engine.committed) (λ e. (state e.0.device).faults ≡ one_more_fault (state mid.device).faults) c.args.self mid
+    c.finish.ensures.calls c.close_log.ensures.ok c.close_log.ensures.err c.close_log.ensures.calls
+
+pub returns-in-Err-clause-calls : goal.returns-in-Err-clause-calls
+returns-in-Err-clause-calls g c =
+    let state = g.D.Device.state in
+    let mid = c.finish.new.journal in
+    let same : (state c.into_parts.result.device).calls ≡ (state mid.device).calls = ap (λ (d : g.row.D.Denot). (state d).calls) c.into_parts.ensures.device in
+    record {
+      last = mid;
+      turns = c.finish.ensures.calls;
+      agrees = c.into_parts.ensures.agrees;
+      sealed_is = c.into_parts.ensures.sealed;
+      two = omega arith;
+    }
+
+-- and the moments of both
+pub returns-in-Ok-clause-moments : goal.returns-in-Ok-clause-moments
+returns-in-Ok-clause-moments g c =
+    let state = g.D.Device.state in
+    let honest = g.D.Device.honest in
+    let old = c.args.self in
+    let mid = c.finish.new.journal in
+    each-closed state honest c.close_log.result (λ parts. parts.device) (λ e. e.0.device) old mid c.in-Ok.ensures.ok c.finish.ensures.measures
+    c.finish.ensures.moments c.close_log.ensures.honest c.close_log.ensures.moments
+
+pub returns-in-Err-clause-moments : goal.returns-in-Err-clause-moments
+returns-in-Err-clause-moments g c = λ honest.
+    let state = g.D.Device.state in
+    let old = c.args.self in
+    subst (λ (d : g.row.D.Denot). EachMoment (IsDuringTurns old.journal (state old.device).disk) (state old.device) (state d)) (sym c.into_parts.ensures.device)
+    (c.finish.ensures.moments (subst g.D.Device.honest c.into_parts.ensures.device honest)).each
+
+-- where reads are honest at the end they were so at first
+pub returns-in-Ok-clause-honest : goal.returns-in-Ok-clause-honest
+returns-in-Ok-clause-honest g c =
+    let honest = g.D.Device.honest in
+    let old = c.args.self in
+    let mid = c.finish.new.journal in
+    both-weaker c.close_log.result (λ parts. honest parts.device → honest mid.device) (λ parts. honest parts.device → honest old.device)
+    (λ e. honest e.0.device → honest mid.device) (λ e. honest e.0.device → honest old.device) (λ parts back now. c.finish.ensures.honest (back now))
+    (λ e back now. c.finish.ensures.honest (back now)) c.close_log.ensures.honest

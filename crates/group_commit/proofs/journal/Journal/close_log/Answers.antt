@@ -8,6 +8,7 @@ use Rattle.group_commit.proofs.Closed.{close-wrong, closed-over, log-closed, log
 use Rattle.group_commit.proofs.Finishing.{all-sealed}
 use Rattle.journal_model.specs.Record.{IsLegal}
 use Rattle.journal_steps.proofs.LegalSteps.{legal-sealed}
+use Rattle.group_commit.proofs.TurnMoments.{each-closing}
 use Rattle.group_commit.proofs.journal.Journal.close_log.Goals as goal
 
 -- the log is clean, and opens to all that was sealed
@@ -113,3 +114,27 @@ returns-in-Ok-clause-legal g c = λ honest.
 pub returns-in-Err-clause-legal : goal.returns-in-Err-clause-legal
 returns-in-Err-clause-legal g c = λ honest.
     subst IsLegal (sym c.into_sealed-sealed.ensures) (legal-sealed c.self.inside.front (c.self.invariant.1 (c.in-Err.ensures.honest honest)))
+
+-- front and engine agree before it, and the calls are the engine's
+pub returns-in-Ok-clause-calls : goal.returns-in-Ok-clause-calls
+returns-in-Ok-clause-calls g c = rw (← c.self.view_is) (c.self.invariant.0, c.in-Ok.ensures.calls)
+
+pub returns-in-Err-clause-calls : goal.returns-in-Err-clause-calls
+returns-in-Err-clause-calls g c = rw (← c.self.view_is) (c.self.invariant.0, c.in-Err.ensures.calls)
+
+-- and so are the moments
+pub returns-in-Ok-clause-moments : goal.returns-in-Ok-clause-moments
+returns-in-Ok-clause-moments g c =
+    let f = c.self.inside.front in
+    let e = c.self.inside.engine.engine in
+    let all = subst (λ (v : JournalValue g.row.D.Denot). IsAllReleased v.journal.engine) (sym c.self.view_is) c.requires.all in
+    let every : e.committed ≡ length f.sealed = all-sealed g.D.Device.state (record { front = f; engine = e }) c.self.invariant.0 c.recall_invariant.ensures.plain all.idle in
+    rw (← c.self.view_is) (λ honest. each-closing f e _ _ c.self.invariant.0 every (c.in-Ok.ensures.moments (c.in-Ok.ensures.honest honest)))
+
+pub returns-in-Err-clause-moments : goal.returns-in-Err-clause-moments
+returns-in-Err-clause-moments g c =
+    let f = c.self.inside.front in
+    let e = c.self.inside.engine.engine in
+    let all = subst (λ (v : JournalValue g.row.D.Denot). IsAllReleased v.journal.engine) (sym c.self.view_is) c.requires.all in
+    let every : e.committed ≡ length f.sealed = all-sealed g.D.Device.state (record { front = f; engine = e }) c.self.invariant.0 c.recall_invariant.ensures.plain all.idle in
+    rw (← c.self.view_is) (λ honest. each-closing f e _ _ c.self.invariant.0 every (c.in-Err.ensures.moments (c.in-Err.ensures.honest honest)))

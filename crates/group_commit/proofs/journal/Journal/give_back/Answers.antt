@@ -10,8 +10,8 @@ returns-clause-gives g c =
 
 -- front and engine agree
 pub invariant_of-self : goal.invariant_of-self
-invariant_of-self g c =
-    (
-    kept-give_back c.self.inside.front c.take_back.new.self c.self.inside.engine.engine c.self.invariant.0 _ c.take_back.ensures.granted
-    c.take_back.ensures.other,
-    λ honest. kept_legal-give_back c.self.inside.front c.take_back.new.self (c.self.invariant.1 honest) _ c.take_back.ensures.granted c.take_back.ensures.other)
+invariant_of-self g c = (
+  kept-give_back c.self.inside.front c.take_back.new.self c.self.inside.engine.engine c.self.invariant.0 _ c.take_back.ensures.granted
+      c.take_back.ensures.other,
+  λ honest. kept_legal-give_back c.self.inside.front c.take_back.new.self (c.self.invariant.1 honest) _ c.take_back.ensures.granted c.take_back.ensures.other,
+)

@@ -15,3 +15,7 @@ returns-clause-opens g c = rw (← c.self.view_is) (λ honest. opens-now _ _ c.s
 -- what was sealed is legal
 pub returns-clause-legal : goal.returns-clause-legal
 returns-clause-legal g c = rw (← c.self.view_is) (λ honest. subst IsLegal (sym c.into_sealed.ensures) (legal-sealed c.self.inside.front (c.self.invariant.1 honest)))
+
+-- front and engine agree
+pub returns-clause-agrees : goal.returns-clause-agrees
+returns-clause-agrees g c = rw (← c.self.view_is) c.self.invariant.0

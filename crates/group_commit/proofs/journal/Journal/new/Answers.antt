@@ -19,13 +19,13 @@ invariant_of-result g c =
     let capacity = c.capacity-credits.result in
     let front =
     c.new-front.ensures ∙ ap₂ (λ (l : Layout) (blocks : ℕ). fresh_front l blocks capacity c.next-next.result) c.layout-layout.ensures.layout c.home_blocks.ensures
-    ∙ ap (fresh_front c.in_ok-engine.engine.engine.layout c.in_ok-engine.engine.engine.shape.home_blocks capacity) c.next-next.ensures.next in
-    (
-    fresh-agrees _ _ _ _ _ engine front
-    (subst (λ (l : Layout). IsCapacity l c.in_ok-engine.engine.engine.ring.blocks c.capacity-credits.result) c.layout-layout.ensures.layout
-    (subst (λ (blocks : ℕ). IsCapacity c.layout-layout.result blocks c.capacity-credits.result) c.ring_blocks.ensures c.capacity-credits.ensures))
-    (subst (λ (n : ℕ). 0 < n) c.next-next.ensures.next c.next-next.ensures.some),
-    λ honest. legal-fresh c.new-front.result 0 (ap (λ (f : Front). f.sealed) c.new-front.ensures) (ap (λ (f : Front). f.running.steps) c.new-front.ensures))
+    ∙ ap (fresh_front c.in_ok-engine.engine.engine.layout c.in_ok-engine.engine.engine.shape.home_blocks capacity) c.next-next.ensures.next in (
+      fresh-agrees _ _ _ _ _ engine front
+          (subst (λ (l : Layout). IsCapacity l c.in_ok-engine.engine.engine.ring.blocks c.capacity-credits.result) c.layout-layout.ensures.layout
+          (subst (λ (blocks : ℕ). IsCapacity c.layout-layout.result blocks c.capacity-credits.result) c.ring_blocks.ensures c.capacity-credits.ensures))
+          (subst (λ (n : ℕ). 0 < n) c.next-next.ensures.next c.next-next.ensures.some),
+      λ honest. legal-fresh c.new-front.result 0 (ap (λ (f : Front). f.sealed) c.new-front.ensures) (ap (λ (f : Front). f.running.steps) c.new-front.ensures),
+    )
 
 -- the journal is fresh
 pub returns-clause-fresh : goal.returns-clause-fresh

@@ -8,8 +8,8 @@ use Rattle.group_commit.proofs.journal.Journal.reserve.Goals as goal
 -- front and engine agree after a reserve, and after one that was refused
 pub invariant_of-self : goal.invariant_of-self
 invariant_of-self g c =
-    let f = c.self.inside.front in
-    (
-    kept-reserve f c.reserve.new.self c.self.inside.engine.engine c.self.invariant.0 (λ (credits : ℕ). credits ≡ c.args.n)
-    (λ (e : JournalError). ReserveRefused f c.args.n e) c.reserve.result c.args.n c.reserve.ensures.ok c.reserve.ensures.err,
-    λ honest. kept_legal-reserve f c.reserve.new.self (c.self.invariant.1 honest) (λ (credits : ℕ). credits ≡ c.args.n) (λ (e : JournalError). ReserveRefused f c.args.n e) c.reserve.result c.args.n c.reserve.ensures.ok c.reserve.ensures.err)
+    let f = c.self.inside.front in (
+      kept-reserve f c.reserve.new.self c.self.inside.engine.engine c.self.invariant.0 (λ (credits : ℕ). credits ≡ c.args.n)
+          (λ (e : JournalError). ReserveRefused f c.args.n e) c.reserve.result c.args.n c.reserve.ensures.ok c.reserve.ensures.err,
+      λ honest. kept_legal-reserve f c.reserve.new.self (c.self.invariant.1 honest) (λ (credits : ℕ). credits ≡ c.args.n) (λ (e : JournalError). ReserveRefused f c.args.n e) c.reserve.result c.args.n c.reserve.ensures.ok c.reserve.ensures.err,
+    )

@@ -10,8 +10,8 @@ use Rattle.group_commit.proofs.journal.Journal.revoke.Goals as goal
 pub invariant_of-self : goal.invariant_of-self
 invariant_of-self g c =
     let f = c.self.inside.front in
-    let handle = c.args.handle.now in
-    (
-    kept-revoke f c.revoke.new.self c.self.inside.engine.engine c.self.invariant.0 (λ (e : JournalError). TouchRefused f handle c.args.block e)
-    (λ (e : JournalError). c.revoke.new.handle ≡ handle) c.revoke.result handle.number c.args.block c.revoke.ensures.ok c.revoke.ensures.err,
-    λ honest. kept_legal-touch f c.revoke.new.self (c.self.invariant.1 honest) (λ (e : JournalError). TouchRefused f handle c.args.block e) (λ (e : JournalError). c.revoke.new.handle ≡ handle) c.revoke.result (RevokeBlock handle.number c.args.block) c.revoke.ensures.ok c.revoke.ensures.err)
+    let handle = c.args.handle.now in (
+      kept-revoke f c.revoke.new.self c.self.inside.engine.engine c.self.invariant.0 (λ (e : JournalError). TouchRefused f handle c.args.block e)
+          (λ (e : JournalError). c.revoke.new.handle ≡ handle) c.revoke.result handle.number c.args.block c.revoke.ensures.ok c.revoke.ensures.err,
+      λ honest. kept_legal-touch f c.revoke.new.self (c.self.invariant.1 honest) (λ (e : JournalError). TouchRefused f handle c.args.block e) (λ (e : JournalError). c.revoke.new.handle ≡ handle) c.revoke.result (RevokeBlock handle.number c.args.block) c.revoke.ensures.ok c.revoke.ensures.err,
+    )

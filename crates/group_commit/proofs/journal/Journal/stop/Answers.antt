@@ -9,7 +9,7 @@ returns-clause-stops g c = rw (← c.self.view_is) (λ is. record { front = c.st
 
 -- front and engine agree once it has, and where it is none of the open ones
 pub invariant_of-self : goal.invariant_of-self
-invariant_of-self g c =
-    (
-    kept-stop c.self.inside.front c.stop_handle.new.self c.self.inside.engine.engine c.self.invariant.0 c.args.handle.number c.stop_handle.ensures.either,
-    λ honest. kept_legal-stop c.self.inside.front c.stop_handle.new.self (c.self.invariant.1 honest) c.args.handle.number c.stop_handle.ensures.either)
+invariant_of-self g c = (
+  kept-stop c.self.inside.front c.stop_handle.new.self c.self.inside.engine.engine c.self.invariant.0 c.args.handle.number c.stop_handle.ensures.either,
+  λ honest. kept_legal-stop c.self.inside.front c.stop_handle.new.self (c.self.invariant.1 honest) c.args.handle.number c.stop_handle.ensures.either,
+)

@@ -3,8 +3,10 @@ use Rattle.journal_model.specs.Disk.{Shape}
 use Rattle.journal_world.specs.Checkpoint.{RoundFaults, RoundSteps}
 use Rattle.journal_world.proofs.RoundFaults.{round-fault-sound}
 use Rattle.journal_world.proofs.RoundSteps.{round-sound}
+use Rattle.log_ledger.specs.declared.progress.Progress.{Progress}
 use Rattle.log_ledger.specs.Due.{call_of}
 use Rattle.log_ledger.specs.Ledger.{Runs, engine_of}
+use Rattle.log_ledger.specs.Steps.{IsRoundProgress}
 use Rattle.log_ledger.proofs.Outcomes.{at-err, at-ok, count-err, count-ok}
 use Rattle.log_engine.specs.Engine.{RoundRefused}
 use Rattle.block_device.proofs.OneCall.{no-call}
@@ -70,6 +72,7 @@ returns-then-is_err g c =
       ok = tt;
       err = RoundRefused.RoundFailed fault (count-err _ _ c.make_call.result failed c.make_call.ensures.faults);
       fewer = tt;
+      idle = tt;
       no_fault = tt;
       device = record {
         shape = c.make_call.ensures.shape;
@@ -126,6 +129,7 @@ returns g c =
       ok = round-did c.advance_round.result e _ before.disk after.disk (c.advance_round.ensures.progress after.shape) steps;
       err = tt;
       fewer = round-fewer c.advance_round.result e _ before.disk after.disk c.self.invariant.0.plain (round-did c.advance_round.result e _ before.disk after.disk (c.advance_round.ensures.progress after.shape) steps);
+      idle = λ is. absurd (subst (λ (p : Progress). IsRoundProgress p (engine_of after.shape n)) is (c.advance_round.ensures.progress after.shape));
       no_fault = count-ok _ _ c.make_call.result worked c.make_call.ensures.faults;
       device = record {
         shape = c.make_call.ensures.shape;

@@ -1,0 +1,294 @@
+-- What holds at each moment of turns, one after the other.
+use Rattle.std.proofs.Common.{refl, sym, ◌∙◌, ap, subst, arith, inl, inr, ⊎_elim}
+use Rattle.std.specs.Prelude.{◌≡◌, ◌≢◌, ℕ, zero, suc, ◌<◌, ◌≤◌, true, false, List, [], ◌∷◌, ◌++◌, eqb, length, Result, Ok, Err, MatchResult}
+use Rattle.std.proofs.lemmas.Bool.Decides.{eqb_tells}
+use Rattle.std.specs.List.{AllByRecursion}
+use Rattle.journal_model.specs.declared.number.Area.TheVariants.{Home}
+use Rattle.journal_model.specs.Disk.{Disk, IsOneOf, Shape, held}
+use Rattle.journal_model.specs.Transaction.{History}
+use Rattle.log_model.specs.HomeChange.{Addition, HomeAddsOnly, IsCommittedCopy}
+use Rattle.block_device.specs.State.{DeviceState, EachMoment}
+use Rattle.block_device.proofs.Moments.{each-joins, each-stays}
+use Rattle.journal_world.specs.Engine.{Engine}
+use Rattle.journal_world.specs.Front.{Front}
+use Rattle.journal_world.specs.Journal.{Journal}
+use Rattle.journal_world.proofs.HomeCopies.{adds-none}
+use Rattle.log_engine.specs.Close.{IsDuringClose}
+use Rattle.log_engine.specs.Engine.{EngineValue}
+use Rattle.journal_steps.specs.Journal.{Agrees, IsDuringCheckTurn, IsDuringTurn, OpensNow, OpensOver, Requests}
+use Rattle.journal_steps.specs.Values.{JournalValue}
+use Rattle.group_commit.specs.Close.{GoesOn, HasSealed, IsFinished, IsSealedInClose, sealed_with, with_running}
+use Rattle.group_commit.specs.During.{HoldsDuringRounds, HoldsDuringTurns, IsCopyOfTurns, IsDuringRounds, IsDuringTurns}
+use Rattle.group_commit.proofs.Closed.{opens-closed}
+
+-- what may be added to home, where more may
+adds-weaker : (may more : Addition) (old new : Disk) → ((b : ℕ) (v : List ℕ) → may b v → more b v) → HomeAddsOnly may old new → HomeAddsOnly more old new
+adds-weaker may more old new weaker adds = record {
+  reads = λ b.
+      ⊎_elim (λ (same : (new Home b).reads ≡ (old Home b).reads). inl same)
+      (λ (added : may b (new Home b).reads). inr (weaker b (new Home b).reads added)) (adds.reads b);
+  left = λ b v holds.
+      ⊎_elim (λ (was : IsOneOf (held (old Home b)) v). inl was) (λ (added : may b v). inr (weaker b v added)) (adds.left b v holds);
+}
+
+-- additions after others
+adds-after : (may : Addition) (old mid new : Disk) → HomeAddsOnly may old mid → HomeAddsOnly may mid new → HomeAddsOnly may old new
+adds-after may old mid new first second = record {
+  reads = λ b.
+      ⊎_elim
+      (λ (same : (new Home b).reads ≡ (mid Home b).reads).
+      ⊎_elim (λ (was : (mid Home b).reads ≡ (old Home b).reads). inl (same ∙ was))
+      (λ (added : may b (mid Home b).reads). inr (subst (may b) (sym same) added)) (first.reads b))
+      (λ (added : may b (new Home b).reads). inr added) (second.reads b);
+  left = λ b v holds.
+      ⊎_elim (λ (was : IsOneOf (held (mid Home b)) v). first.left b v was) (λ (added : may b v). inr added) (second.left b v holds);
+}
+
+-- what holds at each moment, where something weaker is told
+all-weaker : (P Q : Disk → Type 0) → ((disk : Disk) → P disk → Q disk) → (disks : List Disk) → AllByRecursion P disks → AllByRecursion Q disks
+all-weaker P Q weaker [] all = tt
+all-weaker P Q weaker (d ∷ disks) all = (weaker d all.0, all-weaker P Q weaker disks all.1)
+
+each-weaker : (P Q : Disk → Type 0) (old new : DeviceState) → ((disk : Disk) → P disk → Q disk) → EachMoment P old new → EachMoment Q old new
+each-weaker P Q old new weaker each = record {
+  since = each.since;
+  past = each.past;
+  each = all-weaker P Q weaker each.since each.each;
+  now = weaker new.disk each.now;
+}
+
+-- from fewer transactions on too
+opens-lower : (shape : Shape) (ts : History) (low lower high : ℕ) (disk : Disk) → lower ≤ low → OpensOver shape ts low high disk → OpensOver shape ts lower high disk
+opens-lower shape ts low lower high disk fewer opens = record {
+  each = λ image left.
+      let at = opens.each image left in
+      let from : low ≤ at.0 = at.1 in
+      (at.0, (omega arith), at.2, at.3, at.4);
+}
+
+-- a journal in a call that began with the other one: what is sealed in the rest of the call is sealed in the whole
+record IsLater (j k : Journal) : Type 0 where
+  shape : k.engine.shape ≡ j.engine.shape
+  committed : j.engine.committed ≤ k.engine.committed
+  sealed : (ts : History) → IsSealedInClose k.front ts → IsSealedInClose j.front ts
+
+-- a moment of the rest is one of the whole
+during-later : (j k : Journal) (old mid disk : Disk) → IsLater j k → HomeAddsOnly (IsCopyOfTurns j) old mid → IsDuringTurns k mid disk → IsDuringTurns j old disk
+during-later j k old mid disk later before during =
+    let fewer : j.engine.committed ≤ k.engine.committed = later.committed in
+    record {
+      home =
+          adds-after (IsCopyOfTurns j) old mid disk before
+          (adds-weaker (IsCopyOfTurns k) (IsCopyOfTurns j) mid disk
+          (λ b v copy.
+          let low : k.engine.committed ≤ copy.n = copy.low in
+          record { sealed = copy.sealed; among = later.sealed copy.sealed copy.among; n = copy.n; low = (omega arith); copy = copy.copy }) during.home);
+      sealed = during.sealed;
+      among = later.sealed during.sealed during.among;
+      opens =
+          subst (λ (s : Shape). OpensOver s during.sealed j.engine.committed (length during.sealed) disk) later.shape
+          (opens-lower k.engine.shape during.sealed k.engine.committed j.engine.committed (length during.sealed) disk fewer during.opens);
+    }
+
+-- after a seal there is no more to be sealed
+after-seal : (f : Front) (handles : List ℕ) (ts : History) → f.running.handles ≡ handles → IsSealedInClose (sealed_with f handles) ts → IsSealedInClose f ts
+after-seal f [] ts none among = among
+after-seal f (h ∷ handles) ts some among =
+    let all : ts ≡ f.sealed ++ f.running ∷ [] =
+    ⊎_elim (λ (is : ts ≡ f.sealed ++ f.running ∷ []). is) (λ (is : ts ≡ f.sealed ++ f.running ∷ []). is) among in
+    inr (subst (λ (hs : List ℕ). ts ≡ with_running f.sealed f.running hs) (sym some) all)
+
+-- a moment at which home is as it was
+turn-during : (j : Journal) (old disk : Disk) → IsDuringTurn j old disk → IsDuringTurns j old disk
+turn-during j old disk during = record {
+  home = adds-none (IsCopyOfTurns j) old disk during.home.same;
+  sealed = j.front.sealed;
+  among = inl refl;
+  opens = during.opens;
+}
+
+-- one of rounds
+rounds-during : (j : Journal) (old disk : Disk) → IsDuringRounds j old disk → IsDuringTurns j old disk
+rounds-during j old disk during = record {
+  home =
+      adds-weaker (IsCommittedCopy j.front.sealed j.engine.committed) (IsCopyOfTurns j) old disk
+      (λ b v copy. record { sealed = j.front.sealed; among = inl refl; n = j.engine.committed; low = (omega arith); copy = copy }) during.home;
+  sealed = j.front.sealed;
+  among = inl refl;
+  opens = during.opens;
+}
+
+-- one of the close of the log, where all is committed
+closing-during : (f : Front) (e : Engine) (old disk : Disk) → Agrees (record { front = f; engine = e }) → e.committed ≡ length f.sealed → IsDuringClose e old disk →
+    IsDuringRounds (record { front = f; engine = e }) old disk
+closing-during f e old disk agrees all during = record {
+  home = adds-none (IsCommittedCopy f.sealed e.committed) old disk during.home.same;
+  opens = subst (λ (n : ℕ). OpensOver e.shape f.sealed n (length f.sealed) disk) (sym all) (opens-closed f e disk agrees during.opens);
+}
+
+pub each-closing : (f : Front) (e : Engine) (old new : DeviceState) → Agrees (record { front = f; engine = e }) → e.committed ≡ length f.sealed →
+    EachMoment (IsDuringClose e old.disk) old new → EachMoment (IsDuringRounds (record { front = f; engine = e }) old.disk) old new
+each-closing f e old new agrees all each =
+    each-weaker (IsDuringClose e old.disk) (IsDuringRounds (record { front = f; engine = e }) old.disk) old new
+    (λ disk during. closing-during f e old.disk disk agrees all during) each
+
+module _ {D : Type 0} (state : D → DeviceState) where
+  -- each moment from a journal on, up to this device
+  abbrev EachTo : JournalValue D → D → Type 0
+  EachTo old device = EachMoment (IsDuringTurns old.journal (state old.device).disk) (state old.device) (state device)
+
+  abbrev EachRoundTo : JournalValue D → D → Type 0
+  EachRoundTo old device = EachMoment (IsDuringRounds old.journal (state old.device).disk) (state old.device) (state device)
+
+  -- where nothing is done, what holds now holds at the one moment
+  pub each-still : (v : JournalValue D) → OpensNow v.journal (state v.device).disk → HoldsDuringTurns state v v
+  each-still v opens = record {
+    each =
+        each-stays (IsDuringTurns v.journal (state v.device).disk) (state v.device) (state v.device) (record { shape = refl; disk = refl; past = refl })
+        (turn-during v.journal (state v.device).disk (state v.device).disk (record { home = record { same = λ b. refl }; opens = opens }));
+  }
+
+  -- a device that stays adds none
+  pub each-device : (old mid new : JournalValue D) → new.device ≡ mid.device → HoldsDuringTurns state old mid → HoldsDuringTurns state old new
+  each-device old mid new same holds = record { each = subst (EachTo old) (sym same) holds.each }
+
+  pub each-same : (old new : JournalValue D) → new.device ≡ old.device → OpensNow old.journal (state old.device).disk → HoldsDuringTurns state old new
+  each-same old new same opens = each-device old old new same (each-still old opens)
+
+  -- the moments of one call after those of another
+  each-on : (a b c : JournalValue D) → IsLater a.journal b.journal → HoldsDuringTurns state a b → HoldsDuringTurns state b c → HoldsDuringTurns state a c
+  each-on a b c later first second =
+      let P = IsDuringTurns a.journal (state a.device).disk in
+      record {
+        each =
+            each-joins P (state a.device) (state b.device) (state c.device) first.each
+            (each-weaker (IsDuringTurns b.journal (state b.device).disk) P (state b.device) (state c.device)
+            (λ disk during. during-later a.journal b.journal (state a.device).disk (state b.device).disk disk later first.each.now.home during) second.each);
+      }
+
+  on-later : (a b : JournalValue D) → GoesOn state a b → IsLater a.journal b.journal
+  on-later a b on = record {
+    shape = on.measures;
+    committed = on.committed;
+    sealed = λ ts among. subst (λ (f : Front). IsSealedInClose f ts) on.front among;
+  }
+
+  sealed-later : (a b : JournalValue D) → HasSealed state a b → IsLater a.journal b.journal
+  sealed-later a b has = record {
+    shape = has.measures;
+    committed = has.committed;
+    sealed = λ ts among.
+        after-seal a.journal.front a.journal.front.running.handles ts refl (subst (λ (f : Front). IsSealedInClose f ts) has.front among);
+  }
+
+  -- after steps of commits and of rounds
+  pub each-went : (a b c : JournalValue D) → GoesOn state a b → HoldsDuringTurns state a b → HoldsDuringTurns state b c → HoldsDuringTurns state a c
+  each-went a b c on first second = each-on a b c (on-later a b on) first second
+
+  -- after a seal
+  pub each-sealed : (a b c : JournalValue D) → HasSealed state a b → HoldsDuringTurns state a b → HoldsDuringTurns state b c → HoldsDuringTurns state a c
+  each-sealed a b c has first second = each-on a b c (sealed-later a b has) first second
+
+  -- those of a commit step
+  pub each-commit : (old new : JournalValue D) → EachMoment (IsDuringTurn old.journal (state old.device).disk) (state old.device) (state new.device) →
+      HoldsDuringTurns state old new
+  each-commit old new each = record {
+    each =
+        each-weaker (IsDuringTurn old.journal (state old.device).disk) (IsDuringTurns old.journal (state old.device).disk) (state old.device) (state new.device)
+        (turn-during old.journal (state old.device).disk) each;
+  }
+
+  -- those of rounds
+  pub each-rounds : (old new : JournalValue D) → HoldsDuringRounds state old new → HoldsDuringTurns state old new
+  each-rounds old new holds = record {
+    each =
+        each-weaker (IsDuringRounds old.journal (state old.device).disk) (IsDuringTurns old.journal (state old.device).disk) (state old.device) (state new.device)
+        (rounds-during old.journal (state old.device).disk) holds.each;
+  }
+
+  pub rounds-still : (v : JournalValue D) → OpensNow v.journal (state v.device).disk → HoldsDuringRounds state v v
+  rounds-still v opens = record {
+    each =
+        each-stays (IsDuringRounds v.journal (state v.device).disk) (state v.device) (state v.device) (record { shape = refl; disk = refl; past = refl })
+        (record { home = adds-none _ (state v.device).disk (state v.device).disk (λ b. refl); opens = opens });
+  }
+
+  -- a step of a round after others, which leave the front and what is committed
+  pub rounds-on : (a b c : JournalValue D) → GoesOn state a b → b.journal.front ≡ a.journal.front → b.journal.engine.committed ≡ a.journal.engine.committed →
+      Agrees b.journal → HoldsDuringRounds state a b →
+      EachMoment (IsDuringCheckTurn b.journal (state b.device).disk) (state b.device) (state c.device) → HoldsDuringRounds state a c
+  rounds-on a b c on front committed agrees first second =
+      let P = IsDuringRounds a.journal (state a.device).disk in
+      record {
+        each =
+            each-joins P (state a.device) (state b.device) (state c.device) first.each
+            (each-weaker (IsDuringCheckTurn b.journal (state b.device).disk) P (state b.device) (state c.device) told second);
+      }
+    where
+      told : (disk : Disk) → IsDuringCheckTurn b.journal (state b.device).disk disk → IsDuringRounds a.journal (state a.device).disk disk
+      told disk during =
+          let copies = during.home.adds b.journal.front.sealed agrees.batches in
+          record {
+            home =
+                adds-after (IsCommittedCopy a.journal.front.sealed a.journal.engine.committed) (state a.device).disk (state b.device).disk disk first.each.now.home
+                (subst (λ (n : ℕ). HomeAddsOnly (IsCommittedCopy a.journal.front.sealed n) (state b.device).disk disk) committed
+                (subst (λ (f : Front). HomeAddsOnly (IsCommittedCopy f.sealed b.journal.engine.committed) (state b.device).disk disk) front copies));
+            opens =
+                subst (λ (n : ℕ). OpensOver a.journal.engine.shape a.journal.front.sealed n (length a.journal.front.sealed) disk) committed
+                (subst (λ (f : Front). OpensOver a.journal.engine.shape f.sealed b.journal.engine.committed (length f.sealed) disk) front
+                (subst (λ (s : Shape). OpensOver s b.journal.front.sealed b.journal.engine.committed (length b.journal.front.sealed) disk) on.measures during.opens));
+          }
+
+  -- the close of the log after all that comes before it
+  each-finished : (a b : JournalValue D) (device : D) → IsFinished state a b → b.journal.engine.shape ≡ a.journal.engine.shape → HoldsDuringTurns state a b →
+      EachRoundTo b device → EachTo a device
+  each-finished a b device done shape first second =
+      let P = IsDuringTurns a.journal (state a.device).disk in
+      each-joins P (state a.device) (state b.device) (state device) first.each
+      (each-weaker (IsDuringRounds b.journal (state b.device).disk) P (state b.device) (state device) told second)
+    where
+      told : (disk : Disk) → IsDuringRounds b.journal (state b.device).disk disk → IsDuringTurns a.journal (state a.device).disk disk
+      told disk during = record {
+        home =
+            adds-after (IsCopyOfTurns a.journal) (state a.device).disk (state b.device).disk disk first.each.now.home
+            (adds-weaker (IsCommittedCopy b.journal.front.sealed b.journal.engine.committed) (IsCopyOfTurns a.journal) (state b.device).disk disk
+            (λ n v copy. record { sealed = b.journal.front.sealed; among = inr done.sealed; n = b.journal.engine.committed; low = done.committed; copy = copy }) during.home);
+        sealed = b.journal.front.sealed;
+        among = inr done.sealed;
+        opens =
+            subst (λ (s : Shape). OpensOver s b.journal.front.sealed a.journal.engine.committed (length b.journal.front.sealed) disk) shape
+            (opens-lower b.journal.engine.shape b.journal.front.sealed b.journal.engine.committed a.journal.engine.committed (length b.journal.front.sealed) disk
+            done.committed during.opens);
+      }
+
+  -- whatever the answer of the close is
+  pub each-closed : {T E : Type 0} (honest : D → Type 0) (r : Result T E) (in_ok : T → D) (in_err : E → D) (a b : JournalValue D) → IsFinished state a b →
+      b.journal.engine.shape ≡ a.journal.engine.shape → (honest b.device → HoldsDuringTurns state a b) →
+      MatchResult r (λ x. honest (in_ok x) → honest b.device) (λ e. honest (in_err e) → honest b.device) →
+      MatchResult r (λ x. honest (in_ok x) → EachRoundTo b (in_ok x)) (λ e. honest (in_err e) → EachRoundTo b (in_err e)) →
+      MatchResult r (λ x. honest (in_ok x) → EachTo a (in_ok x)) (λ e. honest (in_err e) → EachTo a (in_err e))
+  each-closed honest (Ok x) in_ok in_err a b done shape first back each = λ now. each-finished a b (in_ok x) done shape (first (back now)) (each now)
+  each-closed honest (Err e) in_ok in_err a b done shape first back each = λ now. each-finished a b (in_err e) done shape (first (back now)) (each now)
+
+  -- after a request, which changes no more than the lock
+  later-same : (a b : JournalValue D) → b ≡ a → IsLater a.journal b.journal
+  later-same a b same =
+      subst (λ (v : JournalValue D). IsLater a.journal v.journal) (sym same) (record { shape = refl; committed = omega arith; sealed = λ ts among. among })
+
+  asked-of : (tid : ℕ) (a b : JournalValue D) → Requests state tid a b → (n : ℕ) → length a.journal.front.running.handles ≡ n → IsLater a.journal b.journal
+  asked-of tid a b asks zero none = later-same a b (asks.empty none)
+  asked-of tid a b asks (suc n) some =
+      ⊎_elim
+      (λ (is : (eqb tid a.journal.front.running.tid ≡ true) × (tid ≡ a.journal.front.running.tid)).
+      let step = asks.same is.1 (omega arith) in
+      let count : b.journal.engine.committed ≡ a.journal.engine.committed = ap (λ (e : Engine). e.committed) step.engine in
+      record {
+        shape = ap (λ (e : Engine). e.shape) step.engine;
+        committed = omega arith;
+        sealed = λ ts among. subst (λ (f : Front). IsSealedInClose f ts) step.front.after among;
+      })
+      (λ (other : (eqb tid a.journal.front.running.tid ≡ false) × (tid ≢ a.journal.front.running.tid)). later-same a b (asks.other other.1))
+      (eqb_tells tid a.journal.front.running.tid)
+
+  pub each-asked : (tid : ℕ) (a b c : JournalValue D) → Requests state tid a b → HoldsDuringTurns state a b → HoldsDuringTurns state b c → HoldsDuringTurns state a c
+  each-asked tid a b c asks first second = each-on a b c (asked-of tid a b asks (length a.journal.front.running.handles) refl) first second
