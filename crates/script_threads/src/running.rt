@@ -17,7 +17,7 @@ use block_device::MemDevice;
 use journal_model::{JournalError, Sealed};
 use journal_script::{ClientScript, NamedBlocks};
 use script_run::{Record, empty_disk};
-use shared_journal::{JournalName, LaidJournal, MeetingName, Parts, PartsName, Tally, lay};
+use shared_journal::{JournalName, LaidJournal, Parts, Tally, lay};
 use std::alloc::{AllocError, Global};
 use std::collections::BTreeSet;
 use std::marker::Brand;
@@ -89,18 +89,14 @@ fn laid_on(
 }
 
 /// Runs clients over a laid journal, and judges what came of them by the blocks that they name.
-fn run_on<J: JournalName + PartsName + MeetingName + Send + Sync, W: Threads + Wait + Sync>(
+fn run_on<J: JournalName + Send + Sync, W: Threads + Wait + Sync>(
     rt: &W,
     alloc: Global,
     laid: LaidJournal<MemDevice, Vec<Sealed>>,
     plans: &[Vec<HandlePlan>],
     named: &NamedBlocks,
 ) -> Result<Ended, JournalError>
-    requires board { laid.board ≡ J.board }
-    requires parts { laid.parts ≡ J.parts }
-    requires meeting { laid.meeting ≡ J.meeting }
-    requires capacity { laid.capacity ≡ J.capacity }
-    requires block_size { laid.block_size ≡ J.block_size }
+    requires name { laid.name ≡ J.name }
     ensures { IfOk result (IsEndedOn plans.now named.now) }
 {
     let (journal, seat) = laid.named::<J>();
@@ -110,7 +106,7 @@ fn run_on<J: JournalName + PartsName + MeetingName + Send + Sync, W: Threads + W
 }
 
 /// Judges what came of clients with these plans, where none was refused anything.
-fn judge<J: JournalName + PartsName + MeetingName>(
+fn judge<J: JournalName>(
     alloc: Global,
     outcome: Outcome<J, MemDevice, Vec<Sealed>>,
     plans: &[Vec<HandlePlan>],
@@ -140,7 +136,7 @@ fn judge<J: JournalName + PartsName + MeetingName>(
 }
 
 /// The clients that were refused something.
-fn refused_of<J: JournalName + PartsName + MeetingName>(
+fn refused_of<J: JournalName>(
     alloc: Global,
     clients: &[ClientOutcome<J, Vec<Sealed>>],
 ) -> Result<Vec<RefusedClient>, AllocError>
