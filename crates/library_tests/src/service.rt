@@ -5,6 +5,7 @@ ghost use Rattle.std.specs.Prelude.{◌≡◌};
 mod gates;
 mod own;
 mod refused;
+mod tasks;
 
 use crate::bytes::expect;
 use crate::logs::{BLOCK_SIZE, formatted, laid_on, lay_on, opened};

@@ -46,7 +46,9 @@ impl<J: JournalName, D: Device, R: Record, G: Gate> Client<J, D, R, G> for Looke
         let wrote = session.write(rt, &mut handle, next, &bytes);
         let ticket = session.stop(rt, handle);
         wrote?;
-        session.wait(rt, ticket)?;
+        let Ok(_receipt) = session.wait(rt, ticket) else {
+            return Err(JournalError::Aborted);
+        };
         bytes.as_mut_slice().fill(0);
         session.read_newest(rt, BlockNo(self.block), bytes.as_mut_slice())?;
         let short = session.read_newest(rt, BlockNo(self.block), &mut []);
