@@ -4,7 +4,7 @@ ghost use Rattle.std.specs.BTreeSet.{keys};
 ghost use Rattle.std.specs.List.{AllZip};
 ghost use Rattle.block_device.specs.Memory.{state_of};
 ghost use Rattle.journal_script.specs.Clients.{HasTouchedAll, handles_of};
-ghost use Rattle.volume_service.specs.Ending.{IsLeftBy, Stands};
+ghost use Rattle.volume_service.specs.Ending.{IsLeftWith, Stands};
 ghost use Rattle.volume_service.specs.Plan.{Came};
 ghost use Rattle.script_threads.specs.Runs.{IsEnded, IsEndedOn};
 ghost use Rattle.script_threads.specs.Verdicts.{AreVerdicts};
@@ -118,7 +118,7 @@ fn judge<J: JournalName>(
         (AllZip (λ h e. Came h e.tid e.receipt e.ticket) (slice_index_or plans.now k p).items (slice_index_or outcome.clients.items k c).handles.items) }
     requires stand { (k : ℕ) (c : _) → k < vec_len outcome.clients →
         All (λ e. IfSome e.receipt (Stands outcome.parts.committed outcome.parts.sealed.items)) (slice_index_or outcome.clients.items k c).handles.items }
-    requires left { IsLeftBy state_of (λ d. Unit {0}) outcome.parts.device outcome.parts.sealed.items outcome.parts.committed }
+    requires left { IsLeftWith state_of (λ d. Unit {0}) outcome.parts.device outcome.parts.sealed.items outcome.parts.committed outcome.tally.word outcome.tally.entries }
     ensures { IfOk result (IsEndedOn plans.now named.now) }
 {
     let refused = refused_of(alloc, &outcome.clients)?;
