@@ -7,4 +7,4 @@ returns-clause-stops g c = record { old = c.deref_mut.result.now; new = c.stop-t
 
 -- what it left
 pub returns-clause-entries : goal.returns-clause-entries
-returns-clause-entries g c = record { old = c.deref.result.now; new = c.deref.result.now; did = (c.entries.ensures, refl) }
+returns-clause-entries g c = record { old = c.deref.result.now; new = c.deref.result.now; did = (c.entries-entries.ensures, refl) }
