@@ -1,10 +1,10 @@
 //! `jbench`: runs a script of journal operations over a device in memory that stops at one of its writes, or at each in turn, opens
-//! what the stop left, and judges it; makes logs in files, prints and recovers them. The commands are those of `jbench_commands`:
+//! what the stop left, and judges it; makes logs in files, prints and recovers them. The commands are those of `jbench_threads`:
 //! here they are given the program's words, and standard output and error.
 #![tactic(auto)]
 
 use file_device::UnknownContents;
-use jbench_commands::obeying::obey_with_threads;
+use jbench_threads::obeying::obey;
 use jbench_words::fault::{Status, refuse_file, refuse_rest};
 use jbench_words::{arguments, words};
 use std::fs::File;
@@ -50,7 +50,7 @@ fn obey_words<T: Threads + Wait + Sync>(rt: &HostRuntime, threads: &T) -> io::Re
                 path,
                 io::Error::from(ErrorKind::InvalidFilename),
             ),
-            None => obey_with_threads(
+            None => obey(
                 rt,
                 threads,
                 UnknownContents,

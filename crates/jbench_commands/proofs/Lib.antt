@@ -1,4 +1,4 @@
-mod Ending
+pub mod Ending
 mod Obeyed
 mod Staying
 mod Unapplying

@@ -6,7 +6,6 @@ use Rattle.block_device.specs.State.{DeviceState}
 use Rattle.file_device.specs.Files.{FileContents, FileState, HasAgreed, file_state}
 use Rattle.log_dump.specs.Dumping.{HasDump, shape_of}
 use Rattle.script_client.specs.Ended.{IsLeftClosed}
-use Rattle.commit_times.specs.Closed.{IsLeftClosed as IsBenchClosed}
 use Rattle.jbench_words.specs.declared.words.ApplyWords.{ApplyWords}
 use Rattle.jbench_words.specs.declared.words.FormatWords.{FormatWords}
 use Rattle.jbench_words.specs.declared.words.Words.{Words}
@@ -19,7 +18,6 @@ use Rattle.jbench_logs.specs.Done.{HasUpgraded, IsFoundOut, IsMade, IsRecovered,
 use Rattle.jbench_commands.specs.Applying.{IsDoneTo, after_told, ending_told}
 use Rattle.jbench_commands.specs.Runs.{HasRun, HasTakenEither, runs_told}
 use Rattle.jbench_commands.specs.Sweeps.{HasSwept}
-use Rattle.script_threads.specs.Runs.{HasFoundFalse, HasServed}
 
 -- the device has a log in one file, and its home area in another
 pub record IsOverTwo (device : FileState) : Type 0 where
@@ -67,34 +65,29 @@ pub record IsAppliedOver (first : FileContents) (words : ApplyWords) (contents :
   pub done : IsDoneTo (file_state first) (HasAgreed first) old text (after_told words.keep_going) (ending_told words.stay) left sealed shown contents
   pub closed : words.stay ≡ false → HasAgreed first left → IsLeftClosed (file_state first left) sealed
 
--- what `bench` left of its device
-pub record IsBenchDone (first : FileContents) : Type 0 where
-  pub left : FileState
-  pub closed : HasAgreed first left → IsBenchClosed (file_state first left)
-
 -- What was done by the command that the words name, over files of a log that held this at first, whose output has these contents at
--- first. Of other files nothing is known: a script is one of some text.
+-- first. Of other files nothing is known: a script is one of some text. Commands that want threads are not done here.
 abbrev pub HasObeyed : (first : FileContents) → (contents : Option (List ℕ)) → Words → Type 0
 HasObeyed first contents (Run words) = (text : Option (List ℕ)) × HasRun (runs_told words.image) text words true
 HasObeyed first contents (Sweep words) = (text : Option (List ℕ)) × HasSwept text words.fails 0
 HasObeyed first contents (Check path) = (text : Option (List ℕ)) × HasTakenEither text
-HasObeyed first contents (Threads path) = (text : Option (List ℕ)) × HasServed text
+HasObeyed first contents (Threads path) = ⊥
 HasObeyed first contents (Format words) = IsFormatDone first words
 HasObeyed first contents (Dump path) = IsDoneOver first IsOverAny (λ old new. HasDump (shape_of old) (reading old.disk))
 HasObeyed first contents (Show path) = ⊤
 HasObeyed first contents (Recover words) = IsDoneOver first IsOverTwo (Recovers words.dry_run words.before_damage)
 HasObeyed first contents (Upgrade path) = IsDoneOver first IsOverAny HasUpgraded
 HasObeyed first contents (Apply words) = IsAppliedOver first words contents
-HasObeyed first contents (Bench words) = IsBenchDone first
+HasObeyed first contents (Bench words) = ⊥
 HasObeyed first contents (Completions shell) = ⊤
 HasObeyed first contents Man = ⊤
 
--- a command ends with 2 where a sweep counted an opening that was not right, or a run in threads has a verdict that is false; no other does
+-- a command ends with 2 where a sweep counted an opening that was not right; no other does
 abbrev pub HasFoundWrong : Words → Type 0
 HasFoundWrong (Run words) = ⊥
 HasFoundWrong (Sweep words) = (text : Option (List ℕ)) × (count : ℕ) × HasSwept text words.fails count × (0 < count)
 HasFoundWrong (Check path) = ⊥
-HasFoundWrong (Threads path) = (text : Option (List ℕ)) × HasFoundFalse text
+HasFoundWrong (Threads path) = ⊥
 HasFoundWrong (Format words) = ⊥
 HasFoundWrong (Dump path) = ⊥
 HasFoundWrong (Show path) = ⊥

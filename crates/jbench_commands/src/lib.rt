@@ -14,6 +14,6 @@ mod faults;
 pub mod image;
 pub mod obeying;
 mod object;
-mod progress;
+pub mod progress;
 pub mod run;
 pub mod sweep;

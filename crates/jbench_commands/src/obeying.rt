@@ -1,19 +1,17 @@
 //! Opens the files that the words name, and does what the words tell.
-ghost use Rattle.std.specs.Prelude.{◌≡◌, ◌≢◌, ◌↔◌, ◌<◌, ℕ, IfOk, IsOk, IsSome, List, Option, true};
+ghost use Rattle.std.specs.Prelude.{◌≡◌, ◌≢◌, ◌↔◌, ◌<◌, ℕ, IfOk, IsOk, List, Option, true};
 ghost use Rattle.journal_model.specs.Disk.{reading};
 ghost use Rattle.log_dump.specs.Dumping.{HasDump, shape_of};
 ghost use Rattle.jbench_words.specs.declared.fault.Status.TheVariants.{Fine, Refused, VerdictFalse};
 ghost use Rattle.jbench_files.specs.Cleared.{cleared, log_cleared};
 ghost use Rattle.jbench_logs.specs.Done.{HasUpgraded, IsMade};
-ghost use Rattle.jbench_commands.specs.Obeying.{HasFoundWrong, HasObeyed, IsAppliedOver, IsBenchDone, IsDoneOver, IsFormatDone, IsOverAny, IsOverTwo, Recovers};
+ghost use Rattle.jbench_commands.specs.Obeying.{HasFoundWrong, HasObeyed, IsAppliedOver, IsDoneOver, IsFormatDone, IsOverAny, IsOverTwo, Recovers};
 ghost use Rattle.jbench_commands.specs.Runs.{HasRun, HasTakenEither, runs_told};
 ghost use Rattle.jbench_commands.specs.Sweeps.{HasSwept};
-ghost use Rattle.script_threads.specs.Runs.{HasFoundFalse, HasServed};
 
 use crate::image::ImageFiles;
 use crate::progress::Progress;
 use crate::{apply, check, run, sweep};
-use commit_times::bench;
 use file_device::{Contents, FileDevice};
 use jbench_files::{
     LogPair, RegularFile, device_of, device_to_read, home_bytes, make_device, make_log_device,
@@ -24,42 +22,13 @@ use jbench_logs::{logs, recovering, show};
 use jbench_words::completions::{Shell, write_completions};
 use jbench_words::fault::{self, Fault, Status, refuse_file};
 use jbench_words::manual::write_manual;
-use jbench_words::words::{
-    ApplyWords, BenchWords, FormatWords, RecoverWords, RunWords, SweepWords, Words,
-};
+use jbench_words::words::{ApplyWords, FormatWords, RecoverWords, RunWords, SweepWords, Words};
 use journal_model::JournalError;
 use std::io;
 use std::io::Write;
-use std::sync::Wait;
-use std::thread::Threads;
 
-/// Does what the words tell, with threads for the clients of a script and of `bench`: only these wait for one another. `contents` says what
-/// is supposed of the files of a log.
-pub fn obey_with_threads<
-    T: Threads + Wait + Sync,
-    C: Contents + Send,
-    W: Write + Drop,
-    E: Write + Drop,
->(
-    rt: &HostRuntime,
-    threads: &T,
-    contents: C,
-    words: &Words<'_>,
-    out: W,
-    err: E,
-) -> io::Result<Status>
-    ensures done { IfOk result (λ status. status ≡ Fine → HasObeyed C.contents (W.contents out) words.now) }
-    ensures wrong { IfOk result (λ status. status ≡ VerdictFalse → HasFoundWrong words.now) }
-{
-    match words {
-        Words::Threads(path) => threads_file(rt, threads, path, out, err),
-        Words::Bench(words) => bench_files_with_threads(rt, threads, contents, words, out, err),
-        _ => obey(rt, contents, words, out, err),
-    }
-}
-
-/// Does what the words tell. `contents` says what is supposed of the files of a log. There is no thread to be had here, so clients are
-/// refused as for want of memory.
+/// Does what the words tell. `contents` says what is supposed of the files of a log. The commands `threads` and `bench` want threads,
+/// which are not to be had here: they are refused as for want of memory (`jbench_threads` has them).
 pub fn obey<C: Contents, W: Write + Drop, E: Write + Drop>(
     rt: &HostRuntime,
     contents: C,
@@ -75,13 +44,13 @@ pub fn obey<C: Contents, W: Write + Drop, E: Write + Drop>(
         Words::Sweep(words) => sweep_file(rt, words, out, err),
         Words::Check(path) => check_file(rt, path, out, err),
         Words::Threads(path) => refuse_threads(path, err),
+        Words::Bench(words) => refuse_threads(words.paths.log, err),
         Words::Format(words) => format_files(rt, contents, words, out, err),
         Words::Dump(path) => dump_file(rt, contents, path, out, err),
         Words::Show(path) => show_file(rt, contents, path, out, err),
         Words::Recover(words) => recover_files(rt, contents, words, out, err),
         Words::Upgrade(path) => upgrade_file(rt, contents, path, out, err),
         Words::Apply(words) => apply_files(rt, contents, words, out, err),
-        Words::Bench(words) => bench_files(rt, contents, words, out, err),
         Words::Completions(shell) => print_completions(*shell, out),
         Words::Man => print_manual(out),
     }
@@ -194,24 +163,6 @@ fn refuse_threads<E: Write + Drop>(path: &str, err: E) -> io::Result<Status>
 {
     let mut err = err;
     fault::refuse(&mut err, path, &Fault::Refused(JournalError::Memory))
-}
-
-/// Runs the clients of the script in a file in threads.
-fn threads_file<T: Threads + Wait + Sync, W: Write + Drop, E: Write + Drop>(
-    rt: &HostRuntime,
-    threads: &T,
-    path: &str,
-    out: W,
-    err: E,
-) -> io::Result<Status>
-    ensures done { IfOk result (λ status. status ≡ Fine → (text : Option (List ℕ)) × HasServed text) }
-    ensures wrong { IfOk result (λ status. status ≡ VerdictFalse → (text : Option (List ℕ)) × HasFoundFalse text) }
-{
-    let mut err = err;
-    match open_to_read(rt, path) {
-        Ok(file) => script_threads::threads(threads, rt.alloc(), path, file.into_file(), out, err),
-        Err(e) => refuse_file(&mut err, path, e),
-    }
 }
 
 /// Makes an empty log of two files, or beside a home area that is kept. Both files are opened before either is changed.
@@ -414,92 +365,6 @@ fn status_of_all<T, U>(done: &Result<T, U>) -> Status
     match done {
         Ok(_) => Status::Fine,
         Err(_) => Status::Refused,
-    }
-}
-
-/// How a command ended that answers what is left where all was done.
-fn status_of<T>(done: &Option<T>) -> Status
-    ensures fine { result ≡ Fine ↔ IsSome done.now }
-    ensures other { result ≢ Fine → result ≡ Refused }
-{
-    match done {
-        Some(_) => Status::Fine,
-        None => Status::Refused,
-    }
-}
-
-/// Commits transactions to a log in two files, both of which are opened before either is read.
-fn bench_files<C: Contents, W: Write + Drop, E: Write + Drop>(
-    rt: &HostRuntime,
-    contents: C,
-    words: &BenchWords<'_>,
-    out: W,
-    err: E,
-) -> io::Result<Status>
-    ensures done { IfOk result (λ status. status ≡ Fine → IsBenchDone C.contents) }
-    ensures other { IfOk result (λ status. status ≢ Fine → status ≡ Refused) }
-{
-    let mut err = err;
-    if words.threads.is_some() {
-        let fault = Fault::Refused(JournalError::Memory);
-        return fault::refuse(&mut err, words.paths.log, &fault);
-    }
-    let files = match open_pair(rt, words.paths) {
-        Ok(files) => files,
-        Err(unopened) => return refuse_file(&mut err, unopened.path, unopened.error),
-    };
-    match device_of(rt.alloc(), contents, files) {
-        Ok(device) => {
-            let progress = Progress::new(rt);
-            let done = bench::bench(rt.alloc(), words, device, rt, progress, out, err)?;
-            Ok(status_of(&done))
-        }
-        Err(e) => refuse_file(&mut err, words.paths.log, e),
-    }
-}
-
-/// Commits transactions to a log in two files, by clients in threads of their own where the words tell of any.
-fn bench_files_with_threads<
-    T: Threads + Wait + Sync,
-    C: Contents + Send,
-    W: Write + Drop,
-    E: Write + Drop,
->(
-    rt: &HostRuntime,
-    threads: &T,
-    contents: C,
-    words: &BenchWords<'_>,
-    out: W,
-    err: E,
-) -> io::Result<Status>
-    ensures done { IfOk result (λ status. status ≡ Fine → IsBenchDone C.contents) }
-    ensures other { IfOk result (λ status. status ≢ Fine → status ≡ Refused) }
-{
-    let Some(clients) = words.threads else {
-        return bench_files(rt, contents, words, out, err);
-    };
-    let mut err = err;
-    let files = match open_pair(rt, words.paths) {
-        Ok(files) => files,
-        Err(unopened) => return refuse_file(&mut err, unopened.path, unopened.error),
-    };
-    match device_of(rt.alloc(), contents, files) {
-        Ok(device) => {
-            let progress = Progress::new(rt);
-            let done = commit_times::threads::bench(
-                threads,
-                rt,
-                rt.alloc(),
-                words,
-                clients,
-                device,
-                progress,
-                out,
-                err,
-            )?;
-            Ok(status_of(&done))
-        }
-        Err(e) => refuse_file(&mut err, words.paths.log, e),
     }
 }
 

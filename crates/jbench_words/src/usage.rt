@@ -46,6 +46,7 @@ bench LOG HOME [--seconds N] [--transactions N] [--copies K] [--threads N] [--cs
 transactions take.
 completions SHELL: prints what bash, zsh or fish is told so that it completes these words.
 man: prints the page for man.
+build [--status]: a word of the script ./jbench, which makes the proved program, or says how far that is.
 
 Exit status: 0 done, 1 refused (words, file, script, refusal), 2 a verdict is false.
 

@@ -26,15 +26,18 @@ returns-in-Upgrade-clause-done g c = rw c.in-Upgrade.is c.upgrade_file.ensures.d
 pub returns-in-Apply-clause-done : goal.returns-in-Apply-clause-done
 returns-in-Apply-clause-done g c = rw c.in-Apply.is c.apply_files.ensures.done
 
-pub returns-in-Bench-clause-done : goal.returns-in-Bench-clause-done
-returns-in-Bench-clause-done g c = rw c.in-Bench.is c.bench_files.ensures.done
-
--- clients are refused, and of the others a sweep alone ends with 2
+-- what wants threads is refused, and of the others a sweep alone ends with 2
 pub returns-in-Threads-clause-done : goal.returns-in-Threads-clause-done
 returns-in-Threads-clause-done g c = refused-not-fine _ c.refuse_threads.result c.refuse_threads.ensures
 
 pub returns-in-Threads-clause-wrong : goal.returns-in-Threads-clause-wrong
 returns-in-Threads-clause-wrong g c = refused-not-wrong _ c.refuse_threads.result c.refuse_threads.ensures
+
+pub returns-in-Bench-clause-done : goal.returns-in-Bench-clause-done
+returns-in-Bench-clause-done g c = refused-not-fine _ c.refuse_threads.result c.refuse_threads.ensures
+
+pub returns-in-Bench-clause-wrong : goal.returns-in-Bench-clause-wrong
+returns-in-Bench-clause-wrong g c = refused-not-wrong _ c.refuse_threads.result c.refuse_threads.ensures
 
 pub returns-in-Run-clause-wrong : goal.returns-in-Run-clause-wrong
 returns-in-Run-clause-wrong g c = rw c.in-Run.is (never-wrong c.run_file.result c.run_file.ensures.other)
@@ -59,9 +62,6 @@ returns-in-Upgrade-clause-wrong g c = rw c.in-Upgrade.is (never-wrong c.upgrade_
 
 pub returns-in-Apply-clause-wrong : goal.returns-in-Apply-clause-wrong
 returns-in-Apply-clause-wrong g c = rw c.in-Apply.is (never-wrong c.apply_files.result c.apply_files.ensures.other)
-
-pub returns-in-Bench-clause-wrong : goal.returns-in-Bench-clause-wrong
-returns-in-Bench-clause-wrong g c = rw c.in-Bench.is (never-wrong c.bench_files.result c.bench_files.ensures.other)
 
 pub returns-in-Show-clause-wrong : goal.returns-in-Show-clause-wrong
 returns-in-Show-clause-wrong g c = rw c.in-Show.is (never-wrong c.show_file.result c.show_file.ensures.other)

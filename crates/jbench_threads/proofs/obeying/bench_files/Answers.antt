@@ -1,5 +1,5 @@
 use Rattle.jbench_commands.proofs.Ending.{some-left}
-use Rattle.jbench_commands.proofs.obeying.bench_files_with_threads.Goals as goal
+use Rattle.jbench_threads.proofs.obeying.bench_files.Goals as goal
 
 -- what is left where all was done
 pub returns-in_ok-done-in-Ok-device_of-clause-done : goal.returns-in_ok-done-in-Ok-device_of-clause-done

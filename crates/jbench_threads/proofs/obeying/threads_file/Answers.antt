@@ -1,5 +1,5 @@
 use Rattle.std.proofs.lemmas.Result.{IfOk-weaker}
-use Rattle.jbench_commands.proofs.obeying.threads_file.Goals as goal
+use Rattle.jbench_threads.proofs.obeying.threads_file.Goals as goal
 
 -- of some text
 pub returns-in-Ok-clause-done : goal.returns-in-Ok-clause-done

@@ -1,0 +1,37 @@
+#!/bin/sh
+# Measures what someone new waits for, in a clean clone of this repository: the answer of the first command, the proved build, and with
+# `--test` the whole test. Prints a line for each: the minutes of wall time, and the most memory that one process took.
+#
+#     bench/first_run.sh FOLDER [--test]      FOLDER is made, and has the clone
+#
+# Run it with nothing else running, on a machine whose kit has kept no proofs: what was proved there before is not proved again, and the
+# figures are those of the rest.
+set -eu
+
+top=$(dirname -- "$(dirname -- "$(readlink -f -- "$0")")")
+case "$#:${2-}" in
+1: | 2:--test) ;;
+*)
+    echo "first_run: FOLDER, and at will --test" >&2
+    exit 1
+    ;;
+esac
+kept=$(dirname -- "$(dirname -- "$(dirname -- "$(readlink -f -- "$(command -v rt)")")")")/rattle-kept
+[ ! -e "$kept" ] || echo "first_run: $kept has proofs that earlier runs kept: no figure is that of a new machine" >&2
+git clone -q -- "$top" "$1"
+cd "$1"
+
+# Runs a command, and tells its wall time and memory.
+measured() {
+    name=$1
+    shift
+    status=0
+    /usr/bin/time -o measured -f '%e %M' "$@" >measured.out 2>measured.err || status=$?
+    awk -v name="$name" -v status="$status" 'END { printf "%s: %.1f minutes, %.1f GB in the largest process, exit status %d\n", name, $1 / 60, $2 / 1048576, status }' measured
+}
+
+echo "processors: $(nproc), memory: $(awk '/^MemTotal:/ { printf "%.0f GB", $2 / 1048576 }' /proc/meminfo), load before: $(cut -d ' ' -f 1 /proc/loadavg)"
+measured "first answer" ./jbench run examples/one_write.json
+measured "proved build" ./jbench build
+measured "answer of the proved program" ./jbench run examples/one_write.json
+[ "$#" = 1 ] || measured "whole test" ./test

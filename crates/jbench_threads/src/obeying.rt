@@ -1,0 +1,116 @@
+//! Does what the words tell, with threads for the commands that want them.
+ghost use Rattle.std.specs.Prelude.{◌≡◌, ◌≢◌, ◌↔◌, ℕ, IfOk, IfSome, IsSome, List, Option};
+ghost use Rattle.jbench_words.specs.declared.fault.Status.TheVariants.{Fine, Refused, VerdictFalse};
+ghost use Rattle.jbench_threads.specs.Obeying.{HasFoundWrong, HasObeyed, IsBenchDone, IsBenchLeft};
+ghost use Rattle.script_threads.specs.Runs.{HasFoundFalse, HasServed};
+
+use commit_times::{bench, threads as timed};
+use file_device::{Contents, FileDevice};
+use jbench_commands::obeying as alone;
+use jbench_commands::progress::Progress;
+use jbench_files::{device_of, open_pair, open_to_read};
+use jbench_words::fault::{Status, refuse_file};
+use jbench_words::words::{BenchWords, Words};
+use std::io;
+use std::io::Write;
+use std::sync::Wait;
+use std::thread::Threads;
+
+/// Does what the words tell, with threads for the clients of a script and of `bench`: only these wait for one another. `contents` says
+/// what is supposed of the files of a log.
+///
+/// # Errors
+///
+/// What the command prints can't be written, or memory ran out.
+pub fn obey<T: Threads + Wait + Sync, C: Contents + Send, W: Write + Drop, E: Write + Drop>(
+    rt: &HostRuntime,
+    threads: &T,
+    contents: C,
+    words: &Words<'_>,
+    out: W,
+    err: E,
+) -> io::Result<Status>
+    ensures done { IfOk result (λ status. status ≡ Fine → HasObeyed C.contents (W.contents out) words.now) }
+    ensures wrong { IfOk result (λ status. status ≡ VerdictFalse → HasFoundWrong words.now) }
+{
+    match words {
+        Words::Threads(path) => threads_file(rt, threads, path, out, err),
+        Words::Bench(words) => bench_files(rt, threads, contents, words, out, err),
+        _ => alone::obey(rt, contents, words, out, err),
+    }
+}
+
+/// Runs the clients of the script in a file in threads.
+fn threads_file<T: Threads + Wait + Sync, W: Write + Drop, E: Write + Drop>(
+    rt: &HostRuntime,
+    threads: &T,
+    path: &str,
+    out: W,
+    err: E,
+) -> io::Result<Status>
+    ensures done { IfOk result (λ status. status ≡ Fine → (text : Option (List ℕ)) × HasServed text) }
+    ensures wrong { IfOk result (λ status. status ≡ VerdictFalse → (text : Option (List ℕ)) × HasFoundFalse text) }
+{
+    let mut err = err;
+    match open_to_read(rt, path) {
+        Ok(file) => script_threads::threads(threads, rt.alloc(), path, file.into_file(), out, err),
+        Err(e) => refuse_file(&mut err, path, e),
+    }
+}
+
+/// Commits transactions to a log in two files, both of which are opened before either is read.
+fn bench_files<T: Threads + Wait + Sync, C: Contents + Send, W: Write + Drop, E: Write + Drop>(
+    rt: &HostRuntime,
+    threads: &T,
+    contents: C,
+    words: &BenchWords<'_>,
+    out: W,
+    err: E,
+) -> io::Result<Status>
+    ensures done { IfOk result (λ status. status ≡ Fine → IsBenchDone C.contents) }
+    ensures other { IfOk result (λ status. status ≢ Fine → status ≡ Refused) }
+{
+    let mut err = err;
+    let files = match open_pair(rt, words.paths) {
+        Ok(files) => files,
+        Err(unopened) => return refuse_file(&mut err, unopened.path, unopened.error),
+    };
+    match device_of(rt.alloc(), contents, files) {
+        Ok(device) => {
+            let done = bench_device(rt, threads, words, device, out, err)?;
+            Ok(status_of(&done))
+        }
+        Err(e) => refuse_file(&mut err, words.paths.log, e),
+    }
+}
+
+/// Commits transactions to the log on this device, by clients in threads of their own where the words tell of any.
+fn bench_device<T: Threads + Wait + Sync, C: Contents + Send, W: Write + Drop, E: Write + Drop>(
+    rt: &HostRuntime,
+    threads: &T,
+    words: &BenchWords<'_>,
+    device: FileDevice<C>,
+    out: W,
+    err: E,
+) -> io::Result<Option<FileDevice<C>>>
+    ensures { IfOk result (λ done. IfSome done (IsBenchLeft C.contents)) }
+{
+    let (alloc, progress) = (rt.alloc(), Progress::new(rt));
+    match words.threads {
+        None => bench::bench(alloc, words, device, rt, progress, out, err),
+        Some(clients) => timed::bench(
+            threads, rt, alloc, words, clients, device, progress, out, err,
+        ),
+    }
+}
+
+/// How a command ended that answers what is left where all was done.
+fn status_of<T>(done: &Option<T>) -> Status
+    ensures fine { result ≡ Fine ↔ IsSome done.now }
+    ensures other { result ≢ Fine → result ≡ Refused }
+{
+    match done {
+        Some(_) => Status::Fine,
+        None => Status::Refused,
+    }
+}
