@@ -57,37 +57,41 @@ each-weaker P Q old new weaker each = record {
   now = weaker new.disk each.now;
 }
 
--- from fewer transactions on too
-opens-lower : (shape : Shape) (ts : History) (low lower high : ℕ) (disk : Disk) → lower ≤ low → OpensOver shape ts low high disk → OpensOver shape ts lower high disk
-opens-lower shape ts low lower high disk fewer opens = record {
-  each = λ image left.
-      let at = opens.each image left in
-      let from : low ≤ at.0 = at.1 in
-      (at.0, (omega arith), at.2, at.3, at.4);
-}
-
 -- a journal in a call that began with the other one: what is sealed in the rest of the call is sealed in the whole
 record IsLater (j k : Journal) : Type 0 where
   shape : k.engine.shape ≡ j.engine.shape
   committed : j.engine.committed ≤ k.engine.committed
   sealed : (ts : History) → IsSealedInClose k.front ts → IsSealedInClose j.front ts
 
+-- copies of the rest are copies of the whole
+later-copies : (j k : Journal) (most more : ℕ) (old new : Disk) → IsLater j k → most ≤ more → HomeAddsOnly (IsCopyOfTurns k most) old new →
+    HomeAddsOnly (IsCopyOfTurns j more) old new
+later-copies j k most more old new later larger adds =
+    let fewer : j.engine.committed ≤ k.engine.committed = later.committed in
+    adds-weaker (IsCopyOfTurns k most) (IsCopyOfTurns j more) old new
+    (λ b v copy.
+    let low : k.engine.committed ≤ copy.n = copy.low in
+    let high : copy.n ≤ most = copy.high in
+    record { sealed = copy.sealed; among = later.sealed copy.sealed copy.among; n = copy.n; low = (omega arith); high = (omega arith); copy = copy.copy }) adds
+
+later-self : (j : Journal) → IsLater j j
+later-self j = record { shape = refl; committed = omega arith; sealed = λ ts among. among }
+
 -- a moment of the rest is one of the whole
-during-later : (j k : Journal) (old mid disk : Disk) → IsLater j k → HomeAddsOnly (IsCopyOfTurns j) old mid → IsDuringTurns k mid disk → IsDuringTurns j old disk
+during-later : (j k : Journal) (old mid disk : Disk) → IsLater j k → HomeAddsOnly (IsCopyOfTurns j k.engine.committed) old mid → IsDuringTurns k mid disk →
+    IsDuringTurns j old disk
 during-later j k old mid disk later before during =
     let fewer : j.engine.committed ≤ k.engine.committed = later.committed in
+    let low : k.engine.committed ≤ during.least = during.low in
     record {
+      least = during.least;
+      low = (omega arith);
       home =
-          adds-after (IsCopyOfTurns j) old mid disk before
-          (adds-weaker (IsCopyOfTurns k) (IsCopyOfTurns j) mid disk
-          (λ b v copy.
-          let low : k.engine.committed ≤ copy.n = copy.low in
-          record { sealed = copy.sealed; among = later.sealed copy.sealed copy.among; n = copy.n; low = (omega arith); copy = copy.copy }) during.home);
+          adds-after (IsCopyOfTurns j during.least) old mid disk (later-copies j j k.engine.committed during.least old mid (later-self j) low before)
+          (later-copies j k during.least during.least mid disk later (omega arith) during.home);
       sealed = during.sealed;
       among = later.sealed during.sealed during.among;
-      opens =
-          subst (λ (s : Shape). OpensOver s during.sealed j.engine.committed (length during.sealed) disk) later.shape
-          (opens-lower k.engine.shape during.sealed k.engine.committed j.engine.committed (length during.sealed) disk fewer during.opens);
+      opens = subst (λ (s : Shape). OpensOver s during.sealed during.least (length during.sealed) disk) later.shape during.opens;
     }
 
 -- after a seal there is no more to be sealed
@@ -101,18 +105,26 @@ after-seal f (h ∷ handles) ts some among =
 -- a moment at which home is as it was
 turn-during : (j : Journal) (old disk : Disk) → IsDuringTurn j old disk → IsDuringTurns j old disk
 turn-during j old disk during = record {
-  home = adds-none (IsCopyOfTurns j) old disk during.home.same;
+  least = j.engine.committed;
+  low = omega arith;
+  home = adds-none (IsCopyOfTurns j j.engine.committed) old disk during.home.same;
   sealed = j.front.sealed;
   among = inl refl;
   opens = during.opens;
 }
 
+rounds-copies : (j : Journal) (most : ℕ) (old disk : Disk) → j.engine.committed ≤ most → HomeAddsOnly (IsCommittedCopy j.front.sealed j.engine.committed) old disk →
+    HomeAddsOnly (IsCopyOfTurns j most) old disk
+rounds-copies j most old disk high adds =
+    adds-weaker (IsCommittedCopy j.front.sealed j.engine.committed) (IsCopyOfTurns j most) old disk
+    (λ b v copy. record { sealed = j.front.sealed; among = inl refl; n = j.engine.committed; low = (omega arith); high = high; copy = copy }) adds
+
 -- one of rounds
 rounds-during : (j : Journal) (old disk : Disk) → IsDuringRounds j old disk → IsDuringTurns j old disk
 rounds-during j old disk during = record {
-  home =
-      adds-weaker (IsCommittedCopy j.front.sealed j.engine.committed) (IsCopyOfTurns j) old disk
-      (λ b v copy. record { sealed = j.front.sealed; among = inl refl; n = j.engine.committed; low = (omega arith); copy = copy }) during.home;
+  least = j.engine.committed;
+  low = omega arith;
+  home = rounds-copies j j.engine.committed old disk (omega arith) during.home;
   sealed = j.front.sealed;
   among = inl refl;
   opens = during.opens;
@@ -146,24 +158,42 @@ module _ {D : Type 0} (state : D → DeviceState) where
     each =
         each-stays (IsDuringTurns v.journal (state v.device).disk) (state v.device) (state v.device) (record { shape = refl; disk = refl; past = refl })
         (turn-during v.journal (state v.device).disk (state v.device).disk (record { home = record { same = λ b. refl }; opens = opens }));
+    count = omega arith;
+    home = adds-none _ (state v.device).disk (state v.device).disk (λ b. refl);
   }
 
-  -- a device that stays adds none
-  pub each-device : (old mid new : JournalValue D) → new.device ≡ mid.device → HoldsDuringTurns state old mid → HoldsDuringTurns state old new
-  each-device old mid new same holds = record { each = subst (EachTo old) (sym same) holds.each }
+  pub each-same : (old new : JournalValue D) → new ≡ old → OpensNow old.journal (state old.device).disk → HoldsDuringTurns state old new
+  each-same old new same opens = subst (λ (v : JournalValue D). HoldsDuringTurns state old v) (sym same) (each-still old opens)
 
-  pub each-same : (old new : JournalValue D) → new.device ≡ old.device → OpensNow old.journal (state old.device).disk → HoldsDuringTurns state old new
-  each-same old new same opens = each-device old old new same (each-still old opens)
+  -- a device that stays adds none, where as many are committed
+  pub each-device : (old mid new : JournalValue D) → new.device ≡ mid.device → new.journal.engine.committed ≡ mid.journal.engine.committed →
+      HoldsDuringTurns state old mid → HoldsDuringTurns state old new
+  each-device old mid new same count holds = record {
+    each = subst (EachTo old) (sym same) holds.each;
+    count = subst (λ (n : ℕ). old.journal.engine.committed ≤ n) (sym count) holds.count;
+    home =
+        subst (λ (n : ℕ). HomeAddsOnly (IsCopyOfTurns old.journal n) (state old.device).disk (state new.device).disk) (sym count)
+        (subst (λ (d : D). HomeAddsOnly (IsCopyOfTurns old.journal mid.journal.engine.committed) (state old.device).disk (state d).disk) (sym same) holds.home);
+  }
 
   -- the moments of one call after those of another
   each-on : (a b c : JournalValue D) → IsLater a.journal b.journal → HoldsDuringTurns state a b → HoldsDuringTurns state b c → HoldsDuringTurns state a c
   each-on a b c later first second =
       let P = IsDuringTurns a.journal (state a.device).disk in
+      let low : a.journal.engine.committed ≤ b.journal.engine.committed = first.count in
+      let high : b.journal.engine.committed ≤ c.journal.engine.committed = second.count in
       record {
         each =
             each-joins P (state a.device) (state b.device) (state c.device) first.each
             (each-weaker (IsDuringTurns b.journal (state b.device).disk) P (state b.device) (state c.device)
-            (λ disk during. during-later a.journal b.journal (state a.device).disk (state b.device).disk disk later first.each.now.home during) second.each);
+            (λ disk during. during-later a.journal b.journal (state a.device).disk (state b.device).disk disk later first.home during) second.each);
+        count = omega arith;
+        home =
+            adds-after (IsCopyOfTurns a.journal c.journal.engine.committed) (state a.device).disk (state b.device).disk (state c.device).disk
+            (later-copies a.journal a.journal b.journal.engine.committed c.journal.engine.committed (state a.device).disk (state b.device).disk (later-self a.journal) high
+            first.home)
+            (later-copies a.journal b.journal c.journal.engine.committed c.journal.engine.committed (state b.device).disk (state c.device).disk later (omega arith)
+            second.home);
       }
 
   on-later : (a b : JournalValue D) → GoesOn state a b → IsLater a.journal b.journal
@@ -190,21 +220,28 @@ module _ {D : Type 0} (state : D → DeviceState) where
   each-sealed a b c has first second = each-on a b c (sealed-later a b has) first second
 
   -- those of a commit step
-  pub each-commit : (old new : JournalValue D) → EachMoment (IsDuringTurn old.journal (state old.device).disk) (state old.device) (state new.device) →
-      HoldsDuringTurns state old new
-  each-commit old new each = record {
+  pub each-commit : (old new : JournalValue D) → old.journal.engine.committed ≤ new.journal.engine.committed →
+      EachMoment (IsDuringTurn old.journal (state old.device).disk) (state old.device) (state new.device) → HoldsDuringTurns state old new
+  each-commit old new count each = record {
     each =
         each-weaker (IsDuringTurn old.journal (state old.device).disk) (IsDuringTurns old.journal (state old.device).disk) (state old.device) (state new.device)
         (turn-during old.journal (state old.device).disk) each;
+    count = count;
+    home = adds-none _ (state old.device).disk (state new.device).disk each.now.home.same;
   }
 
   -- those of rounds
-  pub each-rounds : (old new : JournalValue D) → HoldsDuringRounds state old new → HoldsDuringTurns state old new
-  each-rounds old new holds = record {
-    each =
-        each-weaker (IsDuringRounds old.journal (state old.device).disk) (IsDuringTurns old.journal (state old.device).disk) (state old.device) (state new.device)
-        (rounds-during old.journal (state old.device).disk) holds.each;
-  }
+  pub each-rounds : (old new : JournalValue D) → new.journal.engine.committed ≡ old.journal.engine.committed → HoldsDuringRounds state old new →
+      HoldsDuringTurns state old new
+  each-rounds old new same holds =
+      let count : old.journal.engine.committed ≤ new.journal.engine.committed = omega arith in
+      record {
+        each =
+            each-weaker (IsDuringRounds old.journal (state old.device).disk) (IsDuringTurns old.journal (state old.device).disk) (state old.device) (state new.device)
+            (rounds-during old.journal (state old.device).disk) holds.each;
+        count = count;
+        home = rounds-copies old.journal new.journal.engine.committed (state old.device).disk (state new.device).disk count holds.each.now.home;
+      }
 
   pub rounds-still : (v : JournalValue D) → OpensNow v.journal (state v.device).disk → HoldsDuringRounds state v v
   rounds-still v opens = record {
@@ -249,16 +286,23 @@ module _ {D : Type 0} (state : D → DeviceState) where
     where
       told : (disk : Disk) → IsDuringRounds b.journal (state b.device).disk disk → IsDuringTurns a.journal (state a.device).disk disk
       told disk during = record {
+        least = b.journal.engine.committed;
+        low = done.committed;
         home =
-            adds-after (IsCopyOfTurns a.journal) (state a.device).disk (state b.device).disk disk first.each.now.home
-            (adds-weaker (IsCommittedCopy b.journal.front.sealed b.journal.engine.committed) (IsCopyOfTurns a.journal) (state b.device).disk disk
-            (λ n v copy. record { sealed = b.journal.front.sealed; among = inr done.sealed; n = b.journal.engine.committed; low = done.committed; copy = copy }) during.home);
+            adds-after (IsCopyOfTurns a.journal b.journal.engine.committed) (state a.device).disk (state b.device).disk disk first.home
+            (adds-weaker (IsCommittedCopy b.journal.front.sealed b.journal.engine.committed) (IsCopyOfTurns a.journal b.journal.engine.committed) (state b.device).disk disk
+            (λ n v copy. record {
+              sealed = b.journal.front.sealed;
+              among = inr done.sealed;
+              n = b.journal.engine.committed;
+              low = done.committed;
+              high = (omega arith);
+              copy = copy;
+            }) during.home);
         sealed = b.journal.front.sealed;
         among = inr done.sealed;
         opens =
-            subst (λ (s : Shape). OpensOver s b.journal.front.sealed a.journal.engine.committed (length b.journal.front.sealed) disk) shape
-            (opens-lower b.journal.engine.shape b.journal.front.sealed b.journal.engine.committed a.journal.engine.committed (length b.journal.front.sealed) disk
-            done.committed during.opens);
+            subst (λ (s : Shape). OpensOver s b.journal.front.sealed b.journal.engine.committed (length b.journal.front.sealed) disk) shape during.opens;
       }
 
   -- whatever the answer of the close is
@@ -270,25 +314,35 @@ module _ {D : Type 0} (state : D → DeviceState) where
   each-closed honest (Ok x) in_ok in_err a b done shape first back each = λ now. each-finished a b (in_ok x) done shape (first (back now)) (each now)
   each-closed honest (Err e) in_ok in_err a b done shape first back each = λ now. each-finished a b (in_err e) done shape (first (back now)) (each now)
 
-  -- after a request, which changes no more than the lock
-  later-same : (a b : JournalValue D) → b ≡ a → IsLater a.journal b.journal
-  later-same a b same =
-      subst (λ (v : JournalValue D). IsLater a.journal v.journal) (sym same) (record { shape = refl; committed = omega arith; sealed = λ ts among. among })
+  -- a request changes no more than the lock
+  record IsAsked (a b : JournalValue D) : Type 0 where
+    later : IsLater a.journal b.journal
+    count : b.journal.engine.committed ≡ a.journal.engine.committed
 
-  asked-of : (tid : ℕ) (a b : JournalValue D) → Requests state tid a b → (n : ℕ) → length a.journal.front.running.handles ≡ n → IsLater a.journal b.journal
-  asked-of tid a b asks zero none = later-same a b (asks.empty none)
+  asked-same : (a b : JournalValue D) → b ≡ a → IsAsked a b
+  asked-same a b same = subst (IsAsked a) (sym same) (record { later = later-self a.journal; count = refl })
+
+  asked-of : (tid : ℕ) (a b : JournalValue D) → Requests state tid a b → (n : ℕ) → length a.journal.front.running.handles ≡ n → IsAsked a b
+  asked-of tid a b asks zero none = asked-same a b (asks.empty none)
   asked-of tid a b asks (suc n) some =
       ⊎_elim
       (λ (is : (eqb tid a.journal.front.running.tid ≡ true) × (tid ≡ a.journal.front.running.tid)).
       let step = asks.same is.1 (omega arith) in
-      let count : b.journal.engine.committed ≡ a.journal.engine.committed = ap (λ (e : Engine). e.committed) step.engine in
+      let same : b.journal.engine.committed ≡ a.journal.engine.committed = ap (λ (e : Engine). e.committed) step.engine in
       record {
-        shape = ap (λ (e : Engine). e.shape) step.engine;
-        committed = omega arith;
-        sealed = λ ts among. subst (λ (f : Front). IsSealedInClose f ts) step.front.after among;
+        later = record {
+          shape = ap (λ (e : Engine). e.shape) step.engine;
+          committed = omega arith;
+          sealed = λ ts among. subst (λ (f : Front). IsSealedInClose f ts) step.front.after among;
+        };
+        count = same;
       })
-      (λ (other : (eqb tid a.journal.front.running.tid ≡ false) × (tid ≢ a.journal.front.running.tid)). later-same a b (asks.other other.1))
+      (λ (other : (eqb tid a.journal.front.running.tid ≡ false) × (tid ≢ a.journal.front.running.tid)). asked-same a b (asks.other other.1))
       (eqb_tells tid a.journal.front.running.tid)
 
-  pub each-asked : (tid : ℕ) (a b c : JournalValue D) → Requests state tid a b → HoldsDuringTurns state a b → HoldsDuringTurns state b c → HoldsDuringTurns state a c
-  each-asked tid a b c asks first second = each-on a b c (asked-of tid a b asks (length a.journal.front.running.handles) refl) first second
+  -- the moments after one
+  pub each-asked : (tid : ℕ) (a b c : JournalValue D) → Requests state tid a b → b.device ≡ a.device → OpensNow a.journal (state a.device).disk →
+      HoldsDuringTurns state b c → HoldsDuringTurns state a c
+  each-asked tid a b c asks device opens holds =
+      let is = asked-of tid a b asks (length a.journal.front.running.handles) refl in
+      each-on a b c is.later (each-device a a b device is.count (each-still a opens)) holds

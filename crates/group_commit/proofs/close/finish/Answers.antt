@@ -101,4 +101,4 @@ returns-clause-moments g c = λ honest.
       | else-has_joined+in_ok-finish_commit w ↦
           subst (λ (v : JournalValue g.row.D.Denot). g.D.Device.honest v.device → HoldsDuringTurns g.D.Device.state old v) (sym w.journal-is) w.finish_commit.ensures.moments
     ] in
-    each-sealed g.D.Device.state _ _ _ has (first (c.release_all.ensures.honest honest)) (each-rounds g.D.Device.state _ _ (c.release_all.ensures.moments honest))
+    each-sealed g.D.Device.state _ _ _ has (first (c.release_all.ensures.honest honest)) (each-rounds g.D.Device.state _ _ c.release_all.ensures.committed (c.release_all.ensures.moments honest))

@@ -38,8 +38,10 @@ returns-in_err-commit_step-clause-calls g c =
 pub returns-in_err-commit_step-clause-moments : goal.returns-in_err-commit_step-clause-moments
 returns-in_err-commit_step-clause-moments g c = λ honest.
     let before = c.loop-journal.invariant in
+    let busy = λ (idle : c.loop-journal.journal.journal.engine.stage ≡ Idle). true≢false (sym (c.is_idle.ensures.1 idle) ∙ c.loop-journal-test.true) in
+    let wrong = commit-wrong g.D.Device.state _ _ _ before.went.running busy c.in_err-commit_step.ensures.err c.commit_step.ensures.device.shape in
     let was = c.commit_step.ensures.device.honest honest in
-    each-went g.D.Device.state _ _ _ before.went.on (before.each was) (each-commit g.D.Device.state _ _ (c.commit_step.ensures.device.moments was))
+    each-went g.D.Device.state _ _ _ before.went.on (before.each was) (each-commit g.D.Device.state _ _ wrong.1.on.committed (c.commit_step.ensures.device.moments was))
 
 -- a step that was made keeps it
 pub loop-journal-preserved : goal.loop-journal-preserved
@@ -56,6 +58,6 @@ loop-journal-preserved g c =
           (turn-calls g.D.Device.state _ _ _ busy c.in_ok-commit_step.ensures.ok c.commit_step.ensures.device.calls);
       each = λ honest.
           let was = c.commit_step.ensures.device.honest honest in
-          each-went g.D.Device.state _ _ _ before.went.on (before.each was) (each-commit g.D.Device.state _ _ (c.commit_step.ensures.device.moments was));
+          each-went g.D.Device.state _ _ _ before.went.on (before.each was) (each-commit g.D.Device.state _ _ step.on.committed (c.commit_step.ensures.device.moments was));
       honest = λ honest. before.honest (c.commit_step.ensures.device.honest honest);
     }

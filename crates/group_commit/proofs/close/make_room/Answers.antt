@@ -45,4 +45,4 @@ returns-clause-calls g c = calls-after g.D.Device.state _ _ _ c.finish_commit.en
 pub returns-clause-moments : goal.returns-clause-moments
 returns-clause-moments g c = λ honest.
     each-went g.D.Device.state _ _ _ c.in_ok-finish_commit.ensures.ok.on (c.finish_commit.ensures.moments (c.release_all.ensures.honest honest))
-    (each-rounds g.D.Device.state _ _ (c.release_all.ensures.moments honest))
+    (each-rounds g.D.Device.state _ _ c.release_all.ensures.committed (c.release_all.ensures.moments honest))

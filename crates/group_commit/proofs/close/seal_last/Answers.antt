@@ -1,6 +1,7 @@
 use Rattle.std.proofs.Common.{sym, ap, subst, ◌<◌, ◌∙◌, length}
 use Rattle.std.proofs.lemmas.Result.{err_from_is_err_and}
 use Rattle.journal_model.specs.Transaction.{Transaction}
+use Rattle.journal_world.specs.Engine.{Engine}
 use Rattle.journal_world.specs.Journal.{batch_of}
 use Rattle.journal_steps.specs.Values.{JournalValue}
 use Rattle.group_commit.specs.Close.{GoesOn, LastRefused, WentWrong}
@@ -118,8 +119,8 @@ returns-clause-calls g c =
 -- so it is with the moments
 pub returns-in_err-batch-clause-moments : goal.returns-in_err-batch-clause-moments
 returns-in_err-batch-clause-moments g c = λ honest.
-    let device = ap (λ (v : JournalValue g.row.D.Denot). v.device) c.ready_batch.ensures.same in
-    each-same g.D.Device.state _ _ device (c.recall_invariant.ensures.opens (subst g.D.Device.honest device honest))
+    let same = c.ready_batch.ensures.same in
+    each-same g.D.Device.state _ _ same (c.recall_invariant.ensures.opens (subst g.D.Device.honest (ap (λ (v : JournalValue g.row.D.Denot). v.device) same) honest))
 
 pub returns-in_err-make_room-clause-moments : goal.returns-in_err-make_room-clause-moments
 returns-in_err-make_room-clause-moments g c = λ honest.
@@ -128,6 +129,7 @@ returns-in_err-make_room-clause-moments g c = λ honest.
 pub returns-in_err-seal_running-clause-moments : goal.returns-in_err-seal_running-clause-moments
 returns-in_err-seal_running-clause-moments g c = λ honest.
     each-device g.D.Device.state _ _ _ c.seal_running.ensures.device
+    (ap (λ (v : JournalValue g.row.D.Denot). v.journal.engine.committed) c.in_err-seal_running.ensures.err.1)
     (subst (λ (v : JournalValue g.row.D.Denot). HoldsDuringTurns g.D.Device.state v c.make_room.new.journal) c.ready_batch.ensures.same
     (c.make_room.ensures.moments (subst g.D.Device.honest c.seal_running.ensures.device honest)))
 
@@ -137,7 +139,7 @@ returns-clause-moments g c = λ honest.
     let joined = subst (λ (t : Transaction). 0 < length t.handles) (sym (same-running g.D.Device.state _ _ went.on)) c.requires.joined in
     let has = seal-done g.D.Device.state _ _ _ went c.seal_running.ensures.told joined c.in_ok-seal_running.ensures.ok c.seal_running.ensures.device in
     each-sealed g.D.Device.state _ _ _ has
-    (each-device g.D.Device.state _ _ _ c.seal_running.ensures.device
+    (each-device g.D.Device.state _ _ _ c.seal_running.ensures.device (ap (λ (e : Engine). e.committed) c.in_ok-seal_running.ensures.ok.engine.after)
     (subst (λ (v : JournalValue g.row.D.Denot). HoldsDuringTurns g.D.Device.state v c.make_room.new.journal) c.ready_batch.ensures.same
     (c.make_room.ensures.moments (subst g.D.Device.honest c.seal_running.ensures.device (c.finish_commit.ensures.honest honest)))))
     (c.finish_commit.ensures.moments honest)

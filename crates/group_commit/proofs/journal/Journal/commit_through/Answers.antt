@@ -45,7 +45,7 @@ returns-in_err-request_commit-clause-calls g c = same-calls g.D.Device.state _ _
 
 pub returns-in_err-request_commit-clause-moments : goal.returns-in_err-request_commit-clause-moments
 returns-in_err-request_commit-clause-moments g c = λ honest.
-    each-same g.D.Device.state _ _ c.request_commit.ensures.device (c.recall_invariant.ensures.opens (subst g.D.Device.honest c.request_commit.ensures.device honest))
+    each-same g.D.Device.state _ _ c.in_err-request_commit.ensures.err.2 (c.recall_invariant.ensures.opens (subst g.D.Device.honest c.request_commit.ensures.device honest))
 
 -- else those of the turns
 pub returns-in_err-mark-clause-calls : goal.returns-in_err-mark-clause-calls
@@ -64,17 +64,14 @@ returns-clause-calls g c =
 pub returns-in_err-mark-clause-moments : goal.returns-in_err-mark-clause-moments
 returns-in_err-mark-clause-moments g c = λ honest.
     let was = subst g.D.Device.honest c.request_commit.ensures.device (c.commit_all.ensures.honest honest) in
-    each-asked g.D.Device.state _ _ _ _ c.in_ok-request_commit.ensures.ok
-    (each-same g.D.Device.state _ _ c.request_commit.ensures.device (c.recall_invariant.ensures.opens was)) (c.commit_all.ensures.moments honest)
+    each-asked g.D.Device.state _ _ _ _ c.in_ok-request_commit.ensures.ok c.request_commit.ensures.device (c.recall_invariant.ensures.opens was) (c.commit_all.ensures.moments honest)
 
 pub returns-then-mark-tid-clause-moments : goal.returns-then-mark-tid-clause-moments
 returns-then-mark-tid-clause-moments g c = λ honest.
     let was = subst g.D.Device.honest c.request_commit.ensures.device (c.commit_all.ensures.honest honest) in
-    each-asked g.D.Device.state _ _ _ _ c.in_ok-request_commit.ensures.ok
-    (each-same g.D.Device.state _ _ c.request_commit.ensures.device (c.recall_invariant.ensures.opens was)) (c.commit_all.ensures.moments honest)
+    each-asked g.D.Device.state _ _ _ _ c.in_ok-request_commit.ensures.ok c.request_commit.ensures.device (c.recall_invariant.ensures.opens was) (c.commit_all.ensures.moments honest)
 
 pub returns-clause-moments : goal.returns-clause-moments
 returns-clause-moments g c = λ honest.
     let was = subst g.D.Device.honest c.request_commit.ensures.device (c.commit_all.ensures.honest honest) in
-    each-asked g.D.Device.state _ _ _ _ c.in_ok-request_commit.ensures.ok
-    (each-same g.D.Device.state _ _ c.request_commit.ensures.device (c.recall_invariant.ensures.opens was)) (c.commit_all.ensures.moments honest)
+    each-asked g.D.Device.state _ _ _ _ c.in_ok-request_commit.ensures.ok c.request_commit.ensures.device (c.recall_invariant.ensures.opens was) (c.commit_all.ensures.moments honest)
