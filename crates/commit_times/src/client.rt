@@ -9,7 +9,7 @@ use block_device::Device;
 use jbench_words::fault::Fault;
 use jbench_words::words::BenchWords;
 use journal_model::{BlockNo, JournalError};
-use shared_journal::{Handle, Journal, JournalName, MeetingName, PartsName, Receipt, Seat, Ticket};
+use shared_journal::{Handle, Journal, JournalName, Receipt, Seat, Ticket};
 use std::alloc::Global;
 use std::sync::atomic::{AtomicU64, Ordering};
 use std::sync::{Mutex, MutexGuard, Wait};
@@ -18,7 +18,7 @@ use std::time::{Clock, Duration, Instant};
 
 /// What all clients share.
 #[derive(Drop)]
-pub(crate) struct Shared<'s, J: JournalName + PartsName + MeetingName, D: Device, C> {
+pub(crate) struct Shared<'s, J: JournalName, D: Device, C> {
     /// What tells the time.
     pub(crate) clock: &'s C,
     /// The journal.
@@ -43,7 +43,7 @@ pub(crate) struct Shared<'s, J: JournalName + PartsName + MeetingName, D: Device
     pub(crate) refused: AtomicU64,
 }
 
-impl<'s, J: JournalName + PartsName + MeetingName, D: Device, C> Shared<'s, J, D, C> {
+impl<'s, J: JournalName, D: Device, C> Shared<'s, J, D, C> {
     /// What clients share that begin now.
     pub(crate) fn new(
         clock: &'s C,
@@ -86,7 +86,7 @@ impl<'s, J: JournalName + PartsName + MeetingName, D: Device, C> Shared<'s, J, D
 
 /// A client.
 #[derive(Drop)]
-pub(crate) struct Client<'s, J: JournalName + PartsName + MeetingName, D: Device, C> {
+pub(crate) struct Client<'s, J: JournalName, D: Device, C> {
     /// What all share.
     pub(crate) shared: &'s Shared<'s, J, D, C>,
     /// Its own seat.
@@ -99,7 +99,7 @@ pub(crate) struct Client<'s, J: JournalName + PartsName + MeetingName, D: Device
     pub(crate) done: Done,
 }
 
-impl<'s, J: JournalName + PartsName + MeetingName, D: Device, C: Clock> Client<'s, J, D, C> {
+impl<'s, J: JournalName, D: Device, C: Clock> Client<'s, J, D, C> {
     /// A client that has done nothing yet.
     pub(crate) fn new(
         alloc: Global,

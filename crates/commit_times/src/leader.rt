@@ -2,7 +2,7 @@
 use crate::bell::Bell;
 use block_device::Device;
 use journal_model::JournalError;
-use shared_journal::{CheckTurn, Journal, JournalName, MeetingName, PartsName, Turn};
+use shared_journal::{CheckTurn, Journal, JournalName, Turn};
 use std::sync::{Mutex, Wait};
 
 /// What clients wait for.
@@ -106,7 +106,7 @@ impl Rounds {
 /// # Errors
 ///
 /// Those of a commit turn and of a checkpoint turn; `NeedSpace` where the ring has no room though all is home.
-pub(crate) fn lead<J: JournalName + PartsName + MeetingName, D: Device, W: Wait>(
+pub(crate) fn lead<J: JournalName, D: Device, W: Wait>(
     rt: &W,
     journal: &Journal<J, D>,
     turns: &Mutex<Rounds>,
@@ -129,7 +129,7 @@ pub(crate) fn lead<J: JournalName + PartsName + MeetingName, D: Device, W: Wait>
 /// handle was another thread's. Here the wait is over once each client of the last commit has stopped a further handle, and after a short
 /// while in any case. So commits do not alternate between all handles but one and that one, which comes back before the others have woken.
 /// Source: fs/jbd2/transaction.c by behaviour (`jbd2_journal_stop`, `j_average_commit_time`).
-fn commit<J: JournalName + PartsName + MeetingName, D: Device, W: Wait>(
+fn commit<J: JournalName, D: Device, W: Wait>(
     rt: &W,
     journal: &Journal<J, D>,
     rounds: &mut Rounds,
@@ -162,7 +162,7 @@ fn commit<J: JournalName + PartsName + MeetingName, D: Device, W: Wait>(
 /// Takes a part of a round before a commit, of as many steps as the last commit had, where one is due. A round writes no more blocks than
 /// the ring had taken when it began, so it is over when about as many again are: no commit waits for the whole of one. Others who were in
 /// the last commit make their next changes meanwhile.
-fn keep_room<J: JournalName + PartsName + MeetingName, D: Device, W: Wait>(
+fn keep_room<J: JournalName, D: Device, W: Wait>(
     rt: &W,
     journal: &Journal<J, D>,
     rounds: &mut Rounds,
@@ -180,7 +180,7 @@ fn keep_room<J: JournalName + PartsName + MeetingName, D: Device, W: Wait>(
 }
 
 /// Takes checkpoint turns until a round is over.
-fn make_room<J: JournalName + PartsName + MeetingName, D: Device, W: Wait>(
+fn make_room<J: JournalName, D: Device, W: Wait>(
     rt: &W,
     journal: &Journal<J, D>,
     rounds: &mut Rounds,

@@ -11,7 +11,7 @@ use jbench_words::fault::{self, Fault};
 use jbench_words::watch::{Step, Watch};
 use jbench_words::words::BenchWords;
 use journal_model::{Area, JournalError};
-use shared_journal::{Journal, JournalName, LaidJournal, MeetingName, PartsName, Seat, lay};
+use shared_journal::{Journal, JournalName, LaidJournal, Seat, lay};
 use std::alloc::{AllocError, Global};
 use std::collections::VecDeque;
 use std::io::Write;
@@ -117,7 +117,7 @@ fn lay_on<D: Device + Drop>(alloc: Global, device: D) -> Result<LaidJournal<D>, 
 
 /// Gives the journal a name, lets the clients work, and closes it. Whoever calls this picks the name.
 fn do_all<
-    J: JournalName + PartsName + MeetingName + Send + Sync,
+    J: JournalName + Send + Sync,
     D: Device + Send + Drop,
     R: Threads + Wait + Sync,
     C: Clock + Sync,
@@ -131,11 +131,7 @@ fn do_all<
     laid: LaidJournal<D>,
     watch: &mut H,
 ) -> Result<(Done, u64, D), Fault>
-    requires board { laid.board ≡ J.board }
-    requires parts { laid.parts ≡ J.parts }
-    requires meeting { laid.meeting ≡ J.meeting }
-    requires capacity { laid.capacity ≡ J.capacity }
-    requires block_size { laid.block_size ≡ J.block_size }
+    requires name { laid.name ≡ J.name }
     ensures { IfOk result (λ ended. D.honest ended.2 → IsLeftClosed (D.state ended.2)) }
 {
     let (journal, seat) = laid.named::<J>();
@@ -147,7 +143,7 @@ fn do_all<
 
 /// Lets the clients work. What they have done comes back, and in how many commits.
 fn work<
-    J: JournalName + PartsName + MeetingName + Send + Sync,
+    J: JournalName + Send + Sync,
     D: Device + Send,
     R: Threads + Wait + Sync,
     C: Clock + Sync,
@@ -174,7 +170,7 @@ fn work<
 }
 
 /// As many seats as are wanted, of allotments that differ by few; fewer where no further seat can be split off.
-fn seats<J: JournalName + PartsName + MeetingName, D: Device>(
+fn seats<J: JournalName, D: Device>(
     alloc: Global,
     journal: &Journal<J, D>,
     seat: Seat<J>,
@@ -196,7 +192,7 @@ fn seats<J: JournalName + PartsName + MeetingName, D: Device>(
 /// Runs the clients.
 fn run_all<
     's,
-    J: JournalName + PartsName + MeetingName + Send + Sync,
+    J: JournalName + Send + Sync,
     D: Device + Send,
     R: Threads + Wait + Sync,
     C: Clock + Sync,
@@ -219,7 +215,7 @@ fn run_in<
     's,
     'h,
     E,
-    J: JournalName + PartsName + MeetingName + Send + Sync,
+    J: JournalName + Send + Sync,
     D: Device + Send,
     R: Threads + Wait + Sync,
     C: Clock + Sync,
@@ -247,7 +243,7 @@ fn run_in<
 }
 
 /// The clients, each with a seat and a plan of its own.
-fn clients<'s, J: JournalName + PartsName + MeetingName, D: Device, C: Clock>(
+fn clients<'s, J: JournalName, D: Device, C: Clock>(
     alloc: Global,
     shared: &'s Shared<'s, J, D, C>,
     seat: Seat<J>,
@@ -268,7 +264,7 @@ fn clients<'s, J: JournalName + PartsName + MeetingName, D: Device, C: Clock>(
 fn start_all<
     's,
     E,
-    J: JournalName + PartsName + MeetingName + Send + Sync,
+    J: JournalName + Send + Sync,
     D: Device + Send,
     R: Wait + Sync,
     C: Clock + Sync,
@@ -292,7 +288,7 @@ fn start_all<
 fn start_client<
     's,
     E,
-    J: JournalName + PartsName + MeetingName + Send + Sync,
+    J: JournalName + Send + Sync,
     D: Device + Send,
     R: Wait + Sync,
     C: Clock + Sync,
@@ -308,14 +304,11 @@ fn start_client<
 }
 
 /// Lets a client work in this thread, and tells of each second.
-fn run_watched<
-    's,
-    J: JournalName + PartsName + MeetingName,
-    D: Device,
-    R: Wait,
-    C: Clock,
-    H: Watch,
->(rt: &R, client: Client<'s, J, D, C>, watch: &mut H) -> Result<Done, Fault> {
+fn run_watched<'s, J: JournalName, D: Device, R: Wait, C: Clock, H: Watch>(
+    rt: &R,
+    client: Client<'s, J, D, C>,
+    watch: &mut H,
+) -> Result<Done, Fault> {
     let mut client = client;
     for _ in rt.forever() {
         let before = client.done.taken.as_secs();

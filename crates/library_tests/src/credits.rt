@@ -139,7 +139,7 @@ fn two_at_once<J: JournalName + Send + Sync, R: Threads + Abort + Sync>(
 
 /// All of it on one board of 6 credits.
 fn on_board<J: JournalName + Send + Sync, R: Threads + Abort + Sync>(rt: &R, laid: LaidBoard)
-    requires { (laid.board ≡ J.board) × (laid.capacity ≡ J.capacity) }
+    requires { (laid.board ≡ J.name.board) × (laid.capacity ≡ J.name.capacity) }
 {
     let (pool, mark, mut raiser, mut seat) = laid.named::<J>();
     credits(rt, &pool, &mut seat);

@@ -6,9 +6,7 @@ use crate::bytes::expect;
 use crate::logs::{formatted, laid_on};
 use block_device::{Device, MemDevice};
 use journal_model::{Area, BlockNo, HandleNo, JournalError, Op, Sealed, Step};
-use shared_journal::{
-    Handle, Journal, JournalName, LaidJournal, MeetingName, Parts, PartsName, Record, Seat, Ticket,
-};
+use shared_journal::{Handle, Journal, JournalName, LaidJournal, Parts, Record, Seat, Ticket};
 use std::alloc::Global;
 use std::marker::Brand;
 use std::process::Abort;
@@ -39,7 +37,7 @@ const DIRECT: u64 = 50;
 
 /// Takes a turn for whoever has to wait: of the commit, or of a round where the log is full. It answers whether that was refused for
 /// good.
-fn take_turn<J: JournalName + PartsName + MeetingName, D: Device, K: Record, R: Wait>(
+fn take_turn<J: JournalName, D: Device, K: Record, R: Wait>(
     rt: &R,
     journal: &Journal<J, D, K>,
 ) -> bool {
@@ -51,7 +49,7 @@ fn take_turn<J: JournalName + PartsName + MeetingName, D: Device, K: Record, R: 
 }
 
 /// Starts a handle of three credits. Where there is no room for it, the running transaction is locked and turns are taken.
-fn start<'a, J: JournalName + PartsName + MeetingName, D: Device, K: Record, R: Wait>(
+fn start<'a, J: JournalName, D: Device, K: Record, R: Wait>(
     rt: &R,
     journal: &'a Journal<J, D, K>,
     seat: &mut Seat<J>,
@@ -73,7 +71,7 @@ fn start<'a, J: JournalName + PartsName + MeetingName, D: Device, K: Record, R: 
 
 /// The steps of one handle: two blocks are written, of which one is this thread's own and is read again, and one is revoked. It
 /// answers whether each was done, and the own block read as it was written.
-fn touch<J: JournalName + PartsName + MeetingName, D: Device, K: Record, R: Wait>(
+fn touch<J: JournalName, D: Device, K: Record, R: Wait>(
     rt: &R,
     journal: &Journal<J, D, K>,
     handle: &mut Handle<'_, J, K>,
@@ -97,7 +95,7 @@ fn touch<J: JournalName + PartsName + MeetingName, D: Device, K: Record, R: Wait
 }
 
 /// Takes turns until the ticket's transaction is committed, and looks with its receipt.
-fn see_through<J: JournalName + PartsName + MeetingName, D: Device, K: Record, R: Wait>(
+fn see_through<J: JournalName, D: Device, K: Record, R: Wait>(
     rt: &R,
     journal: &Journal<J, D, K>,
     ticket: Ticket<J, K>,
@@ -125,7 +123,7 @@ fn see_through<J: JournalName + PartsName + MeetingName, D: Device, K: Record, R
 
 /// What one thread does: each of its handles writes, reads and revokes, and each second one is waited for; a block of its own is
 /// written directly. It answers whether all of it was done.
-fn work<J: JournalName + PartsName + MeetingName, D: Device, K: Record, R: Wait>(
+fn work<J: JournalName, D: Device, K: Record, R: Wait>(
     rt: &R,
     journal: &Journal<J, D, K>,
     mut seat: Seat<J>,
@@ -151,7 +149,7 @@ fn work<J: JournalName + PartsName + MeetingName, D: Device, K: Record, R: Wait>
 
 /// The first two threads at once.
 fn first_two<
-    J: JournalName + PartsName + MeetingName + Send + Sync,
+    J: JournalName + Send + Sync,
     D: Device + Send,
     K: Record + Send,
     R: Threads + Wait + Sync,
@@ -166,7 +164,7 @@ fn first_two<
 
 /// The last two.
 fn last_two<
-    J: JournalName + PartsName + MeetingName + Send + Sync,
+    J: JournalName + Send + Sync,
     D: Device + Send,
     K: Record + Send,
     R: Threads + Wait + Sync,
@@ -181,7 +179,7 @@ fn last_two<
 
 /// All four at once.
 fn all_four<
-    J: JournalName + PartsName + MeetingName + Send + Sync,
+    J: JournalName + Send + Sync,
     D: Device + Send,
     K: Record + Send,
     R: Threads + Wait + Sync,
@@ -306,15 +304,11 @@ fn is_right(parts: Parts<MemDevice, Vec<Sealed>>) -> bool {
 }
 
 /// Four threads over a journal, which is closed then.
-fn worked<J: JournalName + PartsName + MeetingName + Send + Sync, R: Threads + Wait + Abort + Sync>(
+fn worked<J: JournalName + Send + Sync, R: Threads + Wait + Abort + Sync>(
     rt: &R,
     laid: LaidJournal<MemDevice, Vec<Sealed>>,
 )
-    requires board { laid.board ≡ J.board }
-    requires parts { laid.parts ≡ J.parts }
-    requires meeting { laid.meeting ≡ J.meeting }
-    requires capacity { laid.capacity ≡ J.capacity }
-    requires block_size { laid.block_size ≡ J.block_size }
+    requires name { laid.name ≡ J.name }
 {
     let (journal, mut seat) = laid.named::<J>();
     let (Some(one), Some(two), Some(three)) = (

@@ -6,9 +6,7 @@ use crate::bytes::expect;
 use crate::logs::{formatted, laid_on};
 use block_device::{Device, DeviceFault};
 use journal_model::{Area, BlockNo, JournalError};
-use shared_journal::{
-    CheckTurn, Journal, JournalName, LaidJournal, MeetingName, PartsName, Seat, Ticket, Turn,
-};
+use shared_journal::{CheckTurn, Journal, JournalName, LaidJournal, Seat, Ticket, Turn};
 use std::alloc::Global;
 use std::marker::Brand;
 use std::process::Abort;
@@ -114,7 +112,7 @@ impl<D: Device, G: Gate> Device for HeldDevice<D, G> {
 }
 
 /// Writes one block through a handle of its own. It answers the handle's ticket.
-fn write_one<J: JournalName + PartsName + MeetingName, D: Device, R: Wait>(
+fn write_one<J: JournalName, D: Device, R: Wait>(
     rt: &R,
     journal: &Journal<J, D>,
     mut seat: Seat<J>,
@@ -135,7 +133,7 @@ fn write_one<J: JournalName + PartsName + MeetingName, D: Device, R: Wait>(
 }
 
 /// Writes one block, and takes commit turns until its transaction is committed. It answers whether it is.
-fn commit_one<J: JournalName + PartsName + MeetingName, D: Device, R: Wait>(
+fn commit_one<J: JournalName, D: Device, R: Wait>(
     rt: &R,
     journal: &Journal<J, D>,
     seat: Seat<J>,
@@ -157,7 +155,7 @@ fn commit_one<J: JournalName + PartsName + MeetingName, D: Device, R: Wait>(
 }
 
 /// The same, and takes turns of checkpoint rounds until nothing is left to be written home.
-fn commit_and_checkpoint<J: JournalName + PartsName + MeetingName, D: Device, R: Wait>(
+fn commit_and_checkpoint<J: JournalName, D: Device, R: Wait>(
     rt: &R,
     journal: &Journal<J, D>,
     seat: Seat<J>,
@@ -176,7 +174,7 @@ fn commit_and_checkpoint<J: JournalName + PartsName + MeetingName, D: Device, R:
 }
 
 /// Once a write is held, reads a block of home of which the front holds no copy, and so waits for the engine. It answers whether it read.
-fn read_home<J: JournalName + PartsName + MeetingName, D: Device, R: Wait>(
+fn read_home<J: JournalName, D: Device, R: Wait>(
     rt: &R,
     journal: &Journal<J, D>,
     mut seat: Seat<J>,
@@ -198,7 +196,7 @@ fn read_home<J: JournalName + PartsName + MeetingName, D: Device, R: Wait>(
 
 /// Writes one block through a handle of its own, and reads it, and then the one that is being committed, if there is one: the front holds
 /// both. It answers whether it read what was written.
-fn write_and_read<J: JournalName + PartsName + MeetingName, D: Device, R: Wait>(
+fn write_and_read<J: JournalName, D: Device, R: Wait>(
     rt: &R,
     journal: &Journal<J, D>,
     mut seat: Seat<J>,
@@ -223,7 +221,7 @@ fn write_and_read<J: JournalName + PartsName + MeetingName, D: Device, R: Wait>(
 }
 
 /// Reads a block of which the front holds a copy, without a handle. It answers whether the copy begins with this byte.
-fn begins_with<J: JournalName + PartsName + MeetingName, D: Device, R: Wait>(
+fn begins_with<J: JournalName, D: Device, R: Wait>(
     rt: &R,
     journal: &Journal<J, D>,
     block: u64,
@@ -239,7 +237,7 @@ fn begins_with<J: JournalName + PartsName + MeetingName, D: Device, R: Wait>(
 
 /// Once a write is held, and another thread waits for the engine, writes one block and reads, through a handle and without one, and lets
 /// the held one go. It answers whether that was done.
-fn overtake<J: JournalName + PartsName + MeetingName, D: Device, R: Wait>(
+fn overtake<J: JournalName, D: Device, R: Wait>(
     rt: &R,
     journal: &Journal<J, D>,
     seat: Seat<J>,
@@ -263,11 +261,7 @@ fn overtake<J: JournalName + PartsName + MeetingName, D: Device, R: Wait>(
 }
 
 /// One thread reads a block that needs the engine, and another overtakes it.
-fn read_and_overtake<
-    J: JournalName + PartsName + MeetingName + Send + Sync,
-    D: Device + Send,
-    R: Threads + Wait + Sync,
->(
+fn read_and_overtake<J: JournalName + Send + Sync, D: Device + Send, R: Threads + Wait + Sync>(
     rt: &R,
     journal: &Journal<J, D>,
     one: Seat<J>,
@@ -285,11 +279,12 @@ fn read_and_overtake<
 }
 
 /// One thread commits and writes home, and two others read and write while one of its writes is held.
-fn commit_and_overtake<
-    J: JournalName + PartsName + MeetingName + Send + Sync,
-    D: Device + Send,
-    R: Threads + Wait + Sync,
->(rt: &R, journal: &Journal<J, D>, seats: [Seat<J>; 3], gate: &Overtaking) -> bool {
+fn commit_and_overtake<J: JournalName + Send + Sync, D: Device + Send, R: Threads + Wait + Sync>(
+    rt: &R,
+    journal: &Journal<J, D>,
+    seats: [Seat<J>; 3],
+    gate: &Overtaking,
+) -> bool {
     let [one, two, three] = seats;
     let (committed, overtaken) = join(
         rt,
@@ -301,15 +296,11 @@ fn commit_and_overtake<
 
 /// The write of the next transaction does not wait for the one that is held. It answers how many transactions are sealed at the end.
 fn overtaken<
-    J: JournalName + PartsName + MeetingName + Send + Sync,
+    J: JournalName + Send + Sync,
     D: Device + Drop + Send,
     R: Threads + Wait + Abort + Sync,
 >(rt: &R, laid: LaidJournal<D>, gate: &Overtaking) -> u64
-    requires board { laid.board ≡ J.board }
-    requires parts { laid.parts ≡ J.parts }
-    requires meeting { laid.meeting ≡ J.meeting }
-    requires capacity { laid.capacity ≡ J.capacity }
-    requires block_size { laid.block_size ≡ J.block_size }
+    requires name { laid.name ≡ J.name }
 {
     let (journal, mut seat) = laid.named::<J>();
     let (Some(one), Some(two)) = (journal.split_seat(&mut seat), journal.split_seat(&mut seat))

@@ -2,7 +2,7 @@
 ghost use Rattle.std.specs.Prelude.{◌≡◌, ◌≤◌};
 
 use crate::bytes::expect;
-use meeting::{Follower, Meeting, MeetingName, Owner, Since, UnnamedMeeting};
+use parts::{Follower, Meeting, Owner, PartsName, Since, UnnamedMeeting};
 use std::marker::{Brand, Model};
 use std::process::Abort;
 use std::test::Fail;
@@ -19,12 +19,12 @@ impl Since<u64> for Rises {
 
 /// The counter.
 #[derive(Drop)]
-struct Counter<J: MeetingName> {
+struct Counter<J: PartsName> {
     count: u64,
     now: Owner<J, u64>,
 }
 
-impl<J: MeetingName> Model for Counter<J> {
+impl<J: PartsName> Model for Counter<J> {
     ghost use Rattle.std.specs.Prelude.{◌≡◌, ℕ};
 
     ghost Value = { ℕ };
@@ -36,12 +36,12 @@ impl<J: MeetingName> Model for Counter<J> {
 
 /// The counter as it was when both last met.
 #[derive(Drop)]
-struct Last<J: MeetingName> {
+struct Last<J: PartsName> {
     count: u64,
     met: Follower<J, u64>,
 }
 
-impl<J: MeetingName> Model for Last<J> {
+impl<J: PartsName> Model for Last<J> {
     ghost use Rattle.std.specs.Prelude.{◌≡◌, ℕ};
 
     ghost Value = { ℕ };
@@ -52,7 +52,7 @@ impl<J: MeetingName> Model for Last<J> {
 }
 
 /// The counter rises, and nobody else is asked.
-fn rise<J: MeetingName>(meeting: &Meeting<J, u64, Rises>, counter: &mut Counter<J>) {
+fn rise<J: PartsName>(meeting: &Meeting<J, u64, Rises>, counter: &mut Counter<J>) {
     if counter.count < RISES {
         counter.count += 1;
     }
@@ -60,7 +60,7 @@ fn rise<J: MeetingName>(meeting: &Meeting<J, u64, Rises>, counter: &mut Counter<
 }
 
 /// Both meet. It answers how much the counter has risen since they last did, which is no less than nothing.
-fn meet<J: MeetingName>(
+fn meet<J: PartsName>(
     meeting: &Meeting<J, u64, Rises>,
     last: &mut Last<J>,
     counter: &mut Counter<J>,
@@ -74,8 +74,8 @@ fn meet<J: MeetingName>(
 }
 
 /// A counter that rises between two meetings: each finds how far it has risen since the other.
-fn rises_between_meetings<J: MeetingName, R: Abort>(rt: &R, unnamed: UnnamedMeeting<u64, Rises>)
-    requires { unnamed ≡ J.meeting }
+fn rises_between_meetings<J: PartsName, R: Abort>(rt: &R, unnamed: UnnamedMeeting<u64, Rises>)
+    requires { unnamed ≡ J.parts }
 {
     let (meeting, met, now) = unnamed.named::<J>(&0);
     let mut last = Last { count: 0, met };

@@ -8,7 +8,7 @@ use block_device::{Device, FailOnce, MemDevice};
 use group_commit::{Journal, Record, Ticket, Turn};
 use journal_model::{BlockNo, JournalError};
 use recovery::Opened;
-use shared_journal::{Journal as Shared, JournalName, LaidJournal, MeetingName, PartsName, lay};
+use shared_journal::{Journal as Shared, JournalName, LaidJournal, lay};
 use std::alloc::Global;
 use std::marker::Brand;
 use std::process::Abort;
@@ -175,7 +175,7 @@ fn a_read_without_a_handle_fails_with_the_device(rt: HostRuntime) -> Result<(), 
 }
 
 /// The first byte of a block, as a read without a handle sees it in a journal that threads share.
-fn first_shared<J: JournalName + PartsName + MeetingName, R: Wait>(
+fn first_shared<J: JournalName, R: Wait>(
     rt: &R,
     journal: &Shared<J, FailOnce<MemDevice>>,
     block: u64,
@@ -189,15 +189,8 @@ fn first_shared<J: JournalName + PartsName + MeetingName, R: Wait>(
 }
 
 /// Reads a block that home has, and one that it has not. It answers how many transactions are committed at the close.
-fn only_read<J: JournalName + PartsName + MeetingName, R: Wait + Abort>(
-    rt: &R,
-    laid: LaidJournal<FailOnce<MemDevice>>,
-) -> u64
-    requires board { laid.board ≡ J.board }
-    requires parts { laid.parts ≡ J.parts }
-    requires meeting { laid.meeting ≡ J.meeting }
-    requires capacity { laid.capacity ≡ J.capacity }
-    requires block_size { laid.block_size ≡ J.block_size }
+fn only_read<J: JournalName, R: Wait + Abort>(rt: &R, laid: LaidJournal<FailOnce<MemDevice>>) -> u64
+    requires name { laid.name ≡ J.name }
 {
     let (journal, _seat) = laid.named::<J>();
     assert_eq!(rt; first_shared(rt, &journal, 9), Ok(0));

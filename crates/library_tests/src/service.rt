@@ -5,6 +5,7 @@ ghost use Rattle.std.specs.Prelude.{◌≡◌};
 mod gates;
 mod own;
 mod refused;
+mod tasks;
 
 use crate::bytes::expect;
 use crate::logs::{BLOCK_SIZE, formatted, laid_on, lay_on, opened};
@@ -12,7 +13,7 @@ use block_device::{Device, FailOnce, MemDevice};
 use gates::{Meeting, Overtaking};
 use journal_model::{Block, BlockNo, JournalError, Sealed, Tid};
 use recovery::Opened;
-use shared_journal::{JournalName, LaidJournal, MeetingName, PartsName, Tally};
+use shared_journal::{JournalName, LaidJournal, Tally};
 use std::alloc::{AllocError, Global};
 use std::marker::Brand;
 use std::sync::Wait;
@@ -104,10 +105,7 @@ struct Summary {
 }
 
 /// Counts a client.
-fn count<J: JournalName + PartsName + MeetingName>(
-    summary: Summary,
-    client: &ClientOutcome<J, Vec<Sealed>>,
-) -> Summary {
+fn count<J: JournalName>(summary: Summary, client: &ClientOutcome<J, Vec<Sealed>>) -> Summary {
     let mut summary = summary;
     if client.refusal.is_some() {
         summary.refused = summary.refused.saturating_add(1);
@@ -125,7 +123,7 @@ fn count<J: JournalName + PartsName + MeetingName>(
 
 /// Runs clients over a laid journal. It answers what came of them, and the device, or why they were not run.
 fn try_run<
-    J: JournalName + PartsName + MeetingName + Send + Sync,
+    J: JournalName + Send + Sync,
     D: Device + Send + Drop,
     G: Gate + Sync,
     R: Threads + Wait + Sync,
@@ -136,11 +134,7 @@ fn try_run<
     plans: &[Vec<HandlePlan>],
     gate: &G,
 ) -> Result<(Summary, D), JournalError>
-    requires board { laid.board ≡ J.board }
-    requires parts { laid.parts ≡ J.parts }
-    requires meeting { laid.meeting ≡ J.meeting }
-    requires capacity { laid.capacity ≡ J.capacity }
-    requires block_size { laid.block_size ≡ J.block_size }
+    requires name { laid.name ≡ J.name }
 {
     let (journal, seat) = laid.named::<J>();
     match Service::run(rt, alloc, journal, seat, plans, gate) {
@@ -150,7 +144,7 @@ fn try_run<
 }
 
 /// What came of clients, and their device.
-fn summary_of<J: JournalName + PartsName + MeetingName, D: Device + Drop>(
+fn summary_of<J: JournalName, D: Device + Drop>(
     outcome: Outcome<J, D, Vec<Sealed>>,
 ) -> (Summary, D) {
     let Outcome {

@@ -2,7 +2,7 @@
 ghost use Rattle.std.specs.Prelude.{◌≡◌, ◌≤◌, Some};
 
 use crate::bytes::expect;
-use parts::{Agreement, Part, Parts, PartsName, UnnamedParts, Whole};
+use parts::{Agreement, Fragment, Parts, PartsName, UnnamedParts, Whole};
 use std::marker::{Brand, Model};
 use std::process::Abort;
 use std::test::Fail;
@@ -42,7 +42,7 @@ impl<J: PartsName> Model for Total<J> {
 #[derive(Drop)]
 struct Share<J: PartsName> {
     share: u64,
-    part: Part<J, u64, u64>,
+    part: Fragment<J, u64, u64>,
 }
 
 impl<J: PartsName> Model for Share<J> {

@@ -8,13 +8,13 @@ use journal_model::{BlockNo, JournalError, Tid};
 use journal_sides::{EngineSide, FrontSide, SidesMeeting, UnnamedSides, meet, seal};
 use journal_steps::Turn;
 use log_engine::Progress;
-use meeting::MeetingName;
+use parts::PartsName;
 use std::marker::Brand;
 use std::process::Abort;
 use std::test::Fail;
 
 /// A handle revokes one block, and stops. It answers whether it could.
-fn revoke_one<J: MeetingName>(front: &mut FrontSide<J, MemDevice>, block: u64) -> bool {
+fn revoke_one<J: PartsName>(front: &mut FrontSide<J, MemDevice>, block: u64) -> bool {
     let Ok(mut handle) = front.try_start(1) else {
         return false;
     };
@@ -24,7 +24,7 @@ fn revoke_one<J: MeetingName>(front: &mut FrontSide<J, MemDevice>, block: u64) -
 }
 
 /// A handle revokes one block, and its transaction's commit is asked for. It answers whether that could be.
-fn revoke_and_request<J: MeetingName>(
+fn revoke_and_request<J: PartsName>(
     front: &mut FrontSide<J, MemDevice>,
     block: u64,
     tid: u32,
@@ -33,7 +33,7 @@ fn revoke_and_request<J: MeetingName>(
 }
 
 /// Why no further handle is started, or nothing where one is.
-fn refusal<J: MeetingName>(front: &mut FrontSide<J, MemDevice>) -> Option<JournalError> {
+fn refusal<J: PartsName>(front: &mut FrontSide<J, MemDevice>) -> Option<JournalError> {
     match front.try_start(1) {
         Ok(handle) => {
             front.stop(handle);
@@ -44,7 +44,7 @@ fn refusal<J: MeetingName>(front: &mut FrontSide<J, MemDevice>) -> Option<Journa
 }
 
 /// Whether a call of the engine is a step of a commit, and not its last one.
-fn is_step<J: MeetingName>(
+fn is_step<J: PartsName>(
     meeting: &SidesMeeting<J, MemDevice>,
     engine: &mut EngineSide<J, MemDevice>,
 ) -> bool {
@@ -53,8 +53,8 @@ fn is_step<J: MeetingName>(
 
 /// While one transaction is committed by steps of the engine alone, handles of the next one work; the front knows of the commit once
 /// both have met.
-fn goes_on<J: MeetingName, R: Abort>(rt: &R, unnamed: UnnamedSides<MemDevice>)
-    requires { unnamed.meeting ≡ J.meeting }
+fn goes_on<J: PartsName, R: Abort>(rt: &R, unnamed: UnnamedSides<MemDevice>)
+    requires { unnamed.meeting ≡ J.parts }
 {
     let (meeting, mut front, mut engine) = unnamed.named::<J>();
     let first = revoke_and_request(&mut front, 9, 2);

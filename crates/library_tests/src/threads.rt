@@ -7,9 +7,7 @@ use crate::logs::{formatted, laid_on};
 use block_device::{Device, MemDevice};
 use file_device::{FileDevice, UnknownContents};
 use journal_model::BlockNo;
-use shared_journal::{
-    Journal, JournalName, LaidJournal, MeetingName, PartsName, Seat, Status, Tally, Ticket, Turn,
-};
+use shared_journal::{Journal, JournalName, LaidJournal, Seat, Status, Tally, Ticket, Turn};
 use std::marker::Brand;
 use std::process::Abort;
 use std::sync::Wait;
@@ -26,7 +24,7 @@ const HANDLES: u64 = 20;
 
 /// Reserves all credits but one over and over, and counts in `held` what is granted: never those of two at once. It answers whether
 /// that was so.
-fn hammer<J: JournalName + PartsName + MeetingName, D: Device>(
+fn hammer<J: JournalName, D: Device>(
     journal: &Journal<J, D>,
     mut seat: Seat<J>,
     held: &AtomicU64,
@@ -44,11 +42,12 @@ fn hammer<J: JournalName + PartsName + MeetingName, D: Device>(
 }
 
 /// Two threads reserve and give back at once. It answers whether what both held was never more than the capacity.
-fn hammer_at_once<
-    J: JournalName + PartsName + MeetingName + Send + Sync,
-    D: Device + Send,
-    R: Threads + Wait + Sync,
->(rt: &R, journal: &Journal<J, D>, one: Seat<J>, two: Seat<J>) -> bool {
+fn hammer_at_once<J: JournalName + Send + Sync, D: Device + Send, R: Threads + Wait + Sync>(
+    rt: &R,
+    journal: &Journal<J, D>,
+    one: Seat<J>,
+    two: Seat<J>,
+) -> bool {
     let held = AtomicU64::new(0);
     let (first, second) = join(
         rt,
@@ -59,7 +58,7 @@ fn hammer_at_once<
 }
 
 /// Writes so many blocks from `first` on, each through a handle of its own. It answers the last handle's ticket.
-fn write_all<J: JournalName + PartsName + MeetingName, D: Device, R: Wait>(
+fn write_all<J: JournalName, D: Device, R: Wait>(
     rt: &R,
     journal: &Journal<J, D>,
     mut seat: Seat<J>,
@@ -88,7 +87,7 @@ fn write_all<J: JournalName + PartsName + MeetingName, D: Device, R: Wait>(
 }
 
 /// Takes commit turns until the ticket's transaction is committed. It answers whether it is.
-fn commit<J: JournalName + PartsName + MeetingName, D: Device, R: Wait>(
+fn commit<J: JournalName, D: Device, R: Wait>(
     rt: &R,
     journal: &Journal<J, D>,
     ticket: &mut Ticket<J>,
@@ -107,11 +106,12 @@ fn commit<J: JournalName + PartsName + MeetingName, D: Device, R: Wait>(
 }
 
 /// Two threads write at once. It answers the last ticket of each.
-fn write_at_once<
-    J: JournalName + PartsName + MeetingName + Send + Sync,
-    D: Device + Send,
-    R: Threads + Wait + Sync,
->(rt: &R, journal: &Journal<J, D>, one: Seat<J>, two: Seat<J>) -> Option<(Ticket<J>, Ticket<J>)> {
+fn write_at_once<J: JournalName + Send + Sync, D: Device + Send, R: Threads + Wait + Sync>(
+    rt: &R,
+    journal: &Journal<J, D>,
+    one: Seat<J>,
+    two: Seat<J>,
+) -> Option<(Ticket<J>, Ticket<J>)> {
     let (first, second) = join(
         rt,
         || -> Option<Ticket<J>> { write_all(rt, journal, one, 0) },
@@ -124,7 +124,7 @@ fn write_at_once<
 }
 
 /// Whether both tickets' transactions are committed. The journal's record bears out both receipts.
-fn both_stand<J: JournalName + PartsName + MeetingName, D: Device, R: Wait>(
+fn both_stand<J: JournalName, D: Device, R: Wait>(
     rt: &R,
     journal: &Journal<J, D>,
     first: Ticket<J>,
@@ -142,7 +142,7 @@ fn both_stand<J: JournalName + PartsName + MeetingName, D: Device, R: Wait>(
 }
 
 /// The last credits that a journal can grant to one seat: all, where nobody holds any.
-fn all_are_left<J: JournalName + PartsName + MeetingName>(
+fn all_are_left<J: JournalName>(
     journal: &Journal<J, MemDevice>,
     seat: &mut Seat<J>,
     all: u64,
@@ -165,7 +165,7 @@ const HELD: u64 = 2 * HANDLES;
 
 /// What is told while the entries of two threads hold credits: the status of a ticket, the tally, and whether one credit more than there
 /// are is left, and just those.
-fn told_before<J: JournalName + PartsName + MeetingName, R: Wait>(
+fn told_before<J: JournalName, R: Wait>(
     rt: &R,
     journal: &Journal<J, MemDevice>,
     seat: &mut Seat<J>,
@@ -183,7 +183,7 @@ fn told_before<J: JournalName + PartsName + MeetingName, R: Wait>(
 
 /// Commits the first ticket's transaction, in which that of the second one is. It answers whether that was done, whether all credits are
 /// left then, the status of the second ticket, and whether both stand.
-fn told_behind<J: JournalName + PartsName + MeetingName, R: Wait>(
+fn told_behind<J: JournalName, R: Wait>(
     rt: &R,
     journal: &Journal<J, MemDevice>,
     seat: &mut Seat<J>,
@@ -203,15 +203,11 @@ fn told_behind<J: JournalName + PartsName + MeetingName, R: Wait>(
 
 /// Two threads reserve and give back at once, then two write at once; all of it is committed in one transaction, and the credits
 /// are back.
-fn shared<J: JournalName + PartsName + MeetingName + Send + Sync, R: Threads + Wait + Abort + Sync>(
+fn shared<J: JournalName + Send + Sync, R: Threads + Wait + Abort + Sync>(
     rt: &R,
     laid: LaidJournal<MemDevice>,
 )
-    requires board { laid.board ≡ J.board }
-    requires parts { laid.parts ≡ J.parts }
-    requires meeting { laid.meeting ≡ J.meeting }
-    requires capacity { laid.capacity ≡ J.capacity }
-    requires block_size { laid.block_size ≡ J.block_size }
+    requires name { laid.name ≡ J.name }
 {
     let (journal, mut seat) = laid.named::<J>();
     let (Some(one), Some(two), Some(three), Some(four)) = (
@@ -264,16 +260,11 @@ fn two_files(rt: &HostRuntime) -> io::Result<FileDevice<UnknownContents>> {
 }
 
 /// Two threads write at once, and all of it is committed in one transaction and written home.
-fn written<
-    J: JournalName + PartsName + MeetingName + Send + Sync,
-    D: Device + Drop + Send,
-    R: Threads + Wait + Abort + Sync,
->(rt: &R, laid: LaidJournal<D>) -> D
-    requires board { laid.board ≡ J.board }
-    requires parts { laid.parts ≡ J.parts }
-    requires meeting { laid.meeting ≡ J.meeting }
-    requires capacity { laid.capacity ≡ J.capacity }
-    requires block_size { laid.block_size ≡ J.block_size }
+fn written<J: JournalName + Send + Sync, D: Device + Drop + Send, R: Threads + Wait + Abort + Sync>(
+    rt: &R,
+    laid: LaidJournal<D>,
+) -> D
+    requires name { laid.name ≡ J.name }
 {
     let (journal, mut seat) = laid.named::<J>();
     let (Some(one), Some(two)) = (journal.split_seat(&mut seat), journal.split_seat(&mut seat))

@@ -5,9 +5,7 @@ use crate::bytes::expect;
 use crate::logs::{formatted, laid_on};
 use block_device::{Device, StopAt};
 use journal_model::{BlockNo, JournalError, Tid};
-use shared_journal::{
-    Handle, Journal, JournalName, LaidJournal, MeetingName, PartsName, Seat, Turn,
-};
+use shared_journal::{Handle, Journal, JournalName, LaidJournal, Seat, Turn};
 use std::alloc::Global;
 use std::marker::Brand;
 use std::process::Abort;
@@ -30,7 +28,7 @@ enum Before {
 }
 
 /// Writes so many blocks through a handle.
-fn write_blocks<J: JournalName + PartsName + MeetingName, D: Device, R: Wait>(
+fn write_blocks<J: JournalName, D: Device, R: Wait>(
     rt: &R,
     journal: &Journal<J, D>,
     handle: &mut Handle<'_, J>,
@@ -46,7 +44,7 @@ fn write_blocks<J: JournalName + PartsName + MeetingName, D: Device, R: Wait>(
 }
 
 /// Writes so many blocks through a handle of its own, that waits for nobody.
-fn fill<J: JournalName + PartsName + MeetingName, D: Device, R: Wait>(
+fn fill<J: JournalName, D: Device, R: Wait>(
     rt: &R,
     journal: &Journal<J, D>,
     seat: &mut Seat<J>,
@@ -59,7 +57,7 @@ fn fill<J: JournalName + PartsName + MeetingName, D: Device, R: Wait>(
 }
 
 /// Makes this of a new journal.
-fn prepare<J: JournalName + PartsName + MeetingName, D: Device, R: Wait>(
+fn prepare<J: JournalName, D: Device, R: Wait>(
     rt: &R,
     journal: &Journal<J, D>,
     seat: &mut Seat<J>,
@@ -83,7 +81,7 @@ fn prepare<J: JournalName + PartsName + MeetingName, D: Device, R: Wait>(
 
 /// Starts a handle with one credit, writes a block, restarts it with as many credits as there are, stops that, and waits for its receipt.
 /// It answers the transactions of both.
-fn go_through<J: JournalName + PartsName + MeetingName, D: Device, R: Wait>(
+fn go_through<J: JournalName, D: Device, R: Wait>(
     rt: &R,
     journal: &Journal<J, D>,
     mut seat: Seat<J>,
@@ -108,7 +106,7 @@ fn go_through<J: JournalName + PartsName + MeetingName, D: Device, R: Wait>(
 }
 
 /// Takes commit turns until the word is not 0. It answers whether it came to that.
-fn take_turns<J: JournalName + PartsName + MeetingName, D: Device, R: Wait>(
+fn take_turns<J: JournalName, D: Device, R: Wait>(
     rt: &R,
     journal: &Journal<J, D>,
     done: &AtomicU64,
@@ -125,7 +123,7 @@ fn take_turns<J: JournalName + PartsName + MeetingName, D: Device, R: Wait>(
 }
 
 /// The same, and tells that it is done.
-fn go_through_and_tell<J: JournalName + PartsName + MeetingName, D: Device, R: Wait>(
+fn go_through_and_tell<J: JournalName, D: Device, R: Wait>(
     rt: &R,
     journal: &Journal<J, D>,
     seat: Seat<J>,
@@ -138,7 +136,7 @@ fn go_through_and_tell<J: JournalName + PartsName + MeetingName, D: Device, R: W
 
 /// One thread goes through, while another takes turns.
 fn go_through_beside_turns<
-    J: JournalName + PartsName + MeetingName + Send + Sync,
+    J: JournalName + Send + Sync,
     D: Device + Send,
     R: Threads + Wait + Sync,
 >(rt: &R, journal: &Journal<J, D>, seat: Seat<J>) -> Result<(Tid, Tid), JournalError> {
@@ -157,16 +155,12 @@ fn go_through_beside_turns<
 
 /// Makes this of a new journal, where a start that waits for nobody is refused then, and has a thread go through, while another takes
 /// turns. It answers what came of that, and how many transactions are committed behind the close.
-fn waited<
-    J: JournalName + PartsName + MeetingName + Send + Sync,
-    D: Device + Drop + Send,
-    R: Threads + Wait + Abort + Sync,
->(rt: &R, laid: LaidJournal<D>, before: &Before) -> (Result<(Tid, Tid), JournalError>, u64)
-    requires board { laid.board ≡ J.board }
-    requires parts { laid.parts ≡ J.parts }
-    requires meeting { laid.meeting ≡ J.meeting }
-    requires capacity { laid.capacity ≡ J.capacity }
-    requires block_size { laid.block_size ≡ J.block_size }
+fn waited<J: JournalName + Send + Sync, D: Device + Drop + Send, R: Threads + Wait + Abort + Sync>(
+    rt: &R,
+    laid: LaidJournal<D>,
+    before: &Before,
+) -> (Result<(Tid, Tid), JournalError>, u64)
+    requires name { laid.name ≡ J.name }
 {
     let (journal, mut seat) = laid.named::<J>();
     let Some(other) = journal.split_seat(&mut seat) else {

@@ -12,7 +12,7 @@ use Rattle.journal_script.specs.declared.clients.ClientHandle.{ClientHandle}
 use Rattle.journal_script.specs.declared.clients.ClientScript.{ClientScript}
 use Rattle.journal_script.specs.declared.script.NamedBlocks.{NamedBlocks}
 use Rattle.locked_journal.specs.Known.{TicketKnown}
-use Rattle.volume_service.specs.Ending.{IsLeftBy}
+use Rattle.volume_service.specs.Ending.{IsLeftWith}
 use Rattle.volume_service.specs.Plan.{planned_steps}
 use Rattle.volume_service.specs.declared.plan.HandlePlan.{HandlePlan}
 use Rattle.script_threads.specs.Plans.{script_steps}
@@ -51,11 +51,11 @@ abbrev pub AreServedOf : ℕ → ℕ → History → List (Vec ClientHandle Glob
 AreServedOf size committed sealed clients told =
     AllZip (λ c ts. AllZip (λ h t. WasServed committed sealed h.waits (λ n. script_steps size n h) t) c.items ts.items) clients told
 
--- a journal was left by its clients so, and these are the verdicts
+-- a journal was left by its clients so, with this credit word and so many entries, and these are the verdicts
 pub record AreJudged (plans : List (Vec HandlePlan Global)) (named : NamedBlocks) (v : Verdicts) : Type 0 where
   pub served : Served
   pub each : AreServed served.committed served.sealed plans served.clients
-  pub left : IsLeftBy state_of (λ d. Unit {0}) served.device served.sealed served.committed
+  pub left : IsLeftWith state_of (λ d. Unit {0}) served.device served.sealed served.committed served.word served.entries
   pub verdicts : AreVerdicts served named v
 
 -- clients were refused something, or these are the verdicts
@@ -68,7 +68,7 @@ IsEndedOn plans named (Judged v) = AreJudged plans named v
 pub record IsRunOf (script : ClientScript) (v : Verdicts) : Type 0 where
   pub served : Served
   pub each : AreServedOf script.measures.block_size served.committed served.sealed script.clients.items served.clients
-  pub left : IsLeftBy state_of (λ d. Unit {0}) served.device served.sealed served.committed
+  pub left : IsLeftWith state_of (λ d. Unit {0}) served.device served.sealed served.committed served.word served.entries
   pub named : NamedBlocks
   pub names : All (λ handles. HasTouchedAll handles (keys named.blocks)) (handles_of script)
   pub no_directs : keys named.directs ≡ []

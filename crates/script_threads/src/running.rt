@@ -4,7 +4,7 @@ ghost use Rattle.std.specs.BTreeSet.{keys};
 ghost use Rattle.std.specs.List.{AllZip};
 ghost use Rattle.block_device.specs.Memory.{state_of};
 ghost use Rattle.journal_script.specs.Clients.{HasTouchedAll, handles_of};
-ghost use Rattle.volume_service.specs.Ending.{IsLeftBy, Stands};
+ghost use Rattle.volume_service.specs.Ending.{IsLeftWith, Stands};
 ghost use Rattle.volume_service.specs.Plan.{Came};
 ghost use Rattle.script_threads.specs.Runs.{IsEnded, IsEndedOn};
 ghost use Rattle.script_threads.specs.Verdicts.{AreVerdicts};
@@ -17,7 +17,7 @@ use block_device::MemDevice;
 use journal_model::{JournalError, Sealed};
 use journal_script::{ClientScript, NamedBlocks};
 use script_run::{Record, empty_disk};
-use shared_journal::{JournalName, LaidJournal, MeetingName, Parts, PartsName, Tally, lay};
+use shared_journal::{JournalName, LaidJournal, Parts, Tally, lay};
 use std::alloc::{AllocError, Global};
 use std::collections::BTreeSet;
 use std::marker::Brand;
@@ -89,18 +89,14 @@ fn laid_on(
 }
 
 /// Runs clients over a laid journal, and judges what came of them by the blocks that they name.
-fn run_on<J: JournalName + PartsName + MeetingName + Send + Sync, W: Threads + Wait + Sync>(
+fn run_on<J: JournalName + Send + Sync, W: Threads + Wait + Sync>(
     rt: &W,
     alloc: Global,
     laid: LaidJournal<MemDevice, Vec<Sealed>>,
     plans: &[Vec<HandlePlan>],
     named: &NamedBlocks,
 ) -> Result<Ended, JournalError>
-    requires board { laid.board ≡ J.board }
-    requires parts { laid.parts ≡ J.parts }
-    requires meeting { laid.meeting ≡ J.meeting }
-    requires capacity { laid.capacity ≡ J.capacity }
-    requires block_size { laid.block_size ≡ J.block_size }
+    requires name { laid.name ≡ J.name }
     ensures { IfOk result (IsEndedOn plans.now named.now) }
 {
     let (journal, seat) = laid.named::<J>();
@@ -110,7 +106,7 @@ fn run_on<J: JournalName + PartsName + MeetingName + Send + Sync, W: Threads + W
 }
 
 /// Judges what came of clients with these plans, where none was refused anything.
-fn judge<J: JournalName + PartsName + MeetingName>(
+fn judge<J: JournalName>(
     alloc: Global,
     outcome: Outcome<J, MemDevice, Vec<Sealed>>,
     plans: &[Vec<HandlePlan>],
@@ -122,7 +118,7 @@ fn judge<J: JournalName + PartsName + MeetingName>(
         (AllZip (λ h e. Came h e.tid e.receipt e.ticket) (slice_index_or plans.now k p).items (slice_index_or outcome.clients.items k c).handles.items) }
     requires stand { (k : ℕ) (c : _) → k < vec_len outcome.clients →
         All (λ e. IfSome e.receipt (Stands outcome.parts.committed outcome.parts.sealed.items)) (slice_index_or outcome.clients.items k c).handles.items }
-    requires left { IsLeftBy state_of (λ d. Unit {0}) outcome.parts.device outcome.parts.sealed.items outcome.parts.committed }
+    requires left { IsLeftWith state_of (λ d. Unit {0}) outcome.parts.device outcome.parts.sealed.items outcome.parts.committed outcome.tally.word outcome.tally.entries }
     ensures { IfOk result (IsEndedOn plans.now named.now) }
 {
     let refused = refused_of(alloc, &outcome.clients)?;
@@ -140,7 +136,7 @@ fn judge<J: JournalName + PartsName + MeetingName>(
 }
 
 /// The clients that were refused something.
-fn refused_of<J: JournalName + PartsName + MeetingName>(
+fn refused_of<J: JournalName>(
     alloc: Global,
     clients: &[ClientOutcome<J, Vec<Sealed>>],
 ) -> Result<Vec<RefusedClient>, AllocError>

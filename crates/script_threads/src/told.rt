@@ -4,7 +4,7 @@ ghost use Rattle.std.specs.List.{AllZip};
 ghost use Rattle.script_threads.specs.Runs.{IsTold, named_by};
 
 use journal_model::{HandleNo, Tid};
-use shared_journal::{JournalName, MeetingName, PartsName, Receipt, Record as RecordOf};
+use shared_journal::{JournalName, Receipt, Record as RecordOf};
 use std::alloc::{AllocError, Global};
 use volume_service::{ClientOutcome, HandleOutcome};
 
@@ -27,7 +27,7 @@ pub struct ToldHandle {
 }
 
 /// What was told of the handles of each client.
-pub(crate) fn told_of<J: JournalName + PartsName + MeetingName, R: RecordOf>(
+pub(crate) fn told_of<J: JournalName, R: RecordOf>(
     alloc: Global,
     clients: &[ClientOutcome<J, R>],
 ) -> Result<Vec<Vec<ToldHandle>>, AllocError>
@@ -42,7 +42,7 @@ pub(crate) fn told_of<J: JournalName + PartsName + MeetingName, R: RecordOf>(
 }
 
 /// What was told of the handles of one.
-fn told_client<J: JournalName + PartsName + MeetingName, R: RecordOf>(
+fn told_client<J: JournalName, R: RecordOf>(
     alloc: Global,
     handles: &[HandleOutcome<J, R>],
 ) -> Result<Vec<ToldHandle>, AllocError>
@@ -60,9 +60,7 @@ fn told_client<J: JournalName + PartsName + MeetingName, R: RecordOf>(
 }
 
 /// What a receipt names, where there is one.
-fn told_receipt<J: JournalName + PartsName + MeetingName, R: RecordOf>(
-    receipt: &Option<Receipt<J, R>>,
-) -> Option<ToldReceipt>
+fn told_receipt<J: JournalName, R: RecordOf>(receipt: &Option<Receipt<J, R>>) -> Option<ToldReceipt>
     ensures { result ≡ named_by receipt.now }
 {
     match receipt {

@@ -6,7 +6,7 @@ use crate::bytes::expect;
 use crate::logs::{formatted, laid_on};
 use block_device::{Device, MemDevice};
 use journal_model::{BlockNo, JournalError};
-use shared_journal::{JournalName, LaidJournal, MeetingName, PartsName, Record};
+use shared_journal::{JournalName, LaidJournal, Record};
 use std::alloc::Global;
 use std::marker::Brand;
 use std::sync::Wait;
@@ -24,8 +24,7 @@ struct Looker {
 /// What a client tells: its number, the most credits, the byte that the first write left, and why a short buffer was refused.
 type Told = (usize, u64, Option<u8>, Result<(), JournalError>);
 
-impl<J: JournalName + PartsName + MeetingName, D: Device, R: Record, G: Gate> Client<J, D, R, G>
-    for Looker {
+impl<J: JournalName, D: Device, R: Record, G: Gate> Client<J, D, R, G> for Looker {
     type Answer = Result<Told, JournalError>;
 
     fn run<W: Wait>(
@@ -47,7 +46,9 @@ impl<J: JournalName + PartsName + MeetingName, D: Device, R: Record, G: Gate> Cl
         let wrote = session.write(rt, &mut handle, next, &bytes);
         let ticket = session.stop(rt, handle);
         wrote?;
-        session.wait(rt, ticket)?;
+        let Ok(_receipt) = session.wait(rt, ticket) else {
+            return Err(JournalError::Aborted);
+        };
         bytes.as_mut_slice().fill(0);
         session.read_newest(rt, BlockNo(self.block), bytes.as_mut_slice())?;
         let short = session.read_newest(rt, BlockNo(self.block), &mut []);
@@ -61,16 +62,12 @@ impl<J: JournalName + PartsName + MeetingName, D: Device, R: Record, G: Gate> Cl
 }
 
 /// Runs two clients over a laid journal, and closes it. It answers what each told, and how many transactions are home.
-fn look<J: JournalName + PartsName + MeetingName + Send + Sync, R: Threads + Wait + Sync>(
+fn look<J: JournalName + Send + Sync, R: Threads + Wait + Sync>(
     rt: &R,
     alloc: Global,
     laid: LaidJournal<MemDevice>,
 ) -> Result<(Vec<Result<Told, JournalError>>, bool), JournalError>
-    requires board { laid.board ≡ J.board }
-    requires parts { laid.parts ≡ J.parts }
-    requires meeting { laid.meeting ≡ J.meeting }
-    requires capacity { laid.capacity ≡ J.capacity }
-    requires block_size { laid.block_size ≡ J.block_size }
+    requires name { laid.name ≡ J.name }
 {
     let (journal, seat) = laid.named::<J>();
     let served = match lookers(alloc) {

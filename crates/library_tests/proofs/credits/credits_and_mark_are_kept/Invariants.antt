@@ -1,5 +1,6 @@
+use Rattle.handle.specs.Name.{no_journal}
 use Rattle.library_tests.proofs.credits.credits_and_mark_are_kept.Given as goal
 
 -- the name is that of the board
 abbrev pub ghosts-on_board : goal.ghosts-on_board
-ghosts-on_board g a = record { board = a.laid.board; capacity = a.laid.capacity; block_size = 0 }
+ghosts-on_board g a = record { name = record no_journal { board = a.laid.board; capacity = a.laid.capacity } }

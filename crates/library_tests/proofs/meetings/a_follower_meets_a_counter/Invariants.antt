@@ -2,4 +2,4 @@ use Rattle.library_tests.proofs.meetings.a_follower_meets_a_counter.Given as goa
 
 -- the name is that of the meeting
 abbrev pub ghosts-rises_between_meetings : goal.ghosts-rises_between_meetings
-ghosts-rises_between_meetings g a = record { meeting = a.unnamed }
+ghosts-rises_between_meetings g a = record { parts = a.unnamed }

@@ -2,4 +2,4 @@ use Rattle.library_tests.proofs.sides.a_front_goes_on_while_the_engine_commits.G
 
 -- the name is that of the meeting of these sides
 abbrev pub ghosts-goes_on : goal.ghosts-goes_on
-ghosts-goes_on g a = record { meeting = a.unnamed.meeting }
+ghosts-goes_on g a = record { parts = a.unnamed.meeting }
