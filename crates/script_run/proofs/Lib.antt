@@ -1,5 +1,6 @@
 -- The lemmas of this crate that crates above it cite.
 pub mod Openings
+pub mod Refusals
 pub mod Verdicts
 -- The others.
 mod Disks

@@ -157,11 +157,11 @@ second-right operations state sealed shown image left disk was_clean limit count
     verdict.right_is.1 (follows, subst (λ (ts : History). IsRight ts shown named (numbered_below limit ts) state.shape.block_size verdict.got) (sym to.sealed_is) good)
 
 -- what a crash leaves is an image, of a disk where all is durable
-crash-disk : (device : MemState) (keep : List ℕ) (image : MemState) → IsCrashOf device keep image → (state_of image).disk ≡ disk_of (crashed keep device)
+pub crash-disk : (device : MemState) (keep : List ℕ) (image : MemState) → IsCrashOf device keep image → (state_of image).disk ≡ disk_of (crashed keep device)
 crash-disk device keep image crash = λ i a n. crash.each a n i
 
 -- a crash leaves what one may leave
-crash-leaves : (device : MemState) (keep : List ℕ) → Leaves (state_of device).disk (crashed keep device)
+pub crash-leaves : (device : MemState) (keep : List ℕ) → Leaves (state_of device).disk (crashed keep device)
 crash-leaves device keep = record { each = λ a n. crash_leaves_held keep device.shape.block_size a n device.calls }
 
 -- the verdict on what a crash of the run left, once it was opened

@@ -3,6 +3,7 @@ pub mod Disks
 pub mod LastEntries
 pub mod Left
 pub mod Limit
+pub mod Numbers
 pub mod OpenedImages
 pub mod Reopening
 pub mod Verdict

@@ -1,10 +1,12 @@
 //! Openings that stop at one of their writes, and the verdict on what the next opening gives back.
-ghost use Rattle.std.specs.Prelude.{◌≡◌, ◌↔◌, ◌<◌, All, IfOk, IsTrue};
+ghost use Rattle.std.specs.Prelude.{◌≡◌, ◌↔◌, ◌<◌, All, IfErr, IfOk, IsTrue};
 ghost use Rattle.std.specs.BTreeSet.{keys};
 ghost use Rattle.journal_model.specs.declared.number.Area.TheVariants.{Home};
+ghost use Rattle.journal_model.specs.declared.refusal.JournalError.TheVariants.{Device};
 ghost use Rattle.journal_model.specs.Disk.{reading};
 ghost use Rattle.log_model.specs.Opening.{numbered_below};
 ghost use Rattle.block_device.specs.Memory.{state_of};
+ghost use Rattle.script_run.specs.OpenedImages.{IsUnopened};
 ghost use Rattle.script_run.specs.Reopening.{FollowsOn, IsAttempt, IsOpeningVerdict, IsSecondVerdict, IsStoppedAttempt, IsWholeAttempt};
 ghost use Rattle.script_run.specs.Verdict.{IsRight};
 
@@ -61,7 +63,8 @@ pub(crate) fn judge_stopped_opening(
 ///
 /// Those of an opening, where it failed before that write.
 pub fn open_to(alloc: Global, image: MemDevice, k: u64) -> Result<Attempt, JournalError>
-    ensures { IfOk result (IsAttempt (state_of image) k) }
+    ensures attempt { IfOk result (IsAttempt (state_of image) k) }
+    ensures err { IfErr result (IsUnopened image.shape (reading (state_of image).disk)) }
 {
     match open(alloc, StopAt::new(image, k)) {
         Ok(opened) => {
@@ -74,7 +77,8 @@ pub fn open_to(alloc: Global, image: MemDevice, k: u64) -> Result<Attempt, Journ
 
 /// The device on which an opening ended, which made fewer than `k` writes.
 fn whole(device: MemDevice, report: Report, next: Tid, k: u64) -> Result<Attempt, JournalError>
-    ensures { IfOk result (IsWholeAttempt (record { device = device; report = report; next = next }) k) }
+    ensures whole { IfOk result (IsWholeAttempt (record { device = device; report = report; next = next }) k) }
+    ensures other { IfErr result (λ e. e ≡ Device) }
 {
     if device.writes() < k {
         Ok(Attempt::Whole(OpenedImage {
@@ -90,7 +94,8 @@ fn whole(device: MemDevice, report: Report, next: Tid, k: u64) -> Result<Attempt
 
 /// The device on which an opening failed so, where write `k` was its last.
 fn stopped(device: MemDevice, k: u64, e: JournalError) -> Result<Attempt, JournalError>
-    ensures { IfOk result (IsStoppedAttempt device k) }
+    ensures stopped { IfOk result (IsStoppedAttempt device k) }
+    ensures before { IfErr result (λ same. same ≡ e) }
 {
     if device.writes() == k {
         Ok(Attempt::Stopped(device))

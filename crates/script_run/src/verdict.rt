@@ -1,17 +1,20 @@
 //! Judges what an opening gave back by what the run had recorded.
-ghost use Rattle.std.specs.Prelude.{◌≡◌, ◌↔◌, All, Contains, IfOk, IsTrue, None, count_by, length, nat_le, replicate};
+ghost use Rattle.std.specs.Prelude.{◌≡◌, ◌↔◌, ◌+◌, ◌<◌, All, Contains, IfOk, IsTrue, None, count_by, length, nat_le, replicate};
 ghost use Rattle.std.specs.BTreeSet.{keys};
 ghost use Rattle.journal_model.specs.declared.number.Area.TheVariants.{Home};
 ghost use Rattle.journal_model.specs.Disk.{reading};
-ghost use Rattle.log_model.specs.Opening.{numbered_below};
+ghost use Rattle.log_model.specs.Opening.{greatest_number, numbered_below};
+ghost use Rattle.log_model.specs.Superblock.{greatest_length};
 ghost use Rattle.journal_model.specs.Transaction.{entry_of};
 ghost use Rattle.block_device.specs.Call.{OnlyReads};
 ghost use Rattle.script_run.specs.LastEntries.{entry_in};
+ghost use Rattle.script_run.specs.Numbers.{HasNumbersLeft};
 ghost use Rattle.script_run.specs.Verdict.{IsAsLeft, IsLeft, IsLeftBy, IsRight, owed};
 
 use crate::blocks::read_block;
 use crate::last_entries::last_entries;
 use block_device::Device;
+use journal_model::layout::{GREATEST_LENGTH, GREATEST_NUMBER};
 use journal_model::{Area, JournalError, Op, Sealed, Tid};
 use journal_script::NamedBlocks;
 use std::alloc::Global;
@@ -54,6 +57,17 @@ impl Record {
         match self.acknowledged {
             Some(tid) => self.count_up_to(tid),
             None => 0,
+        }
+    }
+
+    /// Whether numbers are left behind the recorded transactions: so many that no log that a stop of the run leaves can use them up.
+    /// Where nothing was recorded it is not known.
+    pub fn has_numbers_left(&self) -> bool
+        ensures { IsTrue result ↔ HasNumbersLeft self.now.sealed.items }
+    {
+        match self.sealed.first() {
+            Some(first) => are_left_behind(first.tid, self.sealed.len()),
+            None => false,
         }
     }
 
@@ -164,4 +178,15 @@ fn are_zeros(bytes: &[u8]) -> bool
     ensures { IsTrue result ↔ (bytes.now ≡ replicate (length bytes.now) 0) }
 {
     bytes.iter().all(|byte| *byte == 0)
+}
+
+/// Whether so many transactions, of which this is the first one's number, and as many more as any log has blocks, do not come to the
+/// greatest number.
+fn are_left_behind(first: Tid, count: usize) -> bool
+    ensures { IsTrue result ↔ (first + count + greatest_length + 1 < greatest_number) }
+{
+    u64::from(first.0)
+        .saturating_add(count as u64)
+        .saturating_add(u64::from(GREATEST_LENGTH) + 1)
+        < u64::from(GREATEST_NUMBER)
 }

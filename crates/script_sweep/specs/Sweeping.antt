@@ -1,8 +1,9 @@
 -- What a sweep opens and judges, image by image, and how it counts that.
-use Rattle.std.specs.Prelude.{◌≡◌, ◌↔◌, ℕ, ◌+◌, ◌-◌, ◌^◌, ◌<◌, zero, suc, min, Bool, true, false, IsTrue, Option, Some, None, All}
+use Rattle.std.specs.Prelude.{◌≡◌, ◌≢◌, ◌↔◌, ℕ, ◌+◌, ◌-◌, ◌^◌, ◌<◌, zero, suc, min, Bool, true, false, IsTrue, Option, Some, None, All}
 use Rattle.std.specs.BTreeSet.{keys}
 use Rattle.journal_model.specs.declared.number.Area.TheVariants.{Home}
 use Rattle.journal_model.specs.declared.refusal.JournalError.{JournalError}
+use Rattle.journal_model.specs.declared.refusal.JournalError.TheVariants.{Device, Memory, SequenceEnd}
 use Rattle.journal_model.specs.Disk.{reading}
 use Rattle.log_model.specs.Opening.{numbered_below}
 use Rattle.block_device.specs.Memory.{MemState, state_of, writes_of}
@@ -14,6 +15,7 @@ use Rattle.script_sweep.specs.Steps.{Steps}
 use Rattle.script_run.specs.declared.opening.OpenedImage.{OpenedImage}
 use Rattle.script_run.specs.declared.running.Stopped.{Stopped}
 use Rattle.script_run.specs.Left.{IsCrashOf}
+use Rattle.script_run.specs.Numbers.{HasNumbersLeft}
 use Rattle.script_run.specs.OpenedImages.{IsOpenedImage, IsUnopened}
 use Rattle.script_run.specs.Reopening.{FollowsOn, IsBefore, IsStoppedAt}
 use Rattle.script_run.specs.Verdict.{IsRight}
@@ -32,6 +34,14 @@ counted false n = record n { wrong = one_more n.wrong }
 -- so is an image that is refused
 abbrev pub with_refusal : NotRight → NotRight
 with_refusal n = record n { refused = one_more n.refused }
+
+-- A refusal that is counted is one of what stands in the image: memory did not run out, the device did not fail, and it is not that
+-- the run had no numbers left. (A sweep that meets one of these ends with it.)
+pub record CountsRefusal (stopped : Stopped) (e : JournalError) (old new : NotRight) : Type 0 where
+  pub device : e ≢ Device
+  pub memory : e ≢ Memory
+  pub numbers : e ≡ SequenceEnd → HasNumbersLeft stopped.recorded.sealed.items
+  pub after : new ≡ with_refusal old
 
 -- a count stays at 2^64 - 1
 abbrev pub capped : ℕ → ℕ
@@ -74,7 +84,7 @@ pub record JudgesFirst (stopped : Stopped) (named : NamedBlocks) (opened : Opene
 pub data IsJudged (keeps : Type 0) (stopped : Stopped) (named : NamedBlocks) (image : MemState) (old : NotRight) : Option Found → NotRight → Type 0 where
   IsOpened : (opened : OpenedImage) (new : NotRight) → (keeps → IsOpenedImage image.shape (state_of image).disk opened) → JudgesFirst stopped named opened old new →
       IsJudged keeps stopped named image old (Some (found_by opened)) new
-  IsRefused : (e : JournalError) (new : NotRight) → (keeps → IsUnopened image.shape (reading (state_of image).disk) e) → new ≡ with_refusal old →
+  IsRefused : (e : JournalError) (new : NotRight) → (keeps → IsUnopened image.shape (reading (state_of image).disk) e) → CountsRefusal stopped e old new →
       IsJudged keeps stopped named image old None new
 
 pub record JudgesAgain (stopped : Stopped) (named : NamedBlocks) (first : Report) (opened : OpenedImage) (old new : NotRight) : Type 0 where
@@ -86,7 +96,7 @@ pub record JudgesAgain (stopped : Stopped) (named : NamedBlocks) (first : Report
 pub data IsJudgedAgain (keeps : Type 0) (stopped : Stopped) (named : NamedBlocks) (first : Report) (image : MemState) (old : NotRight) : NotRight → Type 0 where
   IsOpenedAgain : (opened : OpenedImage) (new : NotRight) → (keeps → IsOpenedImage image.shape (state_of image).disk opened) → JudgesAgain stopped named first opened old new →
       IsJudgedAgain keeps stopped named first image old new
-  IsRefusedAgain : (e : JournalError) (new : NotRight) → (keeps → IsUnopened image.shape (reading (state_of image).disk) e) → new ≡ with_refusal old →
+  IsRefusedAgain : (e : JournalError) (new : NotRight) → (keeps → IsUnopened image.shape (reading (state_of image).disk) e) → CountsRefusal stopped e old new →
       IsJudgedAgain keeps stopped named first image old new
 
 -- what a device kept by this choice of its last writes, which stopped at write j of an opening, was opened and judged
@@ -103,7 +113,8 @@ pub data SweepsOpening (keeps : Type 0) (stopped : Stopped) (named : NamedBlocks
   StopsThere : (device : MemState) → (keeps → IsStoppedAt (state_of image) j device) → Steps (SweepsAgain keeps stopped named first j device) (choices_of j) old new →
       SweepsOpening keeps stopped named image first j old new
   EndsBefore : (opened : OpenedImage) → (keeps → IsBefore (state_of image) j opened.device) → new ≡ old → SweepsOpening keeps stopped named image first j old new
-  RefusesBefore : (e : JournalError) → new ≡ record old { not_right = with_refusal old.not_right } → SweepsOpening keeps stopped named image first j old new
+  RefusesBefore : (e : JournalError) (judged : NotRight) → (keeps → IsUnopened image.shape (reading (state_of image).disk) e) → CountsRefusal stopped e old.not_right judged →
+      new ≡ record old { not_right = judged } → SweepsOpening keeps stopped named image first j old new
 
 -- an opening of the image was stopped at each of the writes that it made
 abbrev pub SweepsFound : (keeps : Type 0) → Stopped → NamedBlocks → MemState → Option Found → Counts → Counts → Type 0

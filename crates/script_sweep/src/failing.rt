@@ -3,7 +3,7 @@ ghost use Rattle.std.specs.Prelude.{◌≡◌, ◌+◌, IfOk, OnOk};
 ghost use Rattle.block_device.specs.Memory.{writes_of};
 ghost use Rattle.script_sweep.specs.Steps.{Steps};
 ghost use Rattle.script_sweep.specs.Places.{choices_of};
-ghost use Rattle.script_sweep.specs.Sweeping.{FailsCall, FailsChoice, IsFailureSweep};
+ghost use Rattle.script_sweep.specs.Sweeping.{FailsCall, FailsChoice, IsFailureSweep, none_wrong};
 
 use crate::counts::{FailureCounts, NotRight};
 use crate::judging::{Ran, left_by, named_blocks};
@@ -22,7 +22,7 @@ use std::io::Write;
 ///
 /// # Errors
 ///
-/// `Fault::Refused` where memory runs out; `Fault::Output` where `err` can't be written.
+/// `Fault::Refused` where memory runs out, or a run is refused for want of numbers; `Fault::Output` where `err` can't be written.
 pub fn sweep_failures<J: Swept>(
     alloc: Global,
     journal: &J,
@@ -31,7 +31,7 @@ pub fn sweep_failures<J: Swept>(
     err: &mut impl Write,
 ) -> Result<FailureCounts, Fault>
     ensures swept { IfOk result (IsFailureSweep J.keeps script.now) }
-    ensures right { IfOk result (λ counts. J.keeps → counts.not_right.wrong ≡ 0) }
+    ensures right { IfOk result (λ counts. J.keeps → counts.not_right ≡ none_wrong) }
 {
     let named = named_blocks(alloc, script)?;
     let calls = journal.calls(alloc, script)?;

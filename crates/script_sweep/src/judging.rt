@@ -1,9 +1,11 @@
 //! What is left of a run, and the verdicts on openings of it.
-ghost use Rattle.std.specs.Prelude.{◌≡◌, IfOk, OnOk, false, true};
+ghost use Rattle.std.specs.Prelude.{◌≡◌, ◌≢◌, IfOk, IsTrue, OnOk, false, true};
+ghost use Rattle.journal_model.specs.declared.refusal.JournalError.TheVariants.{Device, Memory, SequenceEnd};
 ghost use Rattle.journal_script.specs.Named.{AreNamedBy};
 ghost use Rattle.script_run.specs.Left.{IsCrashOf};
+ghost use Rattle.script_run.specs.Numbers.{HasNumbersLeft};
 ghost use Rattle.script_sweep.specs.Places.{kept_of};
-ghost use Rattle.script_sweep.specs.Sweeping.{IsJudged, JudgesFirst, with_refusal};
+ghost use Rattle.script_sweep.specs.Sweeping.{CountsRefusal, IsJudged, JudgesFirst};
 ghost use Rattle.script_sweep.specs.Swept.{one_more};
 
 use crate::counts::NotRight;
@@ -109,7 +111,7 @@ impl<J: Swept> Ran<'_, J> {
         Ok(())
     }
 
-    /// Counts a refused image, and names it. Where memory ran out, or the device failed, the sweep ends.
+    /// Counts a refused image, and names it. The sweep ends where the refusal is none of what stands in the image.
     pub(crate) fn note_refusal<E: Write>(
         &self,
         place: Place<'_>,
@@ -118,15 +120,29 @@ impl<J: Swept> Ran<'_, J> {
         not_right: &mut NotRight,
         err: &mut E,
     ) -> Result<(), Fault>
-        ensures { OnOk result (not_right.new ≡ with_refusal not_right.old) }
+        ensures { OnOk result (CountsRefusal self.now.stopped.now e not_right.old not_right.new) }
     {
-        if matches!(e, JournalError::Memory | JournalError::Device) {
+        if !self.is_of_content(e) {
             return Err(Fault::Refused(e));
         }
         not_right.refused = not_right.refused.saturating_add(1);
         self.name(place, again, err)?;
         writeln!(err, "refused {} {e}", e.number())?;
         Ok(())
+    }
+
+    /// Whether an opening is refused so for what stands in the image: memory did not run out, the device did not fail, and the run had
+    /// numbers left.
+    fn is_of_content(&self, e: JournalError) -> bool
+        ensures device { IsTrue result → e ≢ Device }
+        ensures memory { IsTrue result → e ≢ Memory }
+        ensures numbers { IsTrue result → e ≡ SequenceEnd → HasNumbersLeft self.now.stopped.now.recorded.sealed.items }
+    {
+        match e {
+            JournalError::Memory | JournalError::Device => false,
+            JournalError::SequenceEnd => self.stopped.recorded.has_numbers_left(),
+            _ => true,
+        }
     }
 
     /// Names what is not right: by the options that show it, and by what the run recorded.

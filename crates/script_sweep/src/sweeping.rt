@@ -2,7 +2,7 @@
 ghost use Rattle.std.specs.Prelude.{◌≡◌, ◌+◌, IfOk, OnOk, Some};
 ghost use Rattle.script_sweep.specs.Steps.{Steps};
 ghost use Rattle.script_sweep.specs.Places.{choices_of};
-ghost use Rattle.script_sweep.specs.Sweeping.{IsSweep, JudgesAgain, SweepsAgain, SweepsChoice, SweepsFound, SweepsImage, SweepsOpening, SweepsStop, capped, images_of};
+ghost use Rattle.script_sweep.specs.Sweeping.{IsSweep, JudgesAgain, SweepsAgain, SweepsChoice, SweepsFound, SweepsImage, SweepsOpening, SweepsStop, capped, images_of, none_wrong};
 
 use crate::counts::{Counts, NotRight};
 use crate::judging::{Found, Ran, copy_of, left_by, named_blocks};
@@ -23,7 +23,7 @@ use std::io::Write;
 ///
 /// # Errors
 ///
-/// `Fault::Refused` where memory runs out; `Fault::Output` where `err` can't be written.
+/// `Fault::Refused` where memory runs out, or a run is refused for want of numbers; `Fault::Output` where `err` can't be written.
 pub fn sweep<J: Swept>(
     alloc: Global,
     journal: &J,
@@ -33,7 +33,7 @@ pub fn sweep<J: Swept>(
 ) -> Result<Counts, Fault>
     ensures swept { IfOk result (IsSweep J.keeps script.now) }
     ensures images { IfOk result (λ counts. counts.images ≡ capped (images_of counts.writes)) }
-    ensures right { IfOk result (λ counts. J.keeps → counts.not_right.wrong ≡ 0) }
+    ensures right { IfOk result (λ counts. J.keeps → counts.not_right ≡ none_wrong) }
 {
     let named = named_blocks(alloc, script)?;
     let whole = journal.run(alloc, script, None, None)?;

@@ -57,7 +57,8 @@ pub trait Swept {
     ///
     /// Those of an opening, where it failed before that write.
     fn open_to(&self, alloc: Global, image: MemDevice, k: u64) -> Result<Attempt, JournalError>
-        ensures { IfOk result (λ attempt. keeps → IsAttempt (state_of image) k attempt) };
+        ensures attempt { IfOk result (λ attempt. keeps → IsAttempt (state_of image) k attempt) }
+        ensures err { IfErr result (λ e. keeps → IsUnopened image.shape (reading (state_of image).disk) e) };
 }
 
 /// The journal of this project.

@@ -22,7 +22,7 @@ returns-in-Whole g c =
     (IsOpeningVerdict (state_of c.args.image) c.args.k c.args.keep.now recorded.sealed.items recorded.acknowledged named)
     (λ right is.
     verdict-once recorded.sealed.items recorded.acknowledged named c.args.k c.args.keep.now right c.args.image c.report_of.new.device opened
-    c.in_ok-first.ensures.device.stays (rw c.in-Whole.is at c.in_ok-opened.ensures) is.0 is.1)
+    c.in_ok-first.ensures.device.stays (rw c.in-Whole.is at c.in_ok-opened.ensures.attempt) is.0 is.1)
     c.judge_opened.ensures
 
 -- it was
@@ -37,5 +37,5 @@ returns-in_ok-writeln-in-Stopped g c =
     (IsOpeningVerdict (state_of c.args.image) c.args.k c.args.keep.now recorded.sealed.items recorded.acknowledged named)
     (λ right is.
     verdict-twice recorded.sealed.items recorded.acknowledged named c.args.k c.args.keep.now right first.clean first.ends_at first.transactions c.args.image c.report_of.new.device c.in-Stopped.device left
-    c.in_ok-first.ensures.device.stays (c.in_ok-first.ensures.tells tt) (rw c.in-Stopped.is at c.in_ok-opened.ensures) c.crash.ensures.image c.crash.ensures.shape is)
+    c.in_ok-first.ensures.device.stays (c.in_ok-first.ensures.tells tt) (rw c.in-Stopped.is at c.in_ok-opened.ensures.attempt) c.crash.ensures.image c.crash.ensures.shape is)
     c.judge_second.ensures

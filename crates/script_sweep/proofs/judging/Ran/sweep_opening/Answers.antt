@@ -1,7 +1,8 @@
-use Rattle.std.proofs.Common.{ap, refl}
+use Rattle.std.proofs.Common.{refl, subst}
 use Rattle.std.proofs.lemmas.Result.{on_ok_weaker}
-use Rattle.script_sweep.specs.declared.counts.Counts.{Counts}
-use Rattle.script_sweep.specs.declared.counts.NotRight.{NotRight}
+use Rattle.journal_model.specs.Disk.{reading}
+use Rattle.block_device.specs.Memory.{MemState, state_of}
+use Rattle.script_run.specs.OpenedImages.{IsUnopened}
 use Rattle.script_sweep.specs.Sweeping.SweepsOpening.{EndsBefore, RefusesBefore, StopsThere}
 use Rattle.script_sweep.proofs.Sweeps.{ends-before, stops-there}
 use Rattle.script_sweep.proofs.judging.Ran.sweep_opening.Goals as goal
@@ -12,7 +13,7 @@ returns-in-Ok-Stopped g c =
     on_ok_weaker c.sweep_stopped_opening.result
     (λ steps.
     StopsThere c.in-Ok-Stopped.device
-    (stops-there g.J.Swept.keeps c.args.image.now c.in_ok-copy_of.field-0 c.args.j c.in-Ok-Stopped.field-0 c.in-Ok-Stopped.device c.in_ok-copy_of.ensures c.in-Ok-Stopped.field-0-is c.in-Ok-Stopped.ensures)
+    (stops-there g.J.Swept.keeps c.args.image.now c.in_ok-copy_of.field-0 c.args.j c.in-Ok-Stopped.field-0 c.in-Ok-Stopped.device c.in_ok-copy_of.ensures c.in-Ok-Stopped.field-0-is c.in-Ok-Stopped.ensures.attempt)
     steps)
     c.sweep_stopped_opening.ensures
 
@@ -20,11 +21,12 @@ returns-in-Ok-Stopped g c =
 pub returns-in-Ok-Whole : goal.returns-in-Ok-Whole
 returns-in-Ok-Whole g c =
     EndsBefore c.in-Ok-Whole.field-0-0
-    (ends-before g.J.Swept.keeps c.args.image.now c.in_ok-copy_of.field-0 c.args.j c.in-Ok-Whole.field-0 c.in-Ok-Whole.field-0-0 c.in_ok-copy_of.ensures c.in-Ok-Whole.field-0-is c.in-Ok-Whole.ensures)
+    (ends-before g.J.Swept.keeps c.args.image.now c.in_ok-copy_of.field-0 c.args.j c.in-Ok-Whole.field-0 c.in-Ok-Whole.field-0-0 c.in_ok-copy_of.ensures c.in-Ok-Whole.field-0-is c.in-Ok-Whole.ensures.attempt)
     refl
 
 -- or it was refused
 pub returns : goal.returns
 returns g c =
     on_ok_weaker c.note_refusal.result
-    (λ is. RefusesBefore c.in-Err.e (ap (λ (n : NotRight). let counts : Counts = record c.args.counts.now { not_right = n } in counts) is)) c.note_refusal.ensures
+    (λ counts. RefusesBefore c.in-Err.e c.note_refusal.new.not_right
+    (λ keeps. subst (λ (m : MemState). IsUnopened m.shape (reading (state_of m).disk) c.in-Err.e) c.in_ok-copy_of.ensures (c.in-Err.ensures.err keeps)) counts refl) c.note_refusal.ensures
