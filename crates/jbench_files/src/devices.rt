@@ -3,20 +3,22 @@ ghost use Rattle.std.specs.Prelude.{◌≡◌, ◌*◌, ◌-◌, ◌^◌, min, I
 ghost use Rattle.journal_model.specs.declared.number.Area.TheVariants.{Home, Log};
 ghost use Rattle.log_format.specs.Size.{IsBlockSize};
 ghost use Rattle.jbench_files.specs.Over.{IsOver};
+ghost use Rattle.jbench_words.specs.declared.fault.Status.TheVariants.{Refused};
 
 use crate::locked::{take, take_shared};
-use crate::pairs::{HomeFile, KeptPair, LogFile, LogPair, ReadPair};
+use crate::pairs::{HomeFile, KeptPair, LockedPair, LogFile, LogPair, ReadPair};
 use crate::ready::{ReadyLog, number_at};
 use crate::regular::{open_there, open_to_read};
-use file_device::{Contents, FileDevice, WriteLock};
+use crate::room::{Room, clear, give_back, reserve};
+use file_device::{Contents, FileDevice, UnknownContents, WriteLock};
+use jbench_words::fault::{Status, refuse_file};
 use jbench_words::words::LogPaths;
 use journal_model::Area;
 use journal_script::{Measures, is_block_size};
 use std::alloc::Global;
 use std::fs::{File, Files};
 use std::io;
-use std::io::ErrorKind;
-use std::os::unix::fs::FileExt;
+use std::io::{ErrorKind, Write};
 
 /// What is supposed of files that were cleared: that they hold zeros, durably. `make_device` alone says so of its two files.
 #[derive(Drop)]
@@ -42,9 +44,6 @@ impl<C: Contents> Contents for LogCleared<C> {
 /// Where the superblock says how many bytes a block has.
 const BLOCK_SIZE_PLACE: u64 = 0x0c;
 
-/// How many zero bytes are written at once.
-const STEP: usize = 65_536;
-
 /// A file of a log that can't be made as long as is wanted.
 #[derive(Drop)]
 pub struct Unmade {
@@ -52,6 +51,8 @@ pub struct Unmade {
     pub area: Area,
     /// Why it can't.
     pub error: io::Error,
+    /// No file has lost what it held.
+    pub is_kept: bool,
 }
 
 impl Unmade {
@@ -66,9 +67,45 @@ impl Unmade {
         }
     }
 
-    /// The file of this area.
+    /// The file of this area, and what the files held may be lost.
     fn of(area: Area, error: io::Error) -> Unmade {
-        Unmade { area, error }
+        Unmade {
+            area,
+            error,
+            is_kept: false,
+        }
+    }
+
+    /// The file of this area, and all files hold what they held.
+    fn kept(area: Area, error: io::Error) -> Unmade {
+        Unmade {
+            area,
+            error,
+            is_kept: true,
+        }
+    }
+
+    /// Says on `err` that the file can't be made so long, why, and what became of what the files held. The command is then refused.
+    ///
+    /// # Errors
+    ///
+    /// The lines can't be written.
+    pub fn refuse(self, paths: LogPaths<'_>, err: &mut impl Write) -> io::Result<Status>
+        ensures { IfOk result (λ status. status ≡ Refused) }
+    {
+        let path = self.path(paths);
+        let Unmade {
+            area: _,
+            error,
+            is_kept,
+        } = self;
+        let status = refuse_file(err, path, error)?;
+        if is_kept {
+            writeln!(err, "  no file was changed: each holds what it held")?;
+        } else {
+            writeln!(err, "  what the files held may be lost")?;
+        }
+        Ok(status)
     }
 }
 
@@ -167,13 +204,13 @@ fn device_over<C: Contents>(
     Ok(FileDevice::new(alloc, contents, size, log, Some(home))?)
 }
 
-/// Makes the files as long as these measures say, all zeros, durably, and a device of them. Each block of the home area is written, so
-/// that the disk has room for it; those of the log are for whoever makes the log.
+/// Makes the files as long as these measures say, all zeros, durably, and a device of them. Each block of both is written, so
+/// that the disk has room for it; that room is taken before anything is lost that the files hold.
 ///
 /// # Errors
 ///
-/// A block can't have so many bytes, and both files are as they were; or a file can't be made so long, filled or synced, or memory ran
-/// out, and what both held may be lost.
+/// A block can't have so many bytes, or the disk has no room, and both files are as they were; or a file can't be overwritten or synced,
+/// or memory ran out, and what both held may be lost.
 pub fn make_device<C: Contents>(
     alloc: Global,
     contents: C,
@@ -183,20 +220,31 @@ pub fn make_device<C: Contents>(
     ensures { IfOk result (IsOver files.log.file.file files.home.file.file) }
 {
     let (log, home) = files.into_files();
-    let (size, log) = clear_log(measures, log)?;
-    if let Err(error) = clear_and_fill(alloc, home.file(), home_bytes(measures)) {
+    let size = tested_size(measures)?;
+    let log_room = log_room(alloc, measures, &log)?;
+    let home_room = match reserve(alloc, home.file(), home_bytes(measures)) {
+        Ok(room) => room,
+        Err(error) => {
+            return Err(match give_back(log.file(), log_room) {
+                Ok(()) => Unmade::kept(Area::Home, error),
+                Err(_) => Unmade::of(Area::Home, error),
+            });
+        }
+    };
+    let log = clear_log(alloc, log, log_room)?;
+    if let Err(error) = clear(alloc, home.file(), home_room) {
         return Err(Unmade::of(Area::Home, error));
     }
     device_in(alloc, Cleared(contents), size, log, home)
 }
 
 /// Makes the file of a log as long as these measures say, all zeros, durably, and a device of it and of the home area's file, which
-/// stays as it is.
+/// stays as it is. Room on the disk is taken before anything is lost that the log's file holds.
 ///
 /// # Errors
 ///
-/// A block can't have so many bytes, and the log is as it was; or it can't be made so long or synced, nothing can be told of the home
-/// area's file, or memory ran out, and what the log held may be lost.
+/// A block can't have so many bytes, or the disk has no room, and the log is as it was; or it can't be overwritten or synced, nothing
+/// can be told of the home area's file, or memory ran out, and what the log held may be lost.
 pub fn make_log_device<C: Contents>(
     alloc: Global,
     contents: C,
@@ -206,8 +254,22 @@ pub fn make_log_device<C: Contents>(
     ensures { IfOk result (IsOver files.pair.log.file.file files.pair.home.file.file) }
 {
     let (log, home) = files.into_pair().into_files();
-    let (size, log) = clear_log(measures, log)?;
+    let size = tested_size(measures)?;
+    let room = log_room(alloc, measures, &log)?;
+    let log = clear_log(alloc, log, room)?;
     device_in(alloc, LogCleared(contents), size, log, home)
+}
+
+/// A device over the file of a log that is about to be made anew, to be read: without a home area, in blocks as its superblock tells.
+///
+/// # Errors
+///
+/// The log can't be read, nothing can be told of it, or memory ran out.
+pub fn device_before<L: Drop>(
+    alloc: Global,
+    files: &LockedPair<L>,
+) -> io::Result<FileDevice<UnknownContents>> {
+    log_in(alloc, UnknownContents, files.log_again()?)
 }
 
 /// How many bytes the home area of these measures has, or 2^64 - 1 where it has more.
@@ -219,18 +281,33 @@ pub fn home_bytes(measures: &Measures) -> u64
         .saturating_mul(measures.block_size as u64)
 }
 
-/// Makes the file of a log as long as these measures say, all zeros, durably. It comes back with how many bytes a block has.
-fn clear_log(measures: &Measures, log: LogFile<WriteLock>) -> Result<(usize, ReadyLog), Unmade>
-    ensures size { IfOk result (λ r. IsBlockSize r.0) }
-    ensures file { IfOk result (λ r. r.1.file ≡ log.file) }
+/// How many bytes a block of these measures has, where a block may have so many.
+fn tested_size(measures: &Measures) -> Result<usize, Unmade>
+    ensures { IfOk result IsBlockSize }
 {
     let size = measures.block_size;
-    if !is_block_size(size as u64) {
-        return Err(Unmade::of(Area::Log, io::Error::from(ErrorKind::InvalidInput)));
+    if is_block_size(size as u64) {
+        Ok(size)
+    } else {
+        Err(Unmade::kept(Area::Log, io::Error::from(ErrorKind::InvalidInput)))
     }
-    let bytes = u64::from(measures.log_blocks).saturating_mul(size as u64);
-    match ReadyLog::cleared(log, bytes) {
-        Ok(log) => Ok((size, log)),
+}
+
+/// Takes room on the disk for a log of these measures.
+fn log_room(alloc: Global, measures: &Measures, log: &LogFile<WriteLock>) -> Result<Room, Unmade> {
+    let bytes = u64::from(measures.log_blocks).saturating_mul(measures.block_size as u64);
+    match reserve(alloc, log.file(), bytes) {
+        Ok(room) => Ok(room),
+        Err(error) => Err(Unmade::kept(Area::Log, error)),
+    }
+}
+
+/// Makes the file of a log all zeros, durably, as long as there is room for it.
+fn clear_log(alloc: Global, log: LogFile<WriteLock>, room: Room) -> Result<ReadyLog, Unmade>
+    ensures { IfOk result (λ ready. ready.file ≡ log.file) }
+{
+    match ReadyLog::cleared(alloc, log, room) {
+        Ok(log) => Ok(log),
         Err(error) => Err(Unmade::of(Area::Log, error)),
     }
 }
@@ -251,25 +328,6 @@ fn device_in<C: Contents>(
         Ok(device) => Ok(device),
         Err(e) => Err(Unmade::of(e.area, e.error)),
     }
-}
-
-/// Takes all that a file holds, gives it so many zero bytes, writes them, and makes that durable, so that no disk that is full meanwhile lacks the room for one of them later.
-fn clear_and_fill(alloc: Global, file: &File, bytes: u64) -> io::Result<()> {
-    file.set_len(0)?;
-    file.set_len(bytes)?;
-    fill(alloc, file, bytes)?;
-    file.sync_all()
-}
-
-/// Writes zeros over the first bytes of a file, so many of them.
-fn fill(alloc: Global, file: &File, bytes: u64) -> io::Result<()> {
-    let mut zeros = vec![in alloc; 0; STEP]?;
-    for step in 0..bytes.div_ceil(STEP as u64) {
-        let at = step.saturating_mul(STEP as u64);
-        zeros.truncate(bytes.saturating_sub(at).min(STEP as u64) as usize);
-        file.write_all_at(&zeros, at)?;
-    }
-    Ok(())
 }
 
 /// How many bytes a block of the log in this file has.

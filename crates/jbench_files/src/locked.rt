@@ -20,7 +20,7 @@ pub struct LockedFile<L> {
 /// # Errors
 ///
 /// `WouldBlock` where another program has a lock of it; `NotFound` where the path is another file's by now, since another program
-/// took this one away; else what the system answers. A file that was made stays then, since another program may have it.
+/// renamed this one or took it away; else what the system answers.
 pub(crate) fn take<R: Files<File = File>>(
     rt: &R,
     path: &str,
@@ -29,8 +29,22 @@ pub(crate) fn take<R: Files<File = File>>(
     ensures { IfOk result (λ locked. locked.file ≡ file) }
 {
     let lock = lock(&file.file)?;
+    require_name(rt, path, &file)?;
+    Ok(LockedFile { file, lock })
+}
+
+/// Fails where a path is not this file's.
+///
+/// # Errors
+///
+/// `NotFound`: it is another file's by now; else what the system answers.
+pub(crate) fn require_name<R: Files<File = File>>(
+    rt: &R,
+    path: &str,
+    file: &RegularFile,
+) -> io::Result<()> {
     if Identity::of(&fs::metadata(rt, path)?) == file.identity {
-        Ok(LockedFile { file, lock })
+        Ok(())
     } else {
         Err(io::Error::from(ErrorKind::NotFound))
     }

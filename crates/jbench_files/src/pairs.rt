@@ -1,16 +1,19 @@
 //! The two files of a log, each of which is opened and locked before either is read.
-ghost use Rattle.std.specs.Prelude.{◌≡◌, IfOk, IfSome};
+ghost use Rattle.std.specs.Prelude.{◌≡◌, true, IfOk, IfSome};
 ghost use Rattle.jbench_files.specs.Apart.{AreApart};
+ghost use Rattle.jbench_words.specs.declared.fault.Status.TheVariants.{Refused};
 
-use crate::locked::{LockedFile, take, take_shared};
+use crate::locked::{LockedFile, require_name, take, take_shared};
 use crate::regular::{
-    Made, Named, RegularFile, given_twice, make, open_there, open_to_read, sync_folders,
+    Made, Named, RegularFile, Unclaimed, given_twice, make, open_there, open_to_read, require_kept,
+    require_place, sync_folders,
 };
 use file_device::{ReadLock, WriteLock};
+use jbench_words::fault::{Status, refuse_file};
 use jbench_words::words::LogPaths;
 use std::fs::{File, Files};
 use std::io;
-use std::io::ErrorKind;
+use std::io::{ErrorKind, Write};
 use std::marker::PhantomData;
 
 /// The two files of a log, which are not one, each with its lock.
@@ -34,6 +37,13 @@ pub struct KeptPair {
 }
 
 impl KeptPair {
+    /// The two files.
+    pub fn pair(&self) -> &LogPair
+        ensures { result.now ≡ self.now.pair }
+    {
+        &self.pair
+    }
+
     /// The two files.
     pub(crate) fn into_pair(self) -> LogPair
         ensures { result ≡ self.pair }
@@ -65,6 +75,20 @@ impl<L: Drop> LockedPair<L> {
         LockedPair { log, home }
     }
 
+    /// Whether the file of the log has no byte.
+    ///
+    /// # Errors
+    ///
+    /// The system can tell nothing of it.
+    pub fn is_log_empty(&self) -> io::Result<bool> {
+        Ok(self.log.file().file.metadata()?.len() == 0)
+    }
+
+    /// The file of the log once more, with the same lock.
+    pub(crate) fn log_again(&self) -> io::Result<File> {
+        self.log.file().file.try_clone()
+    }
+
     /// The file of the log and that of the home area, which have their locks until they are let go.
     pub fn into_files(self) -> (LogFile<L>, HomeFile)
         ensures log { result.0.file ≡ self.log.file.file }
@@ -83,6 +107,13 @@ impl<L: Drop> LockedPair<L> {
 }
 
 impl<L: Drop> LogFile<L> {
+    /// The file.
+    pub(crate) fn file(&self) -> &File
+        ensures { result.now ≡ self.now.file }
+    {
+        &self.file
+    }
+
     /// The file.
     pub fn into_file(self) -> File
         ensures { result ≡ self.file }
@@ -115,13 +146,63 @@ pub struct Unopened<'a> {
     pub path: &'a str,
     /// Why it can't.
     pub error: io::Error,
+    /// The paths of files that were made before that, the log's and the home area's. They stay, with no bytes.
+    pub made: [Option<&'a str>; 2],
 }
 
 impl<'a> Unopened<'a> {
-    /// The file of this path.
+    /// The file of this path, and nothing was made.
     fn new(path: &'a str, error: io::Error) -> Unopened<'a> {
-        Unopened { path, error }
+        Unopened {
+            path,
+            error,
+            made: [None, None],
+        }
     }
+
+    /// The file of the log at this path.
+    fn of_log(path: &'a str, refused: Unclaimed<'a>) -> Unopened<'a> {
+        let Unclaimed { error, made } = refused;
+        Unopened {
+            path,
+            error,
+            made: [made, None],
+        }
+    }
+
+    /// The file of the home area at this path, beside the file of its log.
+    fn of_home<F: Drop>(path: &'a str, refused: Unclaimed<'a>, log: Opened<'a, F>) -> Unopened<'a> {
+        let Unclaimed { error, made } = refused;
+        Unopened {
+            path,
+            error,
+            made: [log.stays(), made],
+        }
+    }
+
+    /// Says on `err` that the file can't be opened, why, and which files were made and stay. The command is then refused.
+    ///
+    /// # Errors
+    ///
+    /// The lines can't be written.
+    pub fn refuse(self, err: &mut impl Write) -> io::Result<Status>
+        ensures { IfOk result (λ status. status ≡ Refused) }
+    {
+        let Unopened { path, error, made } = self;
+        let status = refuse_file(err, path, error)?;
+        say_made(err, made)?;
+        Ok(status)
+    }
+}
+
+/// Says which files were made and stay.
+fn say_made(err: &mut impl Write, made: [Option<&str>; 2]) -> io::Result<()> {
+    for path in made {
+        if let Some(path) = path {
+            writeln!(err, "  {path} was made, empty, and stays")?;
+        }
+    }
+    Ok(())
 }
 
 /// A file that was opened, and that it was made where it was not there before.
@@ -130,14 +211,11 @@ struct Opened<'a, F> {
     made: Option<Made<'a>>,
 }
 
-impl<F: Drop> Opened<'_, F> {
-    /// Takes the file away again where it was made. Where that fails it stays, with no bytes.
-    fn undo<R: Files<File = File>>(self, rt: &R) {
+impl<'a, F: Drop> Opened<'a, F> {
+    /// Lets the file go. The answer is its path where it was made: it stays, whoever has it by then.
+    fn stays(self) -> Option<&'a str> {
         let Opened { file: _, made } = self;
-        match made {
-            Some(made) => made.undo(rt),
-            None => {}
-        }
+        path_of(made)
     }
 
     /// The file, whose name is durable.
@@ -150,6 +228,14 @@ impl<F: Drop> Opened<'_, F> {
             None => {}
         }
         file
+    }
+}
+
+/// The path of a file that was made and stays.
+fn path_of(made: Option<Made<'_>>) -> Option<&str> {
+    match made {
+        Some(made) => Some(made.stays()),
+        None => None,
     }
 }
 
@@ -173,7 +259,8 @@ pub fn open_script<R: Files<File = File>>(
 ///
 /// # Errors
 ///
-/// The first of the two that is no regular file, that can't be read and written, that is the other, or that another program has.
+/// The first of the two that is no regular file, that can't be read and written, that is the other, or that another program has; `NotFound`
+/// where the log's path is another file's by the time that the home area's is opened.
 pub fn open_pair<'a, R: Files<File = File>>(
     rt: &R,
     paths: LogPaths<'a>,
@@ -182,9 +269,14 @@ pub fn open_pair<'a, R: Files<File = File>>(
         Ok(log) => log,
         Err(error) => return Err(Unopened::new(paths.log, error)),
     };
-    match open_home_of(rt, paths.home, log.file()) {
-        Ok(home) => Ok(LockedPair::new(log, home)),
-        Err(error) => Err(Unopened::new(paths.home, error)),
+    let home = match open_home_of(rt, paths.home, log.file()) {
+        Ok(home) => home,
+        Err(error) => return Err(Unopened::new(paths.home, error)),
+    };
+    // Where both paths are one file's, and its name was given to another file between the two openings, the second is that one.
+    match require_name(rt, paths.log, log.file()) {
+        Ok(()) => Ok(LockedPair::new(log, home)),
+        Err(error) => Err(Unopened::new(paths.log, error)),
     }
 }
 
@@ -246,8 +338,8 @@ fn open_shared_home<R: Files<File = File>>(
 /// # Errors
 ///
 /// The first of the two that is no regular file, that can't be read and written or made, that is another one of the three, that
-/// another program has, or whose folder can't be synced. Then neither file is there that was not there before, but for one that another
-/// program has by now, that the system can't lock, or of which it can tell nothing.
+/// another program has, or whose folder can't be synced. Nothing is made where a look at both paths shows that one can't be had. A file
+/// that was made stays: it is never taken away, since another program may have it by then, and a log in it.
 pub fn open_or_make_pair<'a, R: Files<File = File>>(
     rt: &R,
     paths: LogPaths<'a>,
@@ -255,9 +347,41 @@ pub fn open_or_make_pair<'a, R: Files<File = File>>(
 ) -> Result<LogPair, Unopened<'a>>
     ensures { IfOk result (λ pair. IfSome script.entry (λ script. AreApart script.now pair.log.file × AreApart script.now pair.home.file)) }
 {
-    match claim(rt, paths.log, script, None) {
-        Ok(log) => claim_home(rt, paths, script, log),
-        Err(error) => Err(Unopened::new(paths.log, error)),
+    claim_pair(rt, paths, script, false)
+}
+
+/// Makes the two files of a log, to be read and written, and takes the lock of each. They are empty. Their folders are synced.
+///
+/// # Errors
+///
+/// Those of `open_or_make_pair`; `AlreadyExists`: the file is there, or has bytes before its lock is taken.
+pub fn make_pair<'a, R: Files<File = File>>(
+    rt: &R,
+    paths: LogPaths<'a>,
+) -> Result<LogPair, Unopened<'a>>
+    ensures { IfOk result (λ pair. (pair.log.file.is_made ≡ true) × (pair.home.file.is_made ≡ true)) }
+{
+    claim_pair(rt, paths, None, true)
+}
+
+/// Opens the two files of a log, which both have to be new where that is told, and makes each where there is none.
+fn claim_pair<'a, R: Files<File = File>>(
+    rt: &R,
+    paths: LogPaths<'a>,
+    script: Option<&RegularFile>,
+    has_to_be_new: bool,
+) -> Result<LogPair, Unopened<'a>>
+    ensures script { IfOk result (λ pair. IfSome script.entry (λ script. AreApart script.now pair.log.file × AreApart script.now pair.home.file)) }
+    ensures new { IfOk result (λ pair. has_to_be_new ≡ true → (pair.log.file.is_made ≡ true) × (pair.home.file.is_made ≡ true)) }
+{
+    for path in [paths.log, paths.home] {
+        if let Err(error) = require_place(rt, path) {
+            return Err(Unopened::new(path, error));
+        }
+    }
+    match claim(rt, paths.log, script, None, has_to_be_new) {
+        Ok(log) => claim_home(rt, paths, script, log, has_to_be_new),
+        Err(refused) => Err(Unopened::of_log(paths.log, refused)),
     }
 }
 
@@ -267,16 +391,15 @@ fn claim_home<'a, R: Files<File = File>>(
     paths: LogPaths<'a>,
     script: Option<&RegularFile>,
     log: Opened<'a, LockedFile<WriteLock>>,
+    has_to_be_new: bool,
 ) -> Result<LogPair, Unopened<'a>>
     ensures log { IfOk result (λ pair. pair.log ≡ log.entry.file) }
+    ensures new { IfOk result (λ pair. has_to_be_new ≡ true → pair.home.file.is_made ≡ true) }
     ensures script { IfOk result (λ pair. IfSome script.entry (λ script. AreApart script.now pair.home.file)) }
 {
-    match claim(rt, paths.home, script, Some(log.file.file())) {
+    match claim(rt, paths.home, script, Some(log.file.file()), has_to_be_new) {
         Ok(home) => named(rt, paths, log, home),
-        Err(error) => {
-            log.undo(rt);
-            Err(Unopened::new(paths.home, error))
-        }
+        Err(refused) => Err(Unopened::of_home(paths.home, refused, log)),
     }
 }
 
@@ -287,16 +410,49 @@ fn claim_home<'a, R: Files<File = File>>(
 /// # Errors
 ///
 /// The first of the two that is no regular file, that can't be read and written or made, that is the other, that another program has,
-/// that is not there or too short as a home area, or whose folder can't be synced. Then no log is there that was not there before, but
-/// for one that another program has by now, that the system can't lock, or of which it can tell nothing.
+/// that is not there or too short as a home area, or whose folder can't be synced. Nothing is made where a look at both paths shows that
+/// one can't be had. A log that was made stays, as for `open_or_make_pair`.
 pub fn open_or_make_log<'a, R: Files<File = File>>(
     rt: &R,
     paths: LogPaths<'a>,
     home_bytes: u64,
 ) -> Result<KeptPair, Unopened<'a>> {
-    match claim(rt, paths.log, None, None) {
+    claim_log(rt, paths, home_bytes, false)
+}
+
+/// Makes the file of a log, which is empty, and opens the file of a home area as `open_or_make_log` does.
+///
+/// # Errors
+///
+/// Those of `open_or_make_log`; `AlreadyExists`: the log is there, or has bytes before its lock is taken.
+pub fn make_log<'a, R: Files<File = File>>(
+    rt: &R,
+    paths: LogPaths<'a>,
+    home_bytes: u64,
+) -> Result<KeptPair, Unopened<'a>>
+    ensures { IfOk result (λ kept. kept.pair.log.file.is_made ≡ true) }
+{
+    claim_log(rt, paths, home_bytes, true)
+}
+
+/// Opens the file of a log, which has to be new where that is told, and makes it where there is none, beside a home area that is kept.
+fn claim_log<'a, R: Files<File = File>>(
+    rt: &R,
+    paths: LogPaths<'a>,
+    home_bytes: u64,
+    has_to_be_new: bool,
+) -> Result<KeptPair, Unopened<'a>>
+    ensures { IfOk result (λ kept. has_to_be_new ≡ true → kept.pair.log.file.is_made ≡ true) }
+{
+    if let Err(error) = require_place(rt, paths.log) {
+        return Err(Unopened::new(paths.log, error));
+    }
+    if let Err(error) = require_kept(rt, paths.home, home_bytes) {
+        return Err(Unopened::new(paths.home, error));
+    }
+    match claim(rt, paths.log, None, None, has_to_be_new) {
         Ok(log) => keep_home(rt, paths, home_bytes, log),
-        Err(error) => Err(Unopened::new(paths.log, error)),
+        Err(refused) => Err(Unopened::of_log(paths.log, refused)),
     }
 }
 
@@ -306,16 +462,15 @@ fn keep_home<'a, R: Files<File = File>>(
     paths: LogPaths<'a>,
     bytes: u64,
     log: Opened<'a, LockedFile<WriteLock>>,
-) -> Result<KeptPair, Unopened<'a>> {
+) -> Result<KeptPair, Unopened<'a>>
+    ensures { IfOk result (λ kept. kept.pair.log ≡ log.entry.file) }
+{
     match open_kept_home(rt, paths.home, log.file.file(), bytes) {
         Ok(file) => {
             let pair = named(rt, paths, log, Opened { file, made: None })?;
             Ok(KeptPair { pair })
         }
-        Err(error) => {
-            log.undo(rt);
-            Err(Unopened::new(paths.home, error))
-        }
+        Err(error) => Err(Unopened::of_home(paths.home, Unclaimed::from(error), log)),
     }
 }
 
@@ -333,80 +488,113 @@ fn open_kept_home<R: Files<File = File>>(
     Ok(home)
 }
 
-/// Opens a file of a log, which is neither of these others, makes it where there is none, and takes its lock.
+/// Opens a file of a log, which is neither of these others, makes it where there is none, and takes its lock. Where it has to be new, it
+/// was not there, and is empty.
 fn claim<'a, R: Files<File = File>>(
     rt: &R,
     path: &'a str,
     script: Option<&RegularFile>,
     log: Option<&RegularFile>,
-) -> io::Result<Opened<'a, LockedFile<WriteLock>>>
+    has_to_be_new: bool,
+) -> Result<Opened<'a, LockedFile<WriteLock>>, Unclaimed<'a>>
     ensures script { IfOk result (λ claimed. IfSome script.entry (λ script. AreApart script.now claimed.file.file)) }
     ensures log { IfOk result (λ claimed. IfSome log.entry (λ log. AreApart log.now claimed.file.file)) }
+    ensures new { IfOk result (λ claimed. has_to_be_new ≡ true → claimed.file.file.is_made ≡ true) }
 {
-    let opened = open_or_make(rt, path)?;
-    let opened = apart_from(rt, script, opened)?;
-    locked(rt, path, apart_from(rt, log, opened)?)
+    let opened = open_or_make(rt, path, has_to_be_new)?;
+    let opened = apart_from(script, opened)?;
+    let claimed = locked(rt, path, apart_from(log, opened)?)?;
+    if has_to_be_new {
+        empty(claimed)
+    } else {
+        Ok(claimed)
+    }
 }
 
-/// Takes the lock of a file that was opened by this path. One that was made stays where that can't be had, since another program may
-/// have it.
+/// This file, which is empty under its lock: between its making and its lock another program may have had it.
+fn empty<'a>(
+    claimed: Opened<'a, LockedFile<WriteLock>>,
+) -> Result<Opened<'a, LockedFile<WriteLock>>, Unclaimed<'a>>
+    ensures { IfOk result (λ same. same ≡ claimed.entry) }
+{
+    match claimed.file.file().require_empty() {
+        Ok(()) => Ok(claimed),
+        Err(error) => Err(Unclaimed {
+            error,
+            made: claimed.stays(),
+        }),
+    }
+}
+
+/// Takes the lock of a file that was opened by this path.
 fn locked<'a, R: Files<File = File>>(
     rt: &R,
     path: &str,
     opened: Opened<'a, RegularFile>,
-) -> io::Result<Opened<'a, LockedFile<WriteLock>>>
+) -> Result<Opened<'a, LockedFile<WriteLock>>, Unclaimed<'a>>
     ensures { IfOk result (λ locked. locked.file.file ≡ opened.entry.file) }
 {
     let Opened { file, made } = opened;
     match take(rt, path, file) {
         Ok(file) => Ok(Opened { file, made }),
-        Err(e) => {
-            match made {
-                Some(made) => made.leave(&e),
-                None => {}
-            }
-            Err(e)
-        }
+        Err(error) => Err(Unclaimed {
+            error,
+            made: path_of(made),
+        }),
     }
 }
 
-/// Opens a file to be read and written, and makes it where there is none. What it holds stays.
+/// Opens a file to be read and written, and makes it where there is none. What it holds stays. One that has to be new is made.
 fn open_or_make<'a, R: Files<File = File>>(
     rt: &R,
     path: &'a str,
-) -> io::Result<Opened<'a, RegularFile>> {
+    has_to_be_new: bool,
+) -> Result<Opened<'a, RegularFile>, Unclaimed<'a>>
+    ensures { IfOk result (λ opened. has_to_be_new ≡ true → opened.file.is_made ≡ true) }
+{
+    if has_to_be_new {
+        return made(rt, path);
+    }
     match open_there(rt, path) {
         Ok(file) => Ok(Opened { file, made: None }),
-        Err(e) if e.kind() == ErrorKind::NotFound => {
-            let (file, made) = make(rt, path)?;
-            Ok(Opened {
-                file,
-                made: Some(made),
-            })
-        }
-        Err(e) => Err(e),
+        Err(e) if e.kind() == ErrorKind::NotFound => made(rt, path),
+        Err(e) => Err(Unclaimed::from(e)),
     }
 }
 
-/// This file, where it is not the other one. Else it is taken away again if it was made.
-fn apart_from<'a, R: Files<File = File>>(
+/// Makes a file to be read and written, where there is none.
+fn made<'a, R: Files<File = File>>(
     rt: &R,
+    path: &'a str,
+) -> Result<Opened<'a, RegularFile>, Unclaimed<'a>>
+    ensures { IfOk result (λ opened. opened.file.is_made ≡ true) }
+{
+    let (file, made) = make(rt, path)?;
+    Ok(Opened {
+        file,
+        made: Some(made),
+    })
+}
+
+/// This file, where it is not the other one.
+fn apart_from<'a>(
     other: Option<&RegularFile>,
     opened: Opened<'a, RegularFile>,
-) -> io::Result<Opened<'a, RegularFile>>
+) -> Result<Opened<'a, RegularFile>, Unclaimed<'a>>
     ensures same { IfOk result (λ same. same ≡ opened.entry) }
     ensures apart { IfOk result (λ apart. IfSome other.entry (λ other. AreApart other.now apart.file)) }
 {
     match other {
-        Some(other) if other.is(&opened.file) => {
-            opened.undo(rt);
-            Err(given_twice())
-        }
+        Some(other) if other.is(&opened.file) => Err(Unclaimed {
+            error: given_twice(),
+            made: opened.stays(),
+        }),
         _ => Ok(opened),
     }
 }
 
-/// These two files, whose names are made durable.
+/// These two files, which still have their names, as both are made durable. Where both paths are one file's, and its name was given to another
+/// file between the two openings, the second would be that one.
 fn named<'a, R: Files<File = File>>(
     rt: &R,
     paths: LogPaths<'a>,
@@ -416,12 +604,24 @@ fn named<'a, R: Files<File = File>>(
     requires { AreApart log.file.file home.file.file }
     ensures { IfOk result (λ pair. (pair.log ≡ log.entry.file) × (pair.home ≡ home.entry.file)) }
 {
-    match sync_folders(rt, [paths.log, paths.home]) {
+    match sync_names(rt, paths, log.file.file()) {
         Ok(durable) => Ok(LockedPair::new(log.keep(&durable), home.keep(&durable))),
-        Err((path, error)) => {
-            log.undo(rt);
-            home.undo(rt);
-            Err(Unopened::new(path, error))
-        }
+        Err((path, error)) => Err(Unopened {
+            path,
+            error,
+            made: [log.stays(), home.stays()],
+        }),
+    }
+}
+
+/// Makes durable which files are in the folders of these paths, of which the log's is still this file's.
+fn sync_names<'a, R: Files<File = File>>(
+    rt: &R,
+    paths: LogPaths<'a>,
+    log: &RegularFile,
+) -> Result<Named, (&'a str, io::Error)> {
+    match require_name(rt, paths.log, log) {
+        Ok(()) => sync_folders(rt, [paths.log, paths.home]),
+        Err(error) => Err((paths.log, error)),
     }
 }

@@ -3,8 +3,10 @@ ghost use Rattle.std.specs.Prelude.{◌≡◌, IfOk};
 
 use crate::locked::LockedFile;
 use crate::pairs::LogFile;
+use crate::room::{Room, clear};
 use file_device::{ReadLock, WriteLock, settle};
 use journal_model::layout::MAGIC;
+use std::alloc::Global;
 use std::fs::File;
 use std::io;
 use std::io::ErrorKind;
@@ -60,16 +62,20 @@ impl ReadyLog {
         }
     }
 
-    /// A log that is to be made: all that it held is taken, and it has so many zero bytes, durably.
+    /// A log that is to be made, for which the disk has room: all that it held is overwritten, and it has so many zero bytes, durably.
     ///
     /// # Errors
     ///
-    /// It can't be made so long or synced, and what it held may be lost.
-    pub(crate) fn cleared(log: LogFile<WriteLock>, bytes: u64) -> io::Result<ReadyLog>
+    /// It can't be overwritten or synced, and what it held may be lost.
+    pub(crate) fn cleared(
+        alloc: Global,
+        log: LogFile<WriteLock>,
+        room: Room,
+    ) -> io::Result<ReadyLog>
         ensures { IfOk result (λ ready. ready.file ≡ log.file) }
     {
         let file = log.into_file();
-        clear(&file, bytes)?;
+        clear(alloc, &file, room)?;
         Ok(ReadyLog { file })
     }
 
@@ -86,13 +92,6 @@ impl ReadyLog {
     {
         self.file
     }
-}
-
-/// Takes all that a file holds, gives it so many zero bytes, and makes that durable.
-fn clear(file: &File, bytes: u64) -> io::Result<()> {
-    file.set_len(0)?;
-    file.set_len(bytes)?;
-    file.sync_all()
 }
 
 /// How many bytes of a log an opening relies on: of one that is clean its superblock, else all; and nothing of what is no log. (What

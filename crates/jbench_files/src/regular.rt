@@ -31,15 +31,19 @@ impl Identity {
 pub struct RegularFile {
     pub(crate) file: File,
     pub(crate) identity: Identity,
+    /// This program made it, where there was none: `open_new` alone says so.
+    is_made: bool,
 }
 
 impl RegularFile {
-    /// A file that was opened.
+    /// A file that was opened, which was made then or was there.
     ///
     /// # Errors
     ///
     /// It is no regular file, or the system can tell nothing of it.
-    fn of(file: File) -> io::Result<RegularFile> {
+    fn of(file: File, is_made: bool) -> io::Result<RegularFile>
+        ensures { IfOk result (λ regular. regular.is_made ≡ is_made) }
+    {
         let metadata = file.metadata()?;
         if !metadata.is_file() {
             return Err(no_regular_file());
@@ -47,6 +51,7 @@ impl RegularFile {
         Ok(RegularFile {
             file,
             identity: Identity::of(&metadata),
+            is_made,
         })
     }
 
@@ -82,6 +87,19 @@ impl RegularFile {
         require_length(&self.file.metadata()?, bytes)
     }
 
+    /// Fails where it has bytes already, since another program had it before its lock was taken.
+    ///
+    /// # Errors
+    ///
+    /// `AlreadyExists`: it has; else what the system answers.
+    pub(crate) fn require_empty(&self) -> io::Result<()> {
+        if self.file.metadata()?.len() == 0 {
+            Ok(())
+        } else {
+            Err(io::Error::from(ErrorKind::AlreadyExists))
+        }
+    }
+
     /// The file.
     pub fn into_file(self) -> File
         ensures { result ≡ self.file }
@@ -105,26 +123,34 @@ fn require_length(metadata: &Metadata, bytes: u64) -> io::Result<()>
 }
 
 /// A file that was not there before this program made it, by its path. `make` alone makes one. It can't be dropped, so a command that
-/// is refused takes the file away again, or says why it does not.
+/// is refused says that the file stays. No file is ever taken away: another program may have it by then, and a log in it.
 pub(crate) struct Made<'a> {
     path: &'a str,
 }
 
-impl Made<'_> {
-    /// Takes the file away again. Where that fails it stays, with no bytes.
-    pub(crate) fn undo<R: Files<File = File>>(self, rt: &R) {
-        let Made { path } = self;
-        let _gone = fs::remove_file(rt, path);
-    }
-
+impl<'a> Made<'a> {
     /// Keeps the file, whose name is durable.
     pub(crate) fn keep(self, _named: &Named) {
         let Made { path: _ } = self;
     }
 
-    /// Leaves the file there, since it could not be locked for this cause: another program may have it.
-    pub(crate) fn leave(self, _unlocked: &io::Error) {
-        let Made { path: _ } = self;
+    /// The path of the file, which stays where the command is refused.
+    pub(crate) fn stays(self) -> &'a str {
+        let Made { path } = self;
+        path
+    }
+}
+
+/// Why a file of a log can't be had, and its path where it was made for that: then it stays, with no bytes.
+#[derive(Drop)]
+pub(crate) struct Unclaimed<'a> {
+    pub(crate) error: io::Error,
+    pub(crate) made: Option<&'a str>,
+}
+
+impl From<io::Error> for Unclaimed<'_> {
+    fn from(error: io::Error) -> Self {
+        Unclaimed { error, made: None }
     }
 }
 
@@ -199,11 +225,13 @@ pub(crate) fn open_there<R: Files<File = File>>(rt: &R, path: &str) -> io::Resul
 ///
 /// # Errors
 ///
-/// There is a file of this path, or none can be made.
+/// There is a file of this path, or none can be made; or one was made, of which the system can tell nothing.
 pub(crate) fn make<'a, R: Files<File = File>>(
     rt: &R,
     path: &'a str,
-) -> io::Result<(RegularFile, Made<'a>)> {
+) -> Result<(RegularFile, Made<'a>), Unclaimed<'a>>
+    ensures { IfOk result (λ r. r.0.is_made ≡ true) }
+{
     open_new(
         rt,
         OpenOptions::new().read(true).write(true).create_new(true),
@@ -216,19 +244,26 @@ fn open_new<'a, R: Files<File = File>>(
     rt: &R,
     how: &OpenOptions,
     path: &'a str,
-) -> io::Result<(RegularFile, Made<'a>)>
+) -> Result<(RegularFile, Made<'a>), Unclaimed<'a>>
     requires new { asks_create_new how.now ≡ true }
     requires stays { asks_truncate how.now ≡ false }
+    ensures { IfOk result (λ r. r.0.is_made ≡ true) }
 {
-    let file = open_as(rt, how, path)?;
-    Ok((file, Made { path }))
+    let file = how.open(rt, path)?;
+    match RegularFile::of(file, true) {
+        Ok(file) => Ok((file, Made { path })),
+        Err(error) => Err(Unclaimed {
+            error,
+            made: Some(path),
+        }),
+    }
 }
 
 /// Opens a file in a way that leaves it what it holds.
 fn open_as<R: Files<File = File>>(rt: &R, how: &OpenOptions, path: &str) -> io::Result<RegularFile>
     requires { asks_truncate how.now ≡ false }
 {
-    RegularFile::of(how.open(rt, path)?)
+    RegularFile::of(how.open(rt, path)?, false)
 }
 
 /// Fails where there is no regular file of this path. It opens nothing.
@@ -238,4 +273,41 @@ fn require_regular<R: Files<File = File>>(rt: &R, path: &str) -> io::Result<()> 
     } else {
         Err(no_regular_file())
     }
+}
+
+/// Fails where there is no regular file of this path, and none can be made since there is no folder for it. It opens and makes nothing.
+///
+/// # Errors
+///
+/// What is there is no regular file; there is no such folder; else what the system answers.
+pub(crate) fn require_place<R: Files<File = File>>(rt: &R, path: &str) -> io::Result<()> {
+    match require_regular(rt, path) {
+        Err(e) if e.kind() == ErrorKind::NotFound && !path.is_empty() => {
+            require_folder(rt, folder_of(path))
+        }
+        looked => looked,
+    }
+}
+
+/// Fails where there is no folder of this path.
+fn require_folder<R: Files<File = File>>(rt: &R, path: &str) -> io::Result<()> {
+    if fs::metadata(rt, path)?.is_dir() {
+        Ok(())
+    } else {
+        Err(io::Error::from(ErrorKind::NotADirectory))
+    }
+}
+
+/// Fails where there is no regular file of this path with so many bytes. It opens nothing.
+///
+/// # Errors
+///
+/// `InvalidInput`: what is there is no regular file, or has fewer bytes; else what the system answers.
+pub(crate) fn require_kept<R: Files<File = File>>(
+    rt: &R,
+    path: &str,
+    bytes: u64,
+) -> io::Result<()> {
+    require_regular(rt, path)?;
+    require_length(&fs::metadata(rt, path)?, bytes)
 }

@@ -1,1 +1,2 @@
 mod ReadsBehind
+mod LeftLines

@@ -17,7 +17,7 @@ use Rattle.damaged_logs.specs.BeforeSteps.{HasDoneBefore}
 use Rattle.damaged_logs.specs.Planned.{IsPlannedBefore}
 use Rattle.jbench_logs.specs.declared.damage.Taken.{Taken}
 use Rattle.jbench_logs.specs.declared.plans.Planned.{Planned}
-use Rattle.jbench_logs.specs.Said.{opened_line}
+use Rattle.jbench_logs.specs.Said.{recovered_line}
 
 -- a log of so many blocks, with this UUID and block numbers of 64 or of 32 bits, was made: all of its blocks are durable, and then
 -- home was made durable as it read
@@ -44,13 +44,13 @@ pub record IsOpeningTold (old new : DeviceState) (clean : Bool) (ends_at transac
   pub opening : IsOpening old.shape old.disk new.disk superblock next
   pub tells : Tells old.shape (reading old.disk) clean ends_at transactions
 
--- the line of an opening was written, of what was found where reads were honest
+-- the line of an opening was written, of what was found where reads were honest: it has no number where none is left for the next opening
 pub record SaysOpened (honest : Type 0) (old new : DeviceState) (before written : Option (List ℕ)) : Type 0 where
   pub clean : Bool
   pub ends_at : ℕ
   pub transactions : ℕ
   pub next : ℕ
-  pub said : Appends before written (opened_line clean ends_at transactions next)
+  pub said : Appends before written (recovered_line clean ends_at transactions next)
   pub told : honest → IsOpeningTold old new clean ends_at transactions next
 
 -- an upgrade was done: the log was empty, and the calls that are due for its superblock were made

@@ -5,7 +5,7 @@ ghost use Rattle.damaged_logs.specs.Before.{BeforeRefused, IsMomentBefore};
 ghost use Rattle.jbench_words.specs.declared.fault.Status.TheVariants.{Fine, Refused};
 ghost use Rattle.jbench_logs.specs.Done.{IsRecoveredBefore, IsRefusedBy, IsTakenBefore};
 
-use crate::logs::{refuse, write_opened};
+use crate::logs::{refuse, say_last, write_left};
 use crate::watched::Watched;
 use block_device::Device;
 use jbench_words::fault::Status;
@@ -25,6 +25,18 @@ pub struct Taken {
     pub next: Tid,
     /// What an opening refuses the log with, where it does.
     pub stopped_by: Option<JournalError>,
+}
+
+impl Taken {
+    /// Whether the number of the next transaction was written into the log.
+    fn is_written(&self) -> bool {
+        is_number_written(self.report, self.stopped_by)
+    }
+}
+
+/// Whether an opening before damage writes the number of the next transaction into a log: where that was not clean, or something stopped it.
+pub(crate) fn is_number_written(report: Report, stopped_by: Option<JournalError>) -> bool {
+    !report.clean || stopped_by.is_some()
 }
 
 /// Opens the log of a device as `recover` does; one that is refused as damaged or ahead is opened in spite of that: the complete
@@ -53,6 +65,7 @@ pub fn recover_before_damage<D: Device + Drop, H: Watch + Drop, W: Write, E: Wri
     match open_watched(alloc, device, watch) {
         Ok((device, taken)) => {
             say_taken(&taken, out)?;
+            say_last(taken.is_written(), taken.next, &mut err)?;
             Ok((Status::Fine, device))
         }
         Err((device, e)) => {
@@ -97,7 +110,7 @@ fn open_watched<D: Device + Drop, H: Watch + Drop>(
 
 /// Says what was taken of a log.
 fn say_taken<W: Write>(taken: &Taken, out: &mut W) -> io::Result<()> {
-    write_opened(taken.report, taken.next, out)?;
+    write_left(taken.report, taken.is_written(), taken.next, out)?;
     say_stopped(taken.report, taken.stopped_by, out)
 }
 

@@ -1,7 +1,8 @@
 //! The commands `format`, `dump`, `recover` and `upgrade`, over devices.
-ghost use Rattle.std.specs.Prelude.{◌≡◌, ◌≢◌, IfErr, IfOk, IsOk, MatchResult, OnOk};
+ghost use Rattle.std.specs.Prelude.{◌≡◌, ◌≢◌, ◌&&◌, not, nat_lt, IfErr, IfOk, IsOk, MatchResult, OnOk};
 ghost use Rattle.std.specs.Io.KnownBytes.{Appends};
 ghost use Rattle.journal_model.specs.Disk.{reading};
+ghost use Rattle.log_model.specs.Opening.{greatest_number};
 ghost use Rattle.block_device.specs.Call.{OnlyReads};
 ghost use Rattle.block_device.specs.State.{EachMoment, Stays};
 ghost use Rattle.log_dump.specs.Dumping.{HasDump, shape_of};
@@ -10,13 +11,14 @@ ghost use Rattle.log_epochs.specs.UpgradeRun.{IsUpgradeMoment};
 ghost use Rattle.recovery.specs.Opening.{OpeningRefused};
 ghost use Rattle.jbench_words.specs.declared.fault.Status.TheVariants.{Fine, Refused};
 ghost use Rattle.jbench_logs.specs.Done.{HasUpgraded, IsMade, IsMakeMoment, IsOpeningTold, IsRecovered, IsRefusedBy, IsUpgradeLeft, SaysOpened};
-ghost use Rattle.jbench_logs.specs.Said.{opened_line};
+ghost use Rattle.jbench_logs.specs.Said.{left_line, none_line, opened_line, recovered_line};
 
 use crate::reasons::say_why;
 use crate::watched::Watched;
 use block_device::Device;
 use jbench_words::fault::{self, Fault, Status};
 use jbench_words::watch::Watch;
+use journal_model::layout::GREATEST_NUMBER;
 use journal_model::{Area, JournalError, Tid};
 use journal_script::Measures;
 use recovery::Report;
@@ -70,7 +72,7 @@ fn say_made<W: Write + Drop>(measures: &Measures, mut out: W) -> Result<(), Faul
     .map_err(Fault::from)
 }
 
-/// Prints the log of a device. `path` names its file. Where the log is refused nothing is printed, and one line on `err` says
+/// Prints the log of a device. `path` names its file. Where the log is refused nothing is printed, and lines on `err` say
 /// why.
 ///
 /// # Errors
@@ -87,7 +89,11 @@ pub fn dump<D: Device, W: Write + Drop, E: Write + Drop>(
     ensures other { IfOk result (λ status. status ≢ Fine → status ≡ Refused) }
     ensures stays { Stays (D.state device.old) (D.state device.new) }
 {
-    end(path, dump_device(alloc, device, out), err)
+    let mut err = err;
+    match dump_device(alloc, device, out) {
+        Ok(()) => Ok(Status::Fine),
+        Err(fault) => refuse_fault(alloc, path, device, fault, &mut err),
+    }
 }
 
 /// Prints the log of a device.
@@ -130,7 +136,8 @@ pub fn recover<D: Device + Drop, H: Watch + Drop, W: Write, E: Write + Drop>(
     let mut err = err;
     match open_watched(alloc, device, watch) {
         Ok((device, report, next)) => {
-            write_opened(report, next, out)?;
+            write_recovered(report, next, out)?;
+            say_last(!report.clean, next, &mut err)?;
             Ok((Status::Fine, device))
         }
         Err((device, e)) => {
@@ -228,12 +235,96 @@ pub fn refuse<D: Device>(
     Ok(status)
 }
 
+/// Says why a command over the log of a device can't go on, but of output that can't be written. `path` names its file. The command is
+/// then refused.
+///
+/// # Errors
+///
+/// The output, or the lines, can't be written.
+pub(crate) fn refuse_fault<D: Device>(
+    alloc: Global,
+    path: &str,
+    device: &mut D,
+    fault: Fault,
+    err: &mut impl Write,
+) -> io::Result<Status>
+    ensures refused { IfOk result (λ status. status ≡ Refused) }
+    ensures device { OnlyReads D.state D.honest device.old device.new }
+{
+    match fault {
+        Fault::Output(e) => Err(e),
+        Fault::Refused(e) => refuse(alloc, path, device, e, err),
+        fault => fault::refuse(err, path, &fault),
+    }
+}
+
 /// Says what an opening found.
 pub fn say_opened<W: Write>(report: Report, next: Tid, out: &mut W) -> Result<(), Fault>
     ensures { OnOk result (Appends (W.contents out.old) (W.contents out.new) (opened_line report.clean report.ends_at report.transactions next)) }
 {
     write_opened(report, next, out)?;
     Ok(())
+}
+
+/// Writes the line of an opening behind which the log is left, as `recover` does.
+fn write_recovered<W: Write>(report: Report, next: Tid, out: &mut W) -> io::Result<()>
+    ensures { OnOk result (Appends (W.contents out.old) (W.contents out.new) (recovered_line report.clean report.ends_at report.transactions next)) }
+{
+    if report.clean {
+        write_left(report, false, next, out)
+    } else {
+        write_left(report, true, next, out)
+    }
+}
+
+/// Writes the line of an opening behind which the log is left: `is_written` tells whether the next number was written into it.
+pub(crate) fn write_left<W: Write>(
+    report: Report,
+    is_written: bool,
+    next: Tid,
+    out: &mut W,
+) -> io::Result<()>
+    ensures { OnOk result (Appends (W.contents out.old) (W.contents out.new) (left_line report.clean is_written report.ends_at report.transactions next)) }
+{
+    if is_last(is_written, next) {
+        write_none(report, out)
+    } else {
+        write_opened(report, next, out)
+    }
+}
+
+/// Writes the line of an opening behind which no number is left.
+fn write_none<W: Write>(report: Report, out: &mut W) -> io::Result<()>
+    ensures { OnOk result (Appends (W.contents out.old) (W.contents out.new) (none_line report.clean report.ends_at report.transactions)) }
+{
+    if report.clean {
+        writeln!(out, "clean next=none")
+    } else {
+        writeln!(
+            out,
+            "recovered end={} next=none transactions={}",
+            report.ends_at, report.transactions
+        )
+    }
+}
+
+/// Whether the next opening of a log finds no number above this one, which was written into it or not.
+pub(crate) fn is_last(is_written: bool, next: Tid) -> bool
+    ensures { result ≡ (is_written && not (nat_lt next greatest_number)) }
+{
+    is_written && next.0 >= GREATEST_NUMBER
+}
+
+/// Says what to do where the next opening of a log finds no number above this one.
+pub(crate) fn say_last(is_written: bool, next: Tid, err: &mut impl Write) -> io::Result<()> {
+    if is_last(is_written, next) {
+        writeln!(
+            err,
+            "jbench: no transaction number is left in this log, which is clean: make a new one beside the same home, by jbench format LOG HOME --keep-home"
+        )
+    } else {
+        Ok(())
+    }
 }
 
 /// Writes the line of an opening.

@@ -5,8 +5,8 @@ ghost use Rattle.block_device.specs.State.{Stays};
 ghost use Rattle.jbench_words.specs.declared.fault.Status.TheVariants.{Fine, Refused};
 ghost use Rattle.jbench_logs.specs.Done.{IsFoundOut, IsPlanOf, IsRefusalOf, IsRefusedBy};
 
-use crate::damage::say_stopped;
-use crate::logs::refuse;
+use crate::damage::{is_number_written, say_stopped};
+use crate::logs::{is_last, refuse, say_last};
 use crate::reasons::say_why;
 use crate::watched::Watched;
 use block_device::Device;
@@ -27,6 +27,13 @@ pub struct Planned {
     pub plan: Plan,
     /// What it would open the log in spite of, where there is something.
     pub stopped_by: Option<JournalError>,
+}
+
+impl Planned {
+    /// Whether the opening would write the number of the next transaction into the log.
+    fn writes_number(&self) -> bool {
+        is_number_written(self.plan.report, self.stopped_by)
+    }
 }
 
 /// Prints what these words of `recover` would do to the log of a device, in the words of `recover` and with the count of home blocks
@@ -55,6 +62,7 @@ pub fn plan<D: Device + Drop, H: Watch + Drop, W: Write, E: Write + Drop>(
     match planned {
         Ok(planned) => {
             say_plan(alloc, &mut device, &planned, out)?;
+            say_last(planned.writes_number(), planned.plan.next, &mut err)?;
             Ok((Status::Fine, device))
         }
         Err(e) => {
@@ -120,20 +128,25 @@ fn say_plan<D: Device, W: Write>(
 }
 
 /// Says what was planned.
-fn say_planned<W: Write>(planned: &Planned, out: &mut W) -> io::Result<()> {
+fn say_planned(planned: &Planned, out: &mut impl Write) -> io::Result<()> {
     let Plan {
         report,
         blocks,
         next,
     } = planned.plan;
-    if report.clean {
-        writeln!(out, "clean next={}", next.0)?;
+    if !report.clean {
+        write!(out, "would recover end={} ", report.ends_at)?;
     } else {
-        writeln!(
-            out,
-            "would recover end={} next={} transactions={} blocks={blocks}",
-            report.ends_at, next.0, report.transactions
-        )?;
+        write!(out, "clean ")?;
     }
+    if is_last(planned.writes_number(), next) {
+        write!(out, "next=none")?;
+    } else {
+        write!(out, "next={}", next.0)?;
+    }
+    if !report.clean {
+        write!(out, " transactions={} blocks={blocks}", report.transactions)?;
+    }
+    writeln!(out)?;
     say_stopped(report, planned.stopped_by, out)
 }

@@ -1,8 +1,9 @@
-//! Why a log is refused, where its refusal does not say it: a home area that is too short for the log.
+//! Why a log is refused, where its refusal does not say it: a home area that is too short for the log, or a file that is.
 ghost use Rattle.std.specs.Prelude.{◌≡◌, IfOk, length};
 ghost use Rattle.block_device.specs.Call.{OnlyReads};
 ghost use Rattle.log_format.specs.Accepted.{IsAccepted};
 
+use crate::ways_out::say_length;
 use block_device::{Device, read_block};
 use journal_model::{Area, JournalError};
 use log_format::Super;
@@ -11,8 +12,11 @@ use std::alloc::Global;
 use std::io;
 use std::io::Write;
 
-/// Says behind the line of a refusal where it comes of a home area that lacks a block which the log names. Where that can't be found
-/// out, nothing is said.
+/// Bytes of a superblock.
+pub(crate) const SUPER_BYTES: usize = 1024;
+
+/// Says behind the line of a refusal where it comes of a home area that lacks a block which the log names, or of a log whose file is
+/// shorter than it. Where that can't be found out, nothing is said.
 ///
 /// # Errors
 ///
@@ -25,15 +29,44 @@ pub(crate) fn say_why<D: Device>(
 ) -> io::Result<()>
     ensures device { OnlyReads D.state D.honest device.old device.new }
 {
-    let JournalError::Damage(place) = e else {
-        return Ok(());
-    };
+    match e {
+        JournalError::Damage(place) => say_short_home(alloc, device, place, err),
+        JournalError::BadLength => say_short_log(alloc, device, err),
+        _ => Ok(()),
+    }
+}
+
+/// Says where the block at this place is damaged that it names a home block which is not there.
+fn say_short_home<D: Device>(
+    alloc: Global,
+    device: &mut D,
+    place: u64,
+    err: &mut impl Write,
+) -> io::Result<()>
+    ensures device { OnlyReads D.state D.honest device.old device.new }
+{
     let home_blocks = device.blocks(Area::Home);
     match is_whole_without_home(alloc, device, place) {
         Ok(true) => writeln!(
             err,
             "  it names home blocks that are not there: the home area has {home_blocks}"
         ),
+        _ => Ok(()),
+    }
+}
+
+/// Says how many blocks a log has, and how many its superblock says.
+fn say_short_log<D: Device>(alloc: Global, device: &mut D, err: &mut impl Write) -> io::Result<()>
+    ensures device { OnlyReads D.state D.honest device.old device.new }
+{
+    let blocks = device.blocks(Area::Log);
+    if blocks == 0 {
+        return writeln!(err, "  it has not one whole block: is it the right file?");
+    }
+    match read_block(alloc, device, Area::Log, 0) {
+        Ok(block) if block.bytes().len() >= SUPER_BYTES => {
+            say_length(&Super::fields(block.bytes()), blocks, err)
+        }
         _ => Ok(()),
     }
 }
@@ -57,7 +90,7 @@ fn is_whole_without_home<D: Device>(
 }
 
 /// Reads and tests the superblock.
-fn read_log<D: Device>(alloc: Global, device: &mut D) -> Result<Log, JournalError>
+pub(crate) fn read_log<D: Device>(alloc: Global, device: &mut D) -> Result<Log, JournalError>
     ensures accepted { IfOk result (λ log. IsAccepted (D.state device.old).shape.block_size (D.state device.old).shape.log_blocks log) }
     ensures device { OnlyReads D.state D.honest device.old device.new }
 {

@@ -6,11 +6,13 @@ ghost use Rattle.jbench_words.specs.declared.fault.Status.TheVariants.{Fine, Ref
 
 use crate::features::{
     COMPATIBLE, INCOMPATIBLE, READ_ONLY_COMPATIBLE, REVOKE, WIDE_NUMBERS, write_features,
-    write_ways_out,
 };
+use crate::logs::refuse_fault;
+use crate::reasons::SUPER_BYTES;
+use crate::ways_out::{Standing, standing_of, tell};
 use block_device::{Device, read_block};
 use byteorder::{BigEndian, ByteOrder};
-use jbench_words::fault::{self, Fault, Status};
+use jbench_words::fault::{Fault, Status};
 use journal_model::layout::{GREATEST_LENGTH, LEAST_LENGTH, MAGIC, SUPER_TYPE};
 use journal_model::{Area, Block, JournalError};
 use journal_script::is_block_size;
@@ -18,9 +20,6 @@ use log_format::Super;
 use std::alloc::Global;
 use std::io::Write;
 use std::{fmt, io};
-
-/// Bytes of a superblock.
-const SUPER_BYTES: usize = 1024;
 
 /// The fewest blocks of a ring.
 const LEAST_RING: u32 = 16;
@@ -39,7 +38,7 @@ impl fmt::Display for Hex<'_> {
 }
 
 /// Prints the superblock of the log of a device, and whether an opening takes it. `path` names the log's file. The device is read, and
-/// stays as it was. Where the log has no whole block, or it can't be read, nothing is printed, and one line on `err` says so.
+/// stays as it was. Where the log has no whole block, or it can't be read, nothing is printed, and lines on `err` say so.
 ///
 /// # Errors
 ///
@@ -57,8 +56,7 @@ pub fn show<D: Device, W: Write + Drop, E: Write + Drop>(
     let (mut out, mut err) = (out, err);
     match show_device(alloc, device, &mut out) {
         Ok(()) => Ok(Status::Fine),
-        Err(Fault::Output(e)) => Err(e),
-        Err(fault) => fault::refuse(&mut err, path, &fault),
+        Err(fault) => refuse_fault(alloc, path, device, fault, &mut err),
     }
 }
 
@@ -72,7 +70,8 @@ fn show_device<D: Device, W: Write>(alloc: Global, device: &mut D, out: &mut W) 
     if bytes.len() < SUPER_BYTES {
         return Err(Fault::Refused(JournalError::BadLength));
     }
-    show_superblock(bytes, blocks, out)?;
+    let standing = standing_of(alloc, device, bytes)?;
+    show_superblock(bytes, blocks, standing, out)?;
     Ok(())
 }
 
@@ -86,15 +85,20 @@ fn read_first<D: Device>(alloc: Global, device: &mut D) -> Result<Block, Journal
     read_block(alloc, device, Area::Log, 0)
 }
 
-/// Prints the superblock that a block of a log holds, which has so many of them.
-fn show_superblock(bytes: &[u8], blocks: u64, out: &mut impl Write) -> io::Result<()>
+/// Prints the superblock that a block of a log holds, which has so many of them, and what is to be done where this stands in its place.
+fn show_superblock(
+    bytes: &[u8],
+    blocks: u64,
+    standing: Standing,
+    out: &mut impl Write,
+) -> io::Result<()>
     requires { 1024 ≤ length bytes.now }
 {
     writeln!(out, "log blocks={blocks} blocksize={}", bytes.len())?;
     show_header(bytes, out)?;
     show_fields(&Super::fields(bytes), bytes.len(), blocks, out)?;
     show_rest(bytes, out)?;
-    tell(bytes, blocks, out)
+    tell(bytes, blocks, standing, out)
 }
 
 /// Prints the fields that an opening reads, of a log in blocks of so many bytes, which has so many of them.
@@ -270,36 +274,4 @@ fn show_checksums(bytes: &[u8], out: &mut impl Write) -> io::Result<()>
     show_number(out, "s_head", number(bytes, 0x58))?;
     show_bytes(out, "s_checksum", &bytes[0xfc..0x100])?;
     show_bytes(out, "s_users", &bytes[0x100..0x110])
-}
-
-/// Says whether an opening takes the superblock, and where it does not for its features, what an owner of the log does about each.
-fn tell(bytes: &[u8], blocks: u64, out: &mut impl Write) -> io::Result<()>
-    requires { 1024 ≤ length bytes.now }
-{
-    match Super::read(bytes, blocks) {
-        Ok(_) => writeln!(out, "an opening takes this superblock"),
-        Err(e) => {
-            writeln!(
-                out,
-                "an opening refuses this superblock: {} {e}",
-                e.number()
-            )?;
-            tell_ways_out(&Super::fields(bytes), out)
-        }
-    }
-}
-
-/// Says of each feature that keeps an opening from a log what its owner does about it.
-fn tell_ways_out(fields: &Super, out: &mut impl Write) -> io::Result<()> {
-    write_ways_out(out, fields.s_feature_compat, 0, &COMPATIBLE)?;
-    let taken = REVOKE | WIDE_NUMBERS;
-    write_ways_out(out, fields.s_feature_incompat, taken, &INCOMPATIBLE)?;
-    write_ways_out(out, fields.s_feature_ro_compat, 0, &READ_ONLY_COMPATIBLE)?;
-    if fields.s_feature_incompat & REVOKE == 0 {
-        writeln!(
-            out,
-            "  without revoke: mount its file system and write to it, so that the kernel writes the superblock anew"
-        )?;
-    }
-    Ok(())
 }

@@ -16,6 +16,8 @@ pub enum ScriptError {
 /// What makes a text no script.
 #[derive(Drop)]
 pub enum BadScript {
+    /// It begins with a byte order mark.
+    ByteOrderMark,
     /// It is no JSON from this line and this column on, both counted from 1.
     NoJson(usize, usize),
     /// It is no JSON object.
@@ -26,8 +28,8 @@ pub enum BadScript {
     Key(Key),
     /// What it has for the blocks of a home area whose block numbers have 64 bits is none of that.
     WideHome,
-    /// What this key has is not so on the device that is there.
-    Disagrees(Key),
+    /// What one of its keys has is not so on the device that is there.
+    Disagrees(Disagreement),
     /// It has this operation, which is none or can't stand there.
     Operation(BadOperation),
     /// It lacks its list of clients, or that is none: it has none or too many of them, one of them is no list, or their operations are too
@@ -35,6 +37,17 @@ pub enum BadScript {
     Clients,
     /// A client of it has an operation that is none or can't stand there, or ends too early.
     Client(BadClient),
+}
+
+/// A key that has something else than the device that is there.
+#[derive(Drop)]
+pub struct Disagreement {
+    /// Which key it is.
+    pub key: Key,
+    /// What the device has, as a script says it.
+    pub device: String,
+    /// What the key has: how its text begins, and where that is short the whole text.
+    pub script: String,
 }
 
 /// An operation of a client that is none, or can't stand where it stands.
@@ -319,6 +332,9 @@ impl<T: Drop> From<AllocFailed<T>> for ScriptError {
 impl fmt::Display for BadScript {
     fn fmt<W: fmt::Write>(&self, f: &mut fmt::Formatter<W>) -> fmt::Result {
         match self {
+            BadScript::ByteOrderMark => {
+                f.write_str("it begins with a byte order mark: text in UTF-8 without one is wanted")
+            }
             BadScript::NoJson(line, column) => {
                 write!(f, "it is no JSON from line {line} column {column} on")
             }
@@ -332,7 +348,7 @@ impl fmt::Display for BadScript {
                     "a number from 1 to 1099511627776 is wanted",
                 )
             }
-            BadScript::Disagrees(key) => write_key(f, key.name(), "the device has another"),
+            BadScript::Disagrees(other) => other.fmt(f),
             BadScript::Operation(bad) => bad.fmt(f),
             BadScript::Clients => f.write_str(
                 "key \"clients\": a list of 1 to 64 lists with at most 100000 operations is wanted",
@@ -345,6 +361,18 @@ impl fmt::Display for BadScript {
 /// Writes what is wrong with a key.
 fn write_key<W: fmt::Write>(f: &mut fmt::Formatter<W>, name: &str, wrong: &str) -> fmt::Result {
     write!(f, "key {name:?}: {wrong}")
+}
+
+impl fmt::Display for Disagreement {
+    fn fmt<W: fmt::Write>(&self, f: &mut fmt::Formatter<W>) -> fmt::Result {
+        write!(
+            f,
+            "key {:?}: the files have {}, and the script says {}",
+            self.key.name(),
+            self.device,
+            self.script
+        )
+    }
 }
 
 impl fmt::Display for BadClient {

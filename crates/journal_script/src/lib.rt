@@ -14,8 +14,8 @@ mod script;
 
 pub use clients::{ClientHandle, ClientScript, ClientTouch, MOST_CLIENTS, read_clients};
 pub use error::{
-    BadClient, BadOperation, BadScript, ClientFault, Key, OperationFault, OperationName,
-    ScriptError,
+    BadClient, BadOperation, BadScript, ClientFault, Disagreement, Key, OperationFault,
+    OperationName, ScriptError,
 };
 pub use measures::{
     DEFAULTS, HOMES, LENGTHS, Measures, block_size_of, is_block_size, limited, uuid_of,

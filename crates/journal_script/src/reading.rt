@@ -10,7 +10,9 @@ ghost use Rattle.journal_script.specs.Names.{name_word};
 ghost use Rattle.journal_script.specs.Text.{AgreesWith, AreArguments, AreOperations, HasOperations, IsAt, IsDefaultElse, IsElse, IsHexOf, IsOperation, IsScriptOf, IsTextOf, key_name, list_value, number_value};
 ghost use Rattle.journal_script.specs.declared.error.Key.TheVariants.{Home, Operations, Uuid, Wide};
 
-use crate::error::{BadOperation, BadScript, Key, OperationFault, OperationName, ScriptError};
+use crate::error::{
+    BadOperation, BadScript, Disagreement, Key, OperationFault, OperationName, ScriptError,
+};
 use crate::measures::{DEFAULTS, LENGTHS, Measures, homes, is_block_size, uuid_of};
 use crate::order;
 use crate::script::{HandleName, MOST_OPERATIONS, Operation, Script};
@@ -92,15 +94,15 @@ fn read_members_over(
 fn require_device(alloc: Global, value: &Value, device: &Measures) -> Result<(), ScriptError>
     ensures { OnOk result (AgreesWith (view value.now) device.now) }
 {
-    require_number(value, Key::Block, device.block_size as u64)?;
-    require_number(value, Key::Length, u64::from(device.log_blocks))?;
-    require_number(value, Key::Home, device.home_blocks)?;
+    require_number(alloc, value, Key::Block, device.block_size as u64)?;
+    require_number(alloc, value, Key::Length, u64::from(device.log_blocks))?;
+    require_number(alloc, value, Key::Home, device.home_blocks)?;
     require_uuid(alloc, value, &device.uuid)?;
-    require_width(value, device.wide)
+    require_width(alloc, value, device.wide)
 }
 
 /// Fails where a key stands in a script, and not with this number.
-fn require_number(value: &Value, key: Key, number: u64) -> Result<(), ScriptError>
+fn require_number(alloc: Global, value: &Value, key: Key, number: u64) -> Result<(), ScriptError>
     ensures { OnOk result (IsAt (get (key_name key) (view value.now)) (number_value number)) }
 {
     let Some(found) = value.get(key.name()) else {
@@ -108,7 +110,27 @@ fn require_number(value: &Value, key: Key, number: u64) -> Result<(), ScriptErro
     };
     match found.as_u64() {
         Some(other) if other == number => Ok(()),
-        _ => Err(ScriptError::BadScript(BadScript::Disagrees(key))),
+        _ => Err(disagrees(
+            key,
+            format!(in alloc; "{number}"),
+            text_of(alloc, Some(found)),
+        )),
+    }
+}
+
+/// The fault of a key that has something else than the device.
+fn disagrees(
+    key: Key,
+    device: Result<String, AllocError>,
+    script: Result<String, AllocError>,
+) -> ScriptError {
+    match (device, script) {
+        (Ok(device), Ok(script)) => ScriptError::BadScript(BadScript::Disagrees(Disagreement {
+            key,
+            device,
+            script,
+        })),
+        _ => ScriptError::Memory,
     }
 }
 
@@ -116,27 +138,45 @@ fn require_number(value: &Value, key: Key, number: u64) -> Result<(), ScriptErro
 fn require_uuid(alloc: Global, value: &Value, uuid: &[u8; 16]) -> Result<(), ScriptError>
     ensures { OnOk result (IfSome (get (key_name Uuid) (view value.now)) (IsHexOf uuid.now)) }
 {
-    if value.get(Key::Uuid.name()).is_none() {
+    let Some(found) = value.get(Key::Uuid.name()) else {
         return Ok(());
-    }
+    };
     if read_uuid(alloc, value)? == *uuid {
         Ok(())
     } else {
-        Err(ScriptError::BadScript(BadScript::Disagrees(Key::Uuid)))
+        Err(disagrees(
+            Key::Uuid,
+            quoted_digits(alloc, uuid),
+            text_of(alloc, Some(found)),
+        ))
     }
 }
 
+/// A UUID as a script has it: hex digits between quotes.
+fn quoted_digits(alloc: Global, uuid: &[u8; 16]) -> Result<String, AllocError> {
+    let mut text = format!(in alloc; "\"")?;
+    for byte in uuid {
+        text.push_str(&format!(in alloc; "{byte:02x}")?)?;
+    }
+    text.push('"')?;
+    Ok(text)
+}
+
 /// Fails where a width of block numbers stands in a script, and another than this.
-fn require_width(value: &Value, wide: bool) -> Result<(), ScriptError>
+fn require_width(alloc: Global, value: &Value, wide: bool) -> Result<(), ScriptError>
     ensures { OnOk result (IsAt (get (key_name Wide) (view value.now)) (boolean wide)) }
 {
-    if value.get(Key::Wide.name()).is_none() {
+    let Some(found) = value.get(Key::Wide.name()) else {
         return Ok(());
-    }
+    };
     if read_width(value)? == wide {
         Ok(())
     } else {
-        Err(ScriptError::BadScript(BadScript::Disagrees(Key::Wide)))
+        Err(disagrees(
+            Key::Wide,
+            format!(in alloc; "{wide}"),
+            text_of(alloc, Some(found)),
+        ))
     }
 }
 
@@ -222,7 +262,7 @@ fn bad_operation(
     }
 }
 
-/// How the text of an operation begins.
+/// How the text of a value begins.
 fn text_of(alloc: Global, value: Option<&Value>) -> Result<String, AllocError> {
     let Some(value) = value else {
         return Ok(String::new(alloc));
@@ -234,10 +274,16 @@ fn text_of(alloc: Global, value: Option<&Value>) -> Result<String, AllocError> {
     }
 }
 
+/// The byte order marks of UTF-8 and of both kinds of UTF-16, which editors put before a text.
+const MARKS: [&[u8]; 3] = [b"\xef\xbb\xbf", b"\xff\xfe", b"\xfe\xff"];
+
 /// The value of a JSON text.
 pub(crate) fn read_value(alloc: Global, text: &[u8]) -> Result<Value, ScriptError>
     ensures { IfOk result (λ value. read_text text.now ≡ Some (view value)) }
 {
+    if MARKS.iter().any(|mark| text.starts_with(mark)) {
+        return Err(ScriptError::BadScript(BadScript::ByteOrderMark));
+    }
     match Value::from_slice(alloc, text) {
         Ok(value) => Ok(value),
         Err(e) if e.is_memory() => Err(ScriptError::Memory),

@@ -11,7 +11,7 @@ const FOLDER: &str = "locked";
 /// A script that writes nothing.
 const SCRIPT: &str = r#"{"ops": []}"#;
 
-/// Commands while another program reads and writes the log. Nothing is made, so a file that is not there stays so.
+/// Commands while another program reads and writes the log. The file that one of them makes stays, and the last finds it.
 const LOG_IS_WRITTEN: [Step; 9] = [
     (
         "jbench format locked/log locked/home",
@@ -138,11 +138,11 @@ fn opened(rt: &HostRuntime, path: &str) -> Result<File, Fail> {
     Ok(OpenOptions::new().read(true).write(true).open(rt, path)?)
 }
 
-/// Whether the files hold what they held, and none was made.
+/// Whether the files hold what they held, and the one that was made is empty.
 fn is_untouched(rt: &HostRuntime, log: &[u8], home: &[u8]) -> Result<bool, Fail> {
     let same_log = fs::read(rt, "locked/log")?.as_slice() == log;
     let same_home = fs::read(rt, "locked/home")?.as_slice() == home;
-    Ok(same_log && same_home && !fs::exists(rt, "locked/new")?)
+    Ok(same_log && same_home && fs::read(rt, "locked/new")?.is_empty())
 }
 
 /// Which of these come to something else than is wanted, while other programs have files.

@@ -133,7 +133,8 @@ fn is_no_log(rt: &HostRuntime, length: usize, wanted: &str) -> Result<bool, Fail
 }
 
 /// What the dump of a file says that has not one block.
-const TOO_SHORT: &str = "| jbench: refusal 16 BadLength\nRefused";
+const TOO_SHORT: &str =
+    "| jbench: refusal 16 BadLength\n  it has not one whole block: is it the right file?\nRefused";
 
 /// What the dump of a file says whose first block is no superblock.
 const NO_SUPERBLOCK: &str = "| jbench: refusal 13 BadMagic\nRefused";

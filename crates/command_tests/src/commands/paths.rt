@@ -32,10 +32,8 @@ fn is_untouched(rt: &HostRuntime) -> Result<bool, Fail> {
 /// The paths of a log and of its home area, and whether the second is the one that is refused.
 type Row = (&'static str, &'static str, bool);
 
-/// Paths of files that can't be made the files of a log.
-const NOT_MADE: [Row; 11] = [
-    ("paths/new", "paths/new", true),
-    ("paths/new", "paths/folder/../new", true),
+/// Paths of files that can't be made the files of a log, and of which none is made.
+const NOT_MADE: [Row; 9] = [
     ("paths/new", "paths/missing/home", true),
     ("paths/new", "paths/folder", true),
     ("paths/new", "/dev/zero", true),
@@ -45,6 +43,12 @@ const NOT_MADE: [Row; 11] = [
     ("paths/missing/log", "paths/new", false),
     ("paths/folder", "paths/new", false),
     ("/dev/null", "paths/new", false),
+];
+
+/// Paths of files that can't be made the files of a log, of which one is made before that shows.
+const HALF_MADE: [Row; 2] = [
+    ("paths/new", "paths/new", true),
+    ("paths/new", "paths/folder/../new", true),
 ];
 
 /// Paths of files that can't be opened as those of a log.
@@ -64,12 +68,33 @@ fn is_refused(rt: &HostRuntime, row: Row, path: &str) -> Result<bool, Fail> {
     Ok(path == if is_home { home } else { log } && is_untouched(rt)?)
 }
 
+/// Whether the file that was made is there, empty, and is the one that is told of. It is taken away here.
+fn is_left(rt: &HostRuntime, made: [Option<&str>; 2]) -> Result<bool, Fail> {
+    let is_empty = fs::read(rt, "paths/new")?.is_empty();
+    fs::remove_file(rt, "paths/new")?;
+    Ok(is_empty && made == [Some("paths/new"), None])
+}
+
+/// The first of the rows that does not leave its log behind, made and empty, where its home area is refused.
+fn first_not_left(rt: &HostRuntime) -> Result<Option<&'static str>, Fail> {
+    for row in HALF_MADE {
+        let (log, home, _) = row;
+        match open_or_make_pair(rt, LogPaths { log, home }, None) {
+            Err(unopened) if is_left(rt, unopened.made)? && is_refused(rt, row, unopened.path)? =>
+                {}
+            _ => return Ok(Some(home)),
+        }
+    }
+    Ok(None)
+}
+
 /// The first of the rows whose files are made.
 fn first_made(rt: &HostRuntime) -> Result<Option<&'static str>, Fail> {
     for row in NOT_MADE {
         let (log, home, _) = row;
         match open_or_make_pair(rt, LogPaths { log, home }, None) {
-            Err(unopened) if is_refused(rt, row, unopened.path)? => {}
+            Err(unopened) if unopened.made == [None, None] && is_refused(rt, row, unopened.path)? =>
+                {}
             _ => return Ok(Some(home)),
         }
     }
@@ -96,7 +121,7 @@ fn is_half_made(rt: &HostRuntime, log: &'static str, home: &'static str) -> Resu
     Ok(taken && bytes.is_empty() && is_untouched(rt)?)
 }
 
-/// Whether a script's own file is refused as either file of a log, and all is left as it was.
+/// Whether a script's own file is refused as either file of a log, and all is left as it was but for a log that is made beside it.
 fn is_no_script(rt: &HostRuntime) -> Result<bool, Fail> {
     let script = open_to_read(rt, "paths/there")?;
     let as_log = LogPaths {
@@ -107,8 +132,11 @@ fn is_no_script(rt: &HostRuntime) -> Result<bool, Fail> {
         log: "paths/new",
         home: "paths/there",
     };
-    let log_is_refused = open_or_make_pair(rt, as_log, Some(&script)).is_err();
-    let home_is_refused = open_or_make_pair(rt, as_home, Some(&script)).is_err();
+    let log_is_refused = open_or_make_pair(rt, as_log, Some(&script)).is_err() && is_untouched(rt)?;
+    let home_is_refused = match open_or_make_pair(rt, as_home, Some(&script)) {
+        Err(unopened) => is_left(rt, unopened.made)?,
+        Ok(_) => false,
+    };
     Ok(log_is_refused && home_is_refused && is_untouched(rt)?)
 }
 
@@ -126,6 +154,7 @@ fn are_read(rt: &HostRuntime) -> [bool; 4] {
 fn paths_that_are_refused(rt: HostRuntime) -> Result<(), Fail> {
     prepare(&rt)?;
     assert_eq!(rt; first_made(&rt)?, None);
+    assert_eq!(rt; first_not_left(&rt)?, None);
     assert_eq!(rt; first_opened(&rt)?, None);
     assert!(rt;
         is_half_made(&rt, "paths/new", "paths/other")?,
