@@ -12,7 +12,7 @@ const FOLDER: &str = "locked";
 const SCRIPT: &str = r#"{"ops": []}"#;
 
 /// Commands while another program reads and writes the log. The file that one of them makes stays, and the last finds it.
-const LOG_IS_WRITTEN: [Step; 9] = [
+const LOG_IS_WRITTEN: [Step; 8] = [
     (
         "jbench format locked/log locked/home",
         "| jbench: file locked/log\n  another program has it\nRefused",
@@ -35,10 +35,6 @@ const LOG_IS_WRITTEN: [Step; 9] = [
     ),
     (
         "jbench apply locked/log locked/home locked/script",
-        "| jbench: file locked/log\n  another program has it\nRefused",
-    ),
-    (
-        "jbench bench locked/log locked/home --transactions 1",
         "| jbench: file locked/log\n  another program has it\nRefused",
     ),
     (
