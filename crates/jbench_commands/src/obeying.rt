@@ -112,7 +112,7 @@ fn run_opened<W: Write + Drop, E: Write + Drop>(
             let image = ImageFiles { alloc, files };
             run::run_with_image(alloc, words, script.into_file(), image, out, err)
         }
-        Err(unopened) => refuse_file(&mut err, unopened.path, unopened.error),
+        Err(unopened) => unopened.refuse(&mut err),
     }
 }
 
@@ -197,11 +197,11 @@ fn format_both<C: Contents, W: Write + Drop, E: Write + Drop>(
     let mut err = err;
     let files = match open_or_make_pair(rt, words.paths, None) {
         Ok(files) => files,
-        Err(unopened) => return refuse_file(&mut err, unopened.path, unopened.error),
+        Err(unopened) => return unopened.refuse(&mut err),
     };
     match make_device(rt.alloc(), contents, &words.measures, files) {
         Ok(device) => format_device(words, device, out, err),
-        Err(unmade) => refuse_file(&mut err, unmade.path(words.paths), unmade.error),
+        Err(unmade) => unmade.refuse(words.paths, &mut err),
     }
 }
 
@@ -219,11 +219,11 @@ fn format_log<C: Contents, W: Write + Drop, E: Write + Drop>(
     let mut err = err;
     let files = match open_or_make_log(rt, words.paths, home_bytes(&words.measures)) {
         Ok(files) => files,
-        Err(unopened) => return refuse_file(&mut err, unopened.path, unopened.error),
+        Err(unopened) => return unopened.refuse(&mut err),
     };
     match make_log_device(rt.alloc(), contents, &words.measures, files) {
         Ok(device) => format_device(words, device, out, err),
-        Err(unmade) => refuse_file(&mut err, unmade.path(words.paths), unmade.error),
+        Err(unmade) => unmade.refuse(words.paths, &mut err),
     }
 }
 

@@ -269,9 +269,8 @@ pub(crate) const FORMAT: Usage = Usage {
     after_help: "\
 Both files are made where there are none, and lose what they held. LOG gets M blocks of B bytes: the superblock, and zeros.
 HOME gets N blocks of zeros, each of which is written: a disk that is full later has room for them. No file is changed before both
-could be opened and locked; one that was made is taken away again where the other can't be opened, but for one that can't be locked,
-since another program may have it. Behind that both stay, whatever fails: where the disk is full they hold no log. Linux takes logs of
-1024 blocks and more alone: give --length 1024 to a log that it is to read.
+could be opened and locked, and none is ever taken away: one that was made stays, empty, where the other can't be opened. Linux takes
+logs of 1024 blocks and more alone: give --length 1024 to a log that it is to read.
 
 With --wide the log's block numbers have 64 bits. What it then holds is read by this program alone: nothing is claimed of others.
 
