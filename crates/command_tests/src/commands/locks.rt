@@ -39,7 +39,7 @@ const LOG_IS_WRITTEN: [Step; 8] = [
     ),
     (
         "jbench run locked/script --image-log locked/new --image-home locked/log",
-        "| jbench: file locked/log\n  another program has it\nRefused",
+        "| jbench: file locked/log\n  another program has it\n  locked/new was made, empty, and stays\nRefused",
     ),
     (
         "jbench format locked/new locked/log",
