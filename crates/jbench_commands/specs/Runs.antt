@@ -15,7 +15,6 @@ use Rattle.script_run.specs.Copying.{IsCopiedRun}
 use Rattle.script_run.specs.Left.{IsRunOf}
 use Rattle.script_run.specs.declared.stops.Stop.{Stop}
 use Rattle.script_run.specs.declared.stops.Stops.{Stops}
-use Rattle.script_threads.specs.Runs.{IsOfText}
 use Rattle.jbench_commands.specs.declared.check.Good.{Good}
 use Rattle.jbench_commands.specs.declared.check.Good.TheVariants.{Operations, Clients}
 
@@ -40,10 +39,16 @@ pub record HasTaken (known : Option (List ℕ)) : Type 0 where
   pub script : Script
   pub taken : IsTaken known script
 
--- or such a script of clients, which can be served
+-- a script of clients is that of such a text
+pub record IsClientTaken (known : Option (List ℕ)) (script : ClientScript) : Type 0 where
+  pub text : List ℕ
+  pub whole : IsWhole known text
+  pub is : IsClientScriptOf text script
+
+-- or such a script of clients was taken, which can be served
 pub record HasTakenClients (known : Option (List ℕ)) : Type 0 where
   pub script : ClientScript
-  pub of_text : IsOfText known script
+  pub of_text : IsClientTaken known script
   pub servable : CanBeServed script
 
 abbrev pub HasTakenEither : Option (List ℕ) → Type 0
