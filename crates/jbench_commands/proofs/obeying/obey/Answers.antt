@@ -34,10 +34,10 @@ pub returns-in-Threads-clause-wrong : goal.returns-in-Threads-clause-wrong
 returns-in-Threads-clause-wrong g c = refused-not-wrong _ c.refuse_threads.result c.refuse_threads.ensures
 
 pub returns-in-Bench-clause-done : goal.returns-in-Bench-clause-done
-returns-in-Bench-clause-done g c = refused-not-fine _ c.refuse_threads.result c.refuse_threads.ensures
+returns-in-Bench-clause-done g c = refused-not-fine _ c.refuse_threads-in-Bench.result c.refuse_threads-in-Bench.ensures
 
 pub returns-in-Bench-clause-wrong : goal.returns-in-Bench-clause-wrong
-returns-in-Bench-clause-wrong g c = refused-not-wrong _ c.refuse_threads.result c.refuse_threads.ensures
+returns-in-Bench-clause-wrong g c = refused-not-wrong _ c.refuse_threads-in-Bench.result c.refuse_threads-in-Bench.ensures
 
 pub returns-in-Run-clause-wrong : goal.returns-in-Run-clause-wrong
 returns-in-Run-clause-wrong g c = rw c.in-Run.is (never-wrong c.run_file.result c.run_file.ensures.other)
