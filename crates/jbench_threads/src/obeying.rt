@@ -36,8 +36,22 @@ pub fn obey<T: Threads + Wait + Sync, C: Contents + Send, W: Write + Drop, E: Wr
     match words {
         Words::Threads(path) => threads_file(rt, threads, path, out, err),
         Words::Bench(words) => bench_files(rt, threads, contents, words, out, err),
-        _ => alone::obey(rt, contents, words, out, err),
+        _ => obey_alone(rt, contents, words, out, err),
     }
+}
+
+/// Does what the words tell, without threads.
+fn obey_alone<C: Contents, W: Write + Drop, E: Write + Drop>(
+    rt: &HostRuntime,
+    contents: C,
+    words: &Words<'_>,
+    out: W,
+    err: E,
+) -> io::Result<Status>
+    ensures done { IfOk result (λ status. status ≡ Fine → HasObeyed C.contents (W.contents out) words.now) }
+    ensures wrong { IfOk result (λ status. status ≡ VerdictFalse → HasFoundWrong words.now) }
+{
+    alone::obey(rt, contents, words, out, err)
 }
 
 /// Runs the clients of the script in a file in threads.

@@ -1,5 +1,4 @@
 use Rattle.jbench_commands.proofs.Ending.{never-wrong}
-use Rattle.jbench_threads.proofs.Alone.{done-alone, wrong-alone}
 use Rattle.jbench_threads.proofs.obeying.obey.Goals as goal
 
 -- clients ran in threads
