@@ -1,5 +1,5 @@
 //! Files that can't be opened, and words that are no text.
-use jbench_files::{open_or_make_pair, open_pair, open_to_read};
+use jbench_files::{Unopened, open_or_make_pair, open_pair, open_to_read};
 use jbench_words::arguments::{self, Arguments};
 use jbench_words::words::LogPaths;
 use std::alloc::Global;
@@ -75,13 +75,24 @@ fn is_left(rt: &HostRuntime, made: [Option<&str>; 2]) -> Result<bool, Fail> {
     Ok(is_empty && made == [Some("paths/new"), None])
 }
 
+/// Whether a row is refused so, and the log that was made for it is left.
+fn leaves_its_log(rt: &HostRuntime, row: Row, unopened: &Unopened<'_>) -> Result<bool, Fail> {
+    let made = unopened.made;
+    Ok(is_left(rt, made)? && is_refused(rt, row, unopened.path)?)
+}
+
+/// Whether a row is refused so, and no file was made for it.
+fn makes_nothing(rt: &HostRuntime, row: Row, unopened: &Unopened<'_>) -> Result<bool, Fail> {
+    let made = unopened.made;
+    Ok(made == [None, None] && is_refused(rt, row, unopened.path)?)
+}
+
 /// The first of the rows that does not leave its log behind, made and empty, where its home area is refused.
 fn first_not_left(rt: &HostRuntime) -> Result<Option<&'static str>, Fail> {
     for row in HALF_MADE {
         let (log, home, _) = row;
         match open_or_make_pair(rt, LogPaths { log, home }, None) {
-            Err(unopened) if is_left(rt, unopened.made)? && is_refused(rt, row, unopened.path)? =>
-                {}
+            Err(unopened) if leaves_its_log(rt, row, &unopened)? => {}
             _ => return Ok(Some(home)),
         }
     }
@@ -93,8 +104,7 @@ fn first_made(rt: &HostRuntime) -> Result<Option<&'static str>, Fail> {
     for row in NOT_MADE {
         let (log, home, _) = row;
         match open_or_make_pair(rt, LogPaths { log, home }, None) {
-            Err(unopened) if unopened.made == [None, None] && is_refused(rt, row, unopened.path)? =>
-                {}
+            Err(unopened) if makes_nothing(rt, row, &unopened)? => {}
             _ => return Ok(Some(home)),
         }
     }
