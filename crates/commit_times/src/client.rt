@@ -1,9 +1,10 @@
 //! A client: one thread with a seat of its own, which makes one durable change after the other.
 ghost use Rattle.std.specs.Prelude.{◌≤◌, IfOk};
 
-use crate::bell::LOOKS;
 use crate::bench::Done;
-use crate::leader::{Bells, Rounds, lead};
+use crate::leader::{Events, Rounds, lead};
+use crate::spin;
+use crate::spin::LOOKS;
 use crate::work::Plan;
 use block_device::Device;
 use jbench_words::fault::Fault;
@@ -26,7 +27,7 @@ pub(crate) struct Shared<'s, J: JournalName, D: Device, C> {
     /// Who has it takes the turns.
     pub(crate) turns: Mutex<Rounds>,
     /// What the others wait for.
-    pub(crate) bells: Bells,
+    pub(crate) events: Events,
     /// Who has it makes a change.
     pub(crate) changes: Mutex<()>,
     /// When the work began.
@@ -55,7 +56,7 @@ impl<'s, J: JournalName, D: Device, C> Shared<'s, J, D, C> {
             clock,
             journal,
             turns: Mutex::new(Rounds::new()),
-            bells: Bells::new(),
+            events: Events::new(),
             changes: Mutex::new(()),
             begun,
             most: words.most_transactions(),
@@ -194,7 +195,7 @@ impl<'s, J: JournalName, D: Device, C: Clock> Client<'s, J, D, C> {
         let written = self.write_all(rt, &mut handle);
         let ticket = self.shared.journal.stop(rt, handle);
         drop(alone);
-        self.shared.bells.stopped.ring();
+        self.shared.events.stopped.notify();
         written?;
         Ok(ticket)
     }
@@ -208,7 +209,7 @@ impl<'s, J: JournalName, D: Device, C: Clock> Client<'s, J, D, C> {
         let shared = self.shared;
         for _ in rt.forever() {
             let alone = shared.alone(rt);
-            let heard = shared.bells.sealed.heard();
+            let seen = shared.events.sealed.seen();
             match shared
                 .journal
                 .try_start(rt, &mut self.seat, self.plan.copies())
@@ -218,8 +219,8 @@ impl<'s, J: JournalName, D: Device, C: Clock> Client<'s, J, D, C> {
                 Err(e) => return Err(e),
             }
             drop(alone);
-            if !lead(rt, shared.journal, &shared.turns, &shared.bells)? {
-                shared.bells.sealed.sleep(rt, heard);
+            if !lead(rt, shared.journal, &shared.turns, &shared.events)? {
+                spin::wait(rt, &shared.events.sealed, seen);
             }
         }
         unreachable!()
@@ -258,13 +259,13 @@ impl<'s, J: JournalName, D: Device, C: Clock> Client<'s, J, D, C> {
         let shared = self.shared;
         let mut ticket = ticket;
         for _ in rt.forever() {
-            let heard = shared.bells.committed.heard();
+            let seen = shared.events.committed.seen();
             match shared.journal.reach(ticket) {
                 Ok(receipt) => return Ok(receipt),
                 Err(back) => ticket = back,
             }
-            if !lead(rt, shared.journal, &shared.turns, &shared.bells)? {
-                shared.bells.committed.sleep(rt, heard);
+            if !lead(rt, shared.journal, &shared.turns, &shared.events)? {
+                spin::wait(rt, &shared.events.committed, seen);
             }
         }
         unreachable!()

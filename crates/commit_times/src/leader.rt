@@ -1,28 +1,29 @@
 //! The client that takes the turns of all who wait.
-use crate::bell::Bell;
+use crate::spin;
 use block_device::Device;
+use event_counter::EventCounter;
 use journal_model::JournalError;
 use shared_journal::{CheckTurn, Journal, JournalName, Turn};
 use std::sync::{Mutex, Wait};
 
 /// What clients wait for.
 #[derive(Drop)]
-pub(crate) struct Bells {
+pub(crate) struct Events {
     /// A transaction was committed, or nobody takes turns any longer.
-    pub(crate) committed: Bell,
+    pub(crate) committed: EventCounter,
     /// A transaction was sealed, so that the next one takes handles, or nobody takes turns any longer.
-    pub(crate) sealed: Bell,
+    pub(crate) sealed: EventCounter,
     /// A handle has stopped.
-    pub(crate) stopped: Bell,
+    pub(crate) stopped: EventCounter,
 }
 
-impl Bells {
-    /// None has rung.
-    pub(crate) fn new() -> Bells {
-        Bells {
-            committed: Bell::new(),
-            sealed: Bell::new(),
-            stopped: Bell::new(),
+impl Events {
+    /// None yet.
+    pub(crate) fn new() -> Events {
+        Events {
+            committed: EventCounter::new(),
+            sealed: EventCounter::new(),
+            stopped: EventCounter::new(),
         }
     }
 }
@@ -110,15 +111,15 @@ pub(crate) fn lead<J: JournalName, D: Device, W: Wait>(
     rt: &W,
     journal: &Journal<J, D>,
     turns: &Mutex<Rounds>,
-    bells: &Bells,
+    events: &Events,
 ) -> Result<bool, JournalError> {
     let Some(mut rounds) = turns.try_lock() else {
         return Ok(false);
     };
-    let led = commit(rt, journal, &mut rounds, bells);
+    let led = commit(rt, journal, &mut rounds, events);
     drop(rounds);
-    bells.sealed.ring();
-    bells.committed.ring();
+    events.sealed.notify();
+    events.committed.notify();
     led?;
     Ok(true)
 }
@@ -133,22 +134,22 @@ fn commit<J: JournalName, D: Device, W: Wait>(
     rt: &W,
     journal: &Journal<J, D>,
     rounds: &mut Rounds,
-    bells: &Bells,
+    events: &Events,
 ) -> Result<(), JournalError> {
     keep_room(rt, journal, rounds)?;
-    bells.stopped.look_for(rounds.awaited);
-    rounds.lock(bells.stopped.count());
+    spin::look_for(&events.stopped, rounds.awaited);
+    rounds.lock(events.stopped.count());
     journal.lock(rt)?;
     let mut steps = 1u64;
     for _ in rt.forever() {
-        let heard = bells.stopped.heard();
+        let seen = events.stopped.seen();
         match journal.commit_turn(rt) {
             Ok(Turn::Step) => steps = steps.saturating_add(1),
-            Ok(Turn::Sealed(_)) => bells.sealed.ring(),
-            Ok(Turn::Waiting) => bells.stopped.sleep(rt, heard),
+            Ok(Turn::Sealed(_)) => events.sealed.notify(),
+            Ok(Turn::Waiting) => spin::wait(rt, &events.stopped, seen),
             Ok(Turn::Committed(_)) => {
                 rounds.note(steps, journal.capacity());
-                rounds.await_group(bells.stopped.count());
+                rounds.await_group(events.stopped.count());
                 break;
             }
             Ok(Turn::Idle) => break,

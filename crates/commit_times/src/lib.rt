@@ -5,11 +5,11 @@
 //! `bench` does the command and prints.
 #![tactic(auto)]
 
-mod bell;
 pub mod bench;
 mod client;
 mod counted;
 mod leader;
+mod spin;
 mod tally;
 pub mod threads;
 mod work;

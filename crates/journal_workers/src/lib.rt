@@ -1,16 +1,14 @@
 //! The two workers over a journal that threads share: one commits for all who wait, and one writes home.
 //!
-//! `worker` says what wakes them and what they do then; `shared` is what they share with those whom they serve. `bell` is what these sleep
-//! on; `gate` lets a test hold a thread at a point, and `held` one that writes the log.
+//! `worker` says what wakes them and what they do then; `shared` is what they share with those whom they serve.
+//! `gate` lets a test hold a thread at a point, and `held` one that writes the log.
 #![tactic(auto)]
 
-mod bell;
 mod gate;
 mod held;
 mod shared;
 mod worker;
 
-pub use bell::Bell;
 pub use gate::{Gate, OpenGate, Point};
 pub use held::HeldDevice;
 pub use shared::{Kick, Shared, Signals};

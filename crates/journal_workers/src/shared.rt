@@ -1,6 +1,6 @@
 //! What all threads share beside the journal: who waits, what wakes whom.
-use crate::bell::Bell;
 use block_device::Device;
+use event_counter::EventCounter;
 use journal_model::Tid;
 use shared_journal::{Journal, JournalName, Record};
 use std::sync::atomic::{AtomicU64, Ordering};
@@ -32,10 +32,10 @@ pub enum Kick {
 /// What threads tell one another.
 #[derive(Drop)]
 pub struct Signals {
-    /// Rings where a handle has stopped, a transaction is sealed or committed, or the device has failed.
-    pub moved: Bell,
-    /// Rings where a round is over.
-    pub room: Bell,
+    /// Counts each time a handle has stopped, a transaction is sealed or committed, or the device has failed.
+    pub moved: EventCounter,
+    /// Counts each time a round is over.
+    pub room: EventCounter,
     /// 1 while a round is asked for that has not begun.
     round: AtomicU64,
     /// 1 while a commit is asked for since half of the credits are used, and the worker has not begun to look.
@@ -48,8 +48,8 @@ impl Signals {
     /// Nobody waits, and nothing is asked for.
     pub fn new() -> Signals {
         Signals {
-            moved: Bell::new(),
-            room: Bell::new(),
+            moved: EventCounter::new(),
+            room: EventCounter::new(),
             round: AtomicU64::new(0),
             half_full: AtomicU64::new(0),
             waiting: AtomicU64::new(0),
