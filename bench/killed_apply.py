@@ -4,7 +4,7 @@
 usage: killed_apply.py [--program PATH] [COUNT] [SEED]                        so many random scripts (default: 200 from seed 1)
        killed_apply.py [--program PATH] --e2fsck | --kernel [COUNT] [SEED]    what is left is also recovered by these
 
-The model is run_model.py, which shares nothing with the journal, with the close of docs/FORMATS.md beside it; the scripts are those of
+The model is run_model.py, which shares nothing with the journal, with the close of docs/FORMAT.md beside it; the scripts are those of
 runs.py. Each script is applied to new files once to its end and then several times, each time killed (SIGKILL) once a drawn number of its
 lines has come, or a moment later; half of all applies are made with --stay. Each time:
 

@@ -10,7 +10,7 @@ with both texts. The last row of a file is wrong on purpose, so it has to be amo
 with many images come from here. With --rows, KIND is openings, second_openings, opening_calls or upgrades; all rows of such a file are to
 hold.
 
-The rules are those of docs/FORMATS.md: bytes, the tests of an opening and their order, reading a log, replay, and device calls.
+The rules are those of docs/FORMAT.md: bytes, the tests of an opening and their order, reading a log, replay, and device calls.
 """
 import re
 import sys
