@@ -24,7 +24,7 @@ use std::io::Write;
 
 /// Prints the dump of the log that the device's log area holds: the fields of its superblock, one line for each block of
 /// its complete transactions, and the number behind the last of them. A transaction without a commit block is not printed.
-/// `docs/FORMATS.md` has the lines.
+/// `docs/JBENCH.md` has the lines.
 ///
 /// The home area is not known, so block numbers are not tested, and neither is what is left in the ring from earlier laps,
 /// nor whether a number is left for a further transaction. All other tests of an opening are made, and nothing is written
