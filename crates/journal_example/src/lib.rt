@@ -1,5 +1,6 @@
-//! An example: a journal over two files, and two blocks that change together. `docs/USING.md` says what each call costs, what must
-//! be called when, and what is promised. In a program of your own the log is made once, and opened from then on.
+//! An example: a journal over two files, and two blocks that change together. `docs/USING.md` says what is called when,
+//! `docs/COSTS.md` what each call costs, `docs/SAFETY.md` what is promised. In a program of your own the log is made once, and
+//! opened from then on.
 //!
 //! `device` makes a device of two files, and `work` does all the rest over any device: a program calls `work(rt.alloc(),
 //! device(&rt)?)`, and a test a device in memory.
