@@ -5,7 +5,7 @@ use crate::bytes::expect;
 use crate::logs::{formatted, laid_on, opened};
 use block_device::{Device, MemDevice};
 use journal_model::{Area, BlockNo, JournalError, Sealed, Tid};
-use shared_journal::{Journal, JournalName, LaidJournal, MeetingName, PartsName, Record, Seat};
+use shared_journal::{Journal, JournalName, LaidJournal, Record, Seat};
 use std::alloc::Global;
 use std::marker::Brand;
 use std::process::Abort;
@@ -21,7 +21,7 @@ fn beginning_with_11() -> [u8; 1024] {
 
 /// Starts a handle with one credit, writes block 9, restarts the handle with one credit, and stops that. It answers the transactions of
 /// both.
-fn write_and_restart<J: JournalName + PartsName + MeetingName, D: Device, K: Record, R: Wait>(
+fn write_and_restart<J: JournalName, D: Device, K: Record, R: Wait>(
     rt: &R,
     journal: &Journal<J, D, K>,
     seat: &mut Seat<J>,
@@ -44,15 +44,11 @@ fn write_and_restart<J: JournalName + PartsName + MeetingName, D: Device, K: Rec
 }
 
 /// Does so, and closes the journal: one transaction is sealed, and committed.
-fn closed<J: JournalName + PartsName + MeetingName, R: Wait + Abort>(
+fn closed<J: JournalName, R: Wait + Abort>(
     rt: &R,
     laid: LaidJournal<MemDevice, Vec<Sealed>>,
 ) -> MemDevice
-    requires board { laid.board ≡ J.board }
-    requires parts { laid.parts ≡ J.parts }
-    requires meeting { laid.meeting ≡ J.meeting }
-    requires capacity { laid.capacity ≡ J.capacity }
-    requires block_size { laid.block_size ≡ J.block_size }
+    requires name { laid.name ≡ J.name }
 {
     let (journal, mut seat) = laid.named::<J>();
     let told = write_and_restart(rt, &journal, &mut seat);
