@@ -25,6 +25,8 @@ its handle stopped, and what is left opens to all receipts. A close that has to 
 refused Memory it has written nothing. Both are run where --tests names the built tests of that crate, as `rt test` and `rt ci` leave them in
 its `out/`. Which request is the Kth depends on how the threads run, so each K is tried a few times.
 
+The seal of a transaction of six copies asks for memory as often as that of one: it copies no block.
+
 It writes a line for each of these, with how many requests there were and how many answers were false, and names each false answer. The
 last line is `N passed, M failed`, which counts these lines; where one failed the status is 1. The program is `./jbench`, which is built
 first, or the one at PATH. `./test` calls it behind `rt ci`, with what that built. It needs glibc of Linux on x86-64, and the kit's C
@@ -360,6 +362,22 @@ def judge_test(refuser, name, test, cases, wanted, times):
         print(f"{name}: never came to this: {wanted}")
 
 
+# ---- how often a seal asks for memory
+
+
+def judge_seals(refuser):
+    """The seal of a transaction of six copies makes as many requests for memory as that of one, each in a journal that was just made."""
+    from memory_requests import Applied, seal_of
+
+    counts = {}
+    for copies in (1, 6):
+        *_, (word, _, sizes, _), _ = Applied(refuser, seal_of(copies)).by_call()
+        counts[copies] = len(sizes) if word == "turn sealed" else None
+    is_equal = counts[1] is not None and counts[1] == counts[6]
+    refuser.note(is_equal)
+    print(f"seal: requests={counts[1]} of one copy, {counts[6]} of six, false={int(not is_equal)}")
+
+
 # ---- over files
 
 
@@ -476,6 +494,7 @@ def main(words):
             refuser.note(False)
             print(f"never refused: {missing}")
         judge_commands(refuser)
+        judge_seals(refuser)
         judge_threads(refuser, HERE.parent / "examples" / "two_clients.json")
         if tests:
             judge_clients(refuser, tests)

@@ -2,6 +2,7 @@
 """Random scripts for `jbench run`: what it prints has to be, line by line, what a separate model says.
 
 usage: runs.py [--program PATH] [--wide] [COUNT] [SEED]             runs of so many random scripts (default: 200 from seed 1)
+       runs.py [--program PATH] [--wide] --shared [COUNT] [SEED]    such runs over the journal that threads share too
        runs.py [--program PATH] [--wide] --sweeps [COUNT] [SEED]    sweeps of such scripts, cut short (default: 40 from seed 1)
        runs.py [--program PATH] --e2fsck [COUNT] [SEED]    images of such runs, recovered by e2fsck (default: 40 from seed 1)
        runs.py [--program PATH] --kernel [COUNT] [SEED]    the same by the running kernel
@@ -18,6 +19,10 @@ had it, and a direct write that was synced stays, until a transaction with an en
 
 With --wide the logs of all scripts have block numbers of 64 bits, and of one in four the home area is so large that it has blocks whose
 numbers need more than 32; such a run has no image in files.
+
+With --shared the runs of the scripts that are no bad ones, without files, are rows of the program `journal_rows`: that runs each over the
+journal of one thread and over the one that threads share, and both have to print what the model says. It is the program at PATH, or
+`crates/journal_rows/out/journal_rows`, which `rt run` in that crate's folder and `rt ci` leave.
 
 With --sweeps the first operations of each script, which make few enough writes for that, are swept, with their failing calls: what
 `jbench sweep` counts has to be what the model counts.
@@ -417,6 +422,9 @@ class Comparison:
             self.compare_image(outcome, text, shlex.join(map(str, words)))
         return outcome
 
+    def end(self, text):
+        """All runs of a script were compared."""
+
     def compare_image(self, outcome, text, words):
         """Compares the image in files with the model's, and what `dump` and `recover` make of it."""
         given = f"{text}\nimage of: {words}"
@@ -475,6 +483,7 @@ def compare_scripts(comparison, count, seed):
         comparison.cases["scripts"] += 1
         for options in cases_of(draw, text):
             comparison.compare(text, options, draw.random() < 1 / 10 and script.home <= MOST_IMAGE_BLOCKS)
+        comparison.end(text)
 
 
 def compare_sweeps(comparison, count, seed):
@@ -505,6 +514,32 @@ class Alone(Comparison):
 
     def compare_image(self, *_):
         pass
+
+
+class Shared(Comparison):
+    """Runs over both journals, as rows of the program `journal_rows`: a file of them for each script."""
+
+    PROGRAM = TOP / "crates" / "journal_rows" / "out" / "journal_rows"
+
+    def __init__(self, program, folder, wide):
+        super().__init__(program, folder, wide)
+        self.rows = []
+
+    def compare_bad(self, text):
+        """A bad script is refused before there is a journal."""
+
+    def compare(self, text, options, with_files=False):
+        outcome = outcome_of(text, options)
+        words = shlex.join(["jbench", "run", "a.json", *words_of(options)])
+        lines = "\n".join([*outcome.lines, f"exit {2 if outcome.lines[-1].endswith('false') else 0}"])
+        self.rows.append(f"== {words}\n{words}\n{text}\n-->\n{lines}\n")
+        self.count(outcome)
+        return outcome
+
+    def end(self, text):
+        path = self.path("runs.rows", "\n".join(["# Runs of a random script.\nrows run\n", *self.rows]))
+        self.expect(0, f"{path}: {len(self.rows)} of {len(self.rows)} rows held\n", "", [path], text)
+        self.rows = []
 
 
 # ---- e2fsck and the kernel
@@ -643,23 +678,27 @@ def compare_all(usual, words, begin):
 
 def main():
     words = sys.argv[1:]
-    program, kind = TOP / "jbench", Comparison
+    program, kind = None, Comparison
     if words[:1] == ["--program"]:
         program, words = Path(words[1]).absolute(), words[2:]
     elif words[:1] == ["--alone"]:
         kind, words = Alone, words[1:]
-    else:
-        subprocess.run([program, "--help"], capture_output=True)
     wide = words[:1] == ["--wide"]
     words = words[wide:]
     comparing, usual = compare_scripts, 200
-    if words[:1] == ["--sweeps"]:
+    if words[:1] == ["--shared"]:
+        kind, words = Shared, words[1:]
+        program = program or kind.PROGRAM
+    elif words[:1] == ["--sweeps"]:
         comparing, usual, words = compare_sweeps, 40, words[1:]
     elif words[:1] == ["--e2fsck"]:
         comparing, usual, words = compare_by(recover_by_e2fsck, None), 40, words[1:]
     elif words[:1] == ["--kernel"]:
         comparing, usual, words = compare_by(recover_by_kernel, min(FileSystems.JOURNALS)), 40, words[1:]
     count, seed = count_and_seed(words, usual)
+    if program is None and kind is Comparison:
+        program = TOP / "jbench"
+        subprocess.run([program, "--help"], capture_output=True)
     with tempfile.TemporaryDirectory() as folder:
         comparison = kind(program, Path(folder), wide)
         try:

@@ -1,11 +1,14 @@
 -- How commands end.
-use Rattle.std.proofs.Common.{◌∙◌, ◌≡◌, ◌⊎◌, ⊎_elim, List, Option, inl, inr, subst, sym, ℕ}
+use Rattle.std.proofs.Common.{◌∙◌, ◌≡◌, ◌⊎◌, ⊎_elim, ap, List, Option, inl, inr, subst, sym, ℕ}
 use Rattle.std.proofs.lemmas.Bool.{false≢true}
 use Rattle.std.specs.Prelude.{◌≢◌, ⊤, Bool, true, false, IfOk, IfSome, IsOk, IsSome, None, Some, Result, Err, Ok}
 use Rattle.jbench_words.specs.declared.fault.Fault.{Fault}
 use Rattle.jbench_words.specs.declared.fault.Status.{Status}
 use Rattle.jbench_words.specs.declared.fault.Status.TheVariants.{Fine, Refused, VerdictFalse}
 use Rattle.jbench_commands.specs.Runs.{HasTakenEither, IsGoodOf, IsWhole}
+use Rattle.script_sweep.specs.declared.counts.NotRight.{NotRight}
+use Rattle.script_sweep.specs.Sweeping.{none_wrong, not_right_of}
+use Rattle.jbench_commands.specs.Sweeps.{HasSwept, IsSweptTo}
 use Rattle.jbench_commands.specs.declared.check.Good.{Good}
 use Rattle.jbench_commands.specs.declared.check.Good.TheVariants.{Operations, Clients}
 
@@ -67,3 +70,11 @@ some-left P None is p = absurd (false≢true is)
 pub ok-both : {A E C : Type 0} (P Q : A → Type 0) (done : Result A E) → IsOk done → IfOk done P → (C → IfOk done Q) → (left : A) × P left × (C → Q left)
 ok-both P Q (Ok left) is p q = (left, p, q)
 ok-both P Q (Err e) is p q = absurd (false≢true is)
+
+-- a sweep that counted nothing ends with 0
+pub ends-swept : (known : Option (List ℕ)) (fails : Bool) (count : ℕ) (status : Status) → HasSwept known fails count → count ≡ 0 → (count ≡ 0 → status ≡ Fine) → IsSweptTo known fails status
+ends-swept known fails count status swept none fine = record { fine = λ now. subst (HasSwept known fails) none swept; other = λ not. absurd (not (fine none)) }
+
+-- and it counts nothing where no opening was not right
+pub none-counted : (n : NotRight) (count : ℕ) → count ≡ not_right_of n → n ≡ none_wrong → count ≡ 0
+none-counted n count is none = is ∙ ap not_right_of none

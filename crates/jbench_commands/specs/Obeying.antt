@@ -1,5 +1,6 @@
 -- What was done where a command ends with 0, as the words tell it.
-use Rattle.std.specs.Prelude.{◌≡◌, ⊤, ℕ, ◌<◌, Bool, true, false, List, Option}
+use Rattle.std.specs.declared.fs.File.{File}
+use Rattle.std.specs.Prelude.{◌≡◌, ⊤, ℕ, Bool, true, false, List, Option}
 use Rattle.journal_model.specs.Disk.{reading}
 use Rattle.journal_model.specs.Transaction.{History}
 use Rattle.block_device.specs.State.{DeviceState}
@@ -53,39 +54,47 @@ abbrev pub IsFormatDone : FileContents → FormatWords → Type 0
 IsFormatDone first words =
     IsDoneOver (to_format words.keep_home first) IsOverTwo (λ old new. IsMade words.measures.log_blocks words.measures.uuid words.measures.wide old new)
 
+-- what reads of a file are to give, where that is known
+abbrev pub FileReads : Type 0
+FileReads = File → Option (List ℕ)
+
+-- this was done with the text of a file: all that reads of it are to give
+abbrev pub IsOfFile : FileReads → (Did : Option (List ℕ) → Type 0) → Type 0
+IsOfFile reads Did = (script : RegularFile) × Did (reads script.file)
+
 -- what `apply` did to a device over two files: all operations of its script's text were applied, and the journal was closed, where it was
 -- not told to stay
-pub record IsAppliedOver (first : FileContents) (words : ApplyWords) (contents : Option (List ℕ)) : Type 0 where
-  pub text : Option (List ℕ)
+pub record IsAppliedOver (first : FileContents) (reads : FileReads) (words : ApplyWords) (contents : Option (List ℕ)) : Type 0 where
+  pub script : RegularFile
   pub old : FileState
   pub over : IsOverTwo old
   pub left : FileState
   pub sealed : History
   pub shown : Option ℕ
-  pub done : IsDoneTo (file_state first) (HasAgreed first) old text (after_told words.keep_going) (ending_told words.stay) left sealed shown contents
+  pub done : IsDoneTo (file_state first) (HasAgreed first) old (reads script.file) (after_told words.keep_going) (ending_told words.stay) left sealed shown contents
   pub closed : words.stay ≡ false → HasAgreed first left → IsLeftClosed (file_state first left) sealed
 
 -- What was done by the command that the words name, over files of a log that held this at first, whose output has these contents at
--- first. Of other files nothing is known: a script is one of some text. Commands that want threads are not done here.
-abbrev pub HasObeyed : (first : FileContents) → (contents : Option (List ℕ)) → Words → Type 0
-HasObeyed first contents (Run words) = (text : Option (List ℕ)) × HasRun (runs_told words.image) text words true
-HasObeyed first contents (Sweep words) = (text : Option (List ℕ)) × HasSwept text words.fails 0
-HasObeyed first contents (Check path) = (text : Option (List ℕ)) × HasTakenEither text
-HasObeyed first contents (Threads path) = ⊥
-HasObeyed first contents (Format words) = IsFormatDone first words
-HasObeyed first contents (Dump path) = IsDoneOver first IsOverAny (λ old new. HasDump (shape_of old) (reading old.disk))
-HasObeyed first contents (Show path) = ⊤
-HasObeyed first contents (Recover words) = IsDoneOver first IsOverTwo (Recovers words.dry_run words.before_damage)
-HasObeyed first contents (Upgrade path) = IsDoneOver first IsOverAny HasUpgraded
-HasObeyed first contents (Apply words) = IsAppliedOver first words contents
-HasObeyed first contents (Bench words) = ⊥
-HasObeyed first contents (Completions shell) = ⊤
-HasObeyed first contents Man = ⊤
+-- first, where reads of other files give what is known of them: a script is that of a file. Commands that want threads are not done here.
+abbrev pub HasObeyed : (first : FileContents) → (reads : FileReads) → (contents : Option (List ℕ)) → Words → Type 0
+HasObeyed first reads contents (Run words) = IsOfFile reads (λ text. HasRun (runs_told words.image) text words true)
+HasObeyed first reads contents (Sweep words) = IsOfFile reads (λ text. HasSwept text words.fails 0)
+HasObeyed first reads contents (Check path) = IsOfFile reads HasTakenEither
+HasObeyed first reads contents (Threads path) = ⊥
+HasObeyed first reads contents (Format words) = IsFormatDone first words
+HasObeyed first reads contents (Dump path) = IsDoneOver first IsOverAny (λ old new. HasDump (shape_of old) (reading old.disk))
+HasObeyed first reads contents (Show path) = ⊤
+HasObeyed first reads contents (Recover words) = IsDoneOver first IsOverTwo (Recovers words.dry_run words.before_damage)
+HasObeyed first reads contents (Upgrade path) = IsDoneOver first IsOverAny HasUpgraded
+HasObeyed first reads contents (Apply words) = IsAppliedOver first reads words contents
+HasObeyed first reads contents (Bench words) = ⊥
+HasObeyed first reads contents (Completions shell) = ⊤
+HasObeyed first reads contents Man = ⊤
 
--- a command ends with 2 where a sweep counted an opening that was not right; no other does
+-- none ends with 2: a sweep counts no opening that was not right
 abbrev pub HasFoundWrong : Words → Type 0
 HasFoundWrong (Run words) = ⊥
-HasFoundWrong (Sweep words) = (text : Option (List ℕ)) × (count : ℕ) × HasSwept text words.fails count × (0 < count)
+HasFoundWrong (Sweep words) = ⊥
 HasFoundWrong (Check path) = ⊥
 HasFoundWrong (Threads path) = ⊥
 HasFoundWrong (Format words) = ⊥

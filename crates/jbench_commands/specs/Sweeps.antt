@@ -1,7 +1,7 @@
 -- What the command `sweep` did, and how it ends.
-use Rattle.std.specs.Prelude.{◌≡◌, ℕ, ◌+◌, ◌<◌, Bool, true, false, List, Option}
+use Rattle.std.specs.Prelude.{◌≡◌, ◌≢◌, ℕ, ◌+◌, Bool, true, false, List, Option}
 use Rattle.jbench_words.specs.declared.fault.Status.{Status}
-use Rattle.jbench_words.specs.declared.fault.Status.TheVariants.{Fine, VerdictFalse}
+use Rattle.jbench_words.specs.declared.fault.Status.TheVariants.{Fine, Refused}
 use Rattle.journal_script.specs.declared.script.Script.{Script}
 use Rattle.script_sweep.specs.declared.counts.Counts.{Counts}
 use Rattle.script_sweep.specs.declared.counts.FailureCounts.{FailureCounts}
@@ -30,7 +30,7 @@ pub record HasSwept (known : Option (List ℕ)) (fails : Bool) (count : ℕ) : T
   pub alone : fails ≡ false → count ≡ of_stops
   pub more : fails ≡ true → (of_failures : ℕ) × HasSweptFailures script of_failures × (count ≡ capped (of_stops + of_failures))
 
--- the command did what it was asked where it swept and each opening was right, and tells of a false verdict where one was not
+-- the command did what it was asked where it swept, and each opening was right; else it was refused
 pub record IsSweptTo (known : Option (List ℕ)) (fails : Bool) (status : Status) : Type 0 where
   pub fine : status ≡ Fine → HasSwept known fails 0
-  pub wrong : status ≡ VerdictFalse → (count : ℕ) × HasSwept known fails count × (0 < count)
+  pub other : status ≢ Fine → status ≡ Refused

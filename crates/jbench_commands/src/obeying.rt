@@ -1,11 +1,11 @@
 //! Opens the files that the words name, and does what the words tell.
-ghost use Rattle.std.specs.Prelude.{◌≡◌, ◌≢◌, ◌↔◌, ◌<◌, ℕ, IfOk, IsOk, List, Option, true};
+ghost use Rattle.std.specs.Prelude.{◌≡◌, ◌≢◌, ◌↔◌, IfOk, IsOk, true};
 ghost use Rattle.journal_model.specs.Disk.{reading};
 ghost use Rattle.log_dump.specs.Dumping.{HasDump, shape_of};
 ghost use Rattle.jbench_words.specs.declared.fault.Status.TheVariants.{Fine, Refused, VerdictFalse};
 ghost use Rattle.jbench_files.specs.Cleared.{cleared, log_cleared};
 ghost use Rattle.jbench_logs.specs.Done.{HasUpgraded, IsMade};
-ghost use Rattle.jbench_commands.specs.Obeying.{HasFoundWrong, HasObeyed, IsAppliedOver, IsDoneOver, IsFormatDone, IsOverAny, IsOverTwo, Recovers};
+ghost use Rattle.jbench_commands.specs.Obeying.{HasFoundWrong, HasObeyed, IsAppliedOver, IsDoneOver, IsFormatDone, IsOfFile, IsOverAny, IsOverTwo, Recovers};
 ghost use Rattle.jbench_commands.specs.Runs.{HasRun, HasTakenEither, runs_told};
 ghost use Rattle.jbench_commands.specs.Sweeps.{HasSwept};
 
@@ -24,8 +24,9 @@ use jbench_words::fault::{self, Fault, Status, refuse_file};
 use jbench_words::manual::write_manual;
 use jbench_words::words::{ApplyWords, FormatWords, RecoverWords, RunWords, SweepWords, Words};
 use journal_model::JournalError;
+use std::fs::File;
 use std::io;
-use std::io::Write;
+use std::io::{Read, Write};
 
 /// Does what the words tell. `contents` says what is supposed of the files of a log. The commands `threads` and `bench` want threads,
 /// which are not to be had here: they are refused as for want of memory (`jbench_threads` has them).
@@ -36,7 +37,7 @@ pub fn obey<C: Contents, W: Write + Drop, E: Write + Drop>(
     out: W,
     err: E,
 ) -> io::Result<Status>
-    ensures done { IfOk result (λ status. status ≡ Fine → HasObeyed C.contents (W.contents out) words.now) }
+    ensures done { IfOk result (λ status. status ≡ Fine → HasObeyed C.contents ⟦<File as Read>⟧.remaining (W.contents out) words.now) }
     ensures wrong { IfOk result (λ status. status ≡ VerdictFalse → HasFoundWrong words.now) }
 {
     match words {
@@ -81,7 +82,7 @@ fn run_file<W: Write + Drop, E: Write + Drop>(
     out: W,
     err: E,
 ) -> io::Result<Status>
-    ensures done { IfOk result (λ status. status ≡ Fine → (text : Option (List ℕ)) × HasRun (runs_told words.now.image) text words.now true) }
+    ensures done { IfOk result (λ status. status ≡ Fine → IsOfFile ⟦<File as Read>⟧.remaining (λ text. HasRun (runs_told words.now.image) text words.now true)) }
     ensures other { IfOk result (λ status. status ≢ Fine → status ≡ Refused) }
 {
     let mut err = err;
@@ -99,7 +100,7 @@ fn run_opened<W: Write + Drop, E: Write + Drop>(
     out: W,
     err: E,
 ) -> io::Result<Status>
-    ensures done { IfOk result (λ status. status ≡ Fine → (text : Option (List ℕ)) × HasRun (runs_told words.now.image) text words.now true) }
+    ensures done { IfOk result (λ status. status ≡ Fine → IsOfFile ⟦<File as Read>⟧.remaining (λ text. HasRun (runs_told words.now.image) text words.now true)) }
     ensures other { IfOk result (λ status. status ≢ Fine → status ≡ Refused) }
 {
     let mut err = err;
@@ -123,8 +124,8 @@ fn sweep_file<W: Write + Drop, E: Write + Drop>(
     out: W,
     err: E,
 ) -> io::Result<Status>
-    ensures done { IfOk result (λ status. status ≡ Fine → (text : Option (List ℕ)) × HasSwept text words.now.fails 0) }
-    ensures wrong { IfOk result (λ status. status ≡ VerdictFalse → (text : Option (List ℕ)) × (count : ℕ) × HasSwept text words.now.fails count × (0 < count)) }
+    ensures done { IfOk result (λ status. status ≡ Fine → IsOfFile ⟦<File as Read>⟧.remaining (λ text. HasSwept text words.now.fails 0)) }
+    ensures other { IfOk result (λ status. status ≢ Fine → status ≡ Refused) }
 {
     let mut err = err;
     match open_to_read(rt, words.script) {
@@ -147,7 +148,7 @@ fn check_file<W: Write + Drop, E: Write + Drop>(
     out: W,
     err: E,
 ) -> io::Result<Status>
-    ensures done { IfOk result (λ status. status ≡ Fine → (text : Option (List ℕ)) × HasTakenEither text) }
+    ensures done { IfOk result (λ status. status ≡ Fine → IsOfFile ⟦<File as Read>⟧.remaining HasTakenEither) }
     ensures other { IfOk result (λ status. status ≢ Fine → status ≡ Refused) }
 {
     let mut err = err;
@@ -320,7 +321,7 @@ fn apply_files<C: Contents, W: Write + Drop, E: Write + Drop>(
     out: W,
     err: E,
 ) -> io::Result<Status>
-    ensures done { IfOk result (λ status. status ≡ Fine → IsAppliedOver C.contents words.now (W.contents out)) }
+    ensures done { IfOk result (λ status. status ≡ Fine → IsAppliedOver C.contents ⟦<File as Read>⟧.remaining words.now (W.contents out)) }
     ensures other { IfOk result (λ status. status ≢ Fine → status ≡ Refused) }
 {
     let mut err = err;
@@ -344,7 +345,7 @@ fn apply_opened<C: Contents, W: Write + Drop, E: Write + Drop>(
     out: W,
     err: E,
 ) -> io::Result<Status>
-    ensures done { IfOk result (λ status. status ≡ Fine → IsAppliedOver C.contents words.now (W.contents out)) }
+    ensures done { IfOk result (λ status. status ≡ Fine → IsAppliedOver C.contents ⟦<File as Read>⟧.remaining words.now (W.contents out)) }
     ensures other { IfOk result (λ status. status ≢ Fine → status ≡ Refused) }
 {
     let mut err = err;

@@ -1,5 +1,6 @@
 //! The command `sweep`: reads a script, and sweeps it.
-ghost use Rattle.std.specs.Prelude.{IfOk};
+ghost use Rattle.std.specs.Prelude.{◌≡◌, ◌<◌, IfOk};
+ghost use Rattle.jbench_words.specs.declared.fault.Status.TheVariants.{Fine, VerdictFalse};
 ghost use Rattle.jbench_commands.specs.Sweeps.{HasSwept, HasSweptFailures, HasSweptStops, IsSweptTo};
 
 use crate::faults::of_run;
@@ -33,10 +34,21 @@ pub fn sweep<R: Read + Drop, P: Watch + Drop, W: Write + Drop, E: Write + Drop>(
 {
     let (mut watch, mut out, mut err) = (watch, out, err);
     match sweep_as_told(alloc, words, script, &mut watch, &mut out, &mut err) {
-        Ok(0) => Ok(Status::Fine),
-        Ok(_) => Ok(Status::VerdictFalse),
+        Ok(count) => Ok(status_of(count)),
         Err(Fault::Output(e)) => Err(e),
         Err(fault) => fault::refuse(&mut err, words.script, &fault),
+    }
+}
+
+/// How a sweep ends that counted so many openings which were not right. Of this project's journal it counts none.
+fn status_of(count: u64) -> Status
+    ensures fine { count ≡ 0 → result ≡ Fine }
+    ensures wrong { 0 < count → result ≡ VerdictFalse }
+{
+    if count == 0 {
+        Status::Fine
+    } else {
+        Status::VerdictFalse
     }
 }
 
@@ -50,7 +62,8 @@ fn sweep_as_told<R: Read + Drop, W: Write>(
     out: &mut W,
     err: &mut impl Write,
 ) -> Result<u64, Fault>
-    ensures { IfOk result (HasSwept (R.remaining script) words.now.fails) }
+    ensures swept { IfOk result (HasSwept (R.remaining script) words.now.fails) }
+    ensures right { IfOk result (λ count. count ≡ 0) }
 {
     if !words.json {
         return sweep_script(alloc, words, script, watch, out, err);
@@ -72,7 +85,8 @@ fn sweep_script<R: Read + Drop, W: Write>(
     out: &mut W,
     err: &mut impl Write,
 ) -> Result<u64, Fault>
-    ensures { IfOk result (HasSwept (R.remaining script) words.now.fails) }
+    ensures swept { IfOk result (HasSwept (R.remaining script) words.now.fails) }
+    ensures right { IfOk result (λ count. count ≡ 0) }
 {
     let script = read_script(alloc, script)?;
     let of_stops = sweep_stops(alloc, &script, words.json, watch, out, err)?;
@@ -92,7 +106,8 @@ fn sweep_stops<W: Write>(
     out: &mut W,
     err: &mut impl Write,
 ) -> Result<u64, Fault>
-    ensures { IfOk result (HasSweptStops script.now) }
+    ensures swept { IfOk result (HasSweptStops script.now) }
+    ensures right { IfOk result (λ count. count ≡ 0) }
 {
     match script_sweep::sweep(alloc, &ThisJournal, script, watch, err) {
         Ok(counts) => {
@@ -112,7 +127,8 @@ fn sweep_failures<W: Write>(
     out: &mut W,
     err: &mut impl Write,
 ) -> Result<u64, Fault>
-    ensures { IfOk result (HasSweptFailures script.now) }
+    ensures swept { IfOk result (HasSweptFailures script.now) }
+    ensures right { IfOk result (λ count. count ≡ 0) }
 {
     match script_sweep::sweep_failures(alloc, &ThisJournal, script, watch, err) {
         Ok(counts) => {

@@ -6,48 +6,48 @@ use Rattle.jbench_words.specs.declared.fault.Status.{Status}
 use Rattle.jbench_words.specs.declared.fault.Status.TheVariants.{Fine, VerdictFalse}
 use Rattle.jbench_words.specs.declared.words.Words.{Words}
 use Rattle.jbench_words.specs.declared.words.Words.TheVariants.{Run, Sweep, Check, Threads, Format, Dump, Show, Recover, Upgrade, Apply, Bench, Completions, Man}
-use Rattle.jbench_commands.specs.Obeying.{HasFoundWrong as HasFoundWrongAlone, HasObeyed as HasObeyedAlone}
+use Rattle.jbench_commands.specs.Obeying.{FileReads, HasFoundWrong as HasFoundWrongAlone, HasObeyed as HasObeyedAlone}
 use Rattle.jbench_threads.specs.Obeying.{HasFoundWrong, HasObeyed}
 
 -- what it did alone is what was done
-pub obeyed : (first : FileContents) (contents : Option (List ℕ)) (words : Words) → HasObeyedAlone first contents words → HasObeyed first contents words
-obeyed first contents (Run words) did = did
-obeyed first contents (Sweep words) did = did
-obeyed first contents (Check path) did = did
-obeyed first contents (Threads path) did = absurd did
-obeyed first contents (Format words) did = did
-obeyed first contents (Dump path) did = did
-obeyed first contents (Show path) did = did
-obeyed first contents (Recover words) did = did
-obeyed first contents (Upgrade path) did = did
-obeyed first contents (Apply words) did = did
-obeyed first contents (Bench words) did = absurd did
-obeyed first contents (Completions shell) did = did
-obeyed first contents Man did = did
+pub obeyed : (first : FileContents) (reads : FileReads) (contents : Option (List ℕ)) (words : Words) → HasObeyedAlone first reads contents words → HasObeyed first reads contents words
+obeyed first reads contents (Run words) did = did
+obeyed first reads contents (Sweep words) did = did
+obeyed first reads contents (Check path) did = did
+obeyed first reads contents (Threads path) did = absurd did
+obeyed first reads contents (Format words) did = did
+obeyed first reads contents (Dump path) did = did
+obeyed first reads contents (Show path) did = did
+obeyed first reads contents (Recover words) did = did
+obeyed first reads contents (Upgrade path) did = did
+obeyed first reads contents (Apply words) did = did
+obeyed first reads contents (Bench words) did = absurd did
+obeyed first reads contents (Completions shell) did = did
+obeyed first reads contents Man did = did
 
 -- what it found alone is what was found
-pub found-wrong : (words : Words) → HasFoundWrongAlone words → HasFoundWrong words
-found-wrong (Run words) found = found
-found-wrong (Sweep words) found = found
-found-wrong (Check path) found = found
-found-wrong (Threads path) found = absurd found
-found-wrong (Format words) found = found
-found-wrong (Dump path) found = found
-found-wrong (Show path) found = found
-found-wrong (Recover words) found = found
-found-wrong (Upgrade path) found = found
-found-wrong (Apply words) found = found
-found-wrong (Bench words) found = found
-found-wrong (Completions shell) found = found
-found-wrong Man found = found
+pub found-wrong : (reads : FileReads) (words : Words) → HasFoundWrongAlone words → HasFoundWrong reads words
+found-wrong reads (Run words) found = found
+found-wrong reads (Sweep words) found = found
+found-wrong reads (Check path) found = found
+found-wrong reads (Threads path) found = absurd found
+found-wrong reads (Format words) found = found
+found-wrong reads (Dump path) found = found
+found-wrong reads (Show path) found = found
+found-wrong reads (Recover words) found = found
+found-wrong reads (Upgrade path) found = found
+found-wrong reads (Apply words) found = found
+found-wrong reads (Bench words) found = found
+found-wrong reads (Completions shell) found = found
+found-wrong reads Man found = found
 
 -- of a status
-pub done-alone : {E : Type 0} (first : FileContents) (contents : Option (List ℕ)) (words : Words) (end : Result Status E) →
-    IfOk end (λ status. status ≡ Fine → HasObeyedAlone first contents words) → IfOk end (λ status. status ≡ Fine → HasObeyed first contents words)
-done-alone first contents words (Ok status) did = λ fine. obeyed first contents words (did fine)
-done-alone first contents words (Err e) did = tt
+pub done-alone : {E : Type 0} (first : FileContents) (reads : FileReads) (contents : Option (List ℕ)) (words : Words) (end : Result Status E) →
+    IfOk end (λ status. status ≡ Fine → HasObeyedAlone first reads contents words) → IfOk end (λ status. status ≡ Fine → HasObeyed first reads contents words)
+done-alone first reads contents words (Ok status) did = λ fine. obeyed first reads contents words (did fine)
+done-alone first reads contents words (Err e) did = tt
 
-pub wrong-alone : {E : Type 0} (words : Words) (end : Result Status E) →
-    IfOk end (λ status. status ≡ VerdictFalse → HasFoundWrongAlone words) → IfOk end (λ status. status ≡ VerdictFalse → HasFoundWrong words)
-wrong-alone words (Ok status) found = λ wrong. found-wrong words (found wrong)
-wrong-alone words (Err e) found = tt
+pub wrong-alone : {E : Type 0} (reads : FileReads) (words : Words) (end : Result Status E) →
+    IfOk end (λ status. status ≡ VerdictFalse → HasFoundWrongAlone words) → IfOk end (λ status. status ≡ VerdictFalse → HasFoundWrong reads words)
+wrong-alone reads words (Ok status) found = λ wrong. found-wrong reads words (found wrong)
+wrong-alone reads words (Err e) found = tt

@@ -4,7 +4,7 @@ use Rattle.file_device.specs.Files.{FileContents, FileState, HasAgreed, file_sta
 use Rattle.commit_times.specs.Closed.{IsLeftClosed}
 use Rattle.jbench_words.specs.declared.words.Words.{Words}
 use Rattle.jbench_words.specs.declared.words.Words.TheVariants.{Run, Sweep, Check, Threads, Format, Dump, Show, Recover, Upgrade, Apply, Bench, Completions, Man}
-use Rattle.jbench_commands.specs.Obeying.{HasFoundWrong as HasFoundWrongAlone, HasObeyed as HasObeyedAlone}
+use Rattle.jbench_commands.specs.Obeying.{FileReads, IsOfFile, HasFoundWrong as HasFoundWrongAlone, HasObeyed as HasObeyedAlone}
 use Rattle.script_threads.specs.Runs.{HasFoundFalse, HasServed}
 
 -- what `bench` left of its device: its journal was closed
@@ -16,33 +16,33 @@ pub record IsBenchDone (first : FileContents) : Type 0 where
   pub closed : IsBenchLeft first left
 
 -- what was done by the command that the words name: a command that starts no threads did what it does alone
-abbrev pub HasObeyed : (first : FileContents) → (contents : Option (List ℕ)) → Words → Type 0
-HasObeyed first contents (Run words) = HasObeyedAlone first contents (Run words)
-HasObeyed first contents (Sweep words) = HasObeyedAlone first contents (Sweep words)
-HasObeyed first contents (Check path) = HasObeyedAlone first contents (Check path)
-HasObeyed first contents (Threads path) = (text : Option (List ℕ)) × HasServed text
-HasObeyed first contents (Format words) = HasObeyedAlone first contents (Format words)
-HasObeyed first contents (Dump path) = HasObeyedAlone first contents (Dump path)
-HasObeyed first contents (Show path) = HasObeyedAlone first contents (Show path)
-HasObeyed first contents (Recover words) = HasObeyedAlone first contents (Recover words)
-HasObeyed first contents (Upgrade path) = HasObeyedAlone first contents (Upgrade path)
-HasObeyed first contents (Apply words) = HasObeyedAlone first contents (Apply words)
-HasObeyed first contents (Bench words) = IsBenchDone first
-HasObeyed first contents (Completions shell) = HasObeyedAlone first contents (Completions shell)
-HasObeyed first contents Man = HasObeyedAlone first contents Man
+abbrev pub HasObeyed : (first : FileContents) → (reads : FileReads) → (contents : Option (List ℕ)) → Words → Type 0
+HasObeyed first reads contents (Run words) = HasObeyedAlone first reads contents (Run words)
+HasObeyed first reads contents (Sweep words) = HasObeyedAlone first reads contents (Sweep words)
+HasObeyed first reads contents (Check path) = HasObeyedAlone first reads contents (Check path)
+HasObeyed first reads contents (Threads path) = IsOfFile reads HasServed
+HasObeyed first reads contents (Format words) = HasObeyedAlone first reads contents (Format words)
+HasObeyed first reads contents (Dump path) = HasObeyedAlone first reads contents (Dump path)
+HasObeyed first reads contents (Show path) = HasObeyedAlone first reads contents (Show path)
+HasObeyed first reads contents (Recover words) = HasObeyedAlone first reads contents (Recover words)
+HasObeyed first reads contents (Upgrade path) = HasObeyedAlone first reads contents (Upgrade path)
+HasObeyed first reads contents (Apply words) = HasObeyedAlone first reads contents (Apply words)
+HasObeyed first reads contents (Bench words) = IsBenchDone first
+HasObeyed first reads contents (Completions shell) = HasObeyedAlone first reads contents (Completions shell)
+HasObeyed first reads contents Man = HasObeyedAlone first reads contents Man
 
 -- a command ends with 2 where it does alone, or where a run in threads has a verdict that is false
-abbrev pub HasFoundWrong : Words → Type 0
-HasFoundWrong (Run words) = HasFoundWrongAlone (Run words)
-HasFoundWrong (Sweep words) = HasFoundWrongAlone (Sweep words)
-HasFoundWrong (Check path) = HasFoundWrongAlone (Check path)
-HasFoundWrong (Threads path) = (text : Option (List ℕ)) × HasFoundFalse text
-HasFoundWrong (Format words) = HasFoundWrongAlone (Format words)
-HasFoundWrong (Dump path) = HasFoundWrongAlone (Dump path)
-HasFoundWrong (Show path) = HasFoundWrongAlone (Show path)
-HasFoundWrong (Recover words) = HasFoundWrongAlone (Recover words)
-HasFoundWrong (Upgrade path) = HasFoundWrongAlone (Upgrade path)
-HasFoundWrong (Apply words) = HasFoundWrongAlone (Apply words)
-HasFoundWrong (Bench words) = HasFoundWrongAlone (Bench words)
-HasFoundWrong (Completions shell) = HasFoundWrongAlone (Completions shell)
-HasFoundWrong Man = HasFoundWrongAlone Man
+abbrev pub HasFoundWrong : (reads : FileReads) → Words → Type 0
+HasFoundWrong reads (Run words) = HasFoundWrongAlone (Run words)
+HasFoundWrong reads (Sweep words) = HasFoundWrongAlone (Sweep words)
+HasFoundWrong reads (Check path) = HasFoundWrongAlone (Check path)
+HasFoundWrong reads (Threads path) = IsOfFile reads HasFoundFalse
+HasFoundWrong reads (Format words) = HasFoundWrongAlone (Format words)
+HasFoundWrong reads (Dump path) = HasFoundWrongAlone (Dump path)
+HasFoundWrong reads (Show path) = HasFoundWrongAlone (Show path)
+HasFoundWrong reads (Recover words) = HasFoundWrongAlone (Recover words)
+HasFoundWrong reads (Upgrade path) = HasFoundWrongAlone (Upgrade path)
+HasFoundWrong reads (Apply words) = HasFoundWrongAlone (Apply words)
+HasFoundWrong reads (Bench words) = HasFoundWrongAlone (Bench words)
+HasFoundWrong reads (Completions shell) = HasFoundWrongAlone (Completions shell)
+HasFoundWrong reads Man = HasFoundWrongAlone Man

@@ -1,6 +1,7 @@
 //! Does what the words tell, with threads for the commands that want them.
-ghost use Rattle.std.specs.Prelude.{◌≡◌, ◌≢◌, ◌↔◌, ℕ, IfOk, IfSome, IsSome, List, Option};
+ghost use Rattle.std.specs.Prelude.{◌≡◌, ◌≢◌, ◌↔◌, IfOk, IfSome, IsSome};
 ghost use Rattle.jbench_words.specs.declared.fault.Status.TheVariants.{Fine, Refused, VerdictFalse};
+ghost use Rattle.jbench_commands.specs.Obeying.{IsOfFile};
 ghost use Rattle.jbench_threads.specs.Obeying.{HasFoundWrong, HasObeyed, IsBenchDone, IsBenchLeft};
 ghost use Rattle.script_threads.specs.Runs.{HasFoundFalse, HasServed};
 
@@ -11,8 +12,9 @@ use jbench_commands::progress::Progress;
 use jbench_files::{device_of, open_pair, open_to_read};
 use jbench_words::fault::{Status, refuse_file};
 use jbench_words::words::{BenchWords, Words};
+use std::fs::File;
 use std::io;
-use std::io::Write;
+use std::io::{Read, Write};
 use std::sync::Wait;
 use std::thread::Threads;
 
@@ -30,8 +32,8 @@ pub fn obey<T: Threads + Wait + Sync, C: Contents + Send, W: Write + Drop, E: Wr
     out: W,
     err: E,
 ) -> io::Result<Status>
-    ensures done { IfOk result (λ status. status ≡ Fine → HasObeyed C.contents (W.contents out) words.now) }
-    ensures wrong { IfOk result (λ status. status ≡ VerdictFalse → HasFoundWrong words.now) }
+    ensures done { IfOk result (λ status. status ≡ Fine → HasObeyed C.contents ⟦<File as Read>⟧.remaining (W.contents out) words.now) }
+    ensures wrong { IfOk result (λ status. status ≡ VerdictFalse → HasFoundWrong ⟦<File as Read>⟧.remaining words.now) }
 {
     match words {
         Words::Threads(path) => threads_file(rt, threads, path, out, err),
@@ -62,8 +64,8 @@ fn threads_file<T: Threads + Wait + Sync, W: Write + Drop, E: Write + Drop>(
     out: W,
     err: E,
 ) -> io::Result<Status>
-    ensures done { IfOk result (λ status. status ≡ Fine → (text : Option (List ℕ)) × HasServed text) }
-    ensures wrong { IfOk result (λ status. status ≡ VerdictFalse → (text : Option (List ℕ)) × HasFoundFalse text) }
+    ensures done { IfOk result (λ status. status ≡ Fine → IsOfFile ⟦<File as Read>⟧.remaining HasServed) }
+    ensures wrong { IfOk result (λ status. status ≡ VerdictFalse → IsOfFile ⟦<File as Read>⟧.remaining HasFoundFalse) }
 {
     let mut err = err;
     match open_to_read(rt, path) {

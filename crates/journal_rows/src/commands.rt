@@ -1,4 +1,5 @@
 //! Rows of the commands of `jbench`, over readers, writers and devices in memory.
+use crate::kinds::both;
 use block_device::MemDevice;
 use format_rows::RowError;
 use format_rows::words::cut;
@@ -12,20 +13,83 @@ use jbench_words::words::{
     ApplyWords, BenchWords, FormatWords, RecoverWords, RunWords, StopWords, SweepWords, Words,
     answer, parse,
 };
-use journal_script::ScriptError;
+use journal_script::{Script, ScriptError, read};
+use run_rows::journals::{Runner, Shared};
 use run_rows::scripts::measures_text;
 use run_rows::texts::{numbers_in, written};
+use script_run::{Stop, Stops};
 use std::alloc::{AllocError, Global};
 use std::fmt::Write;
+use std::sync::Wait;
 
 /// A run of a script. Given: the words of the program on a line, and the script. Found: the lines that it prints, each line on
-/// standard error behind its name, and the exit status.
-pub fn run(alloc: Global, given: &str) -> Result<String, RowError> {
+/// standard error behind its name, and the exit status; and where a run over the journal that threads share prints other lines, these.
+pub fn run<R: Wait>(rt: &R, alloc: Global, given: &str) -> Result<String, RowError> {
     let (line, script) = given.split_once('\n').unwrap_or((given, ""));
     let words = words_in(alloc, line)?;
     match parse(alloc, &words) {
-        Ok(Words::Run(words)) => run_script(alloc, &words, script),
+        Ok(Words::Run(words)) => {
+            let alone = run_script(alloc, &words, script);
+            match run_shared(rt, alloc, &words, script)? {
+                Some(shared) => both(alloc, alone, Ok(shared)),
+                None => alone,
+            }
+        }
         _ => Err(RowError::Unread),
+    }
+}
+
+/// What `run` would say of this script over the journal that threads share. Nothing where the text is no script, and where it has
+/// another form than lines.
+fn run_shared<R: Wait>(
+    rt: &R,
+    alloc: Global,
+    words: &RunWords<'_>,
+    script: &str,
+) -> Result<Option<String>, RowError> {
+    if words.json {
+        return Ok(None);
+    }
+    match read(alloc, script.as_bytes()) {
+        Ok(script) => Ok(Some(run_lines(rt, alloc, words, &script)?)),
+        Err(ScriptError::BadScript(_)) => Ok(None),
+        Err(ScriptError::Memory) => Err(RowError::Memory),
+    }
+}
+
+/// The lines of a run over the journal that threads share, and the exit status.
+fn run_lines<R: Wait>(
+    rt: &R,
+    alloc: Global,
+    words: &RunWords<'_>,
+    script: &Script,
+) -> Result<String, RowError> {
+    let stops = Stops {
+        failing_call: words.failing_call,
+        run: stop_told(&words.run),
+        opening: stop_told(&words.opening),
+    };
+    let mut out = Vec::new(alloc);
+    match Shared(rt).run(alloc, script, &stops, &mut out) {
+        Ok(right) => text_of(alloc, &out, &[], status_of(right)),
+        Err(_) => Err(RowError::Unread),
+    }
+}
+
+/// Where a device stops, as words tell.
+fn stop_told(words: &StopWords) -> Stop<'_> {
+    Stop {
+        at_write: words.at_write,
+        keep: &words.keep,
+    }
+}
+
+/// How a run ends with this verdict.
+fn status_of(right: bool) -> Status {
+    if right {
+        Status::Fine
+    } else {
+        Status::VerdictFalse
     }
 }
 

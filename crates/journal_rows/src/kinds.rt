@@ -1,17 +1,24 @@
 //! What may be done with a row, by the name of its kind.
 use crate::{benches, commands};
 use format_rows::RowError;
+use run_rows::journals::{Alone, Runner, Shared};
+use script_sweep::{Swept, ThisJournal};
 use std::alloc::Global;
+use std::sync::Wait;
+use sweep_rows::shared::SharedJournal;
 
 /// What is found of a row's given text, or that it can't be read, or that memory ran out.
 pub type Found = Result<String, RowError>;
 
 /// What is found of a row of this kind, or nothing where there is no such kind.
-pub fn found(alloc: Global, kind: &str, given: &str) -> Option<Found> {
+pub fn found<R: Wait>(rt: &R, alloc: Global, kind: &str, given: &str) -> Option<Found> {
+    if let Some(found) = found_over_both(rt, alloc, kind, given) {
+        return Some(found);
+    }
     if let Some(found) = found_of_run(alloc, kind, given) {
         return Some(found);
     }
-    if let Some(found) = found_of_command(alloc, kind, given) {
+    if let Some(found) = found_of_command(rt, alloc, kind, given) {
         return Some(found);
     }
     if let Some(found) = found_of_log(alloc, kind, given) {
@@ -23,24 +30,65 @@ pub fn found(alloc: Global, kind: &str, given: &str) -> Option<Found> {
     found_of_format(alloc, kind, given)
 }
 
-/// What is found of a row on runs and scripts.
+/// What is found of a row on runs over the journal of one thread and over the one that threads share, each by itself.
+fn found_over_both<R: Wait>(rt: &R, alloc: Global, kind: &str, given: &str) -> Option<Found> {
+    let alone = found_over(alloc, &Alone, kind, given).or(swept(alloc, &ThisJournal, kind, given));
+    let Some(alone) = alone else {
+        return None;
+    };
+    let shared = found_over(alloc, &Shared(rt), kind, given).or(swept(
+        alloc,
+        &SharedJournal(rt),
+        kind,
+        given,
+    ));
+    match shared {
+        Some(shared) => Some(both(alloc, alone, shared)),
+        None => None,
+    }
+}
+
+/// What was found over both journals: the same text.
+pub(crate) fn both(alloc: Global, alone: Found, shared: Found) -> Found {
+    let (alone, shared) = (alone?, shared?);
+    if alone.as_str() == shared.as_str() {
+        return Ok(alone);
+    }
+    Ok(format!(in alloc; "{alone}\nover the journal that threads share:\n{shared}")?)
+}
+
+/// What is found of a row on runs over this journal.
+fn found_over<J: Runner>(alloc: Global, journal: &J, kind: &str, given: &str) -> Option<Found> {
+    match kind {
+        "bytes" => Some(run_rows::changed::bytes(alloc, journal, given)),
+        "changed" => Some(run_rows::changed::changed(alloc, journal, given)),
+        "failed_copies" => Some(run_rows::images::failed_copies(alloc, journal, given)),
+        "failures" => Some(sweep_rows::failures::failures(alloc, journal, given)),
+        "images" => Some(run_rows::images::images(alloc, journal, given)),
+        "reopened_devices" => Some(run_rows::reopened::reopened_devices(alloc, journal, given)),
+        "stops" => Some(run_rows::stops::stops(alloc, journal, given)),
+        "stops_of_openings" => Some(run_rows::stops::stops_of_openings(alloc, journal, given)),
+        _ => None,
+    }
+}
+
+/// What is found of a row on sweeps of this journal.
+fn swept<J: Swept>(alloc: Global, journal: &J, kind: &str, given: &str) -> Option<Found> {
+    match kind {
+        "failure_sweeps" => Some(sweep_rows::sweeps::failure_sweeps(alloc, journal, given)),
+        "sweeps" => Some(sweep_rows::sweeps::sweeps(alloc, journal, given)),
+        _ => None,
+    }
+}
+
+/// What is found of another row on runs and scripts.
 fn found_of_run(alloc: Global, kind: &str, given: &str) -> Option<Found> {
     match kind {
-        "bytes" => Some(run_rows::changed::bytes(alloc, given)),
-        "changed" => Some(run_rows::changed::changed(alloc, given)),
         "closes" => Some(run_rows::closes::closes(alloc, given)),
-        "failed_copies" => Some(run_rows::images::failed_copies(alloc, given)),
-        "failure_sweeps" => Some(sweep_rows::sweeps::failure_sweeps(alloc, given)),
-        "failures" => Some(sweep_rows::failures::failures(alloc, given)),
         "ignored_failures" => Some(sweep_rows::sweeps::ignored_failures(alloc, given)),
-        "images" => Some(run_rows::images::images(alloc, given)),
         "interrupted_closes" => Some(run_rows::closes::interrupted_closes(alloc, given)),
         "operations" => Some(run_rows::scripts::operations(alloc, given)),
-        "reopened_devices" => Some(run_rows::reopened::reopened_devices(alloc, given)),
         "script" => Some(run_rows::scripts::script(alloc, given)),
-        "stops" => Some(run_rows::stops::stops(alloc, given)),
-        "stops_of_openings" => Some(run_rows::stops::stops_of_openings(alloc, given)),
-        "sweeps" => Some(sweep_rows::sweeps::sweeps(alloc, given)),
         "verdict" => Some(sweep_rows::verdicts::verdict(alloc, given)),
         "wrong_journals" => Some(sweep_rows::sweeps::wrong_journals(alloc, given)),
         _ => None,
@@ -48,7 +96,7 @@ fn found_of_run(alloc: Global, kind: &str, given: &str) -> Option<Found> {
 }
 
 /// What is found of a row on the commands of `jbench` and its words.
-fn found_of_command(alloc: Global, kind: &str, given: &str) -> Option<Found> {
+fn found_of_command<R: Wait>(rt: &R, alloc: Global, kind: &str, given: &str) -> Option<Found> {
     match kind {
         "bench" => Some(benches::bench(alloc, given)),
         "check" => Some(commands::check(alloc, given)),
@@ -57,7 +105,7 @@ fn found_of_command(alloc: Global, kind: &str, given: &str) -> Option<Found> {
         "help" => Some(commands::help(alloc, given)),
         "printed" => Some(commands::printed(alloc, given)),
         "recover" => Some(commands::recover(alloc, given)),
-        "run" => Some(commands::run(alloc, given)),
+        "run" => Some(commands::run(rt, alloc, given)),
         "show" => Some(commands::show(alloc, given)),
         "sweep" => Some(commands::sweep(alloc, given)),
         "upgrade" => Some(commands::upgrade(alloc, given)),

@@ -16,38 +16,38 @@ mod row_file;
 
 use format_rows::RowError;
 use report::report_of;
-use std::alloc::Global;
 use std::process::ExitCode;
+use std::sync::Wait;
 use std::{env, fs, io};
 
 fn main(rt: HostRuntime) -> ExitCode {
-    match check_files(&rt) {
+    match check_files(&rt, &rt) {
         Ok(true) => ExitCode::from(0),
         _ => ExitCode::from(1),
     }
 }
 
 /// Does the rows of each file that a word names, and prints what was found. The answer is whether all could be done.
-fn check_files(rt: &HostRuntime) -> io::Result<bool> {
+fn check_files<W: Wait>(rt: &HostRuntime, waits: &W) -> io::Result<bool> {
     let words: Vec<String> = env::args(rt)?.collect(rt.alloc())?;
     let mut is_whole = true;
     for name in words.iter().skip(1) {
-        is_whole = check_file(rt, name.as_str())? && is_whole;
+        is_whole = check_file(rt, waits, name.as_str())? && is_whole;
     }
     Ok(is_whole)
 }
 
 /// Does the rows of one file, and prints what was found. The answer is whether all could be done.
-fn check_file(rt: &HostRuntime, name: &str) -> io::Result<bool> {
+fn check_file<W: Wait>(rt: &HostRuntime, waits: &W, name: &str) -> io::Result<bool> {
     match fs::read_to_string(rt, name) {
-        Ok(text) => print_report(rt, rt.alloc(), name, text.as_str()),
+        Ok(text) => print_report(rt, waits, name, text.as_str()),
         Err(_) => print_failure(rt, name, "it can't be read"),
     }
 }
 
 /// Prints what was found of the rows of a text.
-fn print_report(rt: &HostRuntime, alloc: Global, name: &str, text: &str) -> io::Result<bool> {
-    match report_of(alloc, name, text) {
+fn print_report<W: Wait>(rt: &HostRuntime, waits: &W, name: &str, text: &str) -> io::Result<bool> {
+    match report_of(waits, rt.alloc(), name, text) {
         Ok(report) => {
             print!(rt; "{}", report.lines)?;
             Ok(report.is_whole)

@@ -5,6 +5,7 @@ use crate::row_file::{Row, RowFile, read};
 use format_rows::RowError;
 use std::alloc::{AllocError, Global};
 use std::fmt::Write;
+use std::sync::Wait;
 
 /// What is told of a file.
 #[derive(Drop)]
@@ -30,9 +31,14 @@ struct Findings {
 /// # Errors
 ///
 /// `Unread` where the text is no file of rows, or its kind is not known; `Memory`.
-pub fn report_of(alloc: Global, name: &str, text: &str) -> Result<Report, RowError> {
+pub fn report_of<R: Wait>(
+    rt: &R,
+    alloc: Global,
+    name: &str,
+    text: &str,
+) -> Result<Report, RowError> {
     let file = read(alloc, text)?;
-    let found = findings_of(alloc, &file)?;
+    let found = findings_of(rt, alloc, &file)?;
     let (held, count) = (found.held, file.rows.len());
     let lines = format!(in alloc; "{name}: {held} of {count} rows held\n{}", found.others)?;
     Ok(Report {
@@ -42,20 +48,21 @@ pub fn report_of(alloc: Global, name: &str, text: &str) -> Result<Report, RowErr
 }
 
 /// Does the rows of a file.
-fn findings_of(alloc: Global, file: &RowFile<'_>) -> Result<Findings, RowError> {
+fn findings_of<R: Wait>(rt: &R, alloc: Global, file: &RowFile<'_>) -> Result<Findings, RowError> {
     let mut findings = Findings {
         held: 0,
         others: String::new(alloc),
         is_whole: true,
     };
     for row in &file.rows {
-        check_row(alloc, file.kind, row, &mut findings)?;
+        check_row(rt, alloc, file.kind, row, &mut findings)?;
     }
     Ok(findings)
 }
 
 /// Does one row, and notes what came of it.
-fn check_row(
+fn check_row<R: Wait>(
+    rt: &R,
     alloc: Global,
     kind: &str,
     row: &Row<'_>,
@@ -63,7 +70,7 @@ fn check_row(
 ) -> Result<(), RowError> {
     let given = written_out(alloc, row.given)?;
     let wanted = written_out(alloc, row.wanted)?;
-    let found = found(alloc, kind, given.as_str()).ok_or(RowError::Unread)?;
+    let found = found(rt, alloc, kind, given.as_str()).ok_or(RowError::Unread)?;
     note(findings, row.name, wanted.as_str(), found)
 }
 

@@ -27,6 +27,8 @@ mod meetings;
 #[cfg(test)]
 mod newest;
 #[cfg(test)]
+mod reopened;
+#[cfg(test)]
 mod service;
 #[cfg(test)]
 mod shares;

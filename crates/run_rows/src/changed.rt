@@ -1,6 +1,7 @@
 //! Rows of runs over logs that were changed by hand, and of the bytes that runs leave.
 //!
 //! Bytes are spelled as in `log 3 from 8: 00000002`: these, from place 8 of block 3 of the log on. `home` names the home area.
+use crate::journals::Runner;
 use crate::scripts::given_script;
 use crate::texts::{write_hex, written};
 use block_device::{Device, MemDevice};
@@ -9,23 +10,19 @@ use format_rows::words::{cut, hex_bytes, number};
 use journal_model::{Area, JournalError};
 use journal_script::{Operation, Script};
 use recovery::open;
-use script_run::{
-    AfterFailure, AnyHome, Fault, RunDevice, Stopped, empty_disk, judge, run_device,
-    run_operations, run_operations_over,
-};
+use script_run::{Fault, RunDevice, Stopped, empty_disk, judge, run_device};
 use std::alloc::{AllocError, Global};
 use std::fmt::Write;
-use std::io;
 
 /// A run over a log that was changed by hand, of which the image is changed by hand once more. Given: lines of bytes that
 /// stand in the formatted log, a line `run`, a script on one line, and behind it lines of bytes that stand in the image. Found:
 /// the lines of the run and of the verdict, and the verdict as an answer, or the refusal.
-pub fn changed(alloc: Global, given: &str) -> Result<String, RowError> {
+pub fn changed<J: Runner>(alloc: Global, journal: &J, given: &str) -> Result<String, RowError> {
     let (before, behind) = cut(given, "run\n")?;
     let (text, after) = behind.split_once('\n').unwrap_or((behind, ""));
     let script = given_script(alloc, text)?;
     let mut out = Vec::new(alloc);
-    let answer = run_changed(alloc, &script, before, after, &mut out)?;
+    let answer = run_changed(alloc, journal, &script, before, after, &mut out)?;
     let mut found = String::from_str(alloc, written(&out)?)?;
     write_answer(&mut found, answer)?;
     Ok(found)
@@ -52,15 +49,16 @@ fn answer_of<T: Drop>(answer: Result<T, Fault>) -> Result<Result<T, JournalError
 }
 
 /// Runs the operations of a script over its log with these bytes, and judges the image with those.
-fn run_changed(
+fn run_changed<J: Runner>(
     alloc: Global,
+    journal: &J,
     script: &Script,
     before: &str,
     after: &str,
     out: &mut Vec<u8>,
 ) -> Result<Answer, RowError> {
     let device = run_device(changed_disk(alloc, script, before)?, None, None);
-    let answer = run_over(alloc, device, &script.operations, out);
+    let answer = run_over(alloc, journal, device, &script.operations, out);
     match answer_of(answer)? {
         Ok(stopped) => judge_changed(alloc, script, stopped, after, out),
         Err(e) => Ok(Err(e)),
@@ -68,21 +66,15 @@ fn run_changed(
 }
 
 /// Runs operations over a device with a log, which it opens.
-fn run_over(
+fn run_over<J: Runner>(
     alloc: Global,
+    journal: &J,
     device: RunDevice,
     operations: &[Operation],
     out: &mut Vec<u8>,
 ) -> Result<Stopped, Fault> {
     match open(alloc, device) {
-        Ok(opened) => run_operations_over::<AnyHome, _>(
-            alloc,
-            opened,
-            operations,
-            AfterFailure::End,
-            None,
-            out,
-        ),
+        Ok(opened) => journal.run_operations_over(alloc, opened, operations, out),
         Err((_, e)) => Err(Fault::Refused(e)),
     }
 }
@@ -198,10 +190,10 @@ fn block_of(
 /// The bytes that a run leaves. Given: a script on one line, and behind it lines that name blocks, as `log 3`, or bytes of
 /// them, as `log 3 from 8 for 4`. Found: these lines with the bytes of the device behind the run, and behind a line `opened`
 /// those of the device that was opened behind a crash.
-pub fn bytes(alloc: Global, given: &str) -> Result<String, RowError> {
+pub fn bytes<J: Runner>(alloc: Global, journal: &J, given: &str) -> Result<String, RowError> {
     let (text, lines) = cut(given, "\n")?;
     let script = given_script(alloc, text)?;
-    let device = device_behind(alloc, &script)?;
+    let device = device_behind(alloc, journal, &script)?;
     let (left, opened) = lines.split_once("opened\n").unwrap_or((lines, ""));
     let mut all = String::new(alloc);
     let device = write_lines(&mut all, alloc, device, left)?;
@@ -213,8 +205,12 @@ pub fn bytes(alloc: Global, given: &str) -> Result<String, RowError> {
 }
 
 /// The device behind the run of a script.
-fn device_behind(alloc: Global, script: &Script) -> Result<MemDevice, RowError> {
-    match run_operations(alloc, script, None, None, &mut io::sink()) {
+fn device_behind<J: Runner>(
+    alloc: Global,
+    journal: &J,
+    script: &Script,
+) -> Result<MemDevice, RowError> {
+    match journal.run_operations(alloc, script, None, None, &mut Vec::new(alloc)) {
         Ok(stopped) => Ok(stopped.device),
         Err(_) => Err(RowError::Memory),
     }

@@ -1,5 +1,6 @@
 //! Rows of runs whose image is copied to another device before it is opened.
 use crate::endings::{endings_text, note};
+use crate::journals::Runner;
 use crate::scripts::given_script;
 use crate::texts::{numbers_in, written};
 use block_device::{Device, FailOnce, MemDevice};
@@ -8,14 +9,14 @@ use format_rows::words::cut;
 use journal_model::JournalError;
 use journal_script::Script;
 use recovery::open;
-use script_run::{Fault, Stop, Stops, run_copied};
+use script_run::{Fault, Stop, Stops};
 use std::alloc::{AllocError, Global};
 use std::fmt::Write;
 
 /// Images that are copied. Given: on a line the write at which the run stops, 0 for none, and the writes that are kept, as
 /// `stop 5, keep 5`; and behind it a script. Found: what the run's opening found, and what an opening of the copy finds behind a loss
 /// of power.
-pub fn images(alloc: Global, given: &str) -> Result<String, RowError> {
+pub fn images<J: Runner>(alloc: Global, journal: &J, given: &str) -> Result<String, RowError> {
     let (line, text) = cut(given, "\n")?;
     let (stop, keep) = cut(line, ", keep")?;
     let [stop] = numbers_in::<1>(stop)?;
@@ -26,7 +27,7 @@ pub fn images(alloc: Global, given: &str) -> Result<String, RowError> {
         keep: &keep,
     };
     let mut copy = blank(alloc, &script);
-    let found = opening_of_run(alloc, &script, run, &mut copy)?;
+    let found = opening_of_run(alloc, journal, &script, run, &mut copy)?;
     let mut told = String::new(alloc);
     writeln!(told, "run: {found}")?;
     told.push_str("copy: ")?;
@@ -54,8 +55,9 @@ fn blank(alloc: Global, script: &Script) -> MemDevice {
 }
 
 /// What the opening of a run's image found, that is copied to this device: the line of the opening, or why there is none.
-fn opening_of_run<D: Device>(
+fn opening_of_run<J: Runner, D: Device>(
     alloc: Global,
+    journal: &J,
     script: &Script,
     run: Stop<'_>,
     copy: &mut D,
@@ -69,7 +71,7 @@ fn opening_of_run<D: Device>(
         },
     };
     let mut out = Vec::new(alloc);
-    let answer = run_copied(alloc, script, &stops, copy, &mut out);
+    let answer = journal.run_copied(alloc, script, &stops, copy, &mut out);
     let lines = written(&out)?;
     match answer {
         Ok(_) => {
@@ -102,7 +104,11 @@ fn opening_of_copy(alloc: Global, copy: MemDevice) -> Result<String, RowError> {
 
 /// Copies of which each call fails in turn. Given: a line as `calls 1 to 21`, and a script. Found: what the run's opening found, or
 /// why there was none and behind how many lines; and the calls of which one failed then.
-pub fn failed_copies(alloc: Global, given: &str) -> Result<String, RowError> {
+pub fn failed_copies<J: Runner>(
+    alloc: Global,
+    journal: &J,
+    given: &str,
+) -> Result<String, RowError> {
     let (line, text) = cut(given, "\n")?;
     let [first, last] = numbers_in::<2>(line)?;
     let script = given_script(alloc, text)?;
@@ -113,7 +119,7 @@ pub fn failed_copies(alloc: Global, given: &str) -> Result<String, RowError> {
             keep: &[],
         };
         let mut copy = FailOnce::new(blank(alloc, &script), call);
-        let found = opening_of_run(alloc, &script, run, &mut copy)?;
+        let found = opening_of_run(alloc, journal, &script, run, &mut copy)?;
         note(alloc, &mut endings, found, Some(call))?;
     }
     Ok(endings_text(alloc, &endings, "calls")?)

@@ -1,5 +1,6 @@
 //! Rows of devices that are opened again behind a failed call, without having lost power.
 use crate::endings::{Ending, Given, endings_text, given_of, in_one_line, kept, note};
+use crate::journals::Runner;
 use crate::texts::{numbers_in, written};
 use block_device::{MemDevice, StopAt};
 use format_rows::RowError;
@@ -8,18 +9,21 @@ use journal_model::JournalError;
 use journal_script::NamedBlocks;
 use recovery::{Opened, Report, open};
 use script_run::{Fault, OpenedImage, Stopped, judge_opened, judge_reopened, open_image};
-use script_sweep::{Swept, ThisJournal};
 use std::alloc::Global;
 
 /// Runs of which a call fails, and whose device is then opened as it is: it has lost no power, and reads all that was written. That
 /// opening stops at each write, and what it leaves is opened once more. Given: a line as `call 8 fails`, another as `openings that stop
 /// at writes 1 to 4, any of the last 4 writes kept`, and a script. Found: each way in which these end, with what the last opening
 /// finds, the named blocks and the verdict, and the stops of which some kept writes make one end so.
-pub fn reopened_devices(alloc: Global, given: &str) -> Result<String, RowError> {
+pub fn reopened_devices<J: Runner>(
+    alloc: Global,
+    journal: &J,
+    given: &str,
+) -> Result<String, RowError> {
     let (line, given) = cut(given, "\n")?;
     let [call] = numbers_in::<1>(line)?;
     let given = given_of(alloc, given)?;
-    let failed = failed_of(alloc, &given, call)?;
+    let failed = failed_of(alloc, journal, &given, call)?;
     let mut endings = Vec::new(alloc);
     for k in given.first..=given.last {
         add_stops(alloc, &given, &failed, k, &mut endings)?;
@@ -39,9 +43,20 @@ struct Failed {
 }
 
 /// What a run leaves of which this call fails.
-fn failed_of(alloc: Global, given: &Given, call: u64) -> Result<Failed, RowError> {
+fn failed_of<J: Runner>(
+    alloc: Global,
+    journal: &J,
+    given: &Given,
+    call: u64,
+) -> Result<Failed, RowError> {
     let named = given.script.named_blocks(alloc)?;
-    let Ok(run) = ThisJournal.run(alloc, &given.script, None, Some(call)) else {
+    let Ok(run) = journal.run_operations(
+        alloc,
+        &given.script,
+        None,
+        Some(call),
+        &mut Vec::new(alloc),
+    ) else {
         return Err(RowError::Memory);
     };
     let Ok(opened) = open(alloc, run.device.try_clone()?) else {

@@ -1,34 +1,36 @@
 //! Rows of runs that stop at each of their writes, and of runs whose openings do.
 use crate::endings::{Ending, Given, endings_text, given_of, in_one_line, kept, note};
+use crate::journals::Runner;
 use crate::texts::written;
 use format_rows::RowError;
 use format_rows::words::cut;
 use journal_script::Script;
-use script_run::{Stop, Stops, run};
+use script_run::{Stop, Stops};
 use std::alloc::Global;
 
 /// Runs that stop at each write. Given: a line as `stops 1 to 13, any of the last 4 writes kept`, and a script. Found: each way
 /// in which runs end, with what an opening finds, the named blocks and the verdict, and the stops of which some kept writes
 /// make a run end so.
-pub fn stops(alloc: Global, given: &str) -> Result<String, RowError> {
+pub fn stops<J: Runner>(alloc: Global, journal: &J, given: &str) -> Result<String, RowError> {
     let given = given_of(alloc, given)?;
     let mut endings = Vec::new(alloc);
     for k in given.first..=given.last {
-        add_stop(alloc, &given, k, &mut endings)?;
+        add_stop(alloc, journal, &given, k, &mut endings)?;
     }
     Ok(endings_text(alloc, &endings, "stops")?)
 }
 
 /// Adds how runs end that stop at write `k` and keep any of the last writes up to that.
-fn add_stop(
+fn add_stop<J: Runner>(
     alloc: Global,
+    journal: &J,
     given: &Given,
     k: u64,
     endings: &mut Vec<Ending>,
 ) -> Result<(), RowError> {
     for bits in 0..given.choices {
         let kept = kept(alloc, k, bits)?;
-        add_run(alloc, &given.script, k, &kept, endings)?;
+        add_run(alloc, journal, &given.script, k, &kept, endings)?;
     }
     Ok(())
 }
@@ -48,8 +50,9 @@ const NO_STOP: Stop<'static> = Stop {
 };
 
 /// Adds how a run ends that stops at write `k` and keeps these.
-fn add_run(
+fn add_run<J: Runner>(
     alloc: Global,
+    journal: &J,
     script: &Script,
     k: u64,
     kept: &[u64],
@@ -61,7 +64,7 @@ fn add_run(
         run: stop_at(k, kept),
         opening: NO_STOP,
     };
-    match run(alloc, script, &stops, &mut out) {
+    match journal.run(alloc, script, &stops, &mut out) {
         Ok(right) => add_lines(alloc, written(&out)?, right, endings),
         Err(_) => Err(RowError::Memory),
     }
@@ -84,32 +87,38 @@ fn add_lines(
 /// Runs that stop at their end, and openings of what they leave that stop at each write. Given: a line as
 /// `openings that stop at writes 1 to 5, any of the last 4 kept`, and a script. Found: each way in which these end, with what the
 /// last opening finds, the named blocks and the verdict, and the stops of which some kept writes make one end so.
-pub fn stops_of_openings(alloc: Global, given: &str) -> Result<String, RowError> {
+pub fn stops_of_openings<J: Runner>(
+    alloc: Global,
+    journal: &J,
+    given: &str,
+) -> Result<String, RowError> {
     let given = given_of(alloc, given)?;
     let mut endings = Vec::new(alloc);
     for k in given.first..=given.last {
-        add_openings(alloc, &given, k, &mut endings)?;
+        add_openings(alloc, journal, &given, k, &mut endings)?;
     }
     Ok(endings_text(alloc, &endings, "stops")?)
 }
 
 /// Adds how openings end that stop at write `k` and keep any of the last writes up to that.
-fn add_openings(
+fn add_openings<J: Runner>(
     alloc: Global,
+    journal: &J,
     given: &Given,
     k: u64,
     endings: &mut Vec<Ending>,
 ) -> Result<(), RowError> {
     for bits in 0..given.choices {
         let kept = kept(alloc, k, bits)?;
-        add_opening(alloc, &given.script, k, &kept, endings)?;
+        add_opening(alloc, journal, &given.script, k, &kept, endings)?;
     }
     Ok(())
 }
 
 /// Adds how an opening ends that stops at write `k` and keeps these.
-fn add_opening(
+fn add_opening<J: Runner>(
     alloc: Global,
+    journal: &J,
     script: &Script,
     k: u64,
     kept: &[u64],
@@ -121,7 +130,7 @@ fn add_opening(
         run: NO_STOP,
         opening: stop_at(k, kept),
     };
-    match run(alloc, script, &stops, &mut out) {
+    match journal.run(alloc, script, &stops, &mut out) {
         Ok(right) => add_opened(alloc, written(&out)?, right, k, endings),
         Err(_) => Err(RowError::Memory),
     }

@@ -3,49 +3,56 @@ use format_rows::RowError;
 use format_rows::words::cut;
 use journal_script::Script;
 use run_rows::endings::{Ending, Given, endings_text, given_of, in_one_line, kept, note};
+use run_rows::journals::Runner;
 use run_rows::texts::written;
-use script_run::{Stop, Stops, run, run_operations};
+use script_run::{Stop, Stops};
 use std::alloc::Global;
-use std::io;
 
 /// Runs of which each call fails in turn. Given: a line as `calls 1 to 13, any of the last 4 writes kept`, and a script. Found:
 /// each way in which runs end, with what an opening finds, the named blocks and the verdict, and the calls of which some kept writes
 /// make a run end so.
-pub fn failures(alloc: Global, given: &str) -> Result<String, RowError> {
+pub fn failures<J: Runner>(alloc: Global, journal: &J, given: &str) -> Result<String, RowError> {
     let given = given_of(alloc, given)?;
     let mut endings = Vec::new(alloc);
     for call in given.first..=given.last {
-        add_failure(alloc, &given, call, &mut endings)?;
+        add_failure(alloc, journal, &given, call, &mut endings)?;
     }
     Ok(endings_text(alloc, &endings, "calls")?)
 }
 
 /// Adds how runs end of which this call fails, and which keep any of the last writes.
-fn add_failure(
+fn add_failure<J: Runner>(
     alloc: Global,
+    journal: &J,
     given: &Given,
     call: u64,
     endings: &mut Vec<Ending>,
 ) -> Result<(), RowError> {
-    let writes = writes_of(alloc, &given.script, call)?;
+    let writes = writes_of(alloc, journal, &given.script, call)?;
     for bits in 0..given.choices {
         let kept = kept(alloc, writes, bits)?;
-        add_run(alloc, &given.script, call, &kept, endings)?;
+        add_run(alloc, journal, &given.script, call, &kept, endings)?;
     }
     Ok(())
 }
 
 /// How many writes a run makes of which this call fails.
-fn writes_of(alloc: Global, script: &Script, call: u64) -> Result<u64, RowError> {
-    match run_operations(alloc, script, None, Some(call), &mut io::sink()) {
+fn writes_of<J: Runner>(
+    alloc: Global,
+    journal: &J,
+    script: &Script,
+    call: u64,
+) -> Result<u64, RowError> {
+    match journal.run_operations(alloc, script, None, Some(call), &mut Vec::new(alloc)) {
         Ok(stopped) => Ok(stopped.device.writes()),
         Err(_) => Err(RowError::Memory),
     }
 }
 
 /// Adds how a run ends of which this call fails, and which keeps these writes.
-fn add_run(
+fn add_run<J: Runner>(
     alloc: Global,
+    journal: &J,
     script: &Script,
     call: u64,
     kept: &[u64],
@@ -63,7 +70,7 @@ fn add_run(
             keep: &[],
         },
     };
-    match run(alloc, script, &stops, &mut out) {
+    match journal.run(alloc, script, &stops, &mut out) {
         Ok(right) => add_lines(alloc, written(&out)?, right, call, endings),
         Err(_) => Err(RowError::Memory),
     }

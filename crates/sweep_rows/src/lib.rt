@@ -4,6 +4,7 @@
 #![tactic(auto)]
 
 pub mod failures;
+pub mod shared;
 pub mod sweeps;
 pub mod verdicts;
 mod wrong_journals;

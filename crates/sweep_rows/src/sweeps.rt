@@ -4,15 +4,15 @@ use format_rows::RowError;
 use format_rows::words::cut;
 use run_rows::scripts::given_script;
 use run_rows::texts::written;
-use script_sweep::{Counts, FailureCounts, NotRight, Swept, ThisJournal, sweep, sweep_failures};
+use script_sweep::{Counts, FailureCounts, NotRight, Swept, sweep, sweep_failures};
 use std::alloc::{AllocError, Global};
 use std::fmt::Write;
 
-/// Sweeps of this project's journal. Given: a script. Found: how many writes, images and openings of images that stopped there were,
+/// Sweeps of a journal. Given: a script. Found: how many writes, images and openings of images that stopped there were,
 /// and how many of all these openings did not come to a verdict that is ok; and what named itself.
-pub fn sweeps(alloc: Global, given: &str) -> Result<String, RowError> {
+pub fn sweeps<J: Swept>(alloc: Global, journal: &J, given: &str) -> Result<String, RowError> {
     let mut err = Vec::new(alloc);
-    let counts = counts_of(alloc, &ThisJournal, given, &mut err)?;
+    let counts = counts_of(alloc, journal, given, &mut err)?;
     let mut told = String::new(alloc);
     writeln!(
         told,
@@ -26,11 +26,15 @@ pub fn sweeps(alloc: Global, given: &str) -> Result<String, RowError> {
     Ok(told)
 }
 
-/// Sweeps of the failing calls of this project's journal. Given: a script. Found: how many calls it makes, and how many openings behind
+/// Sweeps of the failing calls of a journal. Given: a script. Found: how many calls it makes, and how many openings behind
 /// runs of which one failed did not come to a verdict that is ok; and what named itself.
-pub fn failure_sweeps(alloc: Global, given: &str) -> Result<String, RowError> {
+pub fn failure_sweeps<J: Swept>(
+    alloc: Global,
+    journal: &J,
+    given: &str,
+) -> Result<String, RowError> {
     let mut err = Vec::new(alloc);
-    let counts = failure_counts_of(alloc, &ThisJournal, given, &mut err)?;
+    let counts = failure_counts_of(alloc, journal, given, &mut err)?;
     let mut told = String::new(alloc);
     writeln!(
         told,

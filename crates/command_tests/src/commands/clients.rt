@@ -20,6 +20,9 @@ const SERVED: &str =
 /// A handle that asks for more credits than a transaction of the log can have.
 const TOO_MANY: &str = r#"{"clients": [[["start",7]]]}"#;
 
+/// How often the two clients run.
+const RUNS: u32 = 1000;
+
 /// What `threads` says of a script.
 fn said<T: Threads + Wait + Sync>(rt: &T, alloc: Global, script: &str) -> Result<String, Fail> {
     let mut out = Vec::new(alloc);
@@ -28,10 +31,29 @@ fn said<T: Threads + Wait + Sync>(rt: &T, alloc: Global, script: &str) -> Result
     text_of(alloc, &out, &err, status)
 }
 
+/// What `threads` says of a script the first time that it says something else, if it does.
+fn first_other<T: Threads + Wait + Sync>(
+    rt: &T,
+    alloc: Global,
+    script: &str,
+    wanted: &str,
+) -> Result<Option<String>, Fail> {
+    for _ in 0..RUNS {
+        let said = said(rt, alloc, script)?;
+        if said.as_str() != wanted {
+            return Ok(Some(said));
+        }
+    }
+    Ok(None)
+}
+
+/// A thousand times, with each of the four verdicts ok.
 #[test]
 fn two_clients_are_served(rt: HostRuntime) -> Result<(), Fail> {
-    let said = said(&rt, rt.alloc(), TWO_CLIENTS)?;
-    assert_eq!(rt; said.as_str(), SERVED);
+    let other = first_other(&rt, rt.alloc(), TWO_CLIENTS, SERVED)?;
+    if let Some(said) = other {
+        assert_eq!(rt; said.as_str(), SERVED);
+    }
     Ok(())
 }
 

@@ -43,7 +43,7 @@ pub returns-in-Run-clause-wrong : goal.returns-in-Run-clause-wrong
 returns-in-Run-clause-wrong g c = rw c.in-Run.is (never-wrong c.run_file.result c.run_file.ensures.other)
 
 pub returns-in-Sweep-clause-wrong : goal.returns-in-Sweep-clause-wrong
-returns-in-Sweep-clause-wrong g c = rw c.in-Sweep.is c.sweep_file.ensures.wrong
+returns-in-Sweep-clause-wrong g c = rw c.in-Sweep.is (never-wrong c.sweep_file.result c.sweep_file.ensures.other)
 
 pub returns-in-Check-clause-wrong : goal.returns-in-Check-clause-wrong
 returns-in-Check-clause-wrong g c = rw c.in-Check.is (never-wrong c.check_file.result c.check_file.ensures.other)

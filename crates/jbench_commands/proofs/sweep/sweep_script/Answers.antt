@@ -3,23 +3,23 @@ use Rattle.std.proofs.lemmas.Bool.{false≢true}
 use Rattle.jbench_commands.proofs.sweep.sweep_script.Goals as goal
 
 -- the stops alone
-pub returns-then-not-words : goal.returns-then-not-words
-returns-then-not-words g c = record {
+pub returns-then-not-words-clause-swept : goal.returns-then-not-words-clause-swept
+returns-then-not-words-clause-swept g c = record {
   script = c.in_ok-script.script;
   taken = c.in_ok-script.ensures;
   of_stops = c.in_ok-of_stops.of_stops;
-  stops = c.in_ok-of_stops.ensures;
+  stops = c.in_ok-of_stops.ensures.swept;
   alone = λ told. refl;
   more = λ told. absurd (false≢true (sym (rw told at c.if-not-words.true)));
 }
 
 -- and the failing calls
-pub returns : goal.returns
-returns g c = record {
+pub returns-clause-swept : goal.returns-clause-swept
+returns-clause-swept g c = record {
   script = c.in_ok-script.script;
   taken = c.in_ok-script.ensures;
   of_stops = c.in_ok-of_stops.of_stops;
-  stops = c.in_ok-of_stops.ensures;
+  stops = c.in_ok-of_stops.ensures.swept;
   alone = λ told. absurd (false≢true (rw told at c.if-not-words.false));
-  more = λ told. (c.in_ok-of_failures.of_failures, c.in_ok-of_failures.ensures, c.saturating_add.ensures);
+  more = λ told. (c.in_ok-of_failures.of_failures, c.in_ok-of_failures.ensures.swept, c.saturating_add.ensures);
 }

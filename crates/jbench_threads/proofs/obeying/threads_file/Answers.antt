@@ -1,9 +1,9 @@
 use Rattle.std.proofs.lemmas.Result.{IfOk-weaker}
 use Rattle.jbench_threads.proofs.obeying.threads_file.Goals as goal
 
--- of some text
+-- of the file that was opened
 pub returns-in-Ok-clause-done : goal.returns-in-Ok-clause-done
-returns-in-Ok-clause-done g c = IfOk-weaker c.threads.result _ _ (λ status served fine. (_, served fine)) c.threads.ensures.done
+returns-in-Ok-clause-done g c = IfOk-weaker c.threads.result _ _ (λ status served fine. (c.in-Ok.file, served fine)) c.threads.ensures.done
 
 pub returns-in-Ok-clause-wrong : goal.returns-in-Ok-clause-wrong
-returns-in-Ok-clause-wrong g c = IfOk-weaker c.threads.result _ _ (λ status found wrong. (_, found wrong)) c.threads.ensures.wrong
+returns-in-Ok-clause-wrong g c = IfOk-weaker c.threads.result _ _ (λ status found wrong. (c.in-Ok.file, found wrong)) c.threads.ensures.wrong

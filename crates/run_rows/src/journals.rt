@@ -1,0 +1,175 @@
+//! The journals over which scripts are run.
+use block_device::Device;
+use journal_script::{Operation, Script};
+use recovery::Opened;
+use script_run::{AfterFailure, AnyHome, Fault, RunDevice, Stopped, Stops};
+use std::alloc::Global;
+use std::sync::Wait;
+
+/// A journal, by what rows ask of it: to run scripts as `script_run` does.
+pub trait Runner {
+    /// Runs a script, and prints its lines and the verdict, which is also the answer.
+    ///
+    /// # Errors
+    ///
+    /// Those of `script_run::run`.
+    fn run(
+        &self,
+        alloc: Global,
+        script: &Script,
+        stops: &Stops<'_>,
+        out: &mut Vec<u8>,
+    ) -> Result<bool, Fault>;
+
+    /// The same, and writes what the stop left to a device.
+    ///
+    /// # Errors
+    ///
+    /// Those of `script_run::run_copied`.
+    fn run_copied<D: Device>(
+        &self,
+        alloc: Global,
+        script: &Script,
+        stops: &Stops<'_>,
+        to: &mut D,
+        out: &mut Vec<u8>,
+    ) -> Result<bool, Fault>;
+
+    /// Runs the operations of a script on an empty log.
+    ///
+    /// # Errors
+    ///
+    /// Those of `script_run::run_operations`.
+    fn run_operations(
+        &self,
+        alloc: Global,
+        script: &Script,
+        stop: Option<u64>,
+        failing_call: Option<u64>,
+        out: &mut Vec<u8>,
+    ) -> Result<Stopped, Fault>;
+
+    /// Runs operations over an opened log.
+    ///
+    /// # Errors
+    ///
+    /// Those of `script_run::run_operations_over`.
+    fn run_operations_over(
+        &self,
+        alloc: Global,
+        opened: Opened<RunDevice>,
+        operations: &[Operation],
+        out: &mut Vec<u8>,
+    ) -> Result<Stopped, Fault>;
+}
+
+/// The journal of one thread.
+#[derive(Clone, Copy)]
+pub struct Alone;
+
+impl Runner for Alone {
+    fn run(
+        &self,
+        alloc: Global,
+        script: &Script,
+        stops: &Stops<'_>,
+        out: &mut Vec<u8>,
+    ) -> Result<bool, Fault> {
+        script_run::run(alloc, script, stops, out)
+    }
+
+    fn run_copied<D: Device>(
+        &self,
+        alloc: Global,
+        script: &Script,
+        stops: &Stops<'_>,
+        to: &mut D,
+        out: &mut Vec<u8>,
+    ) -> Result<bool, Fault> {
+        script_run::run_copied(alloc, script, stops, to, out)
+    }
+
+    fn run_operations(
+        &self,
+        alloc: Global,
+        script: &Script,
+        stop: Option<u64>,
+        failing_call: Option<u64>,
+        out: &mut Vec<u8>,
+    ) -> Result<Stopped, Fault> {
+        script_run::run_operations(alloc, script, stop, failing_call, out)
+    }
+
+    fn run_operations_over(
+        &self,
+        alloc: Global,
+        opened: Opened<RunDevice>,
+        operations: &[Operation],
+        out: &mut Vec<u8>,
+    ) -> Result<Stopped, Fault> {
+        script_run::run_operations_over::<AnyHome, _>(
+            alloc,
+            opened,
+            operations,
+            AfterFailure::End,
+            None,
+            out,
+        )
+    }
+}
+
+/// The journal that threads share.
+#[derive(Clone, Copy)]
+pub struct Shared<'a, R>(pub &'a R);
+
+impl<R: Wait> Runner for Shared<'_, R> {
+    fn run(
+        &self,
+        alloc: Global,
+        script: &Script,
+        stops: &Stops<'_>,
+        out: &mut Vec<u8>,
+    ) -> Result<bool, Fault> {
+        shared_runs::run(self.0, alloc, script, stops, out)
+    }
+
+    fn run_copied<D: Device>(
+        &self,
+        alloc: Global,
+        script: &Script,
+        stops: &Stops<'_>,
+        to: &mut D,
+        out: &mut Vec<u8>,
+    ) -> Result<bool, Fault> {
+        shared_runs::run_copied(self.0, alloc, script, stops, to, out)
+    }
+
+    fn run_operations(
+        &self,
+        alloc: Global,
+        script: &Script,
+        stop: Option<u64>,
+        failing_call: Option<u64>,
+        out: &mut Vec<u8>,
+    ) -> Result<Stopped, Fault> {
+        shared_runs::run_operations(self.0, alloc, script, stop, failing_call, out)
+    }
+
+    fn run_operations_over(
+        &self,
+        alloc: Global,
+        opened: Opened<RunDevice>,
+        operations: &[Operation],
+        out: &mut Vec<u8>,
+    ) -> Result<Stopped, Fault> {
+        shared_runs::run_operations_over(
+            self.0,
+            alloc,
+            opened,
+            operations,
+            AfterFailure::End,
+            None,
+            out,
+        )
+    }
+}

@@ -1,0 +1,86 @@
+//! What an operation came to, and its line.
+use journal_model::{JournalError, Tid};
+use journal_script::Operation;
+use shared_journal::{CheckTurn, Turn};
+use std::io;
+use std::io::Write;
+
+/// How many bytes of a home block are printed.
+pub(crate) const PRINTED_BYTES: usize = 8;
+
+/// What an operation came to.
+#[derive(Clone, Copy)]
+pub(crate) enum Outcome {
+    /// It is accepted, and this is the number of the transaction that it is about.
+    Transaction(Tid),
+    /// It is accepted.
+    Done,
+    /// It is accepted, and the block begins so.
+    Begins([u8; PRINTED_BYTES]),
+    /// What a commit turn did.
+    Turn(Turn),
+    /// What a checkpoint turn did.
+    CheckTurn(CheckTurn),
+    /// The transaction is committed.
+    Committed,
+    /// The transaction is not committed.
+    Open,
+    /// It did not run.
+    Skipped,
+    /// It is refused.
+    Refused(JournalError),
+}
+
+/// Writes the line of an operation.
+pub(crate) fn write_line(
+    operation: &Operation,
+    outcome: Outcome,
+    out: &mut Vec<u8>,
+) -> io::Result<()> {
+    write!(out, "{operation} = ")?;
+    write_outcome(outcome, out)?;
+    writeln!(out)
+}
+
+/// Writes what an operation came to.
+fn write_outcome(outcome: Outcome, out: &mut Vec<u8>) -> io::Result<()> {
+    match outcome {
+        Outcome::Transaction(tid) => write!(out, "{}", tid.0),
+        Outcome::Done => write!(out, "ok"),
+        Outcome::Begins(bytes) => write_bytes(&bytes, out),
+        Outcome::Turn(turn) => write_turn(turn, out),
+        Outcome::CheckTurn(turn) => write_check_turn(turn, out),
+        Outcome::Committed => write!(out, "committed"),
+        Outcome::Open => write!(out, "open"),
+        Outcome::Skipped => write!(out, "skipped"),
+        Outcome::Refused(e) => write!(out, "refused {} {e}", e.number()),
+    }
+}
+
+/// Writes bytes as digits of base 16.
+fn write_bytes(bytes: &[u8], out: &mut Vec<u8>) -> io::Result<()> {
+    for byte in bytes {
+        write!(out, "{byte:02x}")?;
+    }
+    Ok(())
+}
+
+/// Writes what a commit turn did.
+fn write_turn(turn: Turn, out: &mut Vec<u8>) -> io::Result<()> {
+    match turn {
+        Turn::Idle => write!(out, "idle"),
+        Turn::Waiting => write!(out, "waiting"),
+        Turn::Step => write!(out, "step"),
+        Turn::Sealed(tid) => write!(out, "sealed {}", tid.0),
+        Turn::Committed(tid) => write!(out, "committed {}", tid.0),
+    }
+}
+
+/// Writes what a checkpoint turn did.
+fn write_check_turn(turn: CheckTurn, out: &mut Vec<u8>) -> io::Result<()> {
+    match turn {
+        CheckTurn::Idle => write!(out, "idle"),
+        CheckTurn::Step => write!(out, "step"),
+        CheckTurn::Released(tid) => write!(out, "released {}", tid.0),
+    }
+}

@@ -1,0 +1,223 @@
+//! Runs scripts over a journal that threads share, as `script_run` does over the journal of one thread.
+ghost use Rattle.std.specs.Prelude.{◌≡◌};
+
+use crate::interpreter::Interpreter;
+use crate::outcome::{Outcome, write_line};
+use block_device::Device;
+use journal_model::{JournalError, Sealed, Tid};
+use journal_script::{NamedBlocks, Operation, Script};
+use recovery::Opened;
+use script_run::{
+    AfterFailure, Fault, Record, RunDevice, Stopped, Stops, empty_log, judge_copied, judge_left,
+};
+use shared_journal::{Journal, JournalName, LaidJournal, Seat, lay};
+use std::alloc::Global;
+use std::marker::Brand;
+use std::sync::Wait;
+
+/// What is left of a journal when operations were done by it.
+#[derive(Drop)]
+struct Done {
+    device: RunDevice,
+    recorded: Record,
+}
+
+/// Runs a script, and prints its lines, the dump of what the stop left, and the verdict on what openings of that give back, which is also
+/// the answer.
+///
+/// # Errors
+///
+/// Those of `script_run::run`.
+pub fn run<R: Wait>(
+    rt: &R,
+    alloc: Global,
+    script: &Script,
+    stops: &Stops<'_>,
+    out: &mut Vec<u8>,
+) -> Result<bool, Fault> {
+    let stopped = run_operations(
+        rt,
+        alloc,
+        script,
+        stops.run.at_write,
+        stops.failing_call,
+        out,
+    )?;
+    let named = named_in(alloc, script)?;
+    judge_left(
+        alloc,
+        stopped.crash(stops.run.keep),
+        stops.opening,
+        &named,
+        out,
+    )
+}
+
+/// Runs a script as `run` does, and writes what its stop left to a device, before that is opened.
+///
+/// # Errors
+///
+/// Those of `script_run::run_copied`.
+pub fn run_copied<D: Device, R: Wait>(
+    rt: &R,
+    alloc: Global,
+    script: &Script,
+    stops: &Stops<'_>,
+    to: &mut D,
+    out: &mut Vec<u8>,
+) -> Result<bool, Fault> {
+    let stopped = run_operations(
+        rt,
+        alloc,
+        script,
+        stops.run.at_write,
+        stops.failing_call,
+        out,
+    )?;
+    let named = named_in(alloc, script)?;
+    let left = stopped.crash(stops.run.keep);
+    judge_copied(alloc, left, to, stops.opening, &named, out)
+}
+
+/// The blocks that a script names.
+fn named_in(alloc: Global, script: &Script) -> Result<NamedBlocks, JournalError> {
+    Ok(script.named_blocks(alloc)?)
+}
+
+/// Runs the operations of a script on an empty log, and prints a line for each. The device stops at write `stop`, or at the end; where
+/// `failing_call` is a call, that one fails.
+///
+/// # Errors
+///
+/// Those of `script_run::run_operations`.
+pub fn run_operations<R: Wait>(
+    rt: &R,
+    alloc: Global,
+    script: &Script,
+    stop: Option<u64>,
+    failing_call: Option<u64>,
+    out: &mut Vec<u8>,
+) -> Result<Stopped, Fault> {
+    let after = match failing_call {
+        Some(_) => AfterFailure::GoOn,
+        None => AfterFailure::End,
+    };
+    let opened = empty_log(alloc, &script.measures, stop, failing_call)?;
+    run_operations_over(rt, alloc, opened, &script.operations, after, stop, out)
+}
+
+/// Runs operations over an opened log, and prints a line for each.
+///
+/// # Errors
+///
+/// Those of `script_run::run_operations_over`.
+pub fn run_operations_over<R: Wait>(
+    rt: &R,
+    alloc: Global,
+    opened: Opened<RunDevice>,
+    operations: &[Operation],
+    after: AfterFailure,
+    stop: Option<u64>,
+    out: &mut Vec<u8>,
+) -> Result<Stopped, Fault> {
+    let done = done_on(rt, alloc, opened, operations, after, out)?;
+    let device = done.device.into_inner();
+    Ok(Stopped {
+        at_write: if device.is_stopped() { stop } else { None },
+        device: device.into_inner(),
+        recorded: done.recorded,
+    })
+}
+
+/// How many device calls a script's operations make, where the device does not stop and no call fails.
+///
+/// # Errors
+///
+/// Those of a run.
+pub fn calls_of_run<R: Wait>(rt: &R, alloc: Global, script: &Script) -> Result<u64, Fault> {
+    let opened = empty_log(alloc, &script.measures, None, None)?;
+    let mut out = Vec::new(alloc);
+    let operations = &script.operations;
+    let done = done_on(rt, alloc, opened, operations, AfterFailure::End, &mut out)?;
+    Ok(done.device.calls())
+}
+
+/// Does operations by a new journal on an opened log, and ends that as it is then.
+fn done_on<R: Wait>(
+    rt: &R,
+    alloc: Global,
+    opened: Opened<RunDevice>,
+    operations: &[Operation],
+    after: AfterFailure,
+    out: &mut Vec<u8>,
+) -> Result<Done, Fault> {
+    match lay(alloc, opened) {
+        Ok(laid) => done_by::<Brand, R>(rt, alloc, laid, operations, after, out),
+        Err((_, e)) => Err(Fault::Refused(e)),
+    }
+}
+
+/// The same by a journal that J names.
+fn done_by<J: JournalName, R: Wait>(
+    rt: &R,
+    alloc: Global,
+    laid: LaidJournal<RunDevice, Vec<Sealed>>,
+    operations: &[Operation],
+    after: AfterFailure,
+    out: &mut Vec<u8>,
+) -> Result<Done, Fault>
+    requires name { laid.name ≡ J.name }
+{
+    let (journal, seat) = laid.named::<J>();
+    let shown = perform(rt, alloc, &journal, seat, operations, after, out);
+    let parts = journal.into_single().into_parts();
+    Ok(Done {
+        device: parts.device,
+        recorded: Record {
+            sealed: parts.sealed,
+            acknowledged: shown?,
+        },
+    })
+}
+
+/// Does operations, and prints a line for each. The open handles that names stand for are stopped at the end. It answers the greatest
+/// transaction that was shown committed.
+fn perform<J: JournalName, R: Wait>(
+    rt: &R,
+    alloc: Global,
+    journal: &Journal<J, RunDevice, Vec<Sealed>>,
+    seat: Seat<J>,
+    operations: &[Operation],
+    after: AfterFailure,
+    out: &mut Vec<u8>,
+) -> Result<Option<Tid>, Fault> {
+    let mut interpreter = Interpreter::new(rt, alloc, journal, seat, operations)?;
+    let performed = perform_all(&mut interpreter, operations, after, out);
+    let shown = interpreter.finish();
+    match performed {
+        Ok(()) => Ok(shown),
+        Err(fault) => Err(fault),
+    }
+}
+
+/// Does operations up to the one that is the last, and prints a line for each.
+fn perform_all<J: JournalName, R: Wait>(
+    interpreter: &mut Interpreter<'_, J, R>,
+    operations: &[Operation],
+    after: AfterFailure,
+    out: &mut Vec<u8>,
+) -> Result<(), Fault> {
+    for operation in operations {
+        let outcome = interpreter.perform(operation);
+        write_line(operation, outcome, out)?;
+        if is_last(outcome, after) {
+            return Ok(());
+        }
+    }
+    Ok(())
+}
+
+/// Whether no operation is done behind one that came to this.
+fn is_last(outcome: Outcome, after: AfterFailure) -> bool {
+    after == AfterFailure::End && matches!(outcome, Outcome::Refused(JournalError::Device))
+}
