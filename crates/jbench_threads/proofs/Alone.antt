@@ -5,7 +5,7 @@ use Rattle.file_device.specs.Files.{FileContents}
 use Rattle.jbench_words.specs.declared.fault.Status.{Status}
 use Rattle.jbench_words.specs.declared.fault.Status.TheVariants.{Fine, VerdictFalse}
 use Rattle.jbench_words.specs.declared.words.Words.{Words}
-use Rattle.jbench_words.specs.declared.words.Words.TheVariants.{Run, Sweep, Check, Threads, Format, Dump, Show, Recover, Upgrade, Apply, Bench, Completions, Man}
+use Rattle.jbench_words.specs.declared.words.Words.TheVariants.{Run, Sweep, Check, Threads, Format, Dump, Cat, Show, Recover, Upgrade, Apply, Bench, Completions, Man}
 use Rattle.jbench_commands.specs.Obeying.{HasFoundWrong as HasFoundWrongAlone, HasObeyed as HasObeyedAlone}
 use Rattle.jbench_threads.specs.Obeying.{HasFoundWrong, HasObeyed}
 
@@ -16,7 +16,8 @@ obeyed first contents (Sweep words) did = did
 obeyed first contents (Check path) did = did
 obeyed first contents (Threads path) did = absurd did
 obeyed first contents (Format words) did = did
-obeyed first contents (Dump path) did = did
+obeyed first contents (Dump words) did = did
+obeyed first contents (Cat words) did = did
 obeyed first contents (Show path) did = did
 obeyed first contents (Recover words) did = did
 obeyed first contents (Upgrade path) did = did
@@ -32,7 +33,8 @@ found-wrong (Sweep words) found = found
 found-wrong (Check path) found = found
 found-wrong (Threads path) found = absurd found
 found-wrong (Format words) found = found
-found-wrong (Dump path) found = found
+found-wrong (Dump words) found = found
+found-wrong (Cat words) found = found
 found-wrong (Show path) found = found
 found-wrong (Recover words) found = found
 found-wrong (Upgrade path) found = found

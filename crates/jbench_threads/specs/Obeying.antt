@@ -3,7 +3,7 @@ use Rattle.std.specs.Prelude.{ℕ, List, Option}
 use Rattle.file_device.specs.Files.{FileContents, FileState, HasAgreed, file_state}
 use Rattle.commit_times.specs.Closed.{IsLeftClosed}
 use Rattle.jbench_words.specs.declared.words.Words.{Words}
-use Rattle.jbench_words.specs.declared.words.Words.TheVariants.{Run, Sweep, Check, Threads, Format, Dump, Show, Recover, Upgrade, Apply, Bench, Completions, Man}
+use Rattle.jbench_words.specs.declared.words.Words.TheVariants.{Run, Sweep, Check, Threads, Format, Dump, Cat, Show, Recover, Upgrade, Apply, Bench, Completions, Man}
 use Rattle.jbench_commands.specs.Obeying.{HasFoundWrong as HasFoundWrongAlone, HasObeyed as HasObeyedAlone}
 use Rattle.script_threads.specs.Runs.{HasFoundFalse, HasServed}
 
@@ -22,7 +22,8 @@ HasObeyed first contents (Sweep words) = HasObeyedAlone first contents (Sweep wo
 HasObeyed first contents (Check path) = HasObeyedAlone first contents (Check path)
 HasObeyed first contents (Threads path) = (text : Option (List ℕ)) × HasServed text
 HasObeyed first contents (Format words) = HasObeyedAlone first contents (Format words)
-HasObeyed first contents (Dump path) = HasObeyedAlone first contents (Dump path)
+HasObeyed first contents (Dump words) = HasObeyedAlone first contents (Dump words)
+HasObeyed first contents (Cat words) = HasObeyedAlone first contents (Cat words)
 HasObeyed first contents (Show path) = HasObeyedAlone first contents (Show path)
 HasObeyed first contents (Recover words) = HasObeyedAlone first contents (Recover words)
 HasObeyed first contents (Upgrade path) = HasObeyedAlone first contents (Upgrade path)
@@ -38,7 +39,8 @@ HasFoundWrong (Sweep words) = HasFoundWrongAlone (Sweep words)
 HasFoundWrong (Check path) = HasFoundWrongAlone (Check path)
 HasFoundWrong (Threads path) = (text : Option (List ℕ)) × HasFoundFalse text
 HasFoundWrong (Format words) = HasFoundWrongAlone (Format words)
-HasFoundWrong (Dump path) = HasFoundWrongAlone (Dump path)
+HasFoundWrong (Dump words) = HasFoundWrongAlone (Dump words)
+HasFoundWrong (Cat words) = HasFoundWrongAlone (Cat words)
 HasFoundWrong (Show path) = HasFoundWrongAlone (Show path)
 HasFoundWrong (Recover words) = HasFoundWrongAlone (Recover words)
 HasFoundWrong (Upgrade path) = HasFoundWrongAlone (Upgrade path)

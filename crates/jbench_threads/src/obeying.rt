@@ -8,7 +8,7 @@ use commit_times::{bench, threads as timed};
 use file_device::{Contents, FileDevice};
 use jbench_commands::obeying as alone;
 use jbench_commands::progress::Progress;
-use jbench_files::{device_of, open_pair, open_to_read};
+use jbench_files::{device_of, open_pair, open_text};
 use jbench_words::fault::{Status, refuse_file};
 use jbench_words::words::{BenchWords, Words};
 use std::io;
@@ -66,8 +66,8 @@ fn threads_file<T: Threads + Wait + Sync, W: Write + Drop, E: Write + Drop>(
     ensures wrong { IfOk result (λ status. status ≡ VerdictFalse → (text : Option (List ℕ)) × HasFoundFalse text) }
 {
     let mut err = err;
-    match open_to_read(rt, path) {
-        Ok(file) => script_threads::threads(threads, rt.alloc(), path, file.into_file(), out, err),
+    match open_text(rt, path) {
+        Ok(file) => script_threads::threads(threads, rt.alloc(), path, file.into_text(), out, err),
         Err(e) => refuse_file(&mut err, path, e),
     }
 }

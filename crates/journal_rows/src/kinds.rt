@@ -1,5 +1,5 @@
 //! What may be done with a row, by the name of its kind.
-use crate::{benches, commands};
+use crate::{benches, commands, views};
 use format_rows::RowError;
 use std::alloc::Global;
 
@@ -59,6 +59,7 @@ fn found_of_command(alloc: Global, kind: &str, given: &str) -> Option<Found> {
         "recover" => Some(commands::recover(alloc, given)),
         "run" => Some(commands::run(alloc, given)),
         "show" => Some(commands::show(alloc, given)),
+        "looked" => Some(views::looked(alloc, given)),
         "sweep" => Some(commands::sweep(alloc, given)),
         "upgrade" => Some(commands::upgrade(alloc, given)),
         "usages" => Some(commands::usages(alloc, given)),
