@@ -15,6 +15,8 @@ The rules are those of docs/FORMAT.md: bytes, the tests of an opening and their 
 import re
 import sys
 
+from refusals import refusal_lines
+
 MAGIC = 0xC03B3998
 DESCRIPTOR, COMMIT, SUPERBLOCK, REVOKE = 1, 2, 4, 5
 GREATEST = 0xFFFFFFF0
@@ -204,11 +206,16 @@ def tell_opening_calls(log, home_blocks):
     return "\n".join(["flush log"] + ([] if line.startswith("clean") else writes + ["flush home", "write log 0", "flush log"]))
 
 
+def told_refused(line):
+    """What a command says that is refused, as rows have it."""
+    return "".join(f"stderr: {told}\n" for told in refusal_lines(line.removeprefix("refusal ")).splitlines()) + "exit 1"
+
+
 def tell_recover(log, home_blocks):
     """What `recover` prints, and the first line of what it says."""
     line = opening(log, home_blocks)[0]
     if line.startswith("refusal"):
-        return f"stderr: jbench: {line}\nexit 1"
+        return told_refused(line)
     if line.startswith("recovered"):  # the number was written into the log, and the next opening finds none above it
         line = line.replace(f" next={GREATEST} ", " next=none ")
     return f"{line}\nexit 0"
@@ -216,7 +223,7 @@ def tell_recover(log, home_blocks):
 
 def tell_upgrade(log, _):
     line = upgrade(log)[0]
-    return f"stderr: jbench: {line}\nexit 1" if line.startswith("refusal") else f"{line}\nexit 0"
+    return told_refused(line) if line.startswith("refusal") else f"{line}\nexit 0"
 
 
 def tell_upgrades(log, home_blocks):

@@ -16,6 +16,7 @@ import sys
 from collections import Counter
 
 from killed_apply import Apply, Left
+from refusals import refusal_lines
 from runs import Difference, RandomScript, compare_all
 
 PLACES = 12  # of a script that has more operations
@@ -62,7 +63,7 @@ class Refusals:
             path.write_bytes(b"".join(apply.blocks(0)[area]))
         self.script.write_text(text)
         lines = "".join(f"{line}\n" for line in whole.lines[: refused + 1])
-        wanted = (1, lines, f"jbench: refusal {whole.lines[refused].partition(' = refused ')[2]}\n")
+        wanted = (1, lines, refusal_lines(whole.lines[refused].partition(" = refused ")[2]))
         found = self.jbench("apply", self.log, self.home, self.script)
         if found != wanted:
             raise Difference(f"script: {text}\nwanted: {wanted}\nfound: {found}")

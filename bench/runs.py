@@ -404,7 +404,11 @@ class Comparison:
                 f"found: exit {done.returncode}, messages {done.stderr!r}, and", done.stdout]))
 
     def compare_bad(self, text):
-        self.expect(1, "", "jbench: bad script\n", ["run", self.path("script", text)], text[:100000])
+        """A script that is none: two lines say so, and why. `check` has the same reason on one."""
+        path = self.path("script", text)
+        done = subprocess.run([str(self.program), "check", str(path)], capture_output=True, text=True)
+        why = done.stderr.removeprefix("jbench: bad script: ")
+        self.expect(1, "", f"jbench: bad script\n  {why}", ["run", path], text[:100000])
         self.cases["bad scripts"] += 1
 
     def compare(self, text, options, with_files=False):

@@ -18,6 +18,7 @@ ghost use Rattle.file_device.specs.Files.{FileContents, counted};
 
 use crate::ahead::{Ahead, MOST_BYTES, copy_block};
 use crate::calls::NotedFiles;
+use crate::failure::{FailedCall, Failure};
 use crate::gathered::Gathered;
 use crate::unmeasured::Unmeasured;
 use block_device::{Device, DeviceFault};
@@ -83,6 +84,7 @@ pub struct FileDevice<C: Contents> {
     calls_made: u64,
     ahead: Ahead,
     gathered: Gathered,
+    failure: Option<Failure>,
 }
 
 impl<C: Contents> Drop for FileDevice<C> {
@@ -101,6 +103,7 @@ impl<C: Contents> Drop for FileDevice<C> {
             calls_made: _,
             ahead: _,
             gathered: _,
+            failure: _,
         } = self;
     }
 }
@@ -186,7 +189,13 @@ impl<C: Contents> FileDevice<C> {
             calls_made: 0,
             ahead: Ahead::new(alloc),
             gathered: Gathered::new(alloc),
+            failure: None,
         })
+    }
+
+    /// The call of the system that failed last, where one did, as the system answered it.
+    pub fn failure(&self) -> Option<&Failure> {
+        self.failure.as_ref()
     }
 
     /// Notes that block `n` of the log is asked for. The answer is whether its reader goes on from block to block: it is near
@@ -274,7 +283,7 @@ impl<C: Contents> FileDevice<C> {
         let at = place_of(n, self.size, self.length(area));
         match self.files.read(area, at, into) {
             Ok(()) => Ok(()),
-            Err(_) => Err(self.fault()),
+            Err(error) => Err(self.fail_to_read(Failure::new(area, FailedCall::Read(at), error))),
         }
     }
 
@@ -337,7 +346,7 @@ impl<C: Contents> FileDevice<C> {
         let at = place_of(n, self.size, self.length(area));
         match self.files.write(area, at, bytes) {
             Ok(()) => Ok(()),
-            Err(_) => Err(self.fail()),
+            Err(error) => Err(self.fail(Failure::new(area, FailedCall::Write(at), error))),
         }
     }
 
@@ -361,7 +370,10 @@ impl<C: Contents> FileDevice<C> {
                 gathered.begin_at(gathered.area, gathered.first.saturating_add(gathered.count));
                 Ok(())
             }
-            Err(_) => Err(self.fail()),
+            Err(error) => {
+                let failure = Failure::new(gathered.area, FailedCall::Write(at), error);
+                Err(self.fail(failure))
+            }
         }
     }
 
@@ -396,11 +408,20 @@ impl<C: Contents> FileDevice<C> {
         Ok(())
     }
 
-    /// Counts a failure of a write or a flush, the last that is tried.
-    fn fail(&mut self) -> DeviceFault
+    /// Counts a failure of a write or a flush, the last that is tried, and keeps what the system answered.
+    fn fail(&mut self, failure: Failure) -> DeviceFault
         ensures { self.new ≡ record self.old { has_failed = true; faults = one_more_fault self.old.faults } }
     {
         self.has_failed = true;
+        self.failure = Some(failure);
+        self.fault()
+    }
+
+    /// Counts a failure of a read, and keeps what the system answered.
+    fn fail_to_read(&mut self, failure: Failure) -> DeviceFault
+        ensures { self.new ≡ record self.old { faults = one_more_fault self.old.faults } }
+    {
+        self.failure = Some(failure);
         self.fault()
     }
 
@@ -493,7 +514,7 @@ impl<C: Contents> Device for FileDevice<C> {
         self.ahead.count = 0;
         match self.files.sync(area) {
             Ok(()) => Ok(()),
-            Err(_) => Err(self.fail()),
+            Err(error) => Err(self.fail(Failure::new(area, FailedCall::Sync, error))),
         }
     }
 

@@ -8,6 +8,7 @@
 mod ahead;
 mod calls;
 mod device;
+mod failure;
 mod gathered;
 mod history;
 mod laws;
@@ -16,6 +17,7 @@ mod settling;
 mod unmeasured;
 
 pub use device::{Contents, FileDevice, UnknownContents};
+pub use failure::{FailedCall, Failure};
 pub use laws::{answers_that_agree_keep_the_premise, what_is_gathered_may_be_lost};
 pub use locks::{ReadLock, Unlocked, WriteLock, lock, lock_shared};
 pub use settling::settle;

@@ -1,5 +1,6 @@
 -- What a command did to a device over files.
 use Rattle.std.proofs.Common.{◌≡◌, List, Option, refl, subst, sym, ℕ}
+use Rattle.std.proofs.lemmas.Bool.{false≢true}
 use Rattle.std.specs.Prelude.{Bool, true, false, None, Some}
 use Rattle.block_device.specs.State.{DeviceState}
 use Rattle.file_device.specs.Files.{FileState}
@@ -9,12 +10,24 @@ use Rattle.jbench_logs.specs.Done.{IsFoundOut, IsRecovered, IsRecoveredBefore}
 use Rattle.jbench_words.specs.declared.words.LogPaths.{LogPaths}
 use Rattle.jbench_words.specs.declared.words.RunWords.{RunWords}
 use Rattle.script_run.specs.Left.{IsRunOf}
-use Rattle.jbench_commands.specs.Obeying.{IsOverTwo, Recovers}
+use Rattle.jbench_commands.specs.Obeying.{IsOverTwo, Recovers, over_told}
 use Rattle.jbench_commands.specs.Runs.{HasRun, IsRunWithImage, runs_told}
 
 -- a device over a pair is one over two files
 pub over-two : {L : Type 0} (files : LockedPair L) (device : FileState) → IsOver files.log.file.file files.home.file.file device → IsOverTwo device
 over-two files device over = record { log = files.log.file; home = files.home.file; apart = files.are_two; over = over }
+
+-- a home area that is kept is none that is not
+pub not-both : {P : Type 0} → true ≡ false → P
+not-both wrong = absurd (false≢true (sym wrong))
+
+-- and of new files where they had to be that
+pub over-told : {L : Type 0} (has_to_be_new keep_home : Bool) (files : LockedPair L) (device : FileState) → IsOver files.log.file.file files.home.file.file device
+    → (has_to_be_new ≡ true → files.log.file.is_made ≡ true) → (has_to_be_new ≡ true → keep_home ≡ false → files.home.file.is_made ≡ true)
+    → over_told has_to_be_new keep_home device
+over-told true keep_home files device over log home =
+    record { log = files.log.file; home = files.home.file; apart = files.are_two; over = over; log_is_made = log refl; home_is_made = home refl }
+over-told false keep_home files device over log home = over-two files device over
 
 -- what was done, by the options
 pub recovers : (dry_run before_damage : Bool) (old new : DeviceState) → (dry_run ≡ false → before_damage ≡ false → IsRecovered old new)

@@ -1,20 +1,19 @@
 -- What was done where a command ends with 0, as the words tell it.
-use Rattle.std.specs.declared.fs.File.{File}
 use Rattle.std.specs.Prelude.{◌≡◌, ⊤, ℕ, Bool, true, false, List, Option}
-use Rattle.journal_model.specs.Disk.{reading}
 use Rattle.journal_model.specs.Transaction.{History}
 use Rattle.block_device.specs.State.{DeviceState}
 use Rattle.file_device.specs.Files.{FileContents, FileState, HasAgreed, file_state}
-use Rattle.log_dump.specs.Dumping.{HasDump, shape_of}
 use Rattle.script_client.specs.Ended.{IsLeftClosed}
 use Rattle.jbench_words.specs.declared.words.ApplyWords.{ApplyWords}
 use Rattle.jbench_words.specs.declared.words.FormatWords.{FormatWords}
 use Rattle.jbench_words.specs.declared.words.Words.{Words}
-use Rattle.jbench_words.specs.declared.words.Words.TheVariants.{Run, Sweep, Check, Threads, Format, Dump, Show, Recover, Upgrade, Apply, Bench, Completions, Man}
+use Rattle.jbench_words.specs.declared.words.Words.TheVariants.{Run, Sweep, Check, Threads, Format, Dump, Cat, Show, Recover, Upgrade, Apply, Bench, Completions, Man}
 use Rattle.jbench_files.specs.Apart.{AreApart}
 use Rattle.jbench_files.specs.Cleared.{cleared, log_cleared}
 use Rattle.jbench_files.specs.Over.{IsOver}
 use Rattle.jbench_files.specs.declared.regular.RegularFile.{RegularFile}
+use Rattle.jbench_files.specs.declared.text.Text.{Text}
+use Rattle.jbench_views.specs.Looked.{HasDumped, HasLeft}
 use Rattle.jbench_logs.specs.Done.{HasUpgraded, IsFoundOut, IsMade, IsRecovered, IsRecoveredBefore}
 use Rattle.jbench_commands.specs.Applying.{IsDoneTo, after_told, ending_told}
 use Rattle.jbench_commands.specs.Runs.{HasRun, HasTakenEither, runs_told}
@@ -26,6 +25,20 @@ pub record IsOverTwo (device : FileState) : Type 0 where
   pub home : RegularFile
   pub apart : AreApart log home
   pub over : IsOver log.file home.file device
+
+-- and these files this program made: that of the log, and where the home area is not kept that of it too
+pub record IsOverNew (keep_home : Bool) (device : FileState) : Type 0 where
+  pub log : RegularFile
+  pub home : RegularFile
+  pub apart : AreApart log home
+  pub over : IsOver log.file home.file device
+  pub log_is_made : log.is_made ≡ true
+  pub home_is_made : keep_home ≡ false → home.is_made ≡ true
+
+-- which files a log is made of, as the words tell
+abbrev pub over_told : (has_to_be_new keep_home : Bool) → FileState → Type 0
+over_told true keep_home device = IsOverNew keep_home device
+over_told false keep_home device = IsOverTwo device
 
 -- this was done to a device over such files, which held this at first, where its reads were honest
 pub record IsDoneOver (first : FileContents) (Over : FileState → Type 0) (Did : DeviceState → DeviceState → Type 0) : Type 0 where
@@ -44,45 +57,46 @@ Recovers true before_damage old new = IsFoundOut before_damage old
 Recovers false true old new = IsRecoveredBefore old new
 Recovers false false old new = IsRecovered old new
 
--- what `format` did to a device over two files: they were cleared, or with a home area that is kept the log alone was, and a log was made
--- on them
+-- what `format` did to a device over two files, which had to be new where it was told so: they were cleared, or with a home area that is
+-- kept the log alone was, and a log was made on them
 abbrev pub to_format : (keep_home : Bool) → FileContents → FileContents
 to_format true first = log_cleared first
 to_format false first = cleared first
 
 abbrev pub IsFormatDone : FileContents → FormatWords → Type 0
 IsFormatDone first words =
-    IsDoneOver (to_format words.keep_home first) IsOverTwo (λ old new. IsMade words.measures.log_blocks words.measures.uuid words.measures.wide old new)
+    IsDoneOver (to_format words.keep_home first) (over_told words.has_to_be_new words.keep_home) (λ old new. IsMade words.measures.log_blocks words.measures.uuid words.measures.wide old new)
 
--- what reads of a file are to give, where that is known
-abbrev pub FileReads : Type 0
-FileReads = File → Option (List ℕ)
+-- what reads of a text are to give, where that is known
+abbrev pub TextReads : Type 0
+TextReads = Text → Option (List ℕ)
 
--- this was done with the text of a file: all that reads of it are to give
-abbrev pub IsOfFile : FileReads → (Did : Option (List ℕ) → Type 0) → Type 0
-IsOfFile reads Did = (script : RegularFile) × Did (reads script.file)
+-- this was done with the text of a file or a pipe that was opened: all that reads of it are to give
+abbrev pub IsOfText : TextReads → (Did : Option (List ℕ) → Type 0) → Type 0
+IsOfText reads Did = (script : Text) × Did (reads script)
 
 -- what `apply` did to a device over two files: all operations of its script's text were applied, and the journal was closed, where it was
 -- not told to stay
-pub record IsAppliedOver (first : FileContents) (reads : FileReads) (words : ApplyWords) (contents : Option (List ℕ)) : Type 0 where
-  pub script : RegularFile
+pub record IsAppliedOver (first : FileContents) (reads : TextReads) (words : ApplyWords) (contents : Option (List ℕ)) : Type 0 where
+  pub script : Text
   pub old : FileState
   pub over : IsOverTwo old
   pub left : FileState
   pub sealed : History
   pub shown : Option ℕ
-  pub done : IsDoneTo (file_state first) (HasAgreed first) old (reads script.file) (after_told words.keep_going) (ending_told words.stay) left sealed shown contents
+  pub done : IsDoneTo (file_state first) (HasAgreed first) old (reads script) (after_told words.keep_going) (ending_told words.stay) left sealed shown contents
   pub closed : words.stay ≡ false → HasAgreed first left → IsLeftClosed (file_state first left) sealed
 
 -- What was done by the command that the words name, over files of a log that held this at first, whose output has these contents at
--- first, where reads of other files give what is known of them: a script is that of a file. Commands that want threads are not done here.
-abbrev pub HasObeyed : (first : FileContents) → (reads : FileReads) → (contents : Option (List ℕ)) → Words → Type 0
-HasObeyed first reads contents (Run words) = IsOfFile reads (λ text. HasRun (runs_told words.image) text words true)
-HasObeyed first reads contents (Sweep words) = IsOfFile reads (λ text. HasSwept text words.fails 0)
-HasObeyed first reads contents (Check path) = IsOfFile reads HasTakenEither
+-- first, where reads of a text give what is known of them. Commands that want threads are not done here.
+abbrev pub HasObeyed : (first : FileContents) → (reads : TextReads) → (contents : Option (List ℕ)) → Words → Type 0
+HasObeyed first reads contents (Run words) = IsOfText reads (λ text. HasRun (runs_told words.image) text words true)
+HasObeyed first reads contents (Sweep words) = IsOfText reads (λ text. HasSwept text words.fails 0)
+HasObeyed first reads contents (Check path) = IsOfText reads HasTakenEither
 HasObeyed first reads contents (Threads path) = ⊥
 HasObeyed first reads contents (Format words) = IsFormatDone first words
-HasObeyed first reads contents (Dump path) = IsDoneOver first IsOverAny (λ old new. HasDump (shape_of old) (reading old.disk))
+HasObeyed first reads contents (Dump words) = IsDoneOver first IsOverAny (λ old new. HasDumped words.copy old)
+HasObeyed first reads contents (Cat words) = IsDoneOver first IsOverTwo (λ old new. HasLeft words.block old)
 HasObeyed first reads contents (Show path) = ⊤
 HasObeyed first reads contents (Recover words) = IsDoneOver first IsOverTwo (Recovers words.dry_run words.before_damage)
 HasObeyed first reads contents (Upgrade path) = IsDoneOver first IsOverAny HasUpgraded
@@ -98,7 +112,8 @@ HasFoundWrong (Sweep words) = ⊥
 HasFoundWrong (Check path) = ⊥
 HasFoundWrong (Threads path) = ⊥
 HasFoundWrong (Format words) = ⊥
-HasFoundWrong (Dump path) = ⊥
+HasFoundWrong (Dump words) = ⊥
+HasFoundWrong (Cat words) = ⊥
 HasFoundWrong (Show path) = ⊥
 HasFoundWrong (Recover words) = ⊥
 HasFoundWrong (Upgrade path) = ⊥

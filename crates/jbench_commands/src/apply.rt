@@ -16,6 +16,7 @@ ghost use Rattle.jbench_commands.specs.Applying.{AreForDevice, AreOf, EndsWithNe
 
 use crate::faults::of_run;
 use crate::run::read_text;
+use crate::uncommitted::{changes_in, say_uncommitted};
 use block_device::{Device, read_block};
 use jbench_logs::logs::{refuse, say_opened};
 use jbench_words::fault::{self, Fault};
@@ -79,9 +80,13 @@ pub fn apply<D: Device + Drop, R: Read + Drop, W: Write + Drop, E: Write + Drop>
             return Ok(Err(Unapplied::Unopened(device)));
         }
     };
+    let changes = changes_in(&prepared.operations);
     match recovery::open(alloc, device) {
         Ok(opened) => match apply_script(alloc, words, opened, prepared) {
-            Ok(left) => Ok(Ok(left)),
+            Ok(left) => {
+                say_uncommitted(words, changes, &left.sealed, &mut err)?;
+                Ok(Ok(left))
+            }
             Err((unapplied, fault)) => {
                 say_refused(words, fault, &mut err)?;
                 Ok(Err(unapplied))
@@ -92,6 +97,15 @@ pub fn apply<D: Device + Drop, R: Read + Drop, W: Write + Drop, E: Write + Drop>
             refuse(alloc, words.script, &mut device, e, &mut err)?;
             Ok(Err(Unapplied::Unopened(device)))
         }
+    }
+}
+
+/// The device that an apply leaves, whether all was done or not.
+pub fn device_of<D>(done: &Result<Performed<D>, Unapplied<D>>) -> &D {
+    match done {
+        Ok(left) => &left.device,
+        Err(Unapplied::Unopened(device)) | Err(Unapplied::Unbegun(device)) => device,
+        Err(Unapplied::Undone(left)) => &left.device,
     }
 }
 

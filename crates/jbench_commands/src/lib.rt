@@ -5,7 +5,7 @@
 //! Over the files of a log `apply` does a script's operations; the commands that need no more than a log are in `jbench_logs`. Over a
 //! script and a disk in memory: `run`, `sweep` and `check`; `image` has the files that take what a run leaves,
 //! and `object` has its lines as one object. `faults` says in a
-//! command's words why a run can't go on.
+//! command's words why a run can't go on, and `uncommitted` which changes no commit took.
 #![tactic(auto)]
 
 pub mod apply;
@@ -17,3 +17,4 @@ mod object;
 pub mod progress;
 pub mod run;
 pub mod sweep;
+mod uncommitted;

@@ -1,11 +1,10 @@
 //! Opens the files that the words name, and does what the words tell.
 ghost use Rattle.std.specs.Prelude.{◌≡◌, ◌≢◌, ◌↔◌, IfOk, IsOk, true};
-ghost use Rattle.journal_model.specs.Disk.{reading};
-ghost use Rattle.log_dump.specs.Dumping.{HasDump, shape_of};
 ghost use Rattle.jbench_words.specs.declared.fault.Status.TheVariants.{Fine, Refused, VerdictFalse};
 ghost use Rattle.jbench_files.specs.Cleared.{cleared, log_cleared};
 ghost use Rattle.jbench_logs.specs.Done.{HasUpgraded, IsMade};
-ghost use Rattle.jbench_commands.specs.Obeying.{HasFoundWrong, HasObeyed, IsAppliedOver, IsDoneOver, IsFormatDone, IsOfFile, IsOverAny, IsOverTwo, Recovers};
+ghost use Rattle.jbench_views.specs.Looked.{HasDumped, HasLeft};
+ghost use Rattle.jbench_commands.specs.Obeying.{HasFoundWrong, HasObeyed, IsAppliedOver, IsDoneOver, IsFormatDone, IsOfText, IsOverAny, IsOverTwo, Recovers, over_told};
 ghost use Rattle.jbench_commands.specs.Runs.{HasRun, HasTakenEither, runs_told};
 ghost use Rattle.jbench_commands.specs.Sweeps.{HasSwept};
 
@@ -14,19 +13,23 @@ use crate::progress::Progress;
 use crate::{apply, check, run, sweep};
 use file_device::{Contents, FileDevice};
 use jbench_files::{
-    LogPair, RegularFile, device_of, device_to_read, home_bytes, make_device, make_log_device,
-    open_log, open_log_to_write, open_or_make_log, open_or_make_pair, open_pair, open_pair_to_read,
-    open_script, open_to_read,
+    KeptPair, LogPair, RegularFile, Text, Unopened, device_before, device_of, device_to_read, home_bytes,
+    make_device, make_log, make_log_device, make_pair, open_log, open_log_to_write,
+    open_or_make_log, open_or_make_pair, open_pair, open_pair_to_read, open_script, open_text,
+    say_failure,
 };
+use jbench_help::{Shell, write_completions, write_manual};
+use jbench_logs::overwriting::say_overwritten;
 use jbench_logs::{logs, recovering, show};
-use jbench_words::completions::{Shell, write_completions};
+use jbench_views::{cat, dump};
 use jbench_words::fault::{self, Fault, Status, refuse_file};
-use jbench_words::manual::write_manual;
-use jbench_words::words::{ApplyWords, FormatWords, RecoverWords, RunWords, SweepWords, Words};
+use jbench_words::words::{
+    ApplyWords, CatWords, DumpWords, FormatWords, LogPaths, RecoverWords, RunWords, SweepWords, Words,
+};
 use journal_model::JournalError;
-use std::fs::File;
+use std::alloc::Global;
 use std::io;
-use std::io::{Read, Write};
+use std::io::{ErrorKind, Read, Write};
 
 /// Does what the words tell. `contents` says what is supposed of the files of a log. The commands `threads` and `bench` want threads,
 /// which are not to be had here: they are refused as for want of memory (`jbench_threads` has them).
@@ -37,7 +40,7 @@ pub fn obey<C: Contents, W: Write + Drop, E: Write + Drop>(
     out: W,
     err: E,
 ) -> io::Result<Status>
-    ensures done { IfOk result (λ status. status ≡ Fine → HasObeyed C.contents ⟦<File as Read>⟧.remaining (W.contents out) words.now) }
+    ensures done { IfOk result (λ status. status ≡ Fine → HasObeyed C.contents ⟦<Text as Read>⟧.remaining (W.contents out) words.now) }
     ensures wrong { IfOk result (λ status. status ≡ VerdictFalse → HasFoundWrong words.now) }
 {
     match words {
@@ -47,7 +50,8 @@ pub fn obey<C: Contents, W: Write + Drop, E: Write + Drop>(
         Words::Threads(path) => refuse_threads(path, err),
         Words::Bench(words) => refuse_threads(words.paths.log, err),
         Words::Format(words) => format_files(rt, contents, words, out, err),
-        Words::Dump(path) => dump_file(rt, contents, path, out, err),
+        Words::Dump(words) => dump_file(rt, contents, words, out, err),
+        Words::Cat(words) => cat_files(rt, contents, words, out, err),
         Words::Show(path) => show_file(rt, contents, path, out, err),
         Words::Recover(words) => recover_files(rt, contents, words, out, err),
         Words::Upgrade(path) => upgrade_file(rt, contents, path, out, err),
@@ -82,11 +86,11 @@ fn run_file<W: Write + Drop, E: Write + Drop>(
     out: W,
     err: E,
 ) -> io::Result<Status>
-    ensures done { IfOk result (λ status. status ≡ Fine → IsOfFile ⟦<File as Read>⟧.remaining (λ text. HasRun (runs_told words.now.image) text words.now true)) }
+    ensures done { IfOk result (λ status. status ≡ Fine → IsOfText ⟦<Text as Read>⟧.remaining (λ text. HasRun (runs_told words.now.image) text words.now true)) }
     ensures other { IfOk result (λ status. status ≢ Fine → status ≡ Refused) }
 {
     let mut err = err;
-    match open_to_read(rt, words.script) {
+    match open_text(rt, words.script) {
         Ok(script) => run_opened(rt, words, script, out, err),
         Err(e) => refuse_file(&mut err, words.script, e),
     }
@@ -100,18 +104,18 @@ fn run_opened<W: Write + Drop, E: Write + Drop>(
     out: W,
     err: E,
 ) -> io::Result<Status>
-    ensures done { IfOk result (λ status. status ≡ Fine → IsOfFile ⟦<File as Read>⟧.remaining (λ text. HasRun (runs_told words.now.image) text words.now true)) }
+    ensures done { IfOk result (λ status. status ≡ Fine → IsOfText ⟦<Text as Read>⟧.remaining (λ text. HasRun (runs_told words.now.image) text words.now true)) }
     ensures other { IfOk result (λ status. status ≢ Fine → status ≡ Refused) }
 {
     let mut err = err;
     let Some(image) = words.image else {
-        return run::run(rt.alloc(), words, script.into_file(), out, err);
+        return run::run(rt.alloc(), words, script.into_text(), out, err);
     };
     match open_or_make_pair(rt, image, Some(&script)) {
         Ok(files) => {
             let alloc = rt.alloc();
             let image = ImageFiles { alloc, files };
-            run::run_with_image(alloc, words, script.into_file(), image, out, err)
+            run::run_with_image(alloc, words, script.into_text(), image, out, err)
         }
         Err(unopened) => unopened.refuse(&mut err),
     }
@@ -124,15 +128,15 @@ fn sweep_file<W: Write + Drop, E: Write + Drop>(
     out: W,
     err: E,
 ) -> io::Result<Status>
-    ensures done { IfOk result (λ status. status ≡ Fine → IsOfFile ⟦<File as Read>⟧.remaining (λ text. HasSwept text words.now.fails 0)) }
+    ensures done { IfOk result (λ status. status ≡ Fine → IsOfText ⟦<Text as Read>⟧.remaining (λ text. HasSwept text words.now.fails 0)) }
     ensures other { IfOk result (λ status. status ≢ Fine → status ≡ Refused) }
 {
     let mut err = err;
-    match open_to_read(rt, words.script) {
+    match open_text(rt, words.script) {
         Ok(file) => sweep::sweep(
             rt.alloc(),
             words,
-            file.into_file(),
+            file.into_text(),
             Progress::new(rt),
             out,
             err,
@@ -148,12 +152,12 @@ fn check_file<W: Write + Drop, E: Write + Drop>(
     out: W,
     err: E,
 ) -> io::Result<Status>
-    ensures done { IfOk result (λ status. status ≡ Fine → IsOfFile ⟦<File as Read>⟧.remaining HasTakenEither) }
+    ensures done { IfOk result (λ status. status ≡ Fine → IsOfText ⟦<Text as Read>⟧.remaining HasTakenEither) }
     ensures other { IfOk result (λ status. status ≢ Fine → status ≡ Refused) }
 {
     let mut err = err;
-    match open_to_read(rt, path) {
-        Ok(file) => check::check(rt.alloc(), path, file.into_file(), out, err),
+    match open_text(rt, path) {
+        Ok(file) => check::check(rt.alloc(), path, file.into_text(), out, err),
         Err(e) => refuse_file(&mut err, path, e),
     }
 }
@@ -192,14 +196,15 @@ fn format_both<C: Contents, W: Write + Drop, E: Write + Drop>(
     out: W,
     err: E,
 ) -> io::Result<Status>
-    ensures done { IfOk result (λ status. status ≡ Fine → IsDoneOver (cleared C.contents) IsOverTwo (λ old new. IsMade words.now.measures.log_blocks words.now.measures.uuid words.now.measures.wide old new)) }
+    ensures done { IfOk result (λ status. status ≡ Fine → IsDoneOver (cleared C.contents) (over_told words.now.has_to_be_new false) (λ old new. IsMade words.now.measures.log_blocks words.now.measures.uuid words.now.measures.wide old new)) }
     ensures other { IfOk result (λ status. status ≢ Fine → status ≡ Refused) }
 {
     let mut err = err;
-    let files = match open_or_make_pair(rt, words.paths, None) {
+    let files = match open_both_told(rt, words) {
         Ok(files) => files,
         Err(unopened) => return unopened.refuse(&mut err),
     };
+    say_before(rt.alloc(), words, &files, &mut err)?;
     match make_device(rt.alloc(), contents, &words.measures, files) {
         Ok(device) => format_device(words, device, out, err),
         Err(unmade) => unmade.refuse(words.paths, &mut err),
@@ -214,17 +219,58 @@ fn format_log<C: Contents, W: Write + Drop, E: Write + Drop>(
     out: W,
     err: E,
 ) -> io::Result<Status>
-    ensures done { IfOk result (λ status. status ≡ Fine → IsDoneOver (log_cleared C.contents) IsOverTwo (λ old new. IsMade words.now.measures.log_blocks words.now.measures.uuid words.now.measures.wide old new)) }
+    ensures done { IfOk result (λ status. status ≡ Fine → IsDoneOver (log_cleared C.contents) (over_told words.now.has_to_be_new true) (λ old new. IsMade words.now.measures.log_blocks words.now.measures.uuid words.now.measures.wide old new)) }
     ensures other { IfOk result (λ status. status ≢ Fine → status ≡ Refused) }
 {
     let mut err = err;
-    let files = match open_or_make_log(rt, words.paths, home_bytes(&words.measures)) {
+    let files = match open_log_told(rt, words) {
         Ok(files) => files,
         Err(unopened) => return unopened.refuse(&mut err),
     };
+    say_before(rt.alloc(), words, files.pair(), &mut err)?;
     match make_log_device(rt.alloc(), contents, &words.measures, files) {
         Ok(device) => format_device(words, device, out, err),
         Err(unmade) => unmade.refuse(words.paths, &mut err),
+    }
+}
+
+/// Opens the two files of a log that is to be made, which have to be new where the words tell so.
+fn open_both_told<'a>(rt: &HostRuntime, words: &FormatWords<'a>) -> Result<LogPair, Unopened<'a>>
+    ensures { IfOk result (λ pair. words.now.has_to_be_new ≡ true → (pair.log.file.is_made ≡ true) × (pair.home.file.is_made ≡ true)) }
+{
+    if words.has_to_be_new {
+        make_pair(rt, words.paths)
+    } else {
+        open_or_make_pair(rt, words.paths, None)
+    }
+}
+
+/// Opens the file of a log that is to be made, which has to be new where the words tell so, and of a home area that is kept.
+fn open_log_told<'a>(rt: &HostRuntime, words: &FormatWords<'a>) -> Result<KeptPair, Unopened<'a>>
+    ensures { IfOk result (λ kept. words.now.has_to_be_new ≡ true → kept.pair.log.file.is_made ≡ true) }
+{
+    let bytes = home_bytes(&words.measures);
+    if words.has_to_be_new {
+        make_log(rt, words.paths, bytes)
+    } else {
+        open_or_make_log(rt, words.paths, bytes)
+    }
+}
+
+/// Says what the file of a log holds that is about to be made anew, where it holds anything.
+fn say_before<E: Write>(
+    alloc: Global,
+    words: &FormatWords<'_>,
+    files: &LogPair,
+    err: &mut E,
+) -> io::Result<()> {
+    if files.is_log_empty()? {
+        return Ok(());
+    }
+    match device_before(alloc, files) {
+        Ok(mut device) => say_overwritten(alloc, words.paths.log, &mut device, err),
+        Err(e) if e.kind() == ErrorKind::OutOfMemory => Err(e),
+        Err(_) => Ok(()),
     }
 }
 
@@ -235,11 +281,14 @@ fn format_device<C: Contents, W: Write + Drop, E: Write + Drop>(
     out: W,
     err: E,
 ) -> io::Result<Status>
-    ensures made { IfOk result (λ status. status ≡ Fine → IsOverTwo device → IsDoneOver C.contents IsOverTwo (λ old new. IsMade words.now.measures.log_blocks words.now.measures.uuid words.now.measures.wide old new)) }
+    ensures made { IfOk result (λ status. status ≡ Fine → (keep_home : Bool) → over_told words.now.has_to_be_new keep_home device →
+        IsDoneOver C.contents (over_told words.now.has_to_be_new keep_home) (λ old new. IsMade words.now.measures.log_blocks words.now.measures.uuid words.now.measures.wide old new)) }
     ensures other { IfOk result (λ status. status ≢ Fine → status ≡ Refused) }
 {
-    let mut device = device;
-    logs::format(words.paths.log, &words.measures, &mut device, out, err)
+    let (mut device, mut err) = (device, err);
+    let status = logs::format(words.paths.log, &words.measures, &mut device, out, &mut err)?;
+    say_failure(&device, words.paths, &mut err)?;
+    Ok(status)
 }
 
 /// Opens a log in two files, both of which are opened before either is read; or says what that would do.
@@ -259,7 +308,7 @@ fn recover_files<C: Contents, W: Write + Drop, E: Write + Drop>(
     let mut err = err;
     let files = match open_pair(rt, words.paths) {
         Ok(files) => files,
-        Err(unopened) => return refuse_file(&mut err, unopened.path, unopened.error),
+        Err(unopened) => return unopened.refuse(&mut err),
     };
     match device_of(rt.alloc(), contents, files) {
         Ok(device) => recover_device(rt, words, device, out, err),
@@ -278,16 +327,17 @@ fn recover_device<C: Contents, W: Write + Drop, E: Write + Drop>(
     ensures done { IfOk result (λ status. status ≡ Fine → IsOverTwo device → IsDoneOver C.contents IsOverTwo (Recovers words.now.dry_run words.now.before_damage)) }
     ensures other { IfOk result (λ status. status ≢ Fine → status ≡ Refused) }
 {
-    let mut out = out;
+    let (mut out, mut err) = (out, err);
     let progress = Progress::new(rt);
-    let (status, _device) = recovering::recover(
+    let (status, left) = recovering::recover(
         rt.alloc(),
         words,
         device,
         progress,
         &mut out,
-        err,
+        &mut err,
     )?;
+    say_failure(&left, words.paths, &mut err)?;
     Ok(status)
 }
 
@@ -305,7 +355,7 @@ fn plan_files<C: Contents, W: Write + Drop, E: Write + Drop>(
     let mut err = err;
     let files = match open_pair_to_read(rt, words.paths) {
         Ok(files) => files,
-        Err(unopened) => return refuse_file(&mut err, unopened.path, unopened.error),
+        Err(unopened) => return unopened.refuse(&mut err),
     };
     match device_to_read(rt.alloc(), contents, files) {
         Ok(device) => recover_device(rt, words, device, out, err),
@@ -321,13 +371,13 @@ fn apply_files<C: Contents, W: Write + Drop, E: Write + Drop>(
     out: W,
     err: E,
 ) -> io::Result<Status>
-    ensures done { IfOk result (λ status. status ≡ Fine → IsAppliedOver C.contents ⟦<File as Read>⟧.remaining words.now (W.contents out)) }
+    ensures done { IfOk result (λ status. status ≡ Fine → IsAppliedOver C.contents ⟦<Text as Read>⟧.remaining words.now (W.contents out)) }
     ensures other { IfOk result (λ status. status ≢ Fine → status ≡ Refused) }
 {
     let mut err = err;
     let files = match open_pair(rt, words.paths) {
         Ok(files) => files,
-        Err(unopened) => return refuse_file(&mut err, unopened.path, unopened.error),
+        Err(unopened) => return unopened.refuse(&mut err),
     };
     match open_script(rt, words.script, &files) {
         Ok(script) => apply_opened(rt, contents, words, files, script, out, err),
@@ -345,13 +395,14 @@ fn apply_opened<C: Contents, W: Write + Drop, E: Write + Drop>(
     out: W,
     err: E,
 ) -> io::Result<Status>
-    ensures done { IfOk result (λ status. status ≡ Fine → IsAppliedOver C.contents ⟦<File as Read>⟧.remaining words.now (W.contents out)) }
+    ensures done { IfOk result (λ status. status ≡ Fine → IsAppliedOver C.contents ⟦<Text as Read>⟧.remaining words.now (W.contents out)) }
     ensures other { IfOk result (λ status. status ≢ Fine → status ≡ Refused) }
 {
     let mut err = err;
     match device_of(rt.alloc(), contents, files) {
         Ok(device) => {
-            let done = apply::apply(rt.alloc(), words, device, script.into_file(), out, err)?;
+            let done = apply::apply(rt.alloc(), words, device, script.into_text(), out, &mut err)?;
+            say_failure(apply::device_of(&done), words.paths, &mut err)?;
             Ok(status_of_all(&done))
         }
         Err(e) => refuse_file(&mut err, words.paths.log, e),
@@ -369,21 +420,56 @@ fn status_of_all<T, U>(done: &Result<T, U>) -> Status
     }
 }
 
-/// Prints the log in a file.
+/// Prints the log in a file, or one of its copies.
 fn dump_file<C: Contents, W: Write + Drop, E: Write + Drop>(
     rt: &HostRuntime,
     contents: C,
-    path: &str,
+    words: &DumpWords<'_>,
     out: W,
     err: E,
 ) -> io::Result<Status>
-    ensures done { IfOk result (λ status. status ≡ Fine → IsDoneOver C.contents IsOverAny (λ old new. HasDump (shape_of old) (reading old.disk))) }
+    ensures done { IfOk result (λ status. status ≡ Fine → IsDoneOver C.contents IsOverAny (λ old new. HasDumped words.now.copy old)) }
     ensures other { IfOk result (λ status. status ≢ Fine → status ≡ Refused) }
 {
     let mut err = err;
-    match open_log(rt.alloc(), contents, rt, path) {
-        Ok(mut device) => logs::dump(rt.alloc(), path, &mut device, out, err),
-        Err(e) => refuse_file(&mut err, path, e),
+    match open_log(rt.alloc(), contents, rt, words.log) {
+        Ok(mut device) => {
+            let status = dump(rt.alloc(), words, &mut device, out, &mut err)?;
+            say_failure(&device, lone(words.log), &mut err)?;
+            Ok(status)
+        }
+        Err(e) => refuse_file(&mut err, words.log, e),
+    }
+}
+
+/// The path of a log without a home area.
+fn lone(log: &str) -> LogPaths<'_> {
+    LogPaths { log, home: "" }
+}
+
+/// Prints a block as an opening of a log in two files would leave it. Both are opened to be read alone.
+fn cat_files<C: Contents, W: Write + Drop, E: Write + Drop>(
+    rt: &HostRuntime,
+    contents: C,
+    words: &CatWords<'_>,
+    out: W,
+    err: E,
+) -> io::Result<Status>
+    ensures done { IfOk result (λ status. status ≡ Fine → IsDoneOver C.contents IsOverTwo (λ old new. HasLeft words.now.block old)) }
+    ensures other { IfOk result (λ status. status ≢ Fine → status ≡ Refused) }
+{
+    let (mut out, mut err) = (out, err);
+    let files = match open_pair_to_read(rt, words.paths) {
+        Ok(files) => files,
+        Err(unopened) => return unopened.refuse(&mut err),
+    };
+    match device_to_read(rt.alloc(), contents, files) {
+        Ok(mut device) => {
+            let status = cat(rt.alloc(), words, &mut device, &mut out, &mut err)?;
+            say_failure(&device, words.paths, &mut err)?;
+            Ok(status)
+        }
+        Err(e) => refuse_file(&mut err, words.paths.log, e),
     }
 }
 
@@ -400,12 +486,16 @@ fn upgrade_file<C: Contents, W: Write + Drop, E: Write + Drop>(
 {
     let mut err = err;
     match open_log_to_write(rt.alloc(), contents, rt, path) {
-        Ok(mut device) => logs::upgrade(rt.alloc(), path, &mut device, out, err),
+        Ok(mut device) => {
+            let status = logs::upgrade(rt.alloc(), path, &mut device, out, &mut err)?;
+            say_failure(&device, lone(path), &mut err)?;
+            Ok(status)
+        }
         Err(e) => refuse_file(&mut err, path, e),
     }
 }
 
-/// Prints the superblock of the log in a file.
+/// Prints the superblock of the log in a file, and how much of its ring is used.
 fn show_file<C: Contents, W: Write + Drop, E: Write + Drop>(
     rt: &HostRuntime,
     contents: C,
@@ -417,7 +507,11 @@ fn show_file<C: Contents, W: Write + Drop, E: Write + Drop>(
 {
     let mut err = err;
     match open_log(rt.alloc(), contents, rt, path) {
-        Ok(mut device) => show::show(rt.alloc(), path, &mut device, out, err),
+        Ok(mut device) => {
+            let status = show::show(rt.alloc(), path, &mut device, out, &mut err)?;
+            say_failure(&device, lone(path), &mut err)?;
+            Ok(status)
+        }
         Err(e) => refuse_file(&mut err, path, e),
     }
 }

@@ -272,6 +272,27 @@ pub fn device_before<L: Drop>(
     log_in(alloc, UnknownContents, files.log_again()?)
 }
 
+/// Says on `err` which call on a file of this device failed last, where one did: on which file, from which byte on, and what the system
+/// answered. `paths` names the files.
+///
+/// # Errors
+///
+/// The line can't be written.
+pub fn say_failure<C: Contents>(
+    device: &FileDevice<C>,
+    paths: LogPaths<'_>,
+    err: &mut impl Write,
+) -> io::Result<()> {
+    let Some(failure) = device.failure() else {
+        return Ok(());
+    };
+    let path = match failure.area {
+        Area::Log => paths.log,
+        Area::Home => paths.home,
+    };
+    writeln!(err, "  {path}: {failure}")
+}
+
 /// How many bytes the home area of these measures has, or 2^64 - 1 where it has more.
 pub fn home_bytes(measures: &Measures) -> u64
     ensures { result ≡ min (measures.now.home_blocks * measures.now.block_size) (2 ^ 64 - 1) }

@@ -5,8 +5,8 @@ ghost use Rattle.jbench_words.specs.declared.fault.Status.TheVariants.{Refused};
 
 use crate::locked::{LockedFile, require_name, take, take_shared};
 use crate::regular::{
-    Made, Named, RegularFile, Unclaimed, given_twice, make, open_there, open_to_read, require_kept,
-    require_place, sync_folders,
+    Made, Named, RegularFile, Unclaimed, given_twice, make, open_text, open_there, open_to_read,
+    require_kept, require_place, sync_folders,
 };
 use file_device::{ReadLock, WriteLock};
 use jbench_words::fault::{Status, refuse_file};
@@ -239,11 +239,11 @@ fn path_of(made: Option<Made<'_>>) -> Option<&str> {
     }
 }
 
-/// Opens a script to be read, which is neither file of this log.
+/// Opens a script to be read, as `open_text` does, which is neither file of this log.
 ///
 /// # Errors
 ///
-/// There is no regular file of this path, it can't be read, or it is a file of the log.
+/// There is no file of a script of this path, it can't be read, or it is a file of the log.
 pub fn open_script<R: Files<File = File>>(
     rt: &R,
     path: &str,
@@ -251,7 +251,7 @@ pub fn open_script<R: Files<File = File>>(
 ) -> io::Result<RegularFile>
     ensures { IfOk result (λ script. AreApart files.now.log.file script × AreApart files.now.home.file script) }
 {
-    let script = open_to_read(rt, path)?.other_than(files.log.file())?;
+    let script = open_text(rt, path)?.other_than(files.log.file())?;
     script.other_than(files.home.file())
 }
 

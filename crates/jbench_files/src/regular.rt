@@ -3,9 +3,10 @@ ghost use Rattle.std.specs.Prelude.{◌≡◌, ◌≤◌, ◌↔◌, false, true
 ghost use Rattle.std.specs.Fs.{asks_create_new, asks_truncate, metadata_len};
 ghost use Rattle.jbench_files.specs.Apart.{AreApart};
 
+use crate::text::Text;
 use std::fs::{File, Files, Metadata, OpenOptions};
 use std::io::ErrorKind;
-use std::os::unix::fs::MetadataExt;
+use std::os::unix::fs::{FileTypeExt, MetadataExt};
 use std::path::Path;
 use std::{fs, io};
 
@@ -26,7 +27,7 @@ impl Identity {
     }
 }
 
-/// An open regular file, and which one it is.
+/// An open regular file, and which one it is. That of a script may be a pipe.
 #[derive(Drop)]
 pub struct RegularFile {
     pub(crate) file: File,
@@ -100,6 +101,11 @@ impl RegularFile {
         }
     }
 
+    /// The text that is read from it, as a script's.
+    pub fn into_text(self) -> Text {
+        Text::new(self.file)
+    }
+
     /// The file.
     pub fn into_file(self) -> File
         ensures { result ≡ self.file }
@@ -121,6 +127,9 @@ fn require_length(metadata: &Metadata, bytes: u64) -> io::Result<()>
         Ok(())
     }
 }
+
+/// Where the system has the program's standard input.
+const STANDARD_INPUT: &str = "/dev/stdin";
 
 /// A file that was not there before this program made it, by its path. `make` alone makes one. It can't be dropped, so a command that
 /// is refused says that the file stays. No file is ever taken away: another program may have it by then, and a log in it.
@@ -209,6 +218,35 @@ pub(crate) fn given_twice() -> io::Error {
 pub fn open_to_read<R: Files<File = File>>(rt: &R, path: &str) -> io::Result<RegularFile> {
     require_regular(rt, path)?;
     open_as(rt, OpenOptions::new().read(true), path)
+}
+
+/// Opens a script to be read: a regular file, a pipe, or standard input where the path is `-`.
+///
+/// # Errors
+///
+/// There is no such file, or it can't be read.
+pub fn open_text<R: Files<File = File>>(rt: &R, path: &str) -> io::Result<RegularFile> {
+    let is_input = path == "-";
+    let place = if is_input { STANDARD_INPUT } else { path };
+    require_text(&fs::metadata(rt, place)?, is_input)?;
+    let file = OpenOptions::new().read(true).open(rt, place)?;
+    let identity = Identity::of(&file.metadata()?);
+    Ok(RegularFile {
+        file,
+        identity,
+        is_made: false,
+    })
+}
+
+/// Fails where a file of which this is told holds no script: it is neither a regular one nor a pipe, nor standard input of any kind but
+/// a folder.
+fn require_text(metadata: &Metadata, is_input: bool) -> io::Result<()> {
+    let is_taken = metadata.is_file() || metadata.file_type().is_fifo();
+    if is_taken || is_input && !metadata.is_dir() {
+        Ok(())
+    } else {
+        Err(no_regular_file())
+    }
 }
 
 /// Opens a file to be read and written, which has to be a regular one. What it holds stays.

@@ -1,10 +1,10 @@
 //! What a log holds that is about to be overwritten.
 ghost use Rattle.block_device.specs.State.{Stays};
 
-use crate::reasons::read_log;
 use block_device::Device;
 use journal_model::{Area, JournalError};
 use log_scan::{ChainEnd, Finder, find_end};
+use log_views::read_log;
 use std::alloc::Global;
 use std::io;
 use std::io::{ErrorKind, Write};

@@ -1,13 +1,13 @@
 //! Why a log is refused, where its refusal does not say it: a home area that is too short for the log, or a file that is.
-ghost use Rattle.std.specs.Prelude.{◌≡◌, IfOk, length};
+ghost use Rattle.std.specs.Prelude.{◌≡◌, length};
 ghost use Rattle.block_device.specs.Call.{OnlyReads};
-ghost use Rattle.log_format.specs.Accepted.{IsAccepted};
 
 use crate::ways_out::say_length;
 use block_device::{Device, read_block};
 use journal_model::{Area, JournalError};
 use log_format::Super;
-use log_scan::{Finder, Log, scan};
+use log_scan::{Finder, scan};
+use log_views::read_log;
 use std::alloc::Global;
 use std::io;
 use std::io::Write;
@@ -87,18 +87,4 @@ fn is_whole_without_home<D: Device>(
         Err(e) => Err(e),
         Ok(_) => Ok(true),
     }
-}
-
-/// Reads and tests the superblock.
-pub(crate) fn read_log<D: Device>(alloc: Global, device: &mut D) -> Result<Log, JournalError>
-    ensures accepted { IfOk result (λ log. IsAccepted (D.state device.old).shape.block_size (D.state device.old).shape.log_blocks log) }
-    ensures device { OnlyReads D.state D.honest device.old device.new }
-{
-    let log_blocks = device.blocks(Area::Log);
-    if log_blocks == 0 {
-        return Err(JournalError::BadLength);
-    }
-    let superblock = read_block(alloc, device, Area::Log, 0)?;
-    let fields = Super::read(superblock.bytes(), log_blocks)?;
-    Ok(Log::new(fields))
 }

@@ -17,6 +17,7 @@ use journal_model::layout::{GREATEST_LENGTH, LEAST_LENGTH, MAGIC, SUPER_TYPE};
 use journal_model::{Area, Block, JournalError};
 use journal_script::is_block_size;
 use log_format::Super;
+use log_views::{RingUse, ring_use};
 use std::alloc::Global;
 use std::io::Write;
 use std::{fmt, io};
@@ -37,7 +38,7 @@ impl fmt::Display for Hex<'_> {
     }
 }
 
-/// Prints the superblock of the log of a device, and whether an opening takes it. `path` names the log's file. The device is read, and
+/// Prints the superblock of the log of a device, whether an opening takes it, and where one does how much of the ring is used. `path` names the log's file. The device is read, and
 /// stays as it was. Where the log has no whole block, or it can't be read, nothing is printed, and lines on `err` say so.
 ///
 /// # Errors
@@ -60,7 +61,7 @@ pub fn show<D: Device, W: Write + Drop, E: Write + Drop>(
     }
 }
 
-/// Prints the superblock of the log of a device.
+/// Prints the superblock of the log of a device, and how much of its ring is used.
 fn show_device<D: Device, W: Write>(alloc: Global, device: &mut D, out: &mut W) -> Result<(), Fault>
     ensures { Stays (D.state device.old) (D.state device.new) }
 {
@@ -72,7 +73,48 @@ fn show_device<D: Device, W: Write>(alloc: Global, device: &mut D, out: &mut W) 
     }
     let standing = standing_of(alloc, device, bytes)?;
     show_superblock(bytes, blocks, standing, out)?;
-    Ok(())
+    show_ring(alloc, device, out)
+}
+
+/// Prints how much of the ring of a log is used, where its superblock is taken.
+fn show_ring<D: Device, W: Write>(alloc: Global, device: &mut D, out: &mut W) -> Result<(), Fault>
+    ensures { Stays (D.state device.old) (D.state device.new) }
+{
+    match ring_use(alloc, device) {
+        Ok(ring) => {
+            say_ring(ring, out)?;
+            Ok(())
+        }
+        Err(e) if e == JournalError::Device || e == JournalError::Memory => Err(Fault::Refused(e)),
+        Err(_) => Ok(()),
+    }
+}
+
+/// Says how many blocks of a ring are used and free, the oldest and the newest transaction there, and the damaged block after them.
+fn say_ring(ring: RingUse, out: &mut impl Write) -> io::Result<()> {
+    let RingUse {
+        blocks,
+        used,
+        first,
+        end,
+    } = ring;
+    let (free, transactions) = (blocks.saturating_sub(used), end.transactions);
+    write!(
+        out,
+        "ring blocks={blocks} used={used} free={free} transactions={transactions}"
+    )?;
+    if transactions > 0 {
+        let newest = first.saturating_add(transactions).saturating_sub(1);
+        write!(out, " oldest={first} newest={newest}")?;
+    }
+    writeln!(out)?;
+    match end.damaged {
+        Some(place) => writeln!(
+            out,
+            "  block {place} is damaged: jbench dump LOG --damaged prints the transactions before it"
+        ),
+        None => Ok(()),
+    }
 }
 
 /// Reads block 0 of the log.

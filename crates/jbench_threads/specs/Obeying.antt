@@ -3,8 +3,8 @@ use Rattle.std.specs.Prelude.{ℕ, List, Option}
 use Rattle.file_device.specs.Files.{FileContents, FileState, HasAgreed, file_state}
 use Rattle.commit_times.specs.Closed.{IsLeftClosed}
 use Rattle.jbench_words.specs.declared.words.Words.{Words}
-use Rattle.jbench_words.specs.declared.words.Words.TheVariants.{Run, Sweep, Check, Threads, Format, Dump, Show, Recover, Upgrade, Apply, Bench, Completions, Man}
-use Rattle.jbench_commands.specs.Obeying.{FileReads, IsOfFile, HasFoundWrong as HasFoundWrongAlone, HasObeyed as HasObeyedAlone}
+use Rattle.jbench_words.specs.declared.words.Words.TheVariants.{Run, Sweep, Check, Threads, Format, Dump, Cat, Show, Recover, Upgrade, Apply, Bench, Completions, Man}
+use Rattle.jbench_commands.specs.Obeying.{TextReads, IsOfText, HasFoundWrong as HasFoundWrongAlone, HasObeyed as HasObeyedAlone}
 use Rattle.script_threads.specs.Runs.{HasFoundFalse, HasServed}
 
 -- what `bench` left of its device: its journal was closed
@@ -16,13 +16,14 @@ pub record IsBenchDone (first : FileContents) : Type 0 where
   pub closed : IsBenchLeft first left
 
 -- what was done by the command that the words name: a command that starts no threads did what it does alone
-abbrev pub HasObeyed : (first : FileContents) → (reads : FileReads) → (contents : Option (List ℕ)) → Words → Type 0
+abbrev pub HasObeyed : (first : FileContents) → (reads : TextReads) → (contents : Option (List ℕ)) → Words → Type 0
 HasObeyed first reads contents (Run words) = HasObeyedAlone first reads contents (Run words)
 HasObeyed first reads contents (Sweep words) = HasObeyedAlone first reads contents (Sweep words)
 HasObeyed first reads contents (Check path) = HasObeyedAlone first reads contents (Check path)
-HasObeyed first reads contents (Threads path) = IsOfFile reads HasServed
+HasObeyed first reads contents (Threads path) = IsOfText reads HasServed
 HasObeyed first reads contents (Format words) = HasObeyedAlone first reads contents (Format words)
-HasObeyed first reads contents (Dump path) = HasObeyedAlone first reads contents (Dump path)
+HasObeyed first reads contents (Dump words) = HasObeyedAlone first reads contents (Dump words)
+HasObeyed first reads contents (Cat words) = HasObeyedAlone first reads contents (Cat words)
 HasObeyed first reads contents (Show path) = HasObeyedAlone first reads contents (Show path)
 HasObeyed first reads contents (Recover words) = HasObeyedAlone first reads contents (Recover words)
 HasObeyed first reads contents (Upgrade path) = HasObeyedAlone first reads contents (Upgrade path)
@@ -32,13 +33,14 @@ HasObeyed first reads contents (Completions shell) = HasObeyedAlone first reads 
 HasObeyed first reads contents Man = HasObeyedAlone first reads contents Man
 
 -- a command ends with 2 where it does alone, or where a run in threads has a verdict that is false
-abbrev pub HasFoundWrong : (reads : FileReads) → Words → Type 0
+abbrev pub HasFoundWrong : (reads : TextReads) → Words → Type 0
 HasFoundWrong reads (Run words) = HasFoundWrongAlone (Run words)
 HasFoundWrong reads (Sweep words) = HasFoundWrongAlone (Sweep words)
 HasFoundWrong reads (Check path) = HasFoundWrongAlone (Check path)
-HasFoundWrong reads (Threads path) = IsOfFile reads HasFoundFalse
+HasFoundWrong reads (Threads path) = IsOfText reads HasFoundFalse
 HasFoundWrong reads (Format words) = HasFoundWrongAlone (Format words)
-HasFoundWrong reads (Dump path) = HasFoundWrongAlone (Dump path)
+HasFoundWrong reads (Dump words) = HasFoundWrongAlone (Dump words)
+HasFoundWrong reads (Cat words) = HasFoundWrongAlone (Cat words)
 HasFoundWrong reads (Show path) = HasFoundWrongAlone (Show path)
 HasFoundWrong reads (Recover words) = HasFoundWrongAlone (Recover words)
 HasFoundWrong reads (Upgrade path) = HasFoundWrongAlone (Upgrade path)

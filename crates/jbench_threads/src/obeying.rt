@@ -1,7 +1,7 @@
 //! Does what the words tell, with threads for the commands that want them.
 ghost use Rattle.std.specs.Prelude.{◌≡◌, ◌≢◌, ◌↔◌, IfOk, IfSome, IsSome};
 ghost use Rattle.jbench_words.specs.declared.fault.Status.TheVariants.{Fine, Refused, VerdictFalse};
-ghost use Rattle.jbench_commands.specs.Obeying.{IsOfFile};
+ghost use Rattle.jbench_commands.specs.Obeying.{IsOfText};
 ghost use Rattle.jbench_threads.specs.Obeying.{HasFoundWrong, HasObeyed, IsBenchDone, IsBenchLeft};
 ghost use Rattle.script_threads.specs.Runs.{HasFoundFalse, HasServed};
 
@@ -9,10 +9,9 @@ use commit_times::{bench, threads as timed};
 use file_device::{Contents, FileDevice};
 use jbench_commands::obeying as alone;
 use jbench_commands::progress::Progress;
-use jbench_files::{device_of, open_pair, open_to_read};
+use jbench_files::{Text, device_of, open_pair, open_text};
 use jbench_words::fault::{Status, refuse_file};
 use jbench_words::words::{BenchWords, Words};
-use std::fs::File;
 use std::io;
 use std::io::{Read, Write};
 use std::sync::Wait;
@@ -32,8 +31,8 @@ pub fn obey<T: Threads + Wait + Sync, C: Contents + Send, W: Write + Drop, E: Wr
     out: W,
     err: E,
 ) -> io::Result<Status>
-    ensures done { IfOk result (λ status. status ≡ Fine → HasObeyed C.contents ⟦<File as Read>⟧.remaining (W.contents out) words.now) }
-    ensures wrong { IfOk result (λ status. status ≡ VerdictFalse → HasFoundWrong ⟦<File as Read>⟧.remaining words.now) }
+    ensures done { IfOk result (λ status. status ≡ Fine → HasObeyed C.contents ⟦<Text as Read>⟧.remaining (W.contents out) words.now) }
+    ensures wrong { IfOk result (λ status. status ≡ VerdictFalse → HasFoundWrong ⟦<Text as Read>⟧.remaining words.now) }
 {
     match words {
         Words::Threads(path) => threads_file(rt, threads, path, out, err),
@@ -50,8 +49,8 @@ fn obey_alone<C: Contents, W: Write + Drop, E: Write + Drop>(
     out: W,
     err: E,
 ) -> io::Result<Status>
-    ensures done { IfOk result (λ status. status ≡ Fine → HasObeyed C.contents (W.contents out) words.now) }
-    ensures wrong { IfOk result (λ status. status ≡ VerdictFalse → HasFoundWrong words.now) }
+    ensures done { IfOk result (λ status. status ≡ Fine → HasObeyed C.contents ⟦<Text as Read>⟧.remaining (W.contents out) words.now) }
+    ensures wrong { IfOk result (λ status. status ≡ VerdictFalse → HasFoundWrong ⟦<Text as Read>⟧.remaining words.now) }
 {
     alone::obey(rt, contents, words, out, err)
 }
@@ -64,12 +63,12 @@ fn threads_file<T: Threads + Wait + Sync, W: Write + Drop, E: Write + Drop>(
     out: W,
     err: E,
 ) -> io::Result<Status>
-    ensures done { IfOk result (λ status. status ≡ Fine → IsOfFile ⟦<File as Read>⟧.remaining HasServed) }
-    ensures wrong { IfOk result (λ status. status ≡ VerdictFalse → IsOfFile ⟦<File as Read>⟧.remaining HasFoundFalse) }
+    ensures done { IfOk result (λ status. status ≡ Fine → IsOfText ⟦<Text as Read>⟧.remaining HasServed) }
+    ensures wrong { IfOk result (λ status. status ≡ VerdictFalse → IsOfText ⟦<Text as Read>⟧.remaining HasFoundFalse) }
 {
     let mut err = err;
-    match open_to_read(rt, path) {
-        Ok(file) => script_threads::threads(threads, rt.alloc(), path, file.into_file(), out, err),
+    match open_text(rt, path) {
+        Ok(file) => script_threads::threads(threads, rt.alloc(), path, file.into_text(), out, err),
         Err(e) => refuse_file(&mut err, path, e),
     }
 }

@@ -6,7 +6,7 @@ use Rattle.jbench_words.specs.declared.fault.Fault.TheVariants.{File, BadScript,
 -- the files of its image can't be made
 abbrev pub IsUnmade : Fault → Type 0
 IsUnmade (File e) = ⊥
-IsUnmade BadScript = ⊥
+IsUnmade (BadScript bad) = ⊥
 IsUnmade (ImageFile e) = ⊤
 IsUnmade Clock = ⊥
 IsUnmade (Refused e) = ⊥

@@ -2,8 +2,9 @@
 ghost use Rattle.std.specs.Prelude.{◌≡◌, IfOk};
 ghost use Rattle.jbench_words.specs.declared.fault.Status.TheVariants.{Refused};
 
+use crate::advice::advice_of;
 use journal_model::JournalError;
-use journal_script::ScriptError;
+use journal_script::{BadScript, ScriptError};
 use std::alloc::AllocFailed;
 use std::io;
 use std::io::{ErrorKind, Write};
@@ -35,8 +36,8 @@ impl From<Status> for ExitCode {
 pub enum Fault {
     /// A file can't be opened or read, for this reason.
     File(io::Error),
-    /// The script is no script.
-    BadScript,
+    /// The script is no script, for this reason.
+    BadScript(BadScript),
     /// The files of an image can't be made, for this reason.
     ImageFile(io::Error),
     /// The clock can't be read.
@@ -101,7 +102,7 @@ impl<T: Drop> From<AllocFailed<T>> for Fault {
 impl From<ScriptError> for Fault {
     fn from(e: ScriptError) -> Fault {
         match e {
-            ScriptError::BadScript(_) => Fault::BadScript,
+            ScriptError::BadScript(bad) => Fault::BadScript(bad),
             ScriptError::Memory => Fault::Refused(JournalError::Memory),
         }
     }
@@ -120,8 +121,8 @@ impl From<log_dump::Fault> for Fault {
     }
 }
 
-/// Writes the line that says why a command can't go on. `path` names its file, of which a second line gives the system's reason. Of
-/// output that can't be written there is nothing to say.
+/// Writes the line that says why a command can't go on, and a second one with the reason, and with what to do. `path` names its file.
+/// Of output whose reader went away there is nothing to say.
 ///
 /// # Errors
 ///
@@ -129,10 +130,16 @@ impl From<log_dump::Fault> for Fault {
 fn report(err: &mut impl Write, path: &str, fault: &Fault) -> io::Result<()> {
     match fault {
         Fault::File(e) | Fault::ImageFile(e) => report_file(err, path, e),
-        Fault::BadScript => writeln!(err, "jbench: bad script"),
+        Fault::BadScript(bad) => writeln!(err, "jbench: bad script\n  {bad}"),
         Fault::Clock => writeln!(err, "jbench: clock"),
-        Fault::Refused(e) => writeln!(err, "jbench: refusal {} {e}", e.number()),
-        Fault::Output(_) => Ok(()),
+        Fault::Refused(e) => writeln!(
+            err,
+            "jbench: refusal {} {e}\n  {}",
+            e.number(),
+            advice_of(*e)
+        ),
+        Fault::Output(e) if e.kind() == ErrorKind::BrokenPipe => Ok(()),
+        Fault::Output(e) => writeln!(err, "jbench: output\n  {e}"),
     }
 }
 
@@ -170,8 +177,7 @@ pub fn refuse_file(err: &mut impl Write, path: &str, e: io::Error) -> io::Result
     refuse(err, path, &Fault::of_file(e))
 }
 
-/// Says why the program can't go on that failed so, where it is for want of memory. Where its own output can't be written,
-/// there is nobody to tell.
+/// Says why the program can't go on that failed so: memory ran out, or its output can't be written.
 pub fn refuse_rest(err: &mut impl Write, e: io::Error) -> Status {
     let _ = report(err, "", &Fault::from(e));
     Status::Refused

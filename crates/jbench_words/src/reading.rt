@@ -3,13 +3,13 @@ ghost use Rattle.std.specs.Prelude.{◌≡◌, ◌≤◌, IfOk, IfSome};
 ghost use Rattle.journal_script.specs.Measures.{AreLimited};
 ghost use Rattle.log_format.specs.Size.{IsBlockSize};
 
-use crate::completions::Shell;
 use crate::wanted::Wanted;
 use crate::words::{
-    ApplyWords, BenchWords, FormatWords, LogPaths, RecoverWords, RunWords, StopWords, SweepWords,
-    Words,
+    ApplyWords, BenchWords, CatWords, DumpWords, FormatWords, LogPaths, RecoverWords, RunWords,
+    StopWords, SweepWords, Words,
 };
 use clap::ArgMatches;
+use jbench_help::Shell;
 use journal_script::{DEFAULTS, HOMES, LENGTHS, Measures, is_block_size, limited, uuid_of};
 use std::alloc::{AllocError, Global};
 
@@ -163,6 +163,7 @@ fn format_words<'a>(alloc: Global, matches: &ArgMatches<'a>) -> Result<FormatWor
         paths: log_paths(matches),
         measures: measures_of(alloc, matches, keep_home)?,
         keep_home,
+        has_to_be_new: matches.get_flag("new"),
     })
 }
 
@@ -180,6 +181,31 @@ fn log_paths<'a>(matches: &ArgMatches<'a>) -> LogPaths<'a> {
     LogPaths {
         log: log_told(matches),
         home: matches.get_str("home_file").unwrap_or(""),
+    }
+}
+
+/// What `dump` is told.
+fn dump_words<'a>(matches: &ArgMatches<'a>) -> Result<DumpWords<'a>, Wanted> {
+    let damaged = matches.get_flag("damaged");
+    let copy = number_of(matches, "copy", (1, u64::MAX), Wanted::Place)?;
+    if damaged && copy.is_some() {
+        return Err(Wanted::DamagedOrCopy);
+    }
+    Ok(DumpWords {
+        log: log_told(matches),
+        damaged,
+        copy,
+    })
+}
+
+/// What `cat` is told.
+fn cat_words<'a>(matches: &ArgMatches<'a>) -> Result<CatWords<'a>, Wanted> {
+    match number_of(matches, "block", (0, u64::MAX), Wanted::Block)? {
+        Some(block) => Ok(CatWords {
+            paths: log_paths(matches),
+            block,
+        }),
+        None => Err(Wanted::Block),
     }
 }
 
@@ -250,7 +276,8 @@ fn command_words<'a>(
         "check" => Ok(Words::Check(script_told(told))),
         "threads" => Ok(Words::Threads(script_told(told))),
         "format" => format_words(alloc, told).map(Words::Format),
-        "dump" => Ok(Words::Dump(log_told(told))),
+        "dump" => dump_words(told).map(Words::Dump),
+        "cat" => cat_words(told).map(Words::Cat),
         "show" => Ok(Words::Show(log_told(told))),
         "recover" => Ok(Words::Recover(recover_words(told))),
         "upgrade" => Ok(Words::Upgrade(log_told(told))),

@@ -1,7 +1,7 @@
 //! What is wanted of words that `clap` takes, and the line that says so.
-use crate::program::command_named;
 use clap::error::ErrorKind;
 use clap::{Command, Error};
+use jbench_help::command_named;
 use std::alloc::{AllocError, Global};
 
 /// What is wanted of words that `clap` takes.
@@ -37,6 +37,12 @@ pub(crate) enum Wanted {
     Copies,
     /// A number of clients behind `--threads`.
     Threads,
+    /// The place of a copy behind `--copy`.
+    Place,
+    /// Only one of `--damaged` and `--copy`.
+    DamagedOrCopy,
+    /// A block of the home area behind `cat`.
+    Block,
     /// The name of a shell behind `completions`.
     Shell,
     /// A command.
@@ -77,6 +83,9 @@ fn line_of(wanted: Wanted) -> &'static str {
         }
         Wanted::Copies => "invalid value for '--copies <K>': a number from 1 on is wanted",
         Wanted::Threads => "invalid value for '--threads <N>': 1 to 64 is wanted",
+        Wanted::Place => "invalid value for '--copy <PLACE>': a number from 1 on is wanted",
+        Wanted::DamagedOrCopy => "the argument '--damaged' cannot be used with '--copy <PLACE>'",
+        Wanted::Block => "invalid value for '<BLOCK>': a number from 0 on is wanted",
         Wanted::Shell => "invalid value for '<SHELL>': bash, zsh or fish is wanted",
         Wanted::Command => "a command is wanted",
         Wanted::Memory => "memory is wanted",
@@ -86,7 +95,7 @@ fn line_of(wanted: Wanted) -> &'static str {
 /// The kind of the fault that says what is wanted.
 fn kind_of(wanted: Wanted) -> ErrorKind {
     match wanted {
-        Wanted::StopOrFail => ErrorKind::ArgumentConflict,
+        Wanted::StopOrFail | Wanted::DamagedOrCopy => ErrorKind::ArgumentConflict,
         _ => ErrorKind::ValueValidation,
     }
 }

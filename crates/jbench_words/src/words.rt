@@ -1,11 +1,10 @@
 //! What the program is told by the words that it is called with, and what they are answered where they tell nothing to do.
-use crate::completions::Shell;
 use crate::fault::{self, Fault, Status};
-use crate::program::program;
 use crate::reading::words_of;
 use crate::wanted::fault_of;
 use clap::error::ErrorKind;
 use clap::{ArgMatches, Command, Error};
+use jbench_help::{Shell, program};
 use journal_model::JournalError;
 use journal_script::Measures;
 use std::alloc::Global;
@@ -27,8 +26,10 @@ pub enum Words<'a> {
     Threads(&'a str),
     /// To make an empty log.
     Format(FormatWords<'a>),
-    /// To print the log in this file.
-    Dump(&'a str),
+    /// To print a log.
+    Dump(DumpWords<'a>),
+    /// To print a block as an opening of a log would leave it.
+    Cat(CatWords<'a>),
     /// To print the superblock of the log in this file.
     Show(&'a str),
     /// To open the log in these files, or to say what that would do.
@@ -105,6 +106,26 @@ pub struct ApplyWords<'a> {
     pub keep_going: bool,
 }
 
+/// The words of `dump`.
+#[derive(Clone, Copy)]
+pub struct DumpWords<'a> {
+    /// The file of the log.
+    pub log: &'a str,
+    /// A log that is refused as damaged is printed up to there.
+    pub damaged: bool,
+    /// The place of the copy that is to be printed in the place of the log, if one is told.
+    pub copy: Option<u64>,
+}
+
+/// The words of `cat`.
+#[derive(Clone, Copy)]
+pub struct CatWords<'a> {
+    /// The files of the log.
+    pub paths: LogPaths<'a>,
+    /// The block of the home area.
+    pub block: u64,
+}
+
 /// The words of `recover`.
 #[derive(Clone, Copy)]
 pub struct RecoverWords<'a> {
@@ -134,6 +155,8 @@ pub struct FormatWords<'a> {
     pub measures: Measures,
     /// The home area is there, and stays as it is.
     pub keep_home: bool,
+    /// No file that is made may be there.
+    pub has_to_be_new: bool,
 }
 
 /// The words of `run`.

@@ -4,14 +4,13 @@ use block_device::MemDevice;
 use format_rows::RowError;
 use format_rows::words::cut;
 use jbench_commands::{check, run, sweep};
+use jbench_help::{write_completions, write_manual};
 use jbench_logs::{logs, recovering, show};
-use jbench_words::completions::write_completions;
 use jbench_words::fault::Status;
-use jbench_words::manual::write_manual;
 use jbench_words::watch::Unwatched;
 use jbench_words::words::{
-    ApplyWords, BenchWords, FormatWords, RecoverWords, RunWords, StopWords, SweepWords, Words,
-    answer, parse,
+    ApplyWords, BenchWords, CatWords, DumpWords, FormatWords, RecoverWords, RunWords, StopWords,
+    SweepWords, Words, answer, parse,
 };
 use journal_script::{Script, ScriptError, read};
 use run_rows::journals::{Runner, Shared};
@@ -207,7 +206,7 @@ pub fn recover(alloc: Global, given: &str) -> Result<String, RowError> {
 }
 
 /// The device that a spelled log is on.
-fn log_on_device(alloc: Global, log: &str) -> Result<MemDevice, RowError> {
+pub(crate) fn log_on_device(alloc: Global, log: &str) -> Result<MemDevice, RowError> {
     log_rows::logs::device_of(alloc, &log_rows::logs::log_of(alloc, log)?)
 }
 
@@ -285,7 +284,8 @@ fn told(alloc: Global, words: &Words<'_>) -> Result<String, RowError> {
         Words::Check(script) => Ok(format!(in alloc; "check {script}")?),
         Words::Threads(script) => Ok(format!(in alloc; "threads {script}")?),
         Words::Format(words) => told_format(alloc, words),
-        Words::Dump(log) => Ok(format!(in alloc; "dump {log}")?),
+        Words::Dump(words) => Ok(told_dump(alloc, words)?),
+        Words::Cat(words) => Ok(told_cat(alloc, words)?),
         Words::Show(log) => Ok(format!(in alloc; "show {log}")?),
         Words::Recover(words) => Ok(told_recover(alloc, words)?),
         Words::Upgrade(log) => Ok(format!(in alloc; "upgrade {log}")?),
@@ -340,11 +340,29 @@ fn write_stop(text: &mut String, words: &StopWords) -> Result<(), AllocError> {
 fn told_format(alloc: Global, words: &FormatWords<'_>) -> Result<String, RowError> {
     let measures = measures_text(alloc, &words.measures)?;
     Ok(format!(in alloc;
-        "format {} {}: {measures}{}",
+        "format {} {}: {measures}{}{}",
         words.paths.log,
         words.paths.home,
-        if words.keep_home { ", home stays" } else { "" }
+        if words.keep_home { ", home stays" } else { "" },
+        if words.has_to_be_new { ", new" } else { "" }
     )?)
+}
+
+/// What words tell `dump`.
+fn told_dump(alloc: Global, words: &DumpWords<'_>) -> Result<String, AllocError> {
+    let mut text = format!(in alloc; "dump {}", words.log)?;
+    if words.damaged {
+        text.push_str(", damaged")?;
+    }
+    if let Some(place) = words.copy {
+        write!(text, ", copy {place}")?;
+    }
+    Ok(text)
+}
+
+/// What words tell `cat`.
+fn told_cat(alloc: Global, words: &CatWords<'_>) -> Result<String, AllocError> {
+    format!(in alloc; "cat {} {} {}", words.paths.log, words.paths.home, words.block)
 }
 
 /// What words tell `recover`.

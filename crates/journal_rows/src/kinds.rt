@@ -1,5 +1,5 @@
 //! What may be done with a row, by the name of its kind.
-use crate::{benches, commands};
+use crate::{benches, commands, views};
 use format_rows::RowError;
 use run_rows::journals::{Alone, Runner, Shared};
 use script_sweep::{Swept, ThisJournal};
@@ -107,6 +107,7 @@ fn found_of_command<R: Wait>(rt: &R, alloc: Global, kind: &str, given: &str) -> 
         "recover" => Some(commands::recover(alloc, given)),
         "run" => Some(commands::run(rt, alloc, given)),
         "show" => Some(commands::show(alloc, given)),
+        "looked" => Some(views::looked(alloc, given)),
         "sweep" => Some(commands::sweep(alloc, given)),
         "upgrade" => Some(commands::upgrade(alloc, given)),
         "usages" => Some(commands::usages(alloc, given)),

@@ -4,7 +4,7 @@
 //! `row_file` reads a file of rows, `repetition` writes out what a row says more than once, `kinds` knows what may be done with
 //! a row, and `report` compares what is found with what is wanted. Rows of blocks, logs, openings and runs are done by the
 //! crates `format_rows`, `log_rows`, `opening_rows`, `run_rows` and `sweep_rows`; those of the commands of `jbench` and its
-//! words by `commands`.
+//! words by `commands`, and of those that look something up in a log by `views`.
 #![tactic(auto)]
 
 mod benches;
@@ -13,6 +13,7 @@ mod kinds;
 mod repetition;
 mod report;
 mod row_file;
+mod views;
 
 use format_rows::RowError;
 use report::report_of;

@@ -283,6 +283,31 @@ fn after_a_failed_read_the_device_goes_on(rt: HostRuntime) -> Result<(), Fail> {
     Ok(())
 }
 
+/// What a device over these files tells of its failure, once a block of home was to be written.
+fn told_failure(rt: &HostRuntime, folder: &str, home: &Made) -> Result<String, Fail> {
+    let log = Made::Written(b"aaaabbbb");
+    let mut device = device_over(rt, folder, SIZE, &log, Some(home))?;
+    let before = device.failure().is_none();
+    let _ = device.write(HOME, 1, &[0xc; SIZE]);
+    let _ = device.flush(HOME);
+    let told = match device.failure() {
+        Some(failure) if before && failure.area == HOME => format!(in rt.alloc(); "{failure}")?,
+        _ => String::new(rt.alloc()),
+    };
+    fs::remove_dir_all(rt, folder)?;
+    Ok(told)
+}
+
+#[test]
+fn a_failure_tells_what_the_system_answered(rt: HostRuntime) -> Result<(), Fail> {
+    let told = told_failure(&rt, "told_failure_test", &Made::ReadOnly(b"ccccdddd"))?;
+    assert_eq!(rt;
+        told.as_str(),
+        "it can't be written from byte 4 on: Bad file descriptor (os error 9)"
+    );
+    Ok(())
+}
+
 /// Bytes of the largest block of a log.
 const LARGEST: usize = 4096;
 

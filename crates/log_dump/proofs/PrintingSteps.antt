@@ -22,7 +22,7 @@ use Rattle.log_model.proofs.ReadingFronts.{texts_more}
 use Rattle.block_device.specs.State.{DeviceState, one_more_fault}
 use Rattle.log_dump.specs.declared.fault.Fault.{Fault}
 use Rattle.log_dump.specs.declared.fault.Fault.TheVariants.{Refused, Output}
-use Rattle.log_scan.specs.Scanning.{AreTextsOf}
+use Rattle.log_scan.specs.Scanning.{IsChainOf}
 use Rattle.log_dump.specs.Dumping.{IsPrinted, IsPrintRefused}
 use Rattle.log_scan.specs.Finding.{BlockBegins, NothingBegins, blocks_from, every_block}
 use Rattle.log_dump.specs.Lines.{ended, placed_line, placed_lines}
@@ -187,18 +187,18 @@ module _ (s : Super) (image : Image) (old mid : Option (List ℕ)) (count positi
 
   -- where no further text begins, there are no more
   pub texts-no-more : (number : ℕ) (texts : List Text) → number ≡ s.s_sequence + count → count < length texts →
-      NoTextBegins (layout_of s) (every_block s) number (blocks_from s image position) → AreTextsOf s (every_block s) image texts → ⊥
+      NoTextBegins (layout_of s) (every_block s) number (blocks_from s image position) → IsChainOf s (every_block s) image texts → ⊥
   texts-no-more number texts is more none are =
-      let begins = are.chain.begins in
+      let begins = are.begins in
       let due = so.whole.due in
       let few = most_texts (layout_of s) (every_block s) (omega arith) s.s_sequence number so.texts texts (blocks_from s image position) begins.rest
       so.whole.numbered begins.numbered (is ∙ so.whole.due) none (sym so.whole.front.split ∙ begins.split) in
       omega arith
 
   -- as many as the log has are those that it has
-  pub texts-all : (texts : List Text) → count ≡ length texts → AreTextsOf s (every_block s) image texts → Appends old mid (placed_lines s 0 (texts_captions s.s_sequence texts))
+  pub texts-all : (texts : List Text) → count ≡ length texts → IsChainOf s (every_block s) image texts → Appends old mid (placed_lines s 0 (texts_captions s.s_sequence texts))
   texts-all texts all are =
-      let begins = are.chain.begins in
+      let begins = are.begins in
       let due = so.whole.due in
       let same = one_list_of_texts (layout_of s) (every_block s) (omega arith) s.s_sequence so.texts texts (blocks_from s image position) begins.rest
       so.whole.numbered begins.numbered (omega arith) (sym so.whole.front.split ∙ begins.split) in

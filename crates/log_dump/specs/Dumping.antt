@@ -1,18 +1,19 @@
 -- What a dump makes of a device, and why there is none.
-use Rattle.std.specs.Prelude.{◌≡◌, ◌≢◌, ◌⊎◌, ℕ, ◌+◌, ◌<◌, List, Option, Some, None}
+use Rattle.std.specs.Prelude.{◌≡◌, ◌≢◌, ◌⊎◌, ℕ, ◌+◌, ◌<◌, List, [], length, Option, Some, None}
 use Rattle.std.specs.Io.KnownBytes.{Appends}
 use Rattle.log_model.specs.declared.log.Text.{Text}
 use Rattle.journal_model.specs.declared.number.Area.TheVariants.{Log}
 use Rattle.journal_model.specs.declared.refusal.JournalError.{JournalError}
 use Rattle.journal_model.specs.declared.refusal.JournalError.TheVariants.{Device, Memory}
 use Rattle.journal_model.specs.Disk.{Image, IsOneOf, Shape, reading}
-use Rattle.log_model.specs.Dump.{IsDump, IsDumpRefused, dump_shape, text_captions}
+use Rattle.log_model.specs.Dump.{IsDump, IsDumpRefused, dump_shape, dump_text, text_captions}
 use Rattle.log_model.specs.Opening.{layout_of, super_of}
 use Rattle.log_model.specs.ReadingLog.{TextBegins}
 use Rattle.log_model.specs.Superblock.{Super, super_refusal}
 use Rattle.block_device.specs.State.{DeviceState, IsDeviceFailure, one_more_fault}
 use Rattle.log_scan.specs.Finding.{blocks_from, every_block, most_bytes}
 use Rattle.log_scan.specs.Refusals.{NamesDamage, super_refusals}
+use Rattle.log_scan.specs.Scanning.{IsChainOf, IsEndOf}
 use Rattle.log_dump.specs.Lines.{placed_lines}
 use Rattle.log_dump.specs.declared.fault.Fault.{Fault}
 use Rattle.log_dump.specs.declared.fault.Fault.TheVariants.{Refused, Output}
@@ -47,6 +48,21 @@ pub record PrintsDump (shape : Shape) (image : Image) (old new : Option (List �
   pub is_dump : IsDump shape image text
   pub written : Appends old new text
 
+-- the superblock is accepted, and these are its fields
+pub record IsReadLog (shape : Shape) (image : Image) (s : Super) : Type 0 where
+  pub accepted : super_refusal shape (image Log 0) ≡ None
+  pub same : s ≡ super_of image
+
+-- What a writer holds has grown by the dump of the image up to this damaged block, or the whole dump where none is named: that of the
+-- transactions of its chain.
+pub record PrintsUpTo (damaged : Option ℕ) (shape : Shape) (image : Image) (old new : Option (List ℕ)) : Type 0 where
+  pub s : Super
+  pub read : IsReadLog shape image s
+  pub texts : List Text
+  pub written : Appends old new (dump_text s texts)
+  pub clean : s.s_start ≡ 0 → (texts ≡ []) × (damaged ≡ None)
+  pub chain : s.s_start ≢ 0 → IsEndOf s (every_block s) image (record { transactions = length texts; damaged = damaged }) × IsChainOf s (every_block s) image texts
+
 -- the refusals of content: of the superblock, or of a block behind it
 abbrev pub IsContentRefusal : Shape → JournalError → Type 0
 IsContentRefusal shape e = IsOneOf super_refusals e ⊎ NamesDamage 1 shape.log_blocks e
@@ -70,8 +86,3 @@ IsLogRefused honest old new e =
     IsDeviceFailure old new e
     ⊎ (((e ≡ Memory) × (new.faults ≡ old.faults) × (most_bytes < old.shape.block_size))
     ⊎ (IsOneOf super_refusals e × (new.faults ≡ old.faults) × (honest → super_refusal (shape_of old) (old.disk Log 0).reads ≡ Some e)))
-
--- the superblock is accepted, and these are its fields
-pub record IsReadLog (shape : Shape) (image : Image) (s : Super) : Type 0 where
-  pub accepted : super_refusal shape (image Log 0) ≡ None
-  pub same : s ≡ super_of image

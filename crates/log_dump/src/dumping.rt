@@ -1,5 +1,5 @@
 //! Printing the log of a device.
-ghost use Rattle.std.specs.Prelude.{◌≡◌, ◌≢◌, ◌⊎◌, ◌<◌, ◌≤◌, List, [], length, IfOk, IfErr, OnOk, OnErr, MatchResult};
+ghost use Rattle.std.specs.Prelude.{◌≡◌, ◌≢◌, ◌⊎◌, ◌<◌, ◌≤◌, List, [], length, None, IfOk, IfErr, OnOk, OnErr, MatchResult};
 ghost use Rattle.std.specs.Io.KnownBytes.{Appends};
 ghost use Rattle.log_model.specs.declared.log.Text.{Text};
 ghost use Rattle.journal_model.specs.Disk.{reading};
@@ -8,8 +8,8 @@ ghost use Rattle.log_model.specs.Opening.{layout_of, ring_of};
 ghost use Rattle.block_device.specs.Call.{OnlyReads};
 ghost use Rattle.log_format.specs.Accepted.{IsAccepted};
 ghost use Rattle.log_scan.specs.Finding.{every_block, most_bytes};
-ghost use Rattle.log_scan.specs.Scanning.{AreTextsOf};
-ghost use Rattle.log_dump.specs.Dumping.{HasDump, IsDumpFault, IsLogRefused, IsPrintRefused, IsReadLog, PrintsDump, shape_of};
+ghost use Rattle.log_scan.specs.Scanning.{IsChainOf};
+ghost use Rattle.log_dump.specs.Dumping.{HasDump, IsDumpFault, IsLogRefused, IsPrintRefused, IsReadLog, PrintsDump, PrintsUpTo, shape_of};
 
 use crate::fault::Fault;
 use crate::lines::{write_empty, write_end, write_super};
@@ -17,7 +17,7 @@ use crate::printing::write_transactions;
 use block_device::{Device, read_block};
 use journal_model::{Area, JournalError};
 use log_format::Super;
-use log_scan::{BlockBuffer, Finder, Log, scan};
+use log_scan::{BlockBuffer, Finder, Log, find_end, scan};
 use std::alloc::Global;
 use std::io;
 use std::io::Write;
@@ -54,6 +54,33 @@ pub fn dump<D: Device, W: Write>(alloc: Global, device: &mut D, out: &mut W) -> 
     let mut finder = Finder::new(log.layout());
     let transactions = scan(device, &log, None, &mut finder)?;
     write_log(device, &log, &mut finder, transactions, out)
+}
+
+/// Prints the dump of the log that the device's log area holds up to a damaged block: as `dump` does, but that a malformed block after
+/// the complete transactions refuses nothing. The answer is its place, where there is one.
+///
+/// # Errors
+///
+/// Those of `dump`, but for `Damage`, which comes where the log reads otherwise while it is printed, and a part of the dump was written.
+pub fn dump_up_to_damage<D: Device, W: Write>(
+    alloc: Global,
+    device: &mut D,
+    out: &mut W,
+) -> Result<Option<u64>, Fault>
+    ensures printed { IfOk result (λ damaged. D.honest device.new →
+        PrintsUpTo damaged (shape_of (D.state device.old)) (reading (D.state device.old).disk) (W.contents out.old) (W.contents out.new)) }
+    ensures whole { IfOk result (λ damaged. damaged ≡ None → D.honest device.new → HasDump (shape_of (D.state device.old)) (reading (D.state device.old).disk)) }
+    ensures device { OnlyReads D.state D.honest device.old device.new }
+{
+    let log = read_log(alloc, device)?;
+    if log.is_clean() {
+        write_clean(out, log.fields())?;
+        return Ok(None);
+    }
+    let mut finder = Finder::new(log.layout());
+    let end = find_end(device, &log, None, &mut finder)?;
+    write_log(device, &log, &mut finder, end.transactions, out)?;
+    Ok(end.damaged)
 }
 
 /// Reads and tests the superblock.
@@ -113,8 +140,8 @@ fn write_log<D: Device, W: Write>(
     requires layout { finder.old.layout ≡ layout_of log.now }
     requires accepted { IsAccepted (D.state device.old).shape.block_size (D.state device.old).shape.log_blocks log.now }
     requires few { transactions ≤ (ring_of log.now).blocks }
-    ensures printed { OnOk result (D.honest device.new → (texts : List Text) → log.now.s_start ≢ 0 → AreTextsOf log.now (every_block log.now) (reading (D.state device.old).disk) texts → transactions ≡ length texts → Appends (W.contents out.old) (W.contents out.new) (dump_text log.now texts)) }
-    ensures refused { IfErr result (IsPrintRefused (D.honest device.new) ((texts : List Text) → AreTextsOf log.now (every_block log.now) (reading (D.state device.old).disk) texts → transactions ≡ length texts → ⊥) log.now (D.state device.old) (D.state device.new)) }
+    ensures printed { OnOk result (D.honest device.new → (texts : List Text) → log.now.s_start ≢ 0 → IsChainOf log.now (every_block log.now) (reading (D.state device.old).disk) texts → transactions ≡ length texts → Appends (W.contents out.old) (W.contents out.new) (dump_text log.now texts)) }
+    ensures refused { IfErr result (IsPrintRefused (D.honest device.new) ((texts : List Text) → IsChainOf log.now (every_block log.now) (reading (D.state device.old).disk) texts → transactions ≡ length texts → ⊥) log.now (D.state device.old) (D.state device.new)) }
     ensures faults { OnOk result ((D.state device.new).faults ≡ (D.state device.old).faults) }
     ensures device { OnlyReads D.state D.honest device.old device.new }
 {

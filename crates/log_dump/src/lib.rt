@@ -15,5 +15,5 @@ mod fault;
 mod lines;
 mod printing;
 
-pub use dumping::dump;
+pub use dumping::{dump, dump_up_to_damage};
 pub use fault::Fault;

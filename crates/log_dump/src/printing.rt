@@ -10,7 +10,7 @@ ghost use Rattle.log_model.specs.Superblock.{greatest_length};
 ghost use Rattle.block_device.specs.Call.{OnlyReads};
 ghost use Rattle.log_format.specs.Accepted.{IsAccepted};
 ghost use Rattle.log_scan.specs.Finding.{blocks_from, every_block};
-ghost use Rattle.log_scan.specs.Scanning.{AreTextsOf};
+ghost use Rattle.log_scan.specs.Scanning.{IsChainOf};
 ghost use Rattle.log_dump.specs.Dumping.{IsPrinted, IsPrintRefused};
 ghost use Rattle.log_dump.specs.Lines.{placed_lines, tags_captions};
 
@@ -34,8 +34,8 @@ pub(crate) fn write_transactions<D: Device, W: Write>(
     requires layout { finder.old.layout ≡ layout_of log.now }
     requires accepted { IsAccepted (D.state device.old).shape.block_size (D.state device.old).shape.log_blocks log.now }
     requires few { transactions ≤ (ring_of log.now).blocks }
-    ensures printed { OnOk result (D.honest device.new → (texts : List Text) → AreTextsOf log.now (every_block log.now) (reading (D.state device.old).disk) texts → transactions ≡ length texts → Appends (W.contents out.old) (W.contents out.new) (placed_lines log.now 0 (texts_captions log.now.s_sequence texts))) }
-    ensures refused { IfErr result (IsPrintRefused (D.honest device.new) ((texts : List Text) → AreTextsOf log.now (every_block log.now) (reading (D.state device.old).disk) texts → transactions ≡ length texts → ⊥) log.now (D.state device.old) (D.state device.new)) }
+    ensures printed { OnOk result (D.honest device.new → (texts : List Text) → IsChainOf log.now (every_block log.now) (reading (D.state device.old).disk) texts → transactions ≡ length texts → Appends (W.contents out.old) (W.contents out.new) (placed_lines log.now 0 (texts_captions log.now.s_sequence texts))) }
+    ensures refused { IfErr result (IsPrintRefused (D.honest device.new) ((texts : List Text) → IsChainOf log.now (every_block log.now) (reading (D.state device.old).disk) texts → transactions ≡ length texts → ⊥) log.now (D.state device.old) (D.state device.new)) }
     ensures faults { OnOk result ((D.state device.new).faults ≡ (D.state device.old).faults) }
     ensures device { OnlyReads D.state D.honest device.old device.new }
 {

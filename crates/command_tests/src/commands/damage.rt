@@ -60,18 +60,37 @@ const TAG_FLAGS: usize = 7 * 1024 + 19;
 const DELETED: &[u8] = b"\x0c";
 
 /// The third transaction is damaged: the commands that write nothing.
-const REFUSED: [Step; 4] = [
+const REFUSED: [Step; 6] = [
     (
         "jbench dump damage/log",
-        "| jbench: refusal 22 Damage 7\nRefused",
+        "| jbench: refusal 22 Damage 7\n  that block is malformed: keep a copy of both files, and see what jbench recover LOG HOME --before-damage --dry-run says\nRefused",
     ),
     (
         "jbench recover damage/log damage/home",
-        "| jbench: refusal 22 Damage 7\nRefused",
+        "| jbench: refusal 22 Damage 7\n  that block is malformed: keep a copy of both files, and see what jbench recover LOG HOME --before-damage --dry-run says\nRefused",
     ),
     (
         "jbench recover damage/log damage/home --dry-run",
-        "| jbench: refusal 22 Damage 7\nRefused",
+        "| jbench: refusal 22 Damage 7\n  that block is malformed: keep a copy of both files, and see what jbench recover LOG HOME --before-damage --dry-run says\nRefused",
+    ),
+    (
+        "jbench dump damage/log --damaged",
+        "\
+super blocksize=1024 maxlen=33 first=1 sequence=2 start=1
+1 descriptor 2 tags=1
+2 copy 2 block=9
+3 commit 2
+4 descriptor 3 tags=1
+5 copy 3 block=10
+6 commit 3
+end sequence=4 transactions=2
+| jbench: refusal 22 Damage 7
+  that block is malformed: keep a copy of both files, and see what jbench recover LOG HOME --before-damage --dry-run says
+Refused",
+    ),
+    (
+        "jbench cat damage/log damage/home 9",
+        "| jbench: refusal 22 Damage 7\n  that block is malformed: keep a copy of both files, and see what jbench recover LOG HOME --before-damage --dry-run says\nRefused",
     ),
     (
         "jbench recover damage/log damage/home --before-damage --dry-run",
@@ -115,11 +134,11 @@ const COMMIT_40: &[u8] = b"\xc0\x3b\x39\x98\0\0\0\x02\0\0\0\x28";
 const AHEAD: [Step; 5] = [
     (
         "jbench recover damage/log damage/home",
-        "| jbench: refusal 21 Ahead 20\nRefused",
+        "| jbench: refusal 21 Ahead 20\n  that block has a number which the log can't have yet: keep a copy of both files, and see what jbench recover LOG HOME --before-damage --dry-run says\nRefused",
     ),
     (
         "jbench recover damage/log damage/home --dry-run",
-        "| jbench: refusal 21 Ahead 20\nRefused",
+        "| jbench: refusal 21 Ahead 20\n  that block has a number which the log can't have yet: keep a copy of both files, and see what jbench recover LOG HOME --before-damage --dry-run says\nRefused",
     ),
     (
         "jbench recover damage/log damage/home --dry-run --before-damage",
@@ -141,6 +160,7 @@ const SHORT: [Step; 2] = [
         "jbench recover damage/log damage/home",
         "\
 | jbench: refusal 22 Damage 4
+  that block is malformed: keep a copy of both files, and see what jbench recover LOG HOME --before-damage --dry-run says
   it names home blocks that are not there: the home area has 10
 Refused",
     ),
@@ -174,7 +194,7 @@ const KEPT: [Step; 7] = [
     ),
     (
         "jbench format damage/log damage/home --keep-home --length 17 --home 10",
-        "formatted 17 blocks of 1024\n| Fine",
+        "formatted 17 blocks of 1024\n| jbench: overwrites damage/log: it held a log with transactions that are not home: 3\nFine",
     ),
     (
         "jbench dump damage/log",

@@ -1,5 +1,5 @@
 //! The commands `format` and `dump`, over files.
-use super::text_of;
+use super::{Step, first_other, text_of};
 use file_device::{FileDevice, UnknownContents};
 use jbench_files::{Cleared, make_device, open_log, open_or_make_pair};
 use jbench_logs::logs::{dump, format};
@@ -134,10 +134,11 @@ fn is_no_log(rt: &HostRuntime, length: usize, wanted: &str) -> Result<bool, Fail
 
 /// What the dump of a file says that has not one block.
 const TOO_SHORT: &str =
-    "| jbench: refusal 16 BadLength\n  it has not one whole block: is it the right file?\nRefused";
+    "| jbench: refusal 16 BadLength\n  the file is too short for its log, or that says a length which no log has\n  it has not one whole block: is it the right file?\nRefused";
 
 /// What the dump of a file says whose first block is no superblock.
-const NO_SUPERBLOCK: &str = "| jbench: refusal 13 BadMagic\nRefused";
+const NO_SUPERBLOCK: &str =
+    "| jbench: refusal 13 BadMagic\n  no log stands there: jbench show LOG says what does, and what to do then\nRefused";
 
 #[test]
 fn files_that_hold_no_log(rt: HostRuntime) -> Result<(), Fail> {
@@ -145,5 +146,60 @@ fn files_that_hold_no_log(rt: HostRuntime) -> Result<(), Fail> {
     assert!(rt; is_no_log(&rt, 1500, TOO_SHORT)?, "1500 bytes");
     assert!(rt; is_no_log(&rt, 4096, NO_SUPERBLOCK)?, "4096 bytes");
     fs::remove_file(&rt, "no_log")?;
+    Ok(())
+}
+
+/// Logs that are made over files that are there, and those that have to be new.
+const REMADE: [Step; 9] = [
+    (
+        "jbench format remade/log remade/home --new",
+        "formatted 33 blocks of 1024\n| Fine",
+    ),
+    (
+        "jbench format remade/log remade/home --new",
+        "| jbench: file remade/log\n  File exists (os error 17)\nRefused",
+    ),
+    (
+        "jbench format remade/other remade/home --new",
+        "| jbench: file remade/home\n  File exists (os error 17)\n  remade/other was made, empty, and stays\nRefused",
+    ),
+    (
+        "jbench apply remade/log remade/home remade/script --stay",
+        "clean next=2\nstart 1 1 = 2\nwrite 1 9 = ok\nstop 1 = 2\nrequest 1 = ok\ncommit = 2\n| Fine",
+    ),
+    (
+        "jbench format remade/new remade/home --keep-home --new",
+        "formatted 33 blocks of 1024\n| Fine",
+    ),
+    (
+        "jbench format remade/log remade/home",
+        "formatted 33 blocks of 1024\n| jbench: overwrites remade/log: it held a log with transactions that are not home: 1\nFine",
+    ),
+    (
+        "jbench format remade/log remade/home",
+        "formatted 33 blocks of 1024\n| jbench: overwrites remade/log: it held a log, all of which is home\nFine",
+    ),
+    (
+        "jbench format remade/script remade/home",
+        "formatted 33 blocks of 1024\n| jbench: overwrites remade/script: it held no log\nFine",
+    ),
+    (
+        "jbench recover remade/new remade/home",
+        "clean next=2\n| Fine",
+    ),
+];
+
+/// A script of one transaction.
+const ONE: &[u8] =
+    br#"{"ops": [["start",1,1],["write",1,9,"11"],["stop",1],["request",1],["commit"]]}"#;
+
+#[test]
+fn logs_over_files_that_are_there(rt: HostRuntime) -> Result<(), Fail> {
+    let _ = fs::remove_dir_all(&rt, "remade");
+    fs::create_dir(&rt, "remade")?;
+    fs::write(&rt, "remade/script", ONE)?;
+    let other = first_other(&rt, &REMADE)?;
+    assert_eq!(rt; other.as_ref().map(String::as_str), None);
+    fs::remove_dir_all(&rt, "remade")?;
     Ok(())
 }

@@ -1,5 +1,5 @@
 //! Files that can't be opened, and words that are no text.
-use jbench_files::{Unopened, open_or_make_pair, open_pair, open_to_read};
+use jbench_files::{Unopened, open_or_make_pair, open_pair, open_text};
 use jbench_words::arguments::{self, Arguments};
 use jbench_words::words::LogPaths;
 use std::alloc::Global;
@@ -133,7 +133,7 @@ fn is_half_made(rt: &HostRuntime, log: &'static str, home: &'static str) -> Resu
 
 /// Whether a script's own file is refused as either file of a log, and all is left as it was but for a log that is made beside it.
 fn is_no_script(rt: &HostRuntime) -> Result<bool, Fail> {
-    let script = open_to_read(rt, "paths/there")?;
+    let script = open_text(rt, "paths/there")?;
     let as_log = LogPaths {
         log: "paths/link",
         home: "paths/new",
@@ -153,10 +153,10 @@ fn is_no_script(rt: &HostRuntime) -> Result<bool, Fail> {
 /// Which of a regular file, a folder, a device and a missing file can be opened to be read.
 fn are_read(rt: &HostRuntime) -> [bool; 4] {
     [
-        open_to_read(rt, "paths/link").is_ok(),
-        open_to_read(rt, "paths/folder").is_ok(),
-        open_to_read(rt, "/dev/zero").is_ok(),
-        open_to_read(rt, "paths/missing").is_ok(),
+        open_text(rt, "paths/link").is_ok(),
+        open_text(rt, "paths/folder").is_ok(),
+        open_text(rt, "/dev/zero").is_ok(),
+        open_text(rt, "paths/missing").is_ok(),
     ]
 }
 

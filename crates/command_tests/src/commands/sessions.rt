@@ -95,15 +95,15 @@ end sequence=5 transactions=1
     ),
     (
         "jbench apply session/log session/home session/longer.json",
-        "| jbench: bad script\nRefused",
+        "| jbench: bad script\n  key \"length\": the files have 33, and the script says 34\nRefused",
     ),
     (
         "jbench apply session/log session/home session/wrong.json",
-        "| jbench: bad script\nRefused",
+        "| jbench: bad script\n  operation 1 [\"stop\",1]: handle 1 was not started\nRefused",
     ),
     (
         "jbench apply session/log session/home session/other.json",
-        "| jbench: bad script\nRefused",
+        "| jbench: bad script\n  key \"uuid\": the files have \"aaaaaaaaaaaaaaaaaaaaaaaaaaaaaaaa\", and the script says \"bbbbbbbbbbbbbbbbbbbbbbbbbbbbbbbb\"\nRefused",
     ),
     (
         "jbench check session/wrong.json",
@@ -182,6 +182,7 @@ start 1 2 = 15
 write 1 9 = ok
 write 1 99 = refused 8 BadBlock
 | jbench: refusal 8 BadBlock
+  the home area has no such block: jbench check SCRIPT and the length of HOME say which there are
 Refused",
     ),
     (
@@ -326,7 +327,7 @@ verdict ok
     ),
     (
         "jbench apply session/home session/log session/same.json",
-        "| jbench: refusal 13 BadMagic\nRefused",
+        "| jbench: refusal 13 BadMagic\n  no log stands there: jbench show LOG says what does, and what to do then\nRefused",
     ),
     (
         "jbench run session/two.json --image-log session/log --image-home session/two.json",

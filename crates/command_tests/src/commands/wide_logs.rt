@@ -38,7 +38,7 @@ empty sequence=1
     ),
     (
         "jbench apply wide/log wide/home wide/other.json",
-        "| jbench: bad script\nRefused",
+        "| jbench: bad script\n  key \"wide\": the files have true, and the script says false\nRefused",
     ),
     (
         "jbench apply wide/log wide/home wide/one.json --stay",
@@ -115,7 +115,7 @@ const OF_FORMATTED: [Step; 7] = [
     ),
     (
         "jbench upgrade upgraded/home",
-        "| jbench: refusal 13 BadMagic\nRefused",
+        "| jbench: refusal 13 BadMagic\n  no log stands there: jbench show LOG says what does, and what to do then\nRefused",
     ),
     (
         "jbench upgrade upgraded/missing",
@@ -135,7 +135,7 @@ empty sequence=1
     ),
     (
         "jbench format upgraded/log upgraded/home",
-        "formatted 33 blocks of 1024\n| Fine",
+        "formatted 33 blocks of 1024\n| jbench: overwrites upgraded/log: it held a log, all of which is home\nFine",
     ),
 ];
 
@@ -144,7 +144,7 @@ const BEHIND_LAPS: [Step; 5] = [
     ("jbench upgrade upgraded/log", "upgraded sequence=9\n| Fine"),
     (
         "jbench upgrade upgraded/log",
-        "| jbench: refusal 23 AlreadyWide\nRefused",
+        "| jbench: refusal 23 AlreadyWide\n  the log has block numbers of 64 bits already, so there is nothing to do\nRefused",
     ),
     (
         "jbench dump upgraded/log",
@@ -167,7 +167,7 @@ wait 1 = 10
     ),
     (
         "jbench upgrade upgraded/log",
-        "| jbench: refusal 23 AlreadyWide\nRefused",
+        "| jbench: refusal 23 AlreadyWide\n  the log has block numbers of 64 bits already, so there is nothing to do\nRefused",
     ),
 ];
 

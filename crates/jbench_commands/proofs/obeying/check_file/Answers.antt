@@ -3,4 +3,4 @@ use Rattle.jbench_commands.proofs.obeying.check_file.Goals as goal
 
 -- of the file that was opened
 pub returns-in-Ok-clause-done : goal.returns-in-Ok-clause-done
-returns-in-Ok-clause-done g c = IfOk-weaker c.check.result _ _ (λ status good fine. (c.in-Ok.file, good fine)) c.check.ensures.good
+returns-in-Ok-clause-done g c = IfOk-weaker c.check.result _ _ (λ status good fine. (c.into_text.result, good fine)) c.check.ensures.good

@@ -1,8 +1,11 @@
+use Rattle.std.specs.Prelude.{false}
 use Rattle.std.proofs.lemmas.Result.{IfOk-weaker}
-use Rattle.jbench_commands.proofs.Obeyed.{over-two}
+use Rattle.jbench_commands.proofs.Obeyed.{over-told}
 use Rattle.jbench_commands.proofs.obeying.format_both.Goals as goal
 
--- over two files
+-- over two files, which are new where they had to be
 pub returns-in-Ok-make_device-clause-done : goal.returns-in-Ok-make_device-clause-done
 returns-in-Ok-make_device-clause-done g c =
-    IfOk-weaker c.format_device.result _ _ (λ status made fine. made fine (over-two c.in-Ok.files c.in-Ok-make_device.device c.in-Ok-make_device.ensures)) c.format_device.ensures.made
+    IfOk-weaker c.format_device.result _ _ (λ status made fine. made fine false
+    (over-told c.args.words.now.has_to_be_new false c.in-Ok.files c.in-Ok-make_device.device c.in-Ok-make_device.ensures
+    (λ new. (c.in-Ok.ensures new).0) (λ new keep. (c.in-Ok.ensures new).1))) c.format_device.ensures.made

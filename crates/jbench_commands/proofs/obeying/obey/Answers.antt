@@ -17,6 +17,9 @@ returns-in-Format-clause-done g c = rw c.in-Format.is c.format_files.ensures.don
 pub returns-in-Dump-clause-done : goal.returns-in-Dump-clause-done
 returns-in-Dump-clause-done g c = rw c.in-Dump.is c.dump_file.ensures.done
 
+pub returns-in-Cat-clause-done : goal.returns-in-Cat-clause-done
+returns-in-Cat-clause-done g c = rw c.in-Cat.is c.cat_files.ensures.done
+
 pub returns-in-Recover-clause-done : goal.returns-in-Recover-clause-done
 returns-in-Recover-clause-done g c = rw c.in-Recover.is c.recover_files.ensures.done
 
@@ -53,6 +56,9 @@ returns-in-Format-clause-wrong g c = rw c.in-Format.is (never-wrong c.format_fil
 
 pub returns-in-Dump-clause-wrong : goal.returns-in-Dump-clause-wrong
 returns-in-Dump-clause-wrong g c = rw c.in-Dump.is (never-wrong c.dump_file.result c.dump_file.ensures.other)
+
+pub returns-in-Cat-clause-wrong : goal.returns-in-Cat-clause-wrong
+returns-in-Cat-clause-wrong g c = rw c.in-Cat.is (never-wrong c.cat_files.result c.cat_files.ensures.other)
 
 pub returns-in-Recover-clause-wrong : goal.returns-in-Recover-clause-wrong
 returns-in-Recover-clause-wrong g c = rw c.in-Recover.is (never-wrong c.recover_files.result c.recover_files.ensures.other)

@@ -3,7 +3,7 @@ use Rattle.jbench_threads.proofs.obeying.obey_alone.Goals as goal
 
 -- what a command does that starts no threads
 pub returns-clause-done : goal.returns-clause-done
-returns-clause-done g c = done-alone _ _ c.args.words.now c.obey.result c.obey.ensures.done
+returns-clause-done g c = done-alone _ _ _ c.args.words.now c.obey.result c.obey.ensures.done
 
 pub returns-clause-wrong : goal.returns-clause-wrong
-returns-clause-wrong g c = wrong-alone c.args.words.now c.obey.result c.obey.ensures.wrong
+returns-clause-wrong g c = wrong-alone _ c.args.words.now c.obey.result c.obey.ensures.wrong

@@ -3,7 +3,7 @@ use Rattle.jbench_threads.proofs.obeying.threads_file.Goals as goal
 
 -- of the file that was opened
 pub returns-in-Ok-clause-done : goal.returns-in-Ok-clause-done
-returns-in-Ok-clause-done g c = IfOk-weaker c.threads.result _ _ (λ status served fine. (c.in-Ok.file, served fine)) c.threads.ensures.done
+returns-in-Ok-clause-done g c = IfOk-weaker c.threads.result _ _ (λ status served fine. (c.into_text.result, served fine)) c.threads.ensures.done
 
 pub returns-in-Ok-clause-wrong : goal.returns-in-Ok-clause-wrong
-returns-in-Ok-clause-wrong g c = IfOk-weaker c.threads.result _ _ (λ status found wrong. (c.in-Ok.file, found wrong)) c.threads.ensures.wrong
+returns-in-Ok-clause-wrong g c = IfOk-weaker c.threads.result _ _ (λ status found wrong. (c.into_text.result, found wrong)) c.threads.ensures.wrong

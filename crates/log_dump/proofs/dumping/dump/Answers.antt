@@ -6,7 +6,7 @@ use Rattle.log_model.specs.Dump.{dump_text}
 use Rattle.journal_model.specs.Layout.{IsLayout}
 use Rattle.log_model.specs.Superblock.{Super}
 use Rattle.log_scan.specs.Finding.{every_block}
-use Rattle.log_scan.specs.Scanning.{AreTextsOf, IsScanned}
+use Rattle.log_scan.specs.Scanning.{IsChainOf, IsScanned}
 use Rattle.log_dump.specs.Dumping.{HasDump, IsReadLog, shape_of}
 use Rattle.block_device.proofs.OneCall.{reads-on}
 use Rattle.log_scan.proofs.ScanSteps.{accepted-stays}
@@ -99,7 +99,7 @@ returns-clause-printed g c =
       is_dump =
           chain-dump (g.D.Device.state c.args.device.now).shape.block_size (g.D.Device.state c.args.device.now).shape.log_blocks (reading (g.D.Device.state c.args.device.now).disk)
           c.in_ok-log.log (read g c h) started these.texts these.are;
-      written = printed h these.texts started (subst (λ (d : Disk). AreTextsOf c.in_ok-log.log (every_block c.in_ok-log.log) (reading d) these.texts) (same g c) these.are) these.number;
+      written = printed h these.texts started (subst (λ (d : Disk). IsChainOf c.in_ok-log.log (every_block c.in_ok-log.log) (reading d) these.texts) (same g c) these.are.chain) these.number;
     })
     c.write_log.ensures.printed
 
@@ -111,7 +111,7 @@ returns-clause-refused g c =
     print-refused (g.D.Device.honest c.write_log.new.device) (c.write_log.new.out ≡ c.args.out.now) _ c.in_ok-log.log
     (g.D.Device.state c.args.device.now) (g.D.Device.state c.scan.new.device) (g.D.Device.state c.write_log.new.device) e
     (c.in_ok-transactions.ensures.faults ∙ c.in_ok-log.ensures.faults) c.in_ok-log.ensures.accepted (λ h. has-chain g c h)
-    (λ h never. let these = counted g c h in never these.texts (subst (λ (d : Disk). AreTextsOf c.in_ok-log.log (every_block c.in_ok-log.log) (reading d) these.texts) (same g c) these.are) these.number)
+    (λ h never. let these = counted g c h in never these.texts (subst (λ (d : Disk). IsChainOf c.in_ok-log.log (every_block c.in_ok-log.log) (reading d) these.texts) (same g c) these.are.chain) these.number)
     refused)
     c.write_log.ensures.refused
 

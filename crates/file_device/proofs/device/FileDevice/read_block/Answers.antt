@@ -36,7 +36,7 @@ returns-in-Err-clause-err g c =
     record {
       before = c.args.self.now;
       asked_before = record { calls = []; readings = tt; after = refl };
-      after = c.fault.ensures ∙ ap View c.in-Err.ensures.err
+      after = c.fail_to_read.ensures ∙ ap View c.in-Err.ensures.err
           ∙ ap (λ at. record (View d.files) { calls = ReadFailed c.args.area at ∷ calls_of d.files }) c.place_of-at.ensures
           ∙ ap (λ (s : FileState). record s { calls = ReadFailed c.args.area (c.args.n * s.block_size) ∷ s.calls; faults = one_more_fault s.faults }) c.self.view_is;
     }

@@ -1,5 +1,5 @@
 //! The page of the program for `man`.
-use crate::program::VERSION;
+use crate::parser::VERSION;
 use crate::usage::{PROGRAM, Usage, Word, commands};
 use std::io;
 use std::io::Write;

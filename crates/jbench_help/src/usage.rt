@@ -25,18 +25,20 @@ pub(crate) const PROGRAM: Usage = Usage {
     name: "jbench",
     about: "Runs scripts of journal operations over a disk in memory that loses power and judges what is left; makes, prints and recovers logs",
     after_help: "\
+help COMMAND: prints the help of a command, as --help after it does.
 run SCRIPT [--stop K | --fail K] [--keep LIST] [--stop2 K] [--keep2 LIST] [--image-log PATH --image-home PATH] [--json]: SCRIPT is a
-file, K a write number from 1 on (default: the device stops at the end, and the opening does not stop), or with --fail the number of a
-call that fails, LIST write numbers with commas (default: none), PATH a file that gets what the stop left. jbench run --help says what
-a script is.
+file, a pipe, or - for standard input, 256 MiB at most, K a write number from 1 on (default: the device stops at the end, and the opening
+does not stop), or with --fail the number of a call that fails, LIST write numbers with commas (default: none), PATH a file that gets what
+the stop left. jbench run --help says what a script is.
 sweep SCRIPT [--fail] [--json]: runs a script with a stop at each of its writes and judges what each leaves; with --fail also once for
 each device call, which fails.
 check SCRIPT: says whether a script of run or of threads is good, and why it is not.
 threads SCRIPT: runs the clients of a script, each in a thread of its own, over one journal, and judges what came of them.
-format LOG HOME [--block B] [--length M] [--home N] [--uuid DIGITS] [--wide] [--keep-home]: two files become an empty log of M
+format LOG HOME [--block B] [--length M] [--home N] [--uuid DIGITS] [--wide] [--keep-home] [--new]: two files become an empty log of M
 blocks (default: 33) and a home area of N zero blocks (default: 64), of B bytes each (default: 1024), or only the first does.
-dump LOG: prints the log in a file.
-show LOG: prints each field of the superblock in a file, and why an opening would refuse it.
+dump LOG [--damaged | --copy PLACE]: prints the log in a file, where that is told up to a damaged block; or the bytes of one copy.
+show LOG: prints each field of the superblock in a file, why an opening would refuse it, and what the ring holds.
+cat LOG HOME BLOCK: prints a block of the home area as an opening would leave it, and writes nothing.
 recover LOG HOME [--before-damage] [--dry-run]: opens the log in a file, and brings home what its complete transactions copied,
 where that is told also those of a damaged log; or says what it would do.
 upgrade LOG: gives the empty log in a file block numbers of 64 bits.
@@ -109,7 +111,7 @@ Example: jbench run examples/one_write.json --stop 4 --keep 4",
             name: "script",
             value: "SCRIPT",
             is_option: false,
-            help: "The file that holds the script",
+            help: "The file that holds the script, or - for standard input",
         },
         Word {
             name: "stop",
@@ -188,7 +190,7 @@ Example: jbench sweep examples/two_blocks.json --fail",
             name: "script",
             value: "SCRIPT",
             is_option: false,
-            help: "The file that holds the script",
+            help: "The file that holds the script, or - for standard input",
         },
         Word {
             name: "fail",
@@ -224,7 +226,7 @@ Example: jbench check examples/two_blocks.json",
         name: "script",
         value: "SCRIPT",
         is_option: false,
-        help: "The file that holds the script",
+        help: "The file that holds the script, or - for standard input",
     }],
 };
 
@@ -258,7 +260,7 @@ Example: jbench threads examples/two_clients.json",
         name: "script",
         value: "SCRIPT",
         is_option: false,
-        help: "The file that holds the script",
+        help: "The file that holds the script, or - for standard input",
     }],
 };
 
@@ -267,10 +269,12 @@ pub(crate) const FORMAT: Usage = Usage {
     name: "format",
     about: "Makes two files an empty log and a home area of zeros, or makes a log beside a home area that is kept",
     after_help: "\
-Both files are made where there are none, and lose what they held. LOG gets M blocks of B bytes: the superblock, and zeros.
+Both files are made where there are none, and lose what they held; standard error says what LOG held. With --new a file that is there
+is refused, and stays as it is. LOG gets M blocks of B bytes: the superblock, and zeros.
 HOME gets N blocks of zeros, each of which is written: a disk that is full later has room for them. No file is changed before both
-could be opened and locked, and none is ever taken away: one that was made stays, empty, where the other can't be opened. Linux takes
-logs of 1024 blocks and more alone: give --length 1024 to a log that it is to read.
+could be opened and locked, and none is ever taken away: one that was made stays, empty, where the other can't be opened, and the
+message says so. Before anything is lost that they held the disk gets room for both: where it is too small they stay as they were.
+Linux takes logs of 1024 blocks and more alone: give --length 1024 to a log that it is to read.
 
 With --wide the log's block numbers have 64 bits. What it then holds is read by this program alone: nothing is claimed of others.
 
@@ -330,6 +334,12 @@ Example: jbench format log home --block 4096 --length 1024",
             is_option: true,
             help: "Leave HOME as it is: make an empty log beside it",
         },
+        Word {
+            name: "new",
+            value: "",
+            is_option: true,
+            help: "Refuse a file that is there: both have to be new, or with --keep-home the log",
+        },
     ],
 };
 
@@ -341,15 +351,70 @@ pub(crate) const DUMP: Usage = Usage {
 The bytes of a block are what stands at 0x0c of LOG where that is 1024, 2048 or 4096, else 1024. Nothing is printed where the
 log is refused. LOG is not written.
 
-Exit status: 0 done; 1 refused: the words, the file, or the log.
+With --damaged a log that is refused with 22 Damage is printed all the same: its complete transactions before the damaged block. The
+refusal follows on standard error, and the exit status is 1. With --copy PLACE the bytes of the copy in block PLACE of LOG are printed in
+place of the log, in hex, 32 on a line, as an opening would write them home. That block has to be one of a complete transaction: the dump
+has a line 'PLACE copy N block=B' for it.
 
-Example: jbench dump log",
-    words: &[Word {
-        name: "log",
-        value: "LOG",
-        is_option: false,
-        help: "The file of the log",
-    }],
+Exit status: 0 done; 1 refused: the words, the file, or the log, or no copy stands in that block.
+
+Examples:
+  jbench dump log
+  jbench dump log --copy 8",
+    words: &[
+        Word {
+            name: "log",
+            value: "LOG",
+            is_option: false,
+            help: "The file of the log",
+        },
+        Word {
+            name: "damaged",
+            value: "",
+            is_option: true,
+            help: "Print a log that is refused as damaged up to the damaged block",
+        },
+        Word {
+            name: "copy",
+            value: "PLACE",
+            is_option: true,
+            help: "Print the bytes of the copy in this block of LOG, in hex; not with --damaged",
+        },
+    ],
+};
+
+/// The command `cat`.
+pub(crate) const CAT: Usage = Usage {
+    name: "cat",
+    about: "Prints a block of the home area as an opening of its log would leave it",
+    after_help: "\
+The bytes of block BLOCK of HOME, counted from 0, are printed as they are: the newest copy of the block in a complete transaction of LOG
+that no revoke covers, or where there is none what HOME has. Both files are read, and nothing is written; other programs may read
+them too. Where an opening would refuse the log, so does this. The blocks of LOG are held in memory.
+
+Exit status: 0 done; 1 refused: the words, a file, or the log, or HOME has no such block.
+
+Example: jbench cat log home 9 | xxd",
+    words: &[
+        Word {
+            name: "log",
+            value: "LOG",
+            is_option: false,
+            help: "The file of the log",
+        },
+        Word {
+            name: "home_file",
+            value: "HOME",
+            is_option: false,
+            help: "The file of the home area",
+        },
+        Word {
+            name: "block",
+            value: "BLOCK",
+            is_option: false,
+            help: "The block of the home area, counted from 0",
+        },
+    ],
 };
 
 /// The command `show`.
@@ -359,7 +424,8 @@ pub(crate) const SHOW: Usage = Usage {
     after_help: "\
 Below a field that fails a test of an opening stands the refusal, and what is wanted of it; features have their names. The last
 lines say whether an opening takes the superblock, and where a feature keeps it from that, what the owner of the log can do about
-it. The bytes of a block are what stands at 0x0c of LOG where that is 1024, 2048 or 4096, else 1024. LOG is not written.
+it; of a log whose superblock is taken also how many blocks of the ring are used and free, and the numbers of the oldest and the newest
+transaction that stand there. The bytes of a block are what stands at 0x0c of LOG where that is 1024, 2048 or 4096, else 1024. LOG is not written.
 
 Exit status: 0 done, whatever the superblock is; 1 refused: the words, the file, or a log of not one block.
 
@@ -382,7 +448,8 @@ copy is written that no revoke covers; a clean log is opened without a write. Be
 written once more just as it is, and synced. Where the log is refused nothing else is written, but for want of memory or a failing
 file: then call it again. It prints 'clean next=N', or
 'recovered end=E next=N transactions=C': N is the number of the next transaction, E the number behind the last complete
-one, C how many complete ones there were.
+one, C how many complete ones there were. N is none where the recovery used the last number up: the log is clean then, and a new one
+is to be made beside the same home, by format with --keep-home.
 
 Behind 'refusal 2 Device', of this command or another one, see to the disk first: the system may show what its disk lacks. Then
 recover, with no other program on the files; where in doubt, unmount their file system and mount it again before.
@@ -392,7 +459,7 @@ the complete transactions before the damaged block. Ahead: those of the log as i
 behind is given up, so keep a copy of both files, and look at --dry-run before. A second line, '  transactions A to B, stopped by
 refusal 22 Damage K', has the numbers of the transactions that were taken, or '  no transactions', and block K of LOG. A log that is
 not refused is opened as without it, and so are all other refusals as they were. Where it ends with '10 SequenceEnd' no number is left
-above those in the log: make an empty one by format with --keep-home.
+above those in the log: where show says s_start 0, make an empty one by format with --keep-home; else that loses what is in the log.
 
 With --dry-run nothing is written: both files are read, and other programs may read them too. It prints what the same command without
 it would find: 'clean next=N', or 'would recover end=E next=N transactions=C blocks=H', where H is how many blocks of HOME it would
@@ -493,7 +560,7 @@ Example: blocks 9 and 10 of the home area change together:
             name: "script",
             value: "SCRIPT",
             is_option: false,
-            help: "The file that holds the script",
+            help: "The file that holds the script, or - for standard input",
         },
         Word {
             name: "stay",
@@ -615,7 +682,7 @@ Example: jbench man > jbench.1 && man ./jbench.1",
 };
 
 /// The commands, as the help names them.
-pub(crate) fn commands() -> [&'static Usage; 13] {
+pub(crate) fn commands() -> [&'static Usage; 14] {
     [
         &RUN,
         &SWEEP,
@@ -624,6 +691,7 @@ pub(crate) fn commands() -> [&'static Usage; 13] {
         &FORMAT,
         &DUMP,
         &SHOW,
+        &CAT,
         &RECOVER,
         &UPGRADE,
         &APPLY,

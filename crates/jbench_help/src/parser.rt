@@ -66,14 +66,17 @@ fn all_commands<'a>(alloc: Global) -> Result<Vec<Command<'a>>, AllocError> {
 fn program_with<'a>(alloc: Global, commands: Vec<Command<'a>>) -> Result<Command<'a>, AllocError> {
     bare_command(alloc, &PROGRAM)
         .version(VERSION)
-        .disable_help_subcommand(true)
         .subcommand_required(true)
         .bin_name("jbench")?
         .subcommands(commands)
 }
 
 /// The program.
-pub(crate) fn program<'a>(alloc: Global) -> Result<Command<'a>, AllocError> {
+///
+/// # Errors
+///
+/// Memory ran out.
+pub fn program<'a>(alloc: Global) -> Result<Command<'a>, AllocError> {
     program_with(alloc, all_commands(alloc)?)
 }
 
@@ -84,7 +87,11 @@ fn alone<'a>(alloc: Global, usage: &Usage) -> Result<Command<'a>, AllocError> {
 }
 
 /// The command of this name as a program of its own, or the whole program where there is none.
-pub(crate) fn command_named<'a>(alloc: Global, name: &str) -> Result<Command<'a>, AllocError> {
+///
+/// # Errors
+///
+/// Memory ran out.
+pub fn command_named<'a>(alloc: Global, name: &str) -> Result<Command<'a>, AllocError> {
     match usage_named(name) {
         Some(usage) => alone(alloc, usage),
         None => program(alloc),

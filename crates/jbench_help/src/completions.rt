@@ -16,7 +16,7 @@ pub enum Shell {
 
 impl Shell {
     /// The shell of this name, if there is one.
-    pub(crate) fn named(name: &str) -> Option<Shell> {
+    pub fn named(name: &str) -> Option<Shell> {
         match name {
             "bash" => Some(Shell::Bash),
             "zsh" => Some(Shell::Zsh),
@@ -48,7 +48,7 @@ const BASH_BEGINS: &str = "\
 _jbench() {
     local last=${COMP_WORDS[COMP_CWORD]} list=
     case $COMP_CWORD,${COMP_WORDS[1]},$last in
-    1,*) list='--help --version";
+    1,*) list='--help --version help";
 
 /// How the function of bash ends, behind the options of the commands.
 const BASH_ENDS: &str = "    2,completions,*) list='bash zsh fish' ;;
@@ -91,6 +91,10 @@ fn write_bash_command<W: Write>(usage: &Usage, out: &mut W) -> io::Result<()> {
 /// Writes the commands of fish.
 fn write_fish<W: Write>(out: &mut W) -> io::Result<()> {
     writeln!(out, "complete -c jbench -l help -d \"Print help\"")?;
+    writeln!(
+        out,
+        "complete -c jbench -n __fish_use_subcommand -f -a help -d \"Print help of a command\""
+    )?;
     for usage in &commands() {
         write_fish_command(usage, out)?;
     }

@@ -1,0 +1,6 @@
+//! The commands that look something up in a log, over devices: `dump` with its options, and `cat`. Nothing is written.
+#![tactic(auto)]
+
+mod printing;
+
+pub use printing::{cat, dump};
