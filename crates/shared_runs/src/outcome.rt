@@ -34,7 +34,7 @@ pub(crate) enum Outcome {
 /// Writes the line of an operation.
 pub(crate) fn write_line(
     operation: &Operation,
-    outcome: Outcome,
+    outcome: &Outcome,
     out: &mut Vec<u8>,
 ) -> io::Result<()> {
     write!(out, "{operation} = ")?;
@@ -43,13 +43,13 @@ pub(crate) fn write_line(
 }
 
 /// Writes what an operation came to.
-fn write_outcome(outcome: Outcome, out: &mut Vec<u8>) -> io::Result<()> {
+fn write_outcome(outcome: &Outcome, out: &mut Vec<u8>) -> io::Result<()> {
     match outcome {
         Outcome::Transaction(tid) => write!(out, "{}", tid.0),
         Outcome::Done => write!(out, "ok"),
-        Outcome::Begins(bytes) => write_bytes(&bytes, out),
-        Outcome::Turn(turn) => write_turn(turn, out),
-        Outcome::CheckTurn(turn) => write_check_turn(turn, out),
+        Outcome::Begins(bytes) => write_bytes(bytes, out),
+        Outcome::Turn(turn) => write_turn(*turn, out),
+        Outcome::CheckTurn(turn) => write_check_turn(*turn, out),
         Outcome::Committed => write!(out, "committed"),
         Outcome::Open => write!(out, "open"),
         Outcome::Skipped => write!(out, "skipped"),

@@ -209,8 +209,8 @@ fn perform_all<J: JournalName, R: Wait>(
 ) -> Result<(), Fault> {
     for operation in operations {
         let outcome = interpreter.perform(operation);
-        write_line(operation, outcome, out)?;
-        if is_last(outcome, after) {
+        write_line(operation, &outcome, out)?;
+        if is_last(&outcome, after) {
             return Ok(());
         }
     }
@@ -218,6 +218,6 @@ fn perform_all<J: JournalName, R: Wait>(
 }
 
 /// Whether no operation is done behind one that came to this.
-fn is_last(outcome: Outcome, after: AfterFailure) -> bool {
+fn is_last(outcome: &Outcome, after: AfterFailure) -> bool {
     after == AfterFailure::End && matches!(outcome, Outcome::Refused(JournalError::Device))
 }
