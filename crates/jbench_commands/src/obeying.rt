@@ -13,8 +13,8 @@ use crate::progress::Progress;
 use crate::{apply, check, run, sweep};
 use file_device::{Contents, FileDevice};
 use jbench_files::{
-    KeptPair, LogPair, RegularFile, Text, Unopened, device_before, device_of, device_to_read, home_bytes,
-    make_device, make_log, make_log_device, make_pair, open_log, open_log_to_write,
+    KeptPair, LogPair, RegularFile, Text, Unopened, device_before, device_of, device_to_read,
+    home_bytes, make_device, make_log, make_log_device, make_pair, open_log, open_log_to_write,
     open_or_make_log, open_or_make_pair, open_pair, open_pair_to_read, open_script, open_text,
     say_failure,
 };
@@ -24,7 +24,8 @@ use jbench_logs::{logs, recovering, show};
 use jbench_views::{cat, dump};
 use jbench_words::fault::{self, Fault, Status, refuse_file};
 use jbench_words::words::{
-    ApplyWords, CatWords, DumpWords, FormatWords, LogPaths, RecoverWords, RunWords, SweepWords, Words,
+    ApplyWords, CatWords, DumpWords, FormatWords, LogPaths, RecoverWords, RunWords, SweepWords,
+    Words,
 };
 use journal_model::JournalError;
 use std::alloc::Global;

@@ -15,8 +15,7 @@ mod text;
 
 pub use devices::{
     Cleared, LogCleared, Unmade, device_before, device_of, device_to_read, home_bytes, make_device,
-    make_log_device, open_log, open_log_to_write,
-    say_failure,
+    make_log_device, open_log, open_log_to_write, say_failure,
 };
 pub use locked::LockedFile;
 pub use pairs::{

@@ -362,7 +362,10 @@ fn told_dump(alloc: Global, words: &DumpWords<'_>) -> Result<String, AllocError>
 
 /// What words tell `cat`.
 fn told_cat(alloc: Global, words: &CatWords<'_>) -> Result<String, AllocError> {
-    format!(in alloc; "cat {} {} {}", words.paths.log, words.paths.home, words.block)
+    format!(in alloc;
+        "cat {} {} {}",
+        words.paths.log, words.paths.home, words.block
+    )
 }
 
 /// What words tell `recover`.

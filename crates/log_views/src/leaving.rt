@@ -19,11 +19,7 @@ use std::alloc::Global;
 ///
 /// `BadBlock`: the home area has no such block. Those of an opening of the log. `Device`: a read failed. `Memory`: the blocks of the log
 /// that are no zeros are held in memory, and the home blocks that it would write.
-pub fn block_left<D: Device>(
-    alloc: Global,
-    device: &mut D,
-    n: u64,
-) -> Result<Block, JournalError>
+pub fn block_left<D: Device>(alloc: Global, device: &mut D, n: u64) -> Result<Block, JournalError>
     ensures left { IfOk result (λ block. D.honest device.new → IsLeftIn (D.state device.old) n block) }
     ensures device { OnlyReads D.state D.honest device.old device.new }
 {

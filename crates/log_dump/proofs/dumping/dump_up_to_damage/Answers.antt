@@ -69,8 +69,7 @@ returns-clause-whole g c = λ none h.
     let mid = (g.D.Device.state c.read_log.new.device).disk in
     let trust = c.write_log.ensures.device.honest h in
     let ends = c.in_ok-end.ensures.ends trust in
-    let are = subst (λ (d : Option ℕ). MatchOption d (AreTextsOf log (every_block log) (reading mid) ends.texts) (λ place. IsDamageOf log (every_block log) (reading mid) (Damage place))) none ends.behind in
-    (
+    let are = subst (λ (d : Option ℕ). MatchOption d (AreTextsOf log (every_block log) (reading mid) ends.texts) (λ place. IsDamageOf log (every_block log) (reading mid) (Damage place))) none ends.behind in (
       dump_text log ends.texts,
       chain-dump old.shape.block_size old.shape.log_blocks (reading old.disk) log (c.in_ok-log.ensures.read (c.find_end.ensures.device.honest trust)) started ends.texts
           (subst (λ (d : Disk). AreTextsOf log (every_block log) (reading d) ends.texts) c.read_log.ensures.device.stays.disk are),

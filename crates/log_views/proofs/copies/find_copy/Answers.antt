@@ -69,11 +69,11 @@ returns-in-Some-clause-found g c = λ it h ends.
     let count = c.in-Descriptor.count in
     let trust = c.read_copy.ensures.device.honest h in
     let led = subst (HasLed log (every_block log) (reading old.disk) c.advance.new.finder c.loop-cursor.cursor c.advance.new.self) c.in-Descriptor.is
-        (led-there log (every_block log) old (g.D.Device.state c.loop-cursor.device) c.advance.new.finder c.loop-cursor.cursor
-        c.advance.new.self c.in_ok-advance.field-0 before.device.stays (before.passed (c.advance.ensures.device.honest trust)) (c.in_ok-advance.ensures.leads trust)) in
+    (led-there log (every_block log) old (g.D.Device.state c.loop-cursor.device) c.advance.new.finder c.loop-cursor.cursor
+    c.advance.new.self c.in_ok-advance.field-0 before.device.stays (before.passed (c.advance.ensures.device.honest trust)) (c.in_ok-advance.ensures.leads trust)) in
     let stays = (reads-on before.device c.advance.ensures.device).stays in
     let behind : c.advance.new.self.position ≡ c.loop-cursor.cursor.position + (1 + count) =
-        ap (λ (x : Cursor). x.position) (subst (λ (found : Found). c.advance.new.self ≡ cursor_behind c.loop-cursor.cursor found) c.in-Descriptor.is c.in_ok-advance.ensures.behind) in
+    ap (λ (x : Cursor). x.position) (subst (λ (found : Found). c.advance.new.self ≡ cursor_behind c.loop-cursor.cursor found) c.in-Descriptor.is c.in_ok-advance.ensures.behind) in
     let from = c.in-Some.ensures.0 in
     let first : ℕ = c.advance.new.self.position - count in
     let k : ℕ = c.in-Some.position - first in
