@@ -1,5 +1,5 @@
 //! Opens the files that the words name, and does what the words tell.
-ghost use Rattle.std.specs.Prelude.{◌≡◌, ◌≢◌, ◌↔◌, IfOk, IsOk, true};
+ghost use Rattle.std.specs.Prelude.{◌≡◌, ◌≢◌, ◌↔◌, Bool, IfOk, IsOk, false, true};
 ghost use Rattle.jbench_words.specs.declared.fault.Status.TheVariants.{Fine, Refused, VerdictFalse};
 ghost use Rattle.jbench_files.specs.Cleared.{cleared, log_cleared};
 ghost use Rattle.jbench_logs.specs.Done.{HasUpgraded, IsMade};
