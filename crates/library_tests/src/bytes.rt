@@ -39,7 +39,7 @@ pub fn expect<T: PartialEq + Debug>(rt: &impl Abort, told: &T, expected: &T) {
 }
 
 /// Fills a block with a byte, if it is there.
-fn write<D: Device>(
+pub(crate) fn write<D: Device>(
     device: &mut D,
     area: Area,
     block: u64,

@@ -1,7 +1,7 @@
 //! Devices over real files.
 ghost use Rattle.std.specs.Prelude.{◌<◌};
 
-use crate::bytes::{HOME, LOG, SIZE, Step, expect, first_wrong};
+use crate::bytes::{HOME, LOG, SIZE, Step, expect, first_wrong, write};
 use block_device::Device;
 use file_device::{FileDevice, UnknownContents};
 use std::fs::{File, OpenOptions};
@@ -288,7 +288,7 @@ fn told_failure(rt: &HostRuntime, folder: &str, home: &Made) -> Result<String, F
     let log = Made::Written(b"aaaabbbb");
     let mut device = device_over(rt, folder, SIZE, &log, Some(home))?;
     let before = device.failure().is_none();
-    let _ = device.write(HOME, 1, &[0xc; SIZE]);
+    let _ = write(&mut device, HOME, 1, 0xc);
     let _ = device.flush(HOME);
     let told = match device.failure() {
         Some(failure) if before && failure.area == HOME => format!(in rt.alloc(); "{failure}")?,
