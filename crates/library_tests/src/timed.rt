@@ -94,7 +94,8 @@ fn is_told<R: Threads + Wait + Sync, C: Clock + Sync>(
     let (mut out, mut err) = (Vec::new(alloc), Vec::new(alloc));
     let device = FailOnce::new(few_blocks(alloc)?, call);
     let has_failed = said(rt, clock, alloc, device, &mut out, &mut err)?.is_none();
-    Ok(has_failed && err.as_slice() == b"jbench: refusal 2 Device\n".as_slice())
+    let told = from_utf8(&err)?;
+    Ok(has_failed && told.starts_with("jbench: refusal 2 Device\n"))
 }
 
 /// The first call of the device with which that is not so.
