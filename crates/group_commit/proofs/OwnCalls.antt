@@ -12,6 +12,7 @@ use Rattle.journal_world.specs.Engine.{Accepts, CommitFaults, CommitSteps, Engin
 use Rattle.journal_world.specs.Checkpoint.{RoundFaults}
 use Rattle.journal_world.specs.Journal.{Journal, batch_of}
 use Rattle.journal_world.specs.Journal.Event.{Seal}
+use Rattle.log_engine.specs.Close.{MakesCloseCalls}
 use Rattle.log_engine.specs.Engine.{EngineValue}
 use Rattle.journal_steps.specs.declared.turn.CheckTurn.{CheckTurn}
 use Rattle.journal_steps.specs.declared.turn.CheckTurn.TheVariants.{Idle as IdleCheck, Step as StepCheck, Released}
@@ -114,15 +115,15 @@ module _ {D : Type 0} (state : D → DeviceState) where
   pub asked-calls : (tid : ℕ) (old new : JournalValue D) → Requests state tid old new → new.device ≡ old.device → CallsForTurns state old new
   asked-calls tid old new asks device = no-calls old new (asked-of tid old new asks (length old.journal.front.running.handles) refl) device
 
-  -- the close of the log makes two, whatever its answer is
+  -- those of the turns, and then those that close the log, whatever its answer is
   pub calls-closed : {T E : Type 0} (r : Result T E) (in_ok : T → D) (in_err : E → D) (sealed : T → History) (unclosed : E → History) (All : T → Type 0)
       (Why Count Fails : E → Type 0) (a b : JournalValue D) → CallsForTurns state a b →
       IfOk r (λ x. (sealed x ≡ b.journal.front.sealed) × All x) →
       IfErr r (λ e. Why e × (unclosed e ≡ b.journal.front.sealed) × Count e × Fails e) →
-      MatchResult r (λ x. Agrees b.journal × ((state (in_ok x)).calls ≤ (state b.device).calls + 2))
-      (λ e. Agrees b.journal × ((state (in_err e)).calls ≤ (state b.device).calls + 2)) →
+      MatchResult r (λ x. Agrees b.journal × MakesCloseCalls state (engine_in b) (in_ok x))
+      (λ e. Agrees b.journal × MakesCloseCalls state (engine_in b) (in_err e)) →
       MatchResult r (λ x. CallsForClose state a (in_ok x) (sealed x)) (λ e. CallsForClose state a (in_err e) (unclosed e))
-  calls-closed (Ok x) in_ok in_err sealed unclosed All Why Count Fails a b turns ok err two =
-      record { last = b; turns = turns; agrees = two.0; sealed_is = ok.0; two = two.1 }
-  calls-closed (Err e) in_ok in_err sealed unclosed All Why Count Fails a b turns ok err two =
-      record { last = b; turns = turns; agrees = two.0; sealed_is = err.1; two = two.1 }
+  calls-closed (Ok x) in_ok in_err sealed unclosed All Why Count Fails a b turns ok err calls =
+      record { last = b; turns = turns; agrees = calls.0; sealed_is = ok.0; closing = calls.1 }
+  calls-closed (Err e) in_ok in_err sealed unclosed All Why Count Fails a b turns ok err calls =
+      record { last = b; turns = turns; agrees = calls.0; sealed_is = err.1; closing = calls.1 }

@@ -1,11 +1,12 @@
 -- Which device calls a call makes that takes turns: those of its turns, and no other.
-use Rattle.std.specs.Prelude.{◌≡◌, ◌+◌, ◌≤◌}
+use Rattle.std.specs.Prelude.{◌≡◌}
 use Rattle.journal_model.specs.declared.entry.Batch.{Batch}
 use Rattle.journal_model.specs.Disk.{Disk}
 use Rattle.journal_model.specs.Transaction.{History}
 use Rattle.block_device.specs.State.{DeviceState, MakesAtMostOneCall}
 use Rattle.journal_world.specs.Checkpoint.{RoundFaults, RoundSteps}
 use Rattle.journal_world.specs.Engine.{Accepts, CommitFaults, CommitSteps, Engine}
+use Rattle.log_engine.specs.Close.{MakesCloseCalls}
 use Rattle.log_engine.specs.Engine.{EngineValue}
 use Rattle.journal_steps.specs.Journal.{Agrees}
 use Rattle.journal_steps.specs.Values.{JournalValue}
@@ -35,11 +36,11 @@ engine_in v = record { device = v.device; engine = v.journal.engine }
 pub record CallsForTurns {D : Type 0} (state : D → DeviceState) (old new : JournalValue D) : Type 0 where
   pub own : MakesOwnCalls state (engine_in old) (engine_in new)
 
--- A close makes those of its turns, and two at most that close the log. After its turns the journal has just these transactions
+-- A close makes those of its turns, and then those that close the log. After its turns the journal has just these transactions
 -- sealed, and its engine has their batches.
 pub record CallsForClose {D : Type 0} (state : D → DeviceState) (old : JournalValue D) (device : D) (sealed : History) : Type 0 where
   pub last : JournalValue D
   pub turns : CallsForTurns state old last
   pub agrees : Agrees last.journal
   pub sealed_is : sealed ≡ last.journal.front.sealed
-  pub two : (state device).calls ≤ (state last.device).calls + 2
+  pub closing : MakesCloseCalls state (engine_in last) device

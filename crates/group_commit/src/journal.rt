@@ -15,14 +15,14 @@ ghost use Rattle.log_epochs.specs.EngineWorld.Phase.{Running, Shut};
 ghost use Rattle.log_epochs.specs.JournalPromise.{IsClosed};
 ghost use Rattle.log_epochs.specs.JournalWorld.{Begins};
 ghost use Rattle.block_device.specs.Call.{MakesOneCall, OnlyReads};
-ghost use Rattle.log_engine.specs.Close.{IsAllReleased};
+ghost use Rattle.log_engine.specs.Close.{IsAllReleased, MakesCloseCalls};
 ghost use Rattle.log_engine.specs.Left.{commit_calls};
 ghost use Rattle.journal_steps.specs.declared.turn.CheckTurn.TheVariants.{Idle as IdleCheck};
 ghost use Rattle.journal_steps.specs.Journal.{Agrees, CheckTurnDid, CheckTurnRefused, Does, FitsQuarter, HasRoomFor, IsDuringCheckTurn, IsDuringTurn, LeavesFewerRounds, NewestRefused, NotesRead, OpensNow, OpensOver, ReadRefused, ReadsNewest, Requests, SealIsDue, TurnDid, TurnRefused};
 ghost use Rattle.journal_steps.specs.Legal.{KeepsLegal};
 ghost use Rattle.journal_steps.specs.Values.{together};
 ghost use Rattle.group_commit.specs.AllTurns.{IsReadyToSeal};
-ghost use Rattle.group_commit.specs.Calls.{CallsForClose};
+ghost use Rattle.group_commit.specs.Calls.{CallsForClose, engine_in};
 ghost use Rattle.group_commit.specs.During.{IsDuringRounds, IsDuringTurns};
 ghost use Rattle.group_commit.specs.Close.{CloseDid, CloseRefused, EndsWith, SealRefused, closing, locked_journal};
 ghost use Rattle.journal_front.specs.Front.{IsOpenHandle, JoinRefused, ReserveRefused, Spends, TouchRefused};
@@ -564,7 +564,7 @@ impl<D: Device, R: Record> Journal<D, R> {
     /// where it ran out for the seal of the running transaction, which is then not sealed: all memory that the close takes it asks
     /// for before its first call of the device, so that nothing was done. (The contract leaves room for a refusal behind the commit
     /// that was under way, where all before it is committed. A whole ring has room for it, since it needs at most a quarter.) It makes
-    /// the device calls of its turns and two more at most, and at each moment of it a stop opens as between them.
+    /// the device calls of its turns, and a write and a flush where the log is not clean. At each moment of it a stop opens as between them.
     /// Source: fs/jbd2/journal.c by behaviour (`jbd2_journal_destroy`).
     pub fn close(self) -> Result<Parts<D, R>, (Parts<D, R>, JournalError)>
         requires { self.journal.front.open_handles ≡ [] }
@@ -622,8 +622,8 @@ impl<D: Device, R: Record> Journal<D, R> {
             (λ e. EndsWith self.journal (D.state self.device).disk (R.transactions e.0.sealed) e.0.committed (D.state e.0.device).disk Shut) }
         ensures no_fault { IfOk result (λ parts. (D.state parts.device).faults ≡ (D.state self.device).faults) }
         ensures calls { MatchResult result
-            (λ parts. Agrees self.journal × ((D.state parts.device).calls ≤ (D.state self.device).calls + 2))
-            (λ e. Agrees self.journal × ((D.state e.0.device).calls ≤ (D.state self.device).calls + 2)) }
+            (λ parts. Agrees self.journal × MakesCloseCalls D.state (engine_in self) parts.device)
+            (λ e. Agrees self.journal × MakesCloseCalls D.state (engine_in self) e.0.device) }
         ensures moments { MatchResult result
             (λ parts. D.honest parts.device → EachMoment (IsDuringRounds self.journal (D.state self.device).disk) (D.state self.device) (D.state parts.device))
             (λ e. D.honest e.0.device → EachMoment (IsDuringRounds self.journal (D.state self.device).disk) (D.state self.device) (D.state e.0.device)) }

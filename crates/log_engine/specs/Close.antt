@@ -1,6 +1,6 @@
 -- The close of an engine's log: the moves of the machine that it makes, what holds at each moment of it and at its end, and
 -- why it is refused.
-use Rattle.std.specs.Prelude.{◌≡◌, ◌≢◌, ◌⊎◌, ℕ, true, false, List, [], ◌∷◌, length, Some}
+use Rattle.std.specs.Prelude.{◌≡◌, ◌≢◌, ◌⊎◌, ℕ, ◌+◌, ◌≤◌, true, false, List, [], ◌∷◌, length, Some}
 use Rattle.journal_model.specs.declared.number.Area.TheVariants.{Log}
 use Rattle.journal_model.specs.declared.refusal.JournalError.{JournalError}
 use Rattle.journal_model.specs.declared.refusal.JournalError.TheVariants.{Aborted, Device}
@@ -46,6 +46,11 @@ pub data CloseRefused {D : Type 0} (state : D → DeviceState) (old : EngineValu
   CloseAborted : old.engine.aborted ≡ true → new ≡ old.device → CloseRefused state old new Aborted
   CloseFailed : ClosesBy old.engine (state old.device).disk (CloseFault ∷ []) (state new).disk Shut →
       (state new).faults ≡ one_more_fault (state old.device).faults → CloseRefused state old new Device
+
+-- the device calls of a close: none where the log is clean, or where the device failed before, and else its write and its flush at most
+pub data MakesCloseCalls {D : Type 0} (state : D → DeviceState) (old : EngineValue D) (new : D) : Type 0 where
+  NoCloseCall : new ≡ old.device → MakesCloseCalls state old new
+  BothCloseCalls : old.engine.aborted ≡ false → old.engine.started ≡ true → (state new).calls ≤ (state old.device).calls + 2 → MakesCloseCalls state old new
 
 -- A moment of a close. Home is as it was. Of the log block 0 alone is written, with the superblock of the clean log; the other
 -- blocks are as they were, or durable as they read. What a stop leaves opens to all transactions.

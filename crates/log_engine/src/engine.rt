@@ -16,7 +16,7 @@ ghost use Rattle.journal_world.specs.Sound.{IsPlain, OpensBetween};
 ghost use Rattle.log_ledger.specs.declared.progress.Progress.TheVariants.{Idle as NoProgress};
 ghost use Rattle.log_ledger.specs.Steps.{MayHandOver};
 ghost use Rattle.block_device.specs.Call.{MakesOneCall, OnlyReads};
-ghost use Rattle.log_engine.specs.Close.{CloseDid, CloseRefused, IsAllReleased, IsClosedLog, IsDuringClose};
+ghost use Rattle.log_engine.specs.Close.{CloseDid, CloseRefused, IsAllReleased, IsClosedLog, IsDuringClose, MakesCloseCalls};
 ghost use Rattle.log_engine.specs.Engine.{AcceptRefused, IsDuringCommit, IsDuringRound, MayTouch, ReadRefused, RoundDid, RoundRefused, StepDid, StepRefused};
 ghost use Rattle.log_engine.specs.Left.{LeavesFewer, commit_calls, round_calls};
 
@@ -330,9 +330,7 @@ impl<D: Device> Engine<D> {
         ensures shape { MatchResult result
             (λ device. (D.state device).shape ≡ (D.state self.device).shape)
             (λ e. (D.state e.0).shape ≡ (D.state self.device).shape) }
-        ensures calls { MatchResult result
-            (λ device. (D.state device).calls ≤ (D.state self.device).calls + 2)
-            (λ e. (D.state e.0).calls ≤ (D.state self.device).calls + 2) }
+        ensures calls { MatchResult result (λ device. MakesCloseCalls D.state self device) (λ e. MakesCloseCalls D.state self e.0) }
         ensures honest { MatchResult result (λ device. D.honest device → D.honest self.device) (λ e. D.honest e.0 → D.honest self.device) }
     {
         let Engine {

@@ -1,6 +1,7 @@
 //! Making an empty log.
-ghost use Rattle.std.specs.Prelude.{◌≡◌, ◌+◌, ◌<◌, ◌≤◌, length, OnOk, IfErr, MatchResult};
+ghost use Rattle.std.specs.Prelude.{◌≡◌, ◌≢◌, ◌+◌, ◌<◌, ◌≤◌, length, OnOk, IfErr, MatchResult};
 ghost use Rattle.journal_model.specs.declared.number.Area.TheVariants.{Log};
+ghost use Rattle.journal_model.specs.declared.refusal.JournalError.TheVariants.{Device as DeviceFailed};
 ghost use Rattle.log_model.specs.Superblock.{greatest_length, least_length};
 ghost use Rattle.log_format.specs.Size.{IsBlockSize};
 ghost use Rattle.block_device.specs.State.{EachMoment, IsDeviceFailure};
@@ -24,7 +25,7 @@ const MOST_BYTES: usize = 4096;
 /// # Errors
 ///
 /// `BadBlockSize` where the device's blocks don't have 1024, 2048 or 4096 bytes, `BadLength` where the length is outside its
-/// limits or above the log area's blocks: nothing is written. `Device` where the device failed.
+/// limits or above the log area's blocks: no call is made. `Device` where the device failed.
 /// Source: journal.rst, "Super Block"; the zeros are this project's own.
 pub fn format<D: Device>(
     device: &mut D,
@@ -38,6 +39,7 @@ pub fn format<D: Device>(
     ensures moments { EachMoment (IsMakingMoment (D.state device.old).shape maxlen uuid.now wide (D.state device.old).disk) (D.state device.old) (D.state device.new) }
     ensures no_fault { OnOk result ((D.state device.new).faults ≡ (D.state device.old).faults) }
     ensures calls { (D.state device.new).calls ≤ (D.state device.old).calls + (maxlen + 2) }
+    ensures untouched { IfErr result (λ e. e ≢ DeviceFailed → device.new ≡ device.old) }
     ensures shape { (D.state device.new).shape ≡ (D.state device.old).shape }
     ensures honest { D.honest device.new → D.honest device.old }
 {

@@ -1,6 +1,6 @@
 //! Upgrading an empty log: its block numbers get 64 bits.
 ghost use Rattle.std.specs.Prelude.{◌≡◌, ◌≢◌, ◌+◌, ◌<◌, ◌≤◌, ℕ, List, length, IfErr, IfOk, MatchResult, OnErr, OnOk};
-ghost use Rattle.journal_model.specs.declared.refusal.JournalError.TheVariants.{BadLength};
+ghost use Rattle.journal_model.specs.declared.refusal.JournalError.TheVariants.{BadLength, Device as DeviceFailed};
 ghost use Rattle.log_model.specs.Superblock.{super_in, wide_features, widened};
 ghost use Rattle.block_device.specs.State.{EachMoment, IsDeviceFailure};
 ghost use Rattle.log_format.specs.Size.{IsBlockSize};
@@ -24,7 +24,7 @@ use std::alloc::Global;
 ///
 /// The first that applies: `BadMagic` to `ErrnoSet`: the superblock; `AlreadyWide` where its block numbers have 64 bits; `NotEmpty`
 /// where the log is not clean. `Memory` comes only where the device's blocks are larger than 4096 bytes, which no log's are, so
-/// that block 0 is read in memory. With each of these nothing is written. `BadLength` where the log area has no block: no call is
+/// that block 0 is read in memory. With each of these one block at most is read, and nothing is written. `BadLength` where the log area has no block: no call is
 /// made. `Device` where the device failed: the superblock may have been written.
 /// Source: this project's own.
 pub fn upgrade<D: Device>(alloc: Global, device: &mut D) -> Result<u32, JournalError>
@@ -39,6 +39,7 @@ pub fn upgrade<D: Device>(alloc: Global, device: &mut D) -> Result<u32, JournalE
         (λ e. (D.state device.old).shape.log_blocks ≡ 0 → (device.new ≡ device.old) × (e ≡ BadLength)) }
     ensures no_fault { OnOk result ((D.state device.new).faults ≡ (D.state device.old).faults) }
     ensures calls { (D.state device.new).calls ≤ (D.state device.old).calls + 4 }
+    ensures reads { IfErr result (λ e. e ≢ DeviceFailed → (D.state device.new).calls ≤ (D.state device.old).calls + 1) }
     ensures shape { (D.state device.new).shape ≡ (D.state device.old).shape }
     ensures honest { D.honest device.new → D.honest device.old }
 {

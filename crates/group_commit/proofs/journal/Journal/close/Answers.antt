@@ -8,6 +8,7 @@ use Rattle.group_commit.specs.During.{IsDuringTurns}
 use Rattle.group_commit.specs.Close.{CloseDid, CloseRefused, EndsWith}
 use Rattle.journal_steps.specs.Journal.{OpensOver}
 use Rattle.group_commit.proofs.Closed.{both-weaker, did-behind, ends-behind, err-weaker, log-refused, parts-end}
+use Rattle.log_engine.specs.Close.MakesCloseCalls.{NoCloseCall}
 use Rattle.group_commit.proofs.OwnCalls.{calls-closed}
 use Rattle.group_commit.proofs.TurnMoments.{each-closed}
 use Rattle.group_commit.proofs.journal.Journal.close.Goals as goal
@@ -63,7 +64,7 @@ returns-in-Err-clause-moves g c =
 pub returns-in-Err-clause-legal : goal.returns-in-Err-clause-legal
 returns-in-Err-clause-legal g c = λ honest. c.into_parts.ensures.legal (subst g.D.Device.honest c.into_parts.ensures.device honest)
 
--- the calls: those of the turns, and two
+-- the calls: those of the turns, and those that close the log
 pub returns-in-Ok-clause-calls : goal.returns-in-Ok-clause-calls
 returns-in-Ok-clause-calls g c =
     let state = g.D.Device.state in
@@ -75,15 +76,12 @@ returns-in-Ok-clause-calls g c =
 
 pub returns-in-Err-clause-calls : goal.returns-in-Err-clause-calls
 returns-in-Err-clause-calls g c =
-    let state = g.D.Device.state in
-    let mid = c.finish.new.journal in
-    let same : (state c.into_parts.result.device).calls ≡ (state mid.device).calls = ap (λ (d : g.row.D.Denot). (state d).calls) c.into_parts.ensures.device in
     record {
-      last = mid;
+      last = c.finish.new.journal;
       turns = c.finish.ensures.calls;
       agrees = c.into_parts.ensures.agrees;
       sealed_is = c.into_parts.ensures.sealed;
-      two = omega arith;
+      closing = NoCloseCall c.into_parts.ensures.device;
     }
 
 -- and the moments of both

@@ -8,6 +8,7 @@ use Rattle.log_epochs.specs.EngineSteps.{MayClose, closed_superblock}
 use Rattle.log_ledger.specs.Ledger.{engine_of}
 use Rattle.log_ledger.proofs.Rounds.{round-log}
 use Rattle.log_engine.specs.Close.{CloseDid, CloseRefused, IsAllReleased, IsWritingFirst}
+use Rattle.log_engine.specs.Close.MakesCloseCalls.{BothCloseCalls, NoCloseCall}
 use Rattle.log_engine.specs.Engine.{EngineValue}
 use Rattle.log_engine.proofs.Closing.{close-fails, closes-by, each-closing, each-unclosed, is-closed, may-close, was-closed}
 use Rattle.log_engine.proofs.engine.Engine.close.Goals as goal
@@ -99,3 +100,17 @@ returns-clause-moments g c =
     let is : c.bytes.result.now ≡ closed_superblock e = c.bytes.ensures ∙ c.write_closed.ensures.closed before.shape in
     let each = subst (λ (block : List ℕ). EachMoment (IsWritingFirst block before.disk) before after) is c.write_first.ensures.moments in
     rw (← c.self.view_is) (λ honest. each-closing e before after (c.self.invariant.2 honest) may each)
+
+-- no call is made where the device failed before, or where the log is clean
+pub returns-then-ledger-clause-calls : goal.returns-then-ledger-clause-calls
+returns-then-ledger-clause-calls g c = rw (← c.self.view_is) (NoCloseCall refl)
+
+pub returns-then-not-ledger-clause-calls : goal.returns-then-not-ledger-clause-calls
+returns-then-not-ledger-clause-calls g c = rw (← c.self.view_is) (NoCloseCall refl)
+
+-- and else the write and the flush
+pub returns-in-Ok-clause-calls : goal.returns-in-Ok-clause-calls
+returns-in-Ok-clause-calls g c = rw (← c.self.view_is) (BothCloseCalls c.if-ledger.false c.if-not-ledger.false c.write_first.ensures.calls)
+
+pub returns-clause-calls : goal.returns-clause-calls
+returns-clause-calls g c = rw (← c.self.view_is) (BothCloseCalls c.if-ledger.false c.if-not-ledger.false c.write_first.ensures.calls)
