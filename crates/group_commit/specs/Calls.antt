@@ -10,14 +10,15 @@ use Rattle.log_engine.specs.Engine.{EngineValue}
 use Rattle.journal_steps.specs.Journal.{Agrees}
 use Rattle.journal_steps.specs.Values.{JournalValue}
 
--- a commit or checkpoint step, or one in which the device failed
+-- a step of a commit or of a round, or one in which the device failed
 pub data IsOwnStep (old : Engine) (disk : Disk) (new : Engine) (after : Disk) : Type 0 where
   Commits : CommitSteps old disk new after → IsOwnStep old disk new after
   CommitFails : CommitFaults old disk new after → IsOwnStep old disk new after
   Checkpoints : RoundSteps old disk new after → IsOwnStep old disk new after
   CheckpointFails : RoundFaults old disk new after → IsOwnStep old disk new after
 
--- such steps alone lead from one engine to the other, each with at most one device call; a batch handed over between them makes none
+-- such steps alone lead from the one engine to the other, each with one device call at most; and a batch that is handed over between
+-- them, with none
 pub data MakesOwnCalls {D : Type 0} (state : D → DeviceState) (old : EngineValue D) : EngineValue D → Type 0 where
   NoCall : MakesOwnCalls state old old
   HandsOver : (mid new : EngineValue D) (b : Batch) → MakesOwnCalls state old mid → Accepts mid.engine b new.engine → new.device ≡ mid.device →
@@ -26,11 +27,11 @@ pub data MakesOwnCalls {D : Type 0} (state : D → DeviceState) (old : EngineVal
       IsOwnStep mid.engine (state mid.device).disk new.engine (state new.device).disk → MakesAtMostOneCall (state mid.device) (state new.device) →
       MakesOwnCalls state old new
 
--- a journal's engine, with its device
+-- the engine of a journal, with its device
 abbrev pub engine_in : {D : Type 0} → JournalValue D → EngineValue D
 engine_in v = record { device = v.device; engine = v.journal.engine }
 
--- the call makes no other device calls
+-- a call of a journal makes no other device calls
 pub record CallsForTurns {D : Type 0} (state : D → DeviceState) (old new : JournalValue D) : Type 0 where
   pub own : MakesOwnCalls state (engine_in old) (engine_in new)
 

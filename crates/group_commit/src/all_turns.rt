@@ -16,12 +16,12 @@ use journal_front::Record;
 use journal_model::{JournalError, Tid};
 
 impl<D: Device, R: Record> Journal<D, R> {
-    /// Requests the commit of the ticket's transaction, and takes all turns as `commit_all`. The ticket becomes its receipt.
+    /// Requests the commit of the ticket's transaction and takes all turns; the ticket becomes its receipt.
     ///
     /// # Errors
     ///
-    /// The ticket comes back. Those of `commit_all`. `NotRunning`: after all turns the transaction is not committed, as another of its
-    /// handles is open. Call again once that has stopped. A ticket of another journal may get this answer too.
+    /// The ticket comes back. Those of `commit_all`; `NotRunning` if another handle of the transaction is still open: call again once
+    /// it has stopped. A ticket of another journal may get this answer too.
     /// Source: fs/jbd2/journal.c by behaviour (`jbd2_complete_transaction`).
     pub fn commit(&mut self, ticket: Ticket) -> Result<Receipt, (Ticket, JournalError)>
         ensures ok { IfOk result (λ receipt. (receipt ≡ ticket) × (ticket.tid ≤ self.new.journal.front.mark)) }
@@ -59,16 +59,14 @@ impl<D: Device, R: Record> Journal<D, R> {
         Ok(())
     }
 
-    /// Commits everything that can be committed, and answers the commit mark. It finishes the commit under way. Then it seals and
-    /// commits the running transaction if that is locked and has no open handle, after checkpoint rounds if the ring lacks room. Only
-    /// these steps call the device, and at each moment the crash image opens as one between them.
+    /// Commits everything that can be committed, and answers the commit mark. It finishes the commit under way, then seals and commits
+    /// the running transaction if that is locked without open handles, after checkpoint rounds if the ring lacks room. It makes the
+    /// device calls of these steps alone, and at each moment the crash image opens as between them.
     ///
     /// # Errors
     ///
-    /// What was sealed and committed stays so. `Aborted` after an earlier device failure: nothing was done. `Device`: the device
-    /// failed, and the journal is aborted until the device is opened again. `Memory`: none for the seal; the transaction keeps its
-    /// handles and steps. All memory is requested before the first device call, so nothing was done. (The contract also allows this
-    /// refusal after the commit under way.)
+    /// `Aborted`, `Device`, `Memory`. What was sealed and committed stays so. `Memory` is for the seal, and comes before the first
+    /// device call, so nothing is done. (The contract also allows it after the commit under way, with the transaction as it was.)
     /// Source: fs/jbd2/journal.c by behaviour (`jbd2_journal_flush` up to its checkpoint).
     pub fn commit_all(&mut self) -> Result<Tid, JournalError>
         ensures mark { IfOk result (λ tid. tid ≡ self.new.journal.front.mark) }
@@ -90,11 +88,11 @@ impl<D: Device, R: Record> Journal<D, R> {
     }
 
     /// Takes checkpoint turns until everything committed is home and the whole ring is free. It takes no commit step, and leaves
-    /// handles and credits alone. Only its rounds call the device, and at each moment the crash image opens as one between them.
+    /// handles and credits. It makes the device calls of its rounds alone, and at each moment the crash image opens as between them.
     ///
     /// # Errors
     ///
-    /// `Aborted` and `Device` as in `commit_all`. What was written home stays.
+    /// `Aborted`, `Device`. What was written home stays.
     /// Source: fs/jbd2/checkpoint.c by behaviour (`jbd2_log_do_checkpoint`).
     pub fn release_all(&mut self) -> Result<(), JournalError>
         ensures ok { OnOk result (Went D.state self.old self.new) }
@@ -116,7 +114,7 @@ impl<D: Device, R: Record> Journal<D, R> {
     }
 }
 
-/// Finishes the commit under way; then seals and commits the running transaction if it is ready.
+/// Finishes the commit under way, then seals and commits the running transaction if it is ready.
 fn commit_ready<D: Device, R: Record>(journal: &mut Journal<D, R>) -> Result<(), JournalError>
     requires { journal.old.journal.engine.aborted ≡ false }
     ensures ok { OnOk result (CommitsAll D.state journal.old journal.new) }

@@ -13,15 +13,14 @@ use journal_model::{BlockNo, JournalError};
 use journal_steps::steps;
 
 impl<D: Device, R: Record> Journal<D, R> {
-    /// Writes one block directly home, past the log. No uncommitted transaction may have an entry of the block. Of those committed
-    /// since the opening, released ones too, the last entry must be a revoke, or there is none. The bytes are durable after a
-    /// `sync_direct` that answers Ok. It takes no memory and makes one device call; its time does not grow with the number of
-    /// transactions.
+    /// Writes one block directly home, past the log. No uncommitted transaction may have an entry of the block, and its last entry in
+    /// the others since the opening, released ones too, must be a revoke or none. It is durable after a `sync_direct` that answers Ok.
+    /// It makes one device call, takes no memory, and is no slower after more transactions.
     ///
     /// # Errors
     ///
-    /// `Aborted` after an earlier device failure, `BadBlock` as in `write`, `NotDirect` if the transactions forbid it as above: nothing
-    /// changes. `Device`: the device failed, and the journal is aborted. Home reads, and a crash leaves, the old bytes or these.
+    /// `Aborted`; `BadBlock` as in `write`; `NotDirect` if an entry forbids it: nothing changes. `Device`: home reads, and a crash
+    /// leaves, the old bytes or these.
     /// Source: this project's own, by what journal.rst says of revokes.
     pub fn write_direct(&mut self, block: BlockNo, bytes: &[u8]) -> Result<(), JournalError>
         requires { length bytes.now ≡ (D.state self.old.device).shape.block_size }
@@ -38,8 +37,7 @@ impl<D: Device, R: Record> Journal<D, R> {
     ///
     /// # Errors
     ///
-    /// `Aborted` after an earlier device failure: nothing changes. `Device`: the device failed, the journal is aborted, and nothing
-    /// more is durable.
+    /// `Aborted`. `Device`: nothing more is durable.
     /// Source: this project's own; a flush request (the kernel's writeback_cache_control.rst).
     pub fn sync_direct(&mut self) -> Result<(), JournalError>
         ensures ok { OnOk result (Does D.state self.old DirectSync self.new) }

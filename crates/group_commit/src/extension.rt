@@ -1,4 +1,4 @@
-//! Handles that need more: further credits for an open handle, a start with credits, and a restart.
+//! Extensions, starts and restarts: calls that grant credits and give them to a handle.
 ghost use Rattle.std.specs.Prelude.{◌≡◌, ◌+◌, ◌≤◌, IfErr, IfOk, OnOk};
 ghost use Rattle.journal_world.specs.Front.{next_handle};
 ghost use Rattle.journal_world.specs.Front.FrontEvent.{ExtendHandle, GiveBack, Join};
@@ -18,8 +18,8 @@ impl<D: Device, R: Record> Journal<D, R> {
     ///
     /// # Errors
     ///
-    /// Nothing changes. The first that applies: those of `reserve`, `Aborted` after a device failure, `NotRunning` if the handle's
-    /// transaction is locked, `NoCredit` if the handle is not open in this journal.
+    /// Nothing changes. The first of: those of `reserve`, `Aborted`, `NotRunning` (the transaction is locked), `NoCredit` (the handle
+    /// is not open here).
     /// Source: journalling.rst (`journal_extend`).
     pub fn extend(&mut self, handle: &mut Handle, n: u64) -> Result<(), JournalError>
         ensures ok { OnOk result (Extends D.state handle.old.number n self.old self.new) }
@@ -34,7 +34,7 @@ impl<D: Device, R: Record> Journal<D, R> {
         }
     }
 
-    /// Gives credits to an open handle; on an error it takes them back.
+    /// Gives credits to an open handle, or takes them back.
     fn give(&mut self, handle: &mut Handle, credits: Credits) -> Result<(), JournalError>
         ensures ok { OnOk result (Does D.state self.old (FrontStep (ExtendHandle handle.old.number credits)) self.new) }
         ensures open { OnOk result (IsOpenHandle self.new.journal.front handle.new) }
@@ -71,7 +71,7 @@ impl<D: Device, R: Record> Journal<D, R> {
         }
     }
 
-    /// Makes a handle of the running transaction with these credits; on an error it takes them back.
+    /// Makes a handle with these credits, or takes them back.
     fn join_or_return(&mut self, credits: Credits) -> Result<Handle, JournalError>
         ensures ok { IfOk result (λ handle. Does D.state self.old (FrontStep (Join credits)) self.new
             × (handle ≡ record { number = next_handle self.old.journal.front; tid = self.old.journal.front.running.tid; left = credits })) }
@@ -89,7 +89,7 @@ impl<D: Device, R: Record> Journal<D, R> {
         }
     }
 
-    /// Stops a handle and makes a new one with `n` credits, of the transaction that then runs. The new handle has a new number.
+    /// Stops a handle and makes a new one with `n` credits and a new number, in the transaction that then runs.
     ///
     /// # Errors
     ///

@@ -41,6 +41,9 @@ use std::alloc::Global;
 use std::marker::Model;
 
 /// A journal on an opened log.
+///
+/// In the errors of its calls, `Aborted` means that the device failed in an earlier call, and nothing changes. `Device` means that it
+/// failed in this one: the journal is then aborted, until the device is opened again.
 #[derive(Drop)]
 pub struct Journal<D: Device, R: Record = Unrecorded> {
     pub(crate) front: Front<R>,
@@ -101,7 +104,7 @@ impl<D: Device, R: Record> Journal<D, R> {
         Ok(Journal { front, engine })
     }
 
-    /// A journal of a front and an engine that agree.
+    /// The journal of a front and an engine that agree.
     pub fn of(front: Front<R>, engine: Engine<D>) -> Self
         requires agrees { Agrees (together front engine).journal }
         requires legal { KeepsLegal D.honest (together front engine) }
@@ -124,22 +127,21 @@ impl<D: Device, R: Record> Journal<D, R> {
         self.engine.block_size()
     }
 
-    /// The most credits that can be held at once, and that one transaction can have.
+    /// The most credits that can be held at once; one transaction can have as many.
     pub fn capacity(&self) -> u64
         ensures { result ≡ self.now.journal.front.capacity }
     {
         self.front.capacity()
     }
 
-    /// How many credits are held: in no handle yet, unused in open handles, and one for each block that the running transaction has
-    /// touched.
+    /// The credits held: in no handle yet, unused in open handles, and one for each block that the running transaction has touched.
     pub fn held(&self) -> u64
         ensures { result ≡ held self.now.journal.front }
     {
         self.front.held()
     }
 
-    /// How many entries the running transaction has: one copy or revoke for each block.
+    /// The entries of the running transaction: one copy or revoke for each block touched.
     pub fn entries(&self) -> usize
         ensures { result ≡ length (entries self.now.journal.front.running.steps) }
     {
@@ -150,7 +152,7 @@ impl<D: Device, R: Record> Journal<D, R> {
     ///
     /// # Errors
     ///
-    /// Nothing changes. `TooMany`: one transaction can never have so many. `Full`: the credits held now leave fewer.
+    /// Nothing changes. `TooMany` (more than one transaction can have) or `Full` (more than the credits held leave).
     /// Source: journalling.rst (`journal_start`).
     pub fn reserve(&mut self, n: u64) -> Result<Credits, JournalError>
         ensures ok { IfOk result (λ credits. (credits ≡ n) × Does D.state self.old (FrontStep (Reserve n)) self.new) }
@@ -160,7 +162,7 @@ impl<D: Device, R: Record> Journal<D, R> {
         self.front.reserve(n)
     }
 
-    /// Takes back credits that are in no handle. More than this journal has granted so come from another journal: nothing changes.
+    /// Takes back credits that are in no handle. If this journal has granted fewer, they are another's, and nothing changes.
     pub fn give_back(&mut self, credits: Credits)
         ensures gives { credits ≤ self.old.journal.front.reserved → Does D.state self.old (FrontStep (GiveBack credits)) self.new }
         ensures other { self.old.journal.front.reserved < credits → self.new ≡ self.old }
@@ -173,9 +175,9 @@ impl<D: Device, R: Record> Journal<D, R> {
     ///
     /// # Errors
     ///
-    /// The credits come back, and nothing else changes. The first that applies: `Aborted` after a device failure, `NotRunning` if the
-    /// transaction is locked, `SequenceEnd` if no number is left for transaction or handle, `NoCredit` if these exceed the granted
-    /// credits that no handle has (they may be another journal's), `Memory`.
+    /// The credits come back, and nothing else changes. The first of: `Aborted`, `NotRunning` (the transaction is locked),
+    /// `SequenceEnd` (no number is left for transaction or handle), `NoCredit` (more than this journal granted and no handle holds),
+    /// `Memory`.
     /// Source: journalling.rst (`journal_start`).
     pub fn try_join(&mut self, credits: Credits) -> Result<Handle, (Credits, JournalError)>
         ensures ok { IfOk result (λ handle. Does D.state self.old (FrontStep (Join credits)) self.new
@@ -187,13 +189,12 @@ impl<D: Device, R: Record> Journal<D, R> {
         self.front.join_with(credits)
     }
 
-    /// Writes one block of the home area in the handle's transaction. The first touch of a block in the transaction takes one credit.
+    /// Writes one block of the home area in the handle's transaction. The transaction's first touch of a block takes one credit.
     ///
     /// # Errors
     ///
-    /// Nothing changes. The first that applies: `Aborted` after a device failure; `BadBlock` if home has no such block, or its number
-    /// is not below 2^32 (2^48 in a log with 64-bit numbers); `NoCredit` if the handle is not open in this journal, or has no credit at
-    /// a first touch; `Memory`.
+    /// Nothing changes. The first of: `Aborted`; `BadBlock` (home has no such block, or its number is not below 2^32, in a log with
+    /// 64-bit numbers 2^48); `NoCredit` (the handle is not open here, or has none for a first touch); `Memory`.
     /// Source: journalling.rst (`journal_get_write_access`, `journal_dirty_metadata`).
     pub fn write(
         &mut self,
@@ -212,12 +213,12 @@ impl<D: Device, R: Record> Journal<D, R> {
         self.front.write(handle, block, bytes)
     }
 
-    /// Revokes a block in the handle's transaction: once that commits, no checkpoint or opening brings an older copy home. The first
-    /// touch of a block in the transaction takes one credit. Revoking a revoked block changes nothing more.
+    /// Revokes a block in the handle's transaction: once that commits, no checkpoint or opening brings an older copy home. The
+    /// transaction's first touch of a block takes one credit; revoking a revoked block changes nothing more.
     ///
     /// # Errors
     ///
-    /// Those of `write`, in the same order; nothing changes.
+    /// Those of `write`, in that order; nothing changes.
     /// Source: journalling.rst (`journal_revoke`), fs/jbd2/revoke.c by behaviour.
     pub fn revoke(&mut self, handle: &mut Handle, block: BlockNo) -> Result<(), JournalError>
         ensures ok { OnOk result (Does D.state self.old (FrontStep (RevokeBlock handle.old.number block)) self.new) }
@@ -231,13 +232,13 @@ impl<D: Device, R: Record> Journal<D, R> {
 
     /// Reads one block of the home area: the running transaction's copy, else the copy being committed, else the newest committed copy,
     /// else what home reads. The read becomes a step of the handle's transaction and takes no credit. The caller isolates handles from
-    /// each other. A block with a copy that is not home for good needs no device call; any other needs one.
+    /// each other. Only a block without a copy, or whose copy is home for good, needs a device call.
     ///
     /// # Errors
     ///
-    /// The buffer stays as it is. The first that applies: `Aborted` and `BadBlock` as in `write`, `NoCredit` if the handle is not open
-    /// in this journal, `Revoked` if the block's last entry in the uncommitted transactions is a revoke, `Memory` for the step: the
-    /// journal stays too. `Device`: the device failed, and the journal is aborted.
+    /// The buffer stays, and so does the journal, except after `Device`. The first of: `Aborted`, `BadBlock` (as in `write`),
+    /// `NoCredit` (the handle is not open here), `Revoked` (the block's last uncommitted entry is a revoke), `Memory` (for the step),
+    /// `Device`.
     /// Source: journalling.rst (handles see the running transaction).
     pub fn read(
         &mut self,
@@ -247,7 +248,7 @@ impl<D: Device, R: Record> Journal<D, R> {
     ) -> Result<(), JournalError>
         requires { length into.old ≡ (D.state self.old.device).shape.block_size }
         ensures ok { OnOk result (D.honest self.new.device → Does D.state self.old (ReadBlock handle.old.number block into.new) self.new) }
-        // This holds without correct reads too. If a copy is kept, there is no device call.
+        // Reads need not be correct for this.
         ensures noted { OnOk result (NotesRead D.state self.old handle.old block into.new self.new) }
         ensures legal { KeepsLegal D.honest self.new }
         ensures err { IfErr result (ReadRefused D.state self.old handle.old block self.new) }
@@ -262,13 +263,12 @@ impl<D: Device, R: Record> Journal<D, R> {
         steps::read(&mut self.front, &mut self.engine, handle, block, into)
     }
 
-    /// Reads the bytes that `read` would give, without a handle. It records no step, makes no transaction and takes no memory. A block
-    /// with a copy that is not home for good needs no device call; any other needs one.
+    /// Reads the bytes that `read` would give, by the same device calls, without a handle. It records no step, makes no transaction and
+    /// takes no memory.
     ///
     /// # Errors
     ///
-    /// `Aborted`, `BadBlock` and `Revoked` as in `read`: nothing changes. `Device`: the device failed, the journal is aborted, and the
-    /// buffer's bytes are unspecified.
+    /// `Aborted`, `BadBlock`, `Revoked` as in `read`: nothing changes. `Device`: the buffer's bytes are unspecified.
     /// Source: this project's own (a file system reads its cache of buffers, and asks no journal).
     pub fn read_newest(&mut self, block: BlockNo, into: &mut [u8]) -> Result<(), JournalError>
         requires { length into.old ≡ (D.state self.old.device).shape.block_size }
@@ -284,8 +284,8 @@ impl<D: Device, R: Record> Journal<D, R> {
         steps::read_newest(&mut self.front, &mut self.engine, block, into)
     }
 
-    /// Ends a handle and takes back its unused credits. It always succeeds, after a device failure too. A handle that is not open in
-    /// this journal changes nothing.
+    /// Ends a handle and takes back its unused credits. It always succeeds, even after a device failure; a handle not open here changes
+    /// nothing.
     /// Source: journalling.rst (`journal_stop`).
     pub fn stop(&mut self, handle: Handle) -> Ticket
         ensures stops { IsOpenHandle self.old.journal.front handle → Does D.state self.old (FrontStep (StopHandle handle.number)) self.new }
@@ -300,11 +300,11 @@ impl<D: Device, R: Record> Journal<D, R> {
         ticket
     }
 
-    /// Requests the commit of the ticket's transaction: if it is still running, it takes no further handles.
+    /// Requests the commit of the ticket's transaction: if it is running, it takes no further handles.
     ///
     /// # Errors
     ///
-    /// `Aborted` after a device failure: nothing changes.
+    /// `Aborted`.
     /// Source: fs/jbd2/journal.c by behaviour (`jbd2_log_start_commit`).
     pub fn request(&mut self, ticket: &Ticket) -> Result<(), JournalError>
         ensures ok { OnOk result (Requests D.state ticket.now.tid self.old self.new) }
@@ -318,7 +318,7 @@ impl<D: Device, R: Record> Journal<D, R> {
     ///
     /// # Errors
     ///
-    /// `Aborted` after a device failure: nothing changes.
+    /// `Aborted`.
     pub fn request_commit(&mut self, tid: Tid) -> Result<(), JournalError>
         ensures ok { OnOk result (Requests D.state tid self.old self.new) }
         ensures err { IfErr result (λ e. (e ≡ Aborted) × (self.old.journal.front.aborted ≡ true) × (self.new ≡ self.old)) }
@@ -333,12 +333,12 @@ impl<D: Device, R: Record> Journal<D, R> {
         Ok(())
     }
 
-    /// Locks the running transaction if a handle has joined it, so that it can be sealed once its open handles stop. It answers the
-    /// transaction's number, even if no handle has joined and nothing changes.
+    /// Locks the running transaction if a handle has joined it, so that it can be sealed once its handles have stopped. It answers the
+    /// transaction's number, even if no handle has joined.
     ///
     /// # Errors
     ///
-    /// `Aborted` after a device failure: nothing changes.
+    /// `Aborted`.
     /// Source: fs/jbd2/commit.c by behaviour (a transaction that is `T_LOCKED`).
     pub fn lock(&mut self) -> Result<Tid, JournalError>
         ensures current { IfOk result (λ tid. tid ≡ self.old.journal.front.running.tid) }
@@ -366,7 +366,7 @@ impl<D: Device, R: Record> Journal<D, R> {
     ///
     /// # Errors
     ///
-    /// `Aborted` after a device failure: the ticket comes back.
+    /// `Aborted`: the ticket comes back.
     /// Source: fs/jbd2/journal.c by behaviour (`jbd2_log_wait_commit`).
     pub fn wait(&mut self, ticket: Ticket) -> Result<Receipt, (Ticket, JournalError)>
         requires { ticket.tid ≤ self.old.journal.front.mark }
@@ -380,19 +380,18 @@ impl<D: Device, R: Record> Journal<D, R> {
         Ok(Receipt::new(ticket.handle(), ticket.tid()))
     }
 
-    /// The number of the last transaction acknowledged as committed; at first, one less than the first number.
+    /// The commit mark: the number of the last transaction acknowledged as committed, at first one less than the first number.
     pub fn mark(&self) -> Tid
         ensures { result ≡ self.now.journal.front.mark }
     {
         self.front.mark()
     }
 
-    /// Takes the next commit step: one device call of a commit, or the seal of a transaction that is locked and has no open handle.
+    /// Takes the next commit step: one device call of a commit, or the seal of a transaction that is locked without open handles.
     ///
     /// # Errors
     ///
-    /// `Aborted` after an earlier device failure. `NeedSpace`: the ring has too few free blocks for the transaction, and `Memory`: it
-    /// stays as it is. `Device`: the device failed, and the journal is aborted until the device is opened again.
+    /// `Aborted`, `Device`. `NeedSpace` (too few free ring blocks) and `Memory`: the transaction stays as it is.
     /// Source: fs/jbd2/commit.c by behaviour; that each step is one device call is this project's own.
     pub fn commit_turn(&mut self) -> Result<Turn, JournalError>
         ensures ok { IfOk result (λ turn. TurnDid D.state turn self.old self.new) }
@@ -417,7 +416,7 @@ impl<D: Device, R: Record> Journal<D, R> {
         steps::commit_step(&mut self.front, &mut self.engine)
     }
 
-    /// Seals the locked transaction, which has these entries, and hands them to the engine.
+    /// Seals the locked transaction, which has these entries.
     fn seal(&mut self, batch: Batch) -> Result<Turn, JournalError>
         requires due { SealIsDue self.old.journal }
         requires plain { IsPlain self.old.journal.engine }
@@ -434,7 +433,7 @@ impl<D: Device, R: Record> Journal<D, R> {
     ///
     /// # Errors
     ///
-    /// `Aborted` and `Device` as in `commit_turn`.
+    /// `Aborted`, `Device`.
     /// Source: fs/jbd2/checkpoint.c by behaviour; that each step is one device call is this project's own.
     pub fn checkpoint_turn(&mut self) -> Result<CheckTurn, JournalError>
         ensures ok { IfOk result (λ turn. CheckTurnDid D.state turn self.old self.new) }
@@ -462,28 +461,24 @@ impl<D: Device, R: Record> Journal<D, R> {
         self.engine.is_aborted()
     }
 
-    /// Whether nothing is being committed.
     pub(crate) fn is_idle(&self) -> bool
         ensures { IsTrue result ↔ (self.now.journal.engine.stage ≡ Idle) }
     {
         self.engine.is_idle()
     }
 
-    /// Whether a handle has joined the running transaction.
     pub(crate) fn has_joined(&self) -> bool
         ensures { IsTrue result ↔ (0 < length self.now.journal.front.running.handles) }
     {
         self.front.has_joined()
     }
 
-    /// Whether the running transaction is locked and has no open handle.
     pub(crate) fn is_ready(&self) -> bool
         ensures { IsTrue result ↔ IsReadyToSeal self.now.journal.front }
     {
         self.front.is_locked() && !self.front.has_open_handles()
     }
 
-    /// Whether the ring has enough free blocks for the running transaction.
     pub(crate) fn has_room(&self) -> bool
         requires { self.now.journal.engine.stage ≡ Idle }
         ensures { IsTrue result ↔ HasRoomFor self.now.journal }
@@ -505,11 +500,7 @@ impl<D: Device, R: Record> Journal<D, R> {
         steps::recall_quarter(&self.front, &self.engine);
     }
 
-    /// The running transaction's entries. It reserves all memory that their seal needs, whatever commit or checkpoint steps come first.
-    ///
-    /// # Errors
-    ///
-    /// `Memory`: nothing changes.
+    /// The running transaction's entries, with all memory reserved for their seal, whatever commit or checkpoint steps come first.
     pub(crate) fn ready_batch(&mut self) -> Result<Batch, JournalError>
         ensures ok { IfOk result (λ batch. batch ≡ batch_of self.old.journal.front.running) }
         ensures err { IfErr result (λ e. e ≡ Memory) }
@@ -518,7 +509,7 @@ impl<D: Device, R: Record> Journal<D, R> {
         steps::ready_batch(&self.front, &mut self.engine)
     }
 
-    /// Seals the running transaction, which has these entries and no open handle, and hands them to the engine.
+    /// Locks and seals the running transaction, which has these entries and no open handle.
     pub(crate) fn seal_running(&mut self, batch: Batch) -> Result<(), JournalError>
         requires running { self.old.journal.engine.aborted ≡ false }
         requires idle { self.old.journal.engine.stage ≡ Idle }
@@ -587,7 +578,6 @@ impl<D: Device, R: Record> Journal<D, R> {
         }
     }
 
-    /// Closes the log once everything is committed and released.
     fn close_log(self) -> Result<Parts<D, R>, (Parts<D, R>, JournalError)>
         requires running { self.journal.engine.aborted ≡ false }
         requires all { IsAllReleased self.journal.engine }
@@ -641,7 +631,7 @@ impl<D: Device, R: Record> Journal<D, R> {
         }
     }
 
-    /// Ends the journal: it answers the device, the sealed transactions and how many of them are committed.
+    /// Ends the journal, and answers its parts.
     pub fn into_parts(self) -> Parts<D, R>
         ensures device { result.device ≡ self.device }
         ensures sealed { R.transactions result.sealed ≡ self.journal.front.sealed }

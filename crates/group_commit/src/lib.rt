@@ -1,11 +1,11 @@
 //! The journal of one thread: handles join a running transaction and write blocks through it; turns seal it, commit it to the log and
-//! acknowledge it. `recovery` opens the log that it is made of, and opens what a crash leaves.
+//! acknowledge it.
 //!
-//! It is a plain value: calls take `&mut self`, with no lock or thread. It joins two parts: the engine (`log_engine`) commits batches
-//! and writes them home, and the front (`journal_front`) turns handles and writes into batches. Steps that need both are in
-//! `journal_steps`. The caller chooses how sealed transactions are recorded (`Record`).
+//! It is a plain value: calls take `&mut self`, with no lock or thread. The engine (`log_engine`) commits batches and writes them home;
+//! the front (`journal_front`) turns handles and writes into batches; `journal_steps` has the steps that need both. `recovery` opens
+//! the log that a journal is made of, and what a crash leaves. The caller chooses how sealed transactions are recorded (`Record`).
 //!
-//! Only the journal has its front: so credits and handles come of its calls alone, and only a turn or a close seals a transaction.
+//! Only the journal has its front: credits and handles come of its calls alone, and only a turn or a close seals a transaction.
 #![tactic(auto)]
 
 mod all_turns;

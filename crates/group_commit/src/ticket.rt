@@ -1,8 +1,8 @@
-//! Tickets and receipts, which callers hold beside credits and handles. Only a `Journal` makes them.
+//! Tickets and receipts, which only a `Journal` makes.
 use journal_model::{HandleNo, Tid};
 use std::marker::Model;
 
-/// What a stopped handle leaves: it lets its holder ask whether the handle's transaction is committed.
+/// What a stopped handle leaves, to ask whether its transaction is committed.
 #[derive(Debug, Drop)]
 pub struct Ticket {
     handle: HandleNo,
