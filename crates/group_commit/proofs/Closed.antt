@@ -1,4 +1,4 @@
--- What the parts of a closed journal are, and those of one whose close was refused.
+-- The parts of a journal that closed, or whose close was refused.
 use Rattle.std.proofs.Common.{refl, sym, ◌∙◌, ap, subst, arith, inr}
 use Rattle.std.specs.Prelude.{◌≡◌, ℕ, ◌≤◌, false, [], ◌∷◌, length, Result, Ok, Err, IfErr, MatchResult}
 use Rattle.std.proofs.lemmas.Bool.{true≢false}
@@ -43,7 +43,7 @@ closed-over f e disk agrees closed image leaves =
       all = subst (λ (n : ℕ). Opens e.shape f.sealed n image) same (at.3.opens f.sealed agrees.batches);
     }
 
--- what opens to all that was handed over opens to all that was sealed
+-- what opens to everything handed over opens to everything sealed
 pub opens-closed : (f : Front) (e : Engine) (disk : Disk) → Agrees (record { front = f; engine = e }) →
     OpensBetween e.shape e.accepted (length e.accepted) (length e.accepted) disk → OpensOver e.shape f.sealed (length f.sealed) (length f.sealed) disk
 opens-closed f e disk agrees opens =
@@ -52,18 +52,18 @@ opens-closed f e disk agrees opens =
     subst (λ (n : ℕ). OpensOver e.shape f.sealed n (length f.sealed) disk) same
     (opens-over e.shape f.sealed e.accepted (length e.accepted) disk agrees.batches opens)
 
--- an engine that runs refuses to close where the device failed
+-- if a running engine's close is refused, the device failed
 pub close-wrong : {D : Type 0} (state : D → DeviceState) (old : EngineValue D) (new : D) (e : JournalError) → old.engine.aborted ≡ false →
     EngineCloseRefused state old new e → (e ≡ Device) × ((state new).faults ≡ one_more_fault (state old.device).faults)
 close-wrong state old new e running (CloseAborted is same) = absurd (true≢false (sym is ∙ running))
 close-wrong state old new e running (CloseFailed moves counted) = (refl, counted)
 
--- a list without elements
+-- a list of length 0 is empty
 no-elements : (ts : History) → length ts ≡ 0 → ts ≡ []
 no-elements [] none = refl
 no-elements (t ∷ ts) none = absurd (omega arith)
 
--- what follows from what is known of an answer
+-- an error's weaker property follows from its stronger one
 pub err-weaker : {T E : Type 0} (r : Result T E) (P Q : E → Type 0) → ((e : E) → P e → Q e) → IfErr r P → IfErr r Q
 err-weaker (Ok x) P Q weaker p = tt
 err-weaker (Err e) P Q weaker p = weaker e p
@@ -74,7 +74,7 @@ both-weaker (Ok x) P Q R S weaker other p = weaker x p
 both-weaker (Err e) P Q R S weaker other p = other e p
 
 module _ {D : Type 0} (state : D → DeviceState) where
-  -- where the log could not be closed, the close is refused
+  -- if the log could not be closed, the journal's close is refused
   pub log-refused : (old mid : JournalValue D) (device : D) (sealed : History) (committed : ℕ) (e : JournalError) → IsFinished state old mid →
       e ≡ Device → sealed ≡ mid.journal.front.sealed → committed ≡ mid.journal.engine.committed →
       (state device).faults ≡ one_more_fault (state mid.device).faults → CloseRefused state old device sealed committed e
@@ -83,7 +83,7 @@ module _ {D : Type 0} (state : D → DeviceState) where
       subst (CloseRefused state old device sealed committed) (sym is)
       (CloseRefused.CloseFailed done.was_running (inr (kept ∙ done.sealed)) (omega arith) (counted ∙ ap one_more_fault done.faults))
 
-  -- the close of an engine's log closes that of its journal
+  -- the close of the engine's log is the close of the journal's log
   pub log-closed : (f : Front) (old : EngineValue D) (new : D) (sealed : History) (committed : ℕ) → Agrees (record { front = f; engine = old.engine }) →
       IsPlain old.engine → IsAllReleased old.engine → EngineCloseDid state old new → sealed ≡ f.sealed → committed ≡ length sealed →
       CloseDid (record { front = f; engine = old.engine }) (state old.device).disk sealed committed (state new).disk
@@ -115,7 +115,7 @@ module _ {D : Type 0} (state : D → DeviceState) where
         committed_is = told;
       })
 
-  -- so does one that fails
+  -- a failed close of the engine's log ends the journal in the phase `Shut`
   pub log-failed : (f : Front) (old : EngineValue D) (new : D) (sealed : History) (committed : ℕ) (e : JournalError) → old.engine.aborted ≡ false →
       EngineCloseRefused state old new e → sealed ≡ f.sealed → committed ≡ old.engine.committed →
       EndsWith (record { front = f; engine = old.engine }) (state old.device).disk sealed committed (state new).disk Shut
@@ -129,7 +129,7 @@ module _ {D : Type 0} (state : D → DeviceState) where
         committed_is = count;
       }
 
-  -- moves that come before them
+  -- earlier moves can be put in front of moves that end a journal
   pub ends-behind : (old mid : JournalValue D) (sealed : History) (committed : ℕ) (after : Disk) (phase : Phase) →
       ComesTo old.journal (state old.device).disk mid.journal (state mid.device).disk Running →
       EndsWith mid.journal (state mid.device).disk sealed committed after phase → EndsWith old.journal (state old.device).disk sealed committed after phase
@@ -146,7 +146,7 @@ module _ {D : Type 0} (state : D → DeviceState) where
   did-behind old mid sealed committed after path (ClosesLog ends) = ClosesLog (ends-behind old mid sealed committed after Closed path ends)
   did-behind old mid sealed committed after path (StaysClean none ends) = StaysClean none (ends-behind old mid sealed committed after Shut path ends)
 
-  -- the journal is handed out as it is
+  -- handing out the journal as it is ends it
   pub parts-end : (old mid : JournalValue D) (device : D) (sealed : History) (committed : ℕ) →
       ComesTo old.journal (state old.device).disk mid.journal (state mid.device).disk Running → device ≡ mid.device →
       sealed ≡ mid.journal.front.sealed → committed ≡ mid.journal.engine.committed →

@@ -1,4 +1,4 @@
--- What comes of a request and of all turns behind it.
+-- What a request and all turns after it come to.
 use Rattle.std.proofs.Common.{refl, sym, ◌∙◌, ap, subst, arith, ⊎_elim}
 use Rattle.std.specs.Prelude.{◌≡◌, ◌≢◌, ℕ, zero, suc, ◌<◌, Bool, true, false, length, eqb, Result, Ok, Err, IfErr, OnOk}
 use Rattle.std.proofs.lemmas.Bool.Decides.{eqb_tells}
@@ -25,13 +25,13 @@ module _ {D : Type 0} (state : D → DeviceState) where
   abbrev ComesBy : JournalValue D → JournalValue D → Type 0
   ComesBy old new = ComesTo old.journal (state old.device).disk new.journal (state new.device).disk Running
 
-  -- none where nothing changes
+  -- no moves are needed if nothing changes
   stays-by : (old new : JournalValue D) → new ≡ old → ComesBy old new
   stays-by old new same =
       comes-same old.journal new.journal (state old.device).disk (state new.device).disk (ap (λ (v : JournalValue D). v.journal) same)
       (ap (λ (v : JournalValue D). (state v.device).disk) same)
 
-  -- the lock that a request makes is one
+  -- the lock that a request makes is a move
   asked-of : (tid : ℕ) (old new : JournalValue D) → Requests state tid old new → (n : ℕ) → length old.journal.front.running.handles ≡ n → ComesBy old new
   asked-of tid old new asks zero none = stays-by old new (asks.empty none)
   asked-of tid old new asks (suc n) some =
@@ -44,30 +44,30 @@ module _ {D : Type 0} (state : D → DeviceState) where
   pub asked-way : (tid : ℕ) (old new : JournalValue D) → Requests state tid old new → ComesBy old new
   asked-way tid old new asks = asked-of tid old new asks (length old.journal.front.running.handles) refl
 
-  -- where the running transaction was not ready, all that can be committed is behind the commit that was under way
+  -- if the running transaction was not ready, finishing the commit under way commits all that can be
   pub none-ready : {T : Type 0} (r : Result T JournalError) (old new : JournalValue D) → (IsReadyToSeal old.journal.front → ⊥) →
       OnOk r (Went state old new) → OnOk r (MakesNoRound old.journal.engine new.journal.engine) → OnOk r (CommitsAll state old new)
   none-ready (Ok x) old new unready went none = WithoutRunning unready went none
   none-ready (Err e) old new unready went none = tt
 
-  -- and else it is sealed
+  -- if it was ready, sealing and committing it commits all that can be
   pub ready-sealed : {T : Type 0} (r : Result T JournalError) (old new : JournalValue D) → IsReadyToSeal old.journal.front →
       OnOk r (HasSealed state old new) → OnOk r (MakesRoomAlone state old new) → OnOk r (CommitsAll state old new)
   ready-sealed (Ok x) old new ready has room = WithRunning ready has room
   ready-sealed (Err e) old new ready has room = tt
 
-  -- or the device failed in its commit
+  -- a device failure in the commit under way refuses the turns
   pub turns-failed : {T : Type 0} (r : Result T JournalError) (old new : JournalValue D) → old.journal.engine.aborted ≡ false →
       IfErr r (λ e. (e ≡ Device) × WentWrong state old new) → IfErr r (AllTurnsRefused state old new)
   turns-failed (Ok x) old new running wrong = tt
   turns-failed (Err e) old new running wrong = subst (AllTurnsRefused state old new) (sym wrong.0) (FailedUnsealed running wrong.1)
 
-  -- a lock leaves a journal whose running transaction takes no further handles
+  -- locking a locked journal changes nothing
   locked-same : (v : JournalValue D) → v.journal.front.locked ≡ true → locked_journal v ≡ v
   locked-same v locked =
       ap (λ (b : Bool). record v { journal = record v.journal { front = record v.journal.front { locked = b } } }) (sym locked)
 
-  -- a running transaction that was ready, and is not sealed for want of memory, is as it was
+  -- a ready transaction that could not be sealed and committed refuses the turns
   ready-refused : (old new : JournalValue D) (e : JournalError) → old.journal.engine.aborted ≡ false → IsReadyToSeal old.journal.front →
       0 < length old.journal.front.running.handles → LastRefused state old new e → AllTurnsRefused state old new e
   ready-refused old new e running ready joined (FailedBefore wrong) = FailedUnsealed running wrong
@@ -78,14 +78,14 @@ module _ {D : Type 0} (state : D → DeviceState) where
       StaysReady running ready joined (subst (Went state old) (sym same) went)
       (subst (λ (v : JournalValue D). v.journal.engine.committed ≡ length v.journal.front.sealed) (sym same) all)
 
-  -- whatever the answer is
+  -- so it does for either answer
   pub last-turns : {T : Type 0} (r : Result T JournalError) (old new : JournalValue D) → old.journal.engine.aborted ≡ false →
       IsReadyToSeal old.journal.front → 0 < length old.journal.front.running.handles → IfErr r (LastRefused state old new) →
       IfErr r (AllTurnsRefused state old new)
   last-turns (Ok x) old new running ready joined refused = tt
   last-turns (Err e) old new running ready joined refused = ready-refused old new e running ready joined refused
 
-  -- rounds that are refused have failed
+  -- refused rounds have failed
   pub release-failed : {T : Type 0} (r : Result T JournalError) (old new : JournalValue D) → old.journal.engine.aborted ≡ false →
       IfErr r (λ e. (e ≡ Device) × WentWrong state old new) → IfErr r (ReleaseRefused state old new)
   release-failed (Ok x) old new running wrong = tt

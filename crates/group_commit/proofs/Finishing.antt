@@ -1,4 +1,4 @@
--- The way of a journal to its end: what the turns of a close come to, one after the other.
+-- The turns of a close: what each comes to, up to the end.
 use Rattle.std.proofs.Common.{refl, sym, ◌∙◌, ap, subst, arith, inl, inr}
 use Rattle.std.specs.Prelude.{◌≡◌, ◌≢◌, ℕ, ◌/◌, ◌<◌, ◌≤◌, true, false, List, [], ◌∷◌, length, Result, Ok, Err, IfErr, OnOk}
 use Rattle.std.proofs.lemmas.Bool.{true≢false}
@@ -40,7 +40,7 @@ use Rattle.journal_steps.specs.Journal.TurnRefused.{DeviceFailed, MemoryIsShort,
 use Rattle.journal_steps.specs.Values.{JournalValue}
 use Rattle.group_commit.proofs.Leading.{comes-behind, comes-nowhere, comes-same, comes-step}
 
--- what a step of a commit or of a round leaves of the log
+-- the parts of the log that a commit or checkpoint step leaves
 record KeepsLog (old new : Engine) : Type 0 where
   measures : new.shape ≡ old.shape
   layout : new.layout ≡ old.layout
@@ -59,7 +59,7 @@ stepped-log e CommitFlush = record { measures = refl; layout = refl; ring = refl
 commit-log : (old new : Engine) (disk after : Disk) → CommitSteps old disk new after → KeepsLog old new
 commit-log old new disk after step = subst (KeepsLog old) (sym step.engine) (stepped-log old old.stage)
 
--- a round leaves the commit too, and commits nothing
+-- a checkpoint step also leaves the commit stage and the committed count
 record KeepsStage (old new : Engine) : Type 0 where
   log : KeepsLog old new
   stage : new.stage ≡ old.stage
@@ -102,32 +102,32 @@ module _ {D : Type 0} (state : D → DeviceState) where
   abbrev ComesBy : JournalValue D → JournalValue D → Type 0
   ComesBy old new = ComesTo old.journal (state old.device).disk new.journal (state new.device).disk Running
 
-  -- as one step does
+  -- one step is such a way
   by-step : (old new : JournalValue D) (event : Event) → ((directs : List (ℕ × List ℕ)) → with_directs event directs ≡ directs) → Does state old event new →
       ComesBy old new
   by-step old new event indirect does = comes-step old.journal new.journal (state old.device).disk (state new.device).disk event indirect does
 
-  -- one behind another
+  -- two ways make one
   pub ways : (a b c : JournalValue D) → ComesBy a b → ComesBy b c → ComesBy a c
   ways a b c one two = comes-behind a.journal b.journal c.journal (state a.device).disk (state b.device).disk (state c.device).disk Running one two
 
-  -- a transaction that a handle has joined is locked
+  -- locking a transaction that a handle has joined is a way
   by-lock : (v : JournalValue D) → v.journal.front.aborted ≡ false → 0 < length v.journal.front.running.handles → ComesBy v (locked_journal v)
   by-lock v running joined =
       by-step v (locked_journal v) (FrontStep Lock) (λ directs. refl) (record { front = record { running = running; joined = joined; after = refl }; engine = refl; disk_is = refl })
 
-  -- where all that the front has become differs from before by what it is told alone
+  -- a front that differs only in what it was told stays so through an equality
   told-only : (old made new : Front) → new ≡ made → made ≡ told_as old made → new ≡ told_as old new
   told-only old made new is only = is ∙ only ∙ ap (told_as old) (sym is)
 
-  -- what is sealed and what runs is as it was
+  -- sealed and running transactions stay as they were
   pub same-sealed : (old new : JournalValue D) → GoesOn state old new → new.journal.front.sealed ≡ old.journal.front.sealed
   same-sealed old new on = ap (λ (f : Front). f.sealed) on.front
 
   pub same-running : (old new : JournalValue D) → GoesOn state old new → new.journal.front.running ≡ old.journal.front.running
   same-running old new on = ap (λ (f : Front). f.running) on.front
 
-  -- one way behind another
+  -- steps that go on, after others, go on
   on-on : (a b c : JournalValue D) → GoesOn state a b → GoesOn state b c → GoesOn state a c
   on-on a b c one two =
       let low : a.journal.engine.committed ≤ b.journal.engine.committed = one.committed in
@@ -142,7 +142,7 @@ module _ {D : Type 0} (state : D → DeviceState) where
         path = ways a b c one.path two.path;
       }
 
-  -- where nothing is done
+  -- no steps at all go on
   pub went-nowhere : (v : JournalValue D) → v.journal.engine.aborted ≡ false → Went state v v
   went-nowhere v running = record {
     on = record {
@@ -164,11 +164,11 @@ module _ {D : Type 0} (state : D → DeviceState) where
   pub went-wrong : (a b c : JournalValue D) → Went state a b → WentWrong state b c → WentWrong state a c
   went-wrong a b c one two = record { on = on-on a b c one.on two.on; aborted = two.aborted; faults = two.faults ∙ ap one_more_fault one.faults }
 
-  -- where nothing changed before it
+  -- steps go on from an equal journal
   pub went-from : (old ready new : JournalValue D) → ready ≡ old → Went state ready new → Went state old new
   went-from old ready new same went = subst (λ (v : JournalValue D). Went state v new) same went
 
-  -- whatever the answer behind it is
+  -- they go on for either later answer
   pub went-on : {T : Type 0} (r : Result T JournalError) (old mid new : JournalValue D) → Went state old mid → OnOk r (Went state mid new) →
       OnOk r (Went state old new)
   went-on (Ok x) old mid new one two = went-went old mid new one two
@@ -179,7 +179,7 @@ module _ {D : Type 0} (state : D → DeviceState) where
   wrong-on (Ok x) old mid new one wrong = tt
   wrong-on (Err e) old mid new one wrong = (wrong.0, went-wrong old mid new one wrong.1)
 
-  -- a step that leaves the front as it was
+  -- a step that keeps the front and the log goes on
   on-log : (old new : JournalValue D) → new.journal.front ≡ old.journal.front → KeepsLog old.journal.engine new.journal.engine →
       (state new.device).shape ≡ (state old.device).shape → ComesBy old new → GoesOn state old new
   on-log old new front log shape path = record {
@@ -192,7 +192,7 @@ module _ {D : Type 0} (state : D → DeviceState) where
     path = path;
   }
 
-  -- a step of a commit is on the way
+  -- a commit step goes on
   pub commit-went : (turn : Turn) (old new : JournalValue D) → old.journal.engine.aborted ≡ false → old.journal.engine.stage ≢ Idle →
       TurnDid state turn old new → (state new.device).shape ≡ (state old.device).shape → (state new.device).faults ≡ (state old.device).faults →
       Went state old new
@@ -233,7 +233,7 @@ module _ {D : Type 0} (state : D → DeviceState) where
         faults = faults;
       }
 
-  -- a step in which the device failed, and of which the front was then told
+  -- a failed step, of which the front is then told, is a way
   by-fault : (old new : JournalValue D) (fault : Event) → ((directs : List (ℕ × List ℕ)) → with_directs fault directs ≡ directs) →
       FailsAndTells state fault old new → ComesBy old new
   by-fault old new fault indirect fails =
@@ -241,7 +241,7 @@ module _ {D : Type 0} (state : D → DeviceState) where
       (comes-step old.journal fails.mid (state old.device).disk (state new.device).disk fault indirect fails.fails)
       (comes-step fails.mid new.journal (state new.device).disk (state new.device).disk AbortMark (λ directs. refl) fails.tells)
 
-  -- one that is refused has failed
+  -- a refused commit step has failed
   pub commit-wrong : (old new : JournalValue D) (e : JournalError) → old.journal.engine.aborted ≡ false → old.journal.engine.stage ≢ Idle →
       TurnRefused state old new e → (state new.device).shape ≡ (state old.device).shape → (e ≡ Device) × WentWrong state old new
   commit-wrong old new e running busy (WasAborted is same) shape = absurd (true≢false (sym is ∙ running))
@@ -266,7 +266,7 @@ module _ {D : Type 0} (state : D → DeviceState) where
         },
       )
 
-  -- a step of a round is on the way, and leaves the commit and the front
+  -- a checkpoint step goes on, and leaves commit and front as they were
   pub check-went : (turn : CheckTurn) (old new : JournalValue D) → old.journal.engine.aborted ≡ false → CheckTurnDid state turn old new →
       (state new.device).shape ≡ (state old.device).shape → (state new.device).faults ≡ (state old.device).faults →
       Went state old new × (new.journal.engine.stage ≡ old.journal.engine.stage) × (new.journal.engine.committed ≡ old.journal.engine.committed)
@@ -312,7 +312,7 @@ module _ {D : Type 0} (state : D → DeviceState) where
         did.0.front,
       )
 
-  -- one that is refused has failed, and leaves the commit
+  -- a refused checkpoint step has failed, and leaves the commit as it was
   pub check-wrong : (old new : JournalValue D) (e : JournalError) → old.journal.engine.aborted ≡ false → CheckTurnRefused state old new e →
       (state new.device).shape ≡ (state old.device).shape →
       (e ≡ Device) × WentWrong state old new × (new.journal.engine.stage ≡ old.journal.engine.stage)
@@ -343,15 +343,15 @@ module _ {D : Type 0} (state : D → DeviceState) where
         ap (λ (x : Engine). x.committed) engine ∙ begins.count,
       )
 
-  -- what is committed is released: the whole ring is free
+  -- if all committed transactions are released, the whole ring is free
   pub all-free : (j : Journal) → IsPlain j.engine → NothingToRelease j.engine → j.engine.start ≡ j.engine.tail
   all-free j plain nothing = plain.start ∙ ap (position j.engine) (sym nothing.released) ∙ sym plain.tail
 
-  -- a whole ring has as many blocks as the running transaction needs
+  -- the whole ring has as many blocks as the running transaction needs
   abbrev FitsRing : Journal → Type 0
   FitsRing j = need_of j.engine.layout j.front.running ≤ j.engine.ring.blocks
 
-  -- a whole ring is as long behind steps of commits and of rounds
+  -- it still does after commit and checkpoint steps
   fits-on : (old mid : JournalValue D) → Went state old mid → FitsRing old.journal → FitsRing mid.journal
   fits-on old mid went fits =
       let on = went.on in
@@ -360,7 +360,7 @@ module _ {D : Type 0} (state : D → DeviceState) where
       (subst (λ (t : Transaction). need_of old.journal.engine.layout t ≤ old.journal.engine.ring.blocks)
       (sym (same-running old mid on)) fits))
 
-  -- then it has room for the running transaction, which needs a quarter at most
+  -- a free ring has room for the running transaction, which needs at most a quarter
   pub free-room : (old new : JournalValue D) → Went state old new → new.journal.engine.start ≡ new.journal.engine.tail →
       need_of old.journal.engine.layout old.journal.front.running ≤ old.journal.engine.ring.blocks / 4 → HasRoomFor new.journal
   free-room old new went free quarter =
@@ -368,13 +368,13 @@ module _ {D : Type 0} (state : D → DeviceState) where
       let here = fits-on old new went fits in
       omega arith
 
-  -- so it is behind rounds that released everything
+  -- rounds that release everything make that room
   pub room-made : {A E : Type 0} (r : Result A E) (old new : JournalValue D) → FitsQuarter old.journal → OnOk r (Went state old new) →
       OnOk r (new.journal.engine.start ≡ new.journal.engine.tail) → OnOk r (HasRoomFor new.journal)
   room-made (Ok a) old new quarter went free = free-room old new went free quarter
   room-made (Err e) old new quarter went free = went
 
-  -- why the running transaction is not sealed
+  -- why the seal of the running transaction is refused
   pub seal-wrong : (old mid new : JournalValue D) (e : JournalError) → mid ≡ locked_journal old → old.journal.engine.aborted ≡ false →
       old.journal.engine.stage ≡ Idle → TurnRefused state mid new e → SealRefused old.journal e × (new ≡ locked_journal old)
   seal-wrong old mid new e is running idle (WasAborted aborted same) =
@@ -388,26 +388,26 @@ module _ {D : Type 0} (state : D → DeviceState) where
       absurd (none-some fault.call
       (sym (ap (call_in mid.journal.engine) (ap (λ (v : JournalValue D). v.journal.engine.stage) is ∙ idle)) ∙ fault.due))
 
-  -- a front with its running transaction sealed, where a handle has joined it
+  -- if a handle has joined, the front is the one after a seal
   with-seal : (f : Front) (handles : List ℕ) → 0 < length handles → sealed_with f handles ≡ sealing f
   with-seal f [] some = absurd (omega arith)
   with-seal f (h ∷ handles) some = refl
 
-  -- and one of which nothing is sealed, where none has
+  -- if none has, it is the front itself
   without-seal : (f : Front) (handles : List ℕ) → (0 < length handles → ⊥) → sealed_with f handles ≡ f
   without-seal f [] none = refl
   without-seal f (h ∷ handles) none = absurd (none (omega arith))
 
-  -- such a front has sealed what a close seals
+  -- that front has sealed what a close seals
   sealed-closing : (f : Front) (handles : List ℕ) → (sealed_with f handles).sealed ≡ with_running f.sealed f.running handles
   sealed-closing f [] = refl
   sealed-closing f (h ∷ handles) = refl
 
-  -- all that a close seals is sealed
+  -- everything that a close seals is sealed
   pub all-closing : (old new : JournalValue D) → HasSealed state old new → new.journal.front.sealed ≡ closing old.journal.front
   all-closing old new has = ap (λ (f : Front). f.sealed) has.front ∙ sealed-closing old.journal.front old.journal.front.running.handles
 
-  -- behind the seal all is sealed
+  -- the seal seals everything that a close seals
   pub seal-done : (old mid new : JournalValue D) → Went state old mid → mid.journal.front.aborted ≡ false → 0 < length mid.journal.front.running.handles →
       Does state (locked_journal mid) Seal new → new.device ≡ mid.device → HasSealed state old new
   seal-done old mid new went running joined did device =
@@ -430,7 +430,7 @@ module _ {D : Type 0} (state : D → DeviceState) where
         path = ways old mid new on.path (ways mid (locked_journal mid) new (by-lock mid running joined) (by-step (locked_journal mid) new Seal (λ directs. refl) did));
       }
 
-  -- and stays so
+  -- later steps leave it sealed
   sealed-went : (old mid new : JournalValue D) → HasSealed state old mid → Went state mid new → HasSealed state old new
   sealed-went old mid new has went =
       let low : old.journal.engine.committed ≤ mid.journal.engine.committed = has.committed in
@@ -450,7 +450,7 @@ module _ {D : Type 0} (state : D → DeviceState) where
   sealed-on (Ok x) old mid new has went = sealed-went old mid new has went
   sealed-on (Err e) old mid new has went = tt
 
-  -- where no handle has joined the running transaction, all is sealed without a seal
+  -- if no handle has joined the running transaction, no seal is needed
   pub none-sealed : (old new : JournalValue D) → Went state old new → (0 < length old.journal.front.running.handles → ⊥) → HasSealed state old new
   none-sealed old new went none = record {
     front =
@@ -464,7 +464,7 @@ module _ {D : Type 0} (state : D → DeviceState) where
     path = went.on.path;
   }
 
-  -- then all is released, and nothing is left but the log
+  -- once everything is released, only the close of the log remains
   pub finished : (old new : JournalValue D) → old.journal.engine.aborted ≡ false → HasSealed state old new → new.journal.engine.stage ≡ Idle →
       NothingToRelease new.journal.engine → IsFinished state old new
   finished old new running has idle nothing = record {
@@ -476,7 +476,7 @@ module _ {D : Type 0} (state : D → DeviceState) where
     faults = has.faults;
   }
 
-  -- before the seal all that is sealed is committed
+  -- before the seal, everything sealed is committed
   pub all-sealed : (j : Journal) → Agrees j → IsPlain j.engine → j.engine.stage ≡ Idle → j.engine.committed ≡ length j.front.sealed
   all-sealed j agrees plain idle =
       let stage : StageAgrees j.engine Idle = subst (StageAgrees j.engine) idle plain.stage in
@@ -491,7 +491,7 @@ module _ {D : Type 0} (state : D → DeviceState) where
       subst (CloseRefused state old new.device new.journal.front.sealed new.journal.engine.committed) (sym wrong.0)
       (CloseFailed running (inl (same-sealed old new wrong.1.on)) wrong.1.on.committed wrong.1.faults)
 
-  -- so does one behind it
+  -- a failure after the seal refuses the close too
   sealed-wrong : (old mid new : JournalValue D) (e : JournalError) → old.journal.engine.aborted ≡ false → HasSealed state old mid →
       (e ≡ Device) × WentWrong state mid new → CloseRefused state old new.device new.journal.front.sealed new.journal.engine.committed e
   sealed-wrong old mid new e running has wrong =
@@ -500,14 +500,14 @@ module _ {D : Type 0} (state : D → DeviceState) where
       subst (CloseRefused state old new.device new.journal.front.sealed new.journal.engine.committed) (sym wrong.0)
       (CloseFailed running (inr (same-sealed mid new wrong.1.on ∙ all-closing old mid has)) (omega arith) (wrong.1.faults ∙ ap one_more_fault has.faults))
 
-  -- whatever the answer is
+  -- so it does for either answer
   pub sealed-refused : {T : Type 0} (r : Result T JournalError) (old mid new : JournalValue D) → old.journal.engine.aborted ≡ false →
       HasSealed state old mid → IfErr r (λ e. (e ≡ Device) × WentWrong state mid new) →
       IfErr r (λ e. CloseRefused state old new.device new.journal.front.sealed new.journal.engine.committed e)
   sealed-refused (Ok x) old mid new running has wrong = tt
   sealed-refused (Err e) old mid new running has wrong = sealed-wrong old mid new e running has wrong
 
-  -- what was sealed and committed before stays so
+  -- an unsealed transaction leaves what was sealed before, all of it committed
   unsealed : (old mid new : JournalValue D) → Went state old mid → 0 < length old.journal.front.running.handles →
       mid.journal.engine.committed ≡ length mid.journal.front.sealed → new ≡ locked_journal mid →
       StaysUnsealed old.journal new.journal.front.sealed new.journal.engine.committed
@@ -523,20 +523,20 @@ module _ {D : Type 0} (state : D → DeviceState) where
   pub last-failed : (old new : JournalValue D) (e : JournalError) → (e ≡ Device) × WentWrong state old new → LastRefused state old new e
   last-failed old new e wrong = subst (LastRefused state old new) (sym wrong.0) (FailedBefore wrong.1)
 
-  -- one behind it comes where it is sealed, whatever the answer is
+  -- a failure after the seal leaves it sealed and not committed, for either answer
   pub last-uncommitted : {T : Type 0} (r : Result T JournalError) (old mid new : JournalValue D) → HasSealed state old mid →
       IfErr r (λ e. (e ≡ Device) × WentWrong state mid new) → IfErr r (LastRefused state old new)
   last-uncommitted (Ok x) old mid new has wrong = tt
   last-uncommitted (Err e) old mid new has wrong = subst (LastRefused state old new) (sym wrong.0) (FailedBehind mid has wrong.1)
 
-  -- a seal that is refused where there is room for it is so for want of memory
+  -- if there is room for the seal, only lack of memory refuses it
   pub seal-refused : (old mid new : JournalValue D) (e : JournalError) → Went state old mid → HasRoomFor mid.journal →
       mid.journal.engine.committed ≡ length mid.journal.front.sealed → SealRefused mid.journal e → new ≡ locked_journal mid →
       LastRefused state old new e
   seal-refused old mid new e went room all (NoRoomForIt none) is = absurd (none room)
   seal-refused old mid new e went room all (NoMemoryForIt has) is = LeftUnsealed mid went all is
 
-  -- where the running transaction is not sealed and committed, the close is refused
+  -- if the running transaction is not sealed and committed, the close is refused
   pub last-refused : (old new : JournalValue D) (e : JournalError) → old.journal.engine.aborted ≡ false →
       0 < length old.journal.front.running.handles → LastRefused state old new e →
       CloseRefused state old new.device new.journal.front.sealed new.journal.engine.committed e
@@ -548,13 +548,13 @@ module _ {D : Type 0} (state : D → DeviceState) where
   last-refused old new e running joined (LeftUnsealed mid went all is) =
       NoMemory running (unsealed old mid new went joined all is) (ap (λ (v : JournalValue D). (state v.device).faults) is ∙ went.faults)
 
-  -- a way that goes on by steps of a commit or of rounds, whether or not one of them has failed
+  -- a way goes on by commit or checkpoint steps, even if the last of them failed
   pub way-on : {T : Type 0} (r : Result T JournalError) (old mid new : JournalValue D) → ComesBy old mid →
       OnOk r (Went state mid new) → IfErr r (λ e. (e ≡ Device) × WentWrong state mid new) → ComesBy old new
   way-on (Ok x) old mid new way went wrong = ways old mid new way went.on.path
   way-on (Err e) old mid new way went wrong = ways old mid new way wrong.1.on.path
 
-  -- where the seal is refused, the transaction is locked
+  -- if the seal is refused, the transaction is locked
   pub way-locked : (old mid new : JournalValue D) → Went state old mid → mid.journal.front.aborted ≡ false → 0 < length mid.journal.front.running.handles → new ≡ locked_journal mid → ComesBy old new
   way-locked old mid new went running joined is =
       subst (ComesBy old) (sym is) (ways old mid (locked_journal mid) went.on.path (by-lock mid running joined))

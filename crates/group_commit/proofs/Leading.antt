@@ -1,4 +1,4 @@
--- The moves of the machine that lead from one journal to another, one behind the other.
+-- The machine's moves from one journal to another, in sequence.
 use Rattle.std.proofs.Common.{refl, sym, ap, subst}
 use Rattle.std.specs.Prelude.{◌≡◌, ℕ, List, [], ◌∷◌, ◌++◌}
 use Rattle.journal_model.specs.Disk.{Disk}
@@ -12,11 +12,11 @@ use Rattle.log_epochs.proofs.Leading.{leads-behind}
 use Rattle.log_engine.specs.Close.{ClosesBy}
 use Rattle.group_commit.specs.Close.{ComesTo, world_with}
 
--- none
+-- no moves lead from a journal to itself
 pub comes-nowhere : (j : Journal) (disk : Disk) → ComesTo j disk j disk Running
 comes-nowhere j disk = record { moves = []; leads = λ w epoch. refl }
 
--- some behind others
+-- two sequences of moves make one
 pub comes-behind : (a b c : Journal) (d e f : Disk) (phase : Phase) → ComesTo a d b e Running → ComesTo b e c f phase → ComesTo a d c f phase
 comes-behind a b c d e f phase one two = record {
   moves = one.moves ++ two.moves;
@@ -25,13 +25,13 @@ comes-behind a b c d e f phase one two = record {
       (one.leads w epoch) (two.leads w epoch);
 }
 
--- neither the journal nor the disk changes
+-- no moves are needed if neither journal nor disk changes
 pub comes-same : (old new : Journal) (disk after : Disk) → new ≡ old → after ≡ disk → ComesTo old disk new after Running
 comes-same old new disk after same still =
     subst (λ (j : Journal). ComesTo old disk j after Running) (sym same)
     (subst (λ (d : Disk). ComesTo old disk old d Running) (sym still) (comes-nowhere old disk))
 
--- a step of the journal that writes nothing directly
+-- a step that is no direct write is one move
 pub comes-step : (old new : Journal) (disk after : Disk) (event : Event) → ((directs : List (ℕ × List ℕ)) → with_directs event directs ≡ directs) →
     Happens old disk event new after → ComesTo old disk new after Running
 comes-step old new disk after event indirect happens = record {
@@ -50,7 +50,7 @@ comes-step old new disk after event indirect happens = record {
   );
 }
 
--- it is handed out
+-- handing out the journal is one move
 pub comes-out : (j : Journal) (disk : Disk) → ComesTo j disk j disk Shut
 comes-out j disk = record {
   moves = Below GiveUp ∷ [];
@@ -61,7 +61,7 @@ comes-out j disk = record {
   );
 }
 
--- the engine closes the log
+-- the engine's close of the log is two moves
 pub comes-closed : (j : Journal) (disk after : Disk) → ClosesBy j.engine disk (CloseStep ∷ CloseStep ∷ []) after Closed → ComesTo j disk j after Closed
 comes-closed j disk after closes = record {
   moves = Below CloseStep ∷ Below CloseStep ∷ [];
@@ -78,7 +78,7 @@ comes-closed j disk after closes = record {
       );
 }
 
--- or fails in that
+-- a failed close of the log is one move
 pub comes-failed : (j : Journal) (disk after : Disk) → ClosesBy j.engine disk (CloseFault ∷ []) after Shut → ComesTo j disk j after Shut
 comes-failed j disk after closes = record {
   moves = Below CloseFault ∷ [];

@@ -1,4 +1,4 @@
--- The steps of a commit, and a seal, are none of a round.
+-- Commit steps and a seal make no checkpoint step.
 use Rattle.std.proofs.Common.{refl, sym, ◌∙◌, subst}
 use Rattle.std.specs.Prelude.{◌≡◌, ◌≢◌, Result, Ok, Err, OnOk}
 use Rattle.journal_model.specs.Disk.{Disk}
@@ -26,11 +26,11 @@ stepped-rounds e CommitFlush = record { released = refl; tail = refl; round = re
 commit-rounds : (old new : Engine) (disk after : Disk) → CommitSteps old disk new after → MakesNoRound old new
 commit-rounds old new disk after step = subst (MakesNoRound old) (sym step.engine) (stepped-rounds old old.stage)
 
--- none at all
+-- an engine to itself makes no round
 pub no-rounds : (e : Engine) → MakesNoRound e e
 no-rounds e = record { released = refl; tail = refl; round = refl }
 
--- one behind the other
+-- two parts without a round make one
 pub rounds-behind : (one two three : Engine) → MakesNoRound one two → MakesNoRound two three → MakesNoRound one three
 rounds-behind one two three first second = record {
   released = second.released ∙ first.released;
@@ -39,7 +39,7 @@ rounds-behind one two three first second = record {
 }
 
 module _ {D : Type 0} (state : D → DeviceState) where
-  -- a step of a commit that is under way
+  -- a step of the commit under way makes no round
   pub turn-rounds : (turn : Turn) (old new : JournalValue D) → old.journal.engine.stage ≢ Idle → TurnDid state turn old new →
       MakesNoRound old.journal.engine new.journal.engine
   turn-rounds IdleTurn old new busy did = absurd (busy did.0.idle)
@@ -51,22 +51,22 @@ module _ {D : Type 0} (state : D → DeviceState) where
       subst (MakesNoRound old.journal.engine) (sym (did.raises.engine ∙ did.finishes.engine))
       (commit-rounds old.journal.engine did.mid.engine (state old.device).disk (state new.device).disk did.commits.engine)
 
-  -- a seal
+  -- a seal makes no round
   pub seal-rounds : (old new : JournalValue D) → Does state (locked_journal old) Seal new → MakesNoRound old.journal.engine new.journal.engine
   seal-rounds old new did = subst (MakesNoRound old.journal.engine) (sym did.engine.after) (record { released = refl; tail = refl; round = refl })
 
-  -- where the ring has room behind the commit that was under way
+  -- if the ring has room once the commit under way has ended, no round was made
   pub room-there : (old mid : JournalValue D) → Went state old mid → mid.journal.engine.stage ≡ Idle → MakesNoRound old.journal.engine mid.journal.engine →
       MakesRoomAlone state old mid
   room-there old mid went idle first = record { mid = mid; went = went; idle = idle; first = first; none = λ has. first }
 
-  -- where it has not, whatever rounds are made
+  -- if it has none, any rounds are for lack of room
   pub room-wanted : {T : Type 0} (r : Result T JournalError) (old mid new : JournalValue D) → Went state old mid → mid.journal.engine.stage ≡ Idle →
       MakesNoRound old.journal.engine mid.journal.engine → (HasRoomFor mid.journal → ⊥) → OnOk r (MakesRoomAlone state old new)
   room-wanted (Ok x) old mid new went idle first lacks = record { mid = mid; went = went; idle = idle; first = first; none = λ has. absurd (lacks has) }
   room-wanted (Err e) old mid new went idle first lacks = tt
 
-  -- behind the room that was made, a seal and its commit make no round
+  -- after the room is made, the seal and its commit make no round
   pub sealed-rounds : {T : Type 0} (r : Result T JournalError) (old mid sealed new : JournalValue D) → MakesRoomAlone state old mid →
       MakesNoRound mid.journal.engine sealed.journal.engine → OnOk r (MakesNoRound sealed.journal.engine new.journal.engine) →
       OnOk r (MakesRoomAlone state old new)

@@ -1,4 +1,4 @@
--- The device calls of turns, one after the other.
+-- The device calls of turns, in sequence.
 use Rattle.std.proofs.Common.{refl, sym, ◌∙◌, ap, subst, arith, ⊎_elim}
 use Rattle.std.specs.Prelude.{◌≡◌, ◌≢◌, ℕ, zero, suc, ◌<◌, true, false, length, eqb, ◌+◌, ◌≤◌, Result, Ok, Err, IfErr, IfOk, MatchResult}
 use Rattle.std.proofs.lemmas.Bool.{true≢false}
@@ -28,7 +28,7 @@ use Rattle.group_commit.specs.Calls.MakesOwnCalls.{NoCall, HandsOver, OneMore}
 use Rattle.group_commit.specs.Close.{locked_journal}
 
 module _ {D : Type 0} (state : D → DeviceState) where
-  -- calls after others
+  -- two sequences of own calls make one
   own-after : (a b c : EngineValue D) → MakesOwnCalls state a b → MakesOwnCalls state b c → MakesOwnCalls state a c
   own-after a b c first NoCall = first
   own-after a b c first (HandsOver mid new batch before accepts same) = HandsOver mid c batch (own-after a b mid first before) accepts same
@@ -37,7 +37,7 @@ module _ {D : Type 0} (state : D → DeviceState) where
   pub calls-after : (a b c : JournalValue D) → CallsForTurns state a b → CallsForTurns state b c → CallsForTurns state a c
   calls-after a b c first second = record { own = own-after (engine_in a) (engine_in b) (engine_in c) first.own second.own }
 
-  -- none where engine and device stay
+  -- if engine and device stay, there is no call
   pub no-calls : (old new : JournalValue D) → new.journal.engine ≡ old.journal.engine → new.device ≡ old.device → CallsForTurns state old new
   no-calls old new engine device = record {
     own =
@@ -45,16 +45,16 @@ module _ {D : Type 0} (state : D → DeviceState) where
         (subst (λ (d : D). MakesOwnCalls state (engine_in old) (record { device = d; engine = old.journal.engine })) (sym device) NoCall);
   }
 
-  -- nor where the journal does
+  -- if the journal stays, there is no call
   pub same-calls : (old new : JournalValue D) → new ≡ old → CallsForTurns state old new
   same-calls old new same = no-calls old new (ap (λ (v : JournalValue D). v.journal.engine) same) (ap (λ (v : JournalValue D). v.device) same)
 
-  -- one
+  -- one step makes one call at most
   one-call : (old new : JournalValue D) → IsOwnStep old.journal.engine (state old.device).disk new.journal.engine (state new.device).disk →
       MakesAtMostOneCall (state old.device) (state new.device) → CallsForTurns state old new
   one-call old new step one = record { own = OneMore (engine_in old) (engine_in new) NoCall step one }
 
-  -- the call of a commit that is under way
+  -- a step of the commit under way is an own step
   turn-step : (turn : Turn) (old new : JournalValue D) → old.journal.engine.stage ≢ Idle → TurnDid state turn old new →
       IsOwnStep old.journal.engine (state old.device).disk new.journal.engine (state new.device).disk
   turn-step IdleTurn old new busy did = absurd (busy did.0.idle)
@@ -81,7 +81,7 @@ module _ {D : Type 0} (state : D → DeviceState) where
       TurnRefused state old new e → MakesAtMostOneCall (state old.device) (state new.device) → CallsForTurns state old new
   refused-calls old new e running busy refused one = one-call old new (refused-step old new e running busy refused) one
 
-  -- the call of a round
+  -- a checkpoint step makes own calls only
   pub check-calls : (turn : CheckTurn) (old new : JournalValue D) → CheckTurnDid state turn old new → (turn ≡ IdleCheck → new.device ≡ old.device) →
       MakesAtMostOneCall (state old.device) (state new.device) → CallsForTurns state old new
   check-calls IdleCheck old new did idle one = no-calls old new (ap (λ (j : Journal). j.engine) did.1) (idle refl)
@@ -96,11 +96,11 @@ module _ {D : Type 0} (state : D → DeviceState) where
       (CheckpointFails (subst (λ (e : Engine). RoundFaults old.journal.engine (state old.device).disk e (state new.device).disk) (sym fails.tells.engine) fails.fails.engine))
       one
 
-  -- a seal makes none
+  -- a seal makes no call
   pub seal-calls : (old new : JournalValue D) → Does state (locked_journal old) Seal new → new.device ≡ old.device → CallsForTurns state old new
   seal-calls old new did device = record { own = HandsOver (engine_in old) (engine_in new) (batch_of old.journal.front.running) NoCall did.engine device }
 
-  -- nor does a request
+  -- a request leaves the engine
   asked-of : (tid : ℕ) (old new : JournalValue D) → Requests state tid old new → (n : ℕ) → length old.journal.front.running.handles ≡ n →
       new.journal.engine ≡ old.journal.engine
   asked-of tid old new asks zero none = ap (λ (v : JournalValue D). v.journal.engine) (asks.empty none)

@@ -1,4 +1,4 @@
--- What holds at each moment of turns, one after the other.
+-- What holds at each moment of turns, in sequence.
 use Rattle.std.proofs.Common.{refl, sym, ◌∙◌, ap, subst, arith, inl, inr, ⊎_elim}
 use Rattle.std.specs.Prelude.{◌≡◌, ◌≢◌, ℕ, zero, suc, ◌<◌, ◌≤◌, true, false, List, [], ◌∷◌, ◌++◌, eqb, length, Result, Ok, Err, MatchResult}
 use Rattle.std.proofs.lemmas.Bool.Decides.{eqb_tells}
@@ -21,7 +21,7 @@ use Rattle.group_commit.specs.Close.{GoesOn, HasSealed, IsFinished, IsSealedInCl
 use Rattle.group_commit.specs.During.{HoldsDuringRounds, HoldsDuringTurns, IsCopyOfTurns, IsDuringRounds, IsDuringTurns}
 use Rattle.group_commit.proofs.Closed.{opens-closed}
 
--- what may be added to home, where more may
+-- additions of fewer kinds are additions of more kinds
 adds-weaker : (may more : Addition) (old new : Disk) → ((b : ℕ) (v : List ℕ) → may b v → more b v) → HomeAddsOnly may old new → HomeAddsOnly more old new
 adds-weaker may more old new weaker adds = record {
   reads = λ b.
@@ -31,7 +31,7 @@ adds-weaker may more old new weaker adds = record {
       ⊎_elim (λ (was : IsOneOf (held (old Home b)) v). inl was) (λ (added : may b v). inr (weaker b v added)) (adds.left b v holds);
 }
 
--- additions after others
+-- two sequences of additions make one
 adds-after : (may : Addition) (old mid new : Disk) → HomeAddsOnly may old mid → HomeAddsOnly may mid new → HomeAddsOnly may old new
 adds-after may old mid new first second = record {
   reads = λ b.
@@ -44,7 +44,7 @@ adds-after may old mid new first second = record {
       ⊎_elim (λ (was : IsOneOf (held (mid Home b)) v). first.left b v was) (λ (added : may b v). inr added) (second.left b v holds);
 }
 
--- what holds at each moment, where something weaker is told
+-- at each moment the weaker property holds too
 all-weaker : (P Q : Disk → Type 0) → ((disk : Disk) → P disk → Q disk) → (disks : List Disk) → AllByRecursion P disks → AllByRecursion Q disks
 all-weaker P Q weaker [] all = tt
 all-weaker P Q weaker (d ∷ disks) all = (weaker d all.0, all-weaker P Q weaker disks all.1)
@@ -57,7 +57,7 @@ each-weaker P Q old new weaker each = record {
   now = weaker new.disk each.now;
 }
 
--- a journal in a call that began with the other one: what is sealed in the rest of the call is sealed in the whole
+-- a later journal of the same call: what is sealed in the rest of the call is sealed in the whole
 record IsLater (j k : Journal) : Type 0 where
   shape : k.engine.shape ≡ j.engine.shape
   committed : j.engine.committed ≤ k.engine.committed
@@ -94,7 +94,7 @@ during-later j k old mid disk later before during =
       opens = subst (λ (s : Shape). OpensOver s during.sealed during.least (length during.sealed) disk) later.shape during.opens;
     }
 
--- after a seal there is no more to be sealed
+-- after a seal, nothing more is to be sealed
 after-seal : (f : Front) (handles : List ℕ) (ts : History) → f.running.handles ≡ handles → IsSealedInClose (sealed_with f handles) ts → IsSealedInClose f ts
 after-seal f [] ts none among = among
 after-seal f (h ∷ handles) ts some among =
@@ -102,7 +102,7 @@ after-seal f (h ∷ handles) ts some among =
     ⊎_elim (λ (is : ts ≡ f.sealed ++ f.running ∷ []). is) (λ (is : ts ≡ f.sealed ++ f.running ∷ []). is) among in
     inr (subst (λ (hs : List ℕ). ts ≡ with_running f.sealed f.running hs) (sym some) all)
 
--- a moment at which home is as it was
+-- a moment of a commit step, which leaves home, is one of turns
 turn-during : (j : Journal) (old disk : Disk) → IsDuringTurn j old disk → IsDuringTurns j old disk
 turn-during j old disk during = record {
   least = j.engine.committed;
@@ -119,7 +119,7 @@ rounds-copies j most old disk high adds =
     adds-weaker (IsCommittedCopy j.front.sealed j.engine.committed) (IsCopyOfTurns j most) old disk
     (λ b v copy. record { sealed = j.front.sealed; among = inl refl; n = j.engine.committed; low = (omega arith); high = high; copy = copy }) adds
 
--- one of rounds
+-- a moment of rounds is one of turns
 rounds-during : (j : Journal) (old disk : Disk) → IsDuringRounds j old disk → IsDuringTurns j old disk
 rounds-during j old disk during = record {
   least = j.engine.committed;
@@ -130,7 +130,7 @@ rounds-during j old disk during = record {
   opens = during.opens;
 }
 
--- one of the close of the log, where all is committed
+-- a moment of the log's close, when everything is committed, is one of rounds
 closing-during : (f : Front) (e : Engine) (old disk : Disk) → Agrees (record { front = f; engine = e }) → e.committed ≡ length f.sealed → IsDuringClose e old disk →
     IsDuringRounds (record { front = f; engine = e }) old disk
 closing-during f e old disk agrees all during = record {
@@ -145,14 +145,14 @@ each-closing f e old new agrees all each =
     (λ disk during. closing-during f e old.disk disk agrees all during) each
 
 module _ {D : Type 0} (state : D → DeviceState) where
-  -- each moment from a journal on, up to this device
+  -- each moment from a journal to this device
   abbrev EachTo : JournalValue D → D → Type 0
   EachTo old device = EachMoment (IsDuringTurns old.journal (state old.device).disk) (state old.device) (state device)
 
   abbrev EachRoundTo : JournalValue D → D → Type 0
   EachRoundTo old device = EachMoment (IsDuringRounds old.journal (state old.device).disk) (state old.device) (state device)
 
-  -- where nothing is done, what holds now holds at the one moment
+  -- if nothing is done, the one moment holds what holds now
   pub each-still : (v : JournalValue D) → OpensNow v.journal (state v.device).disk → HoldsDuringTurns state v v
   each-still v opens = record {
     each =
@@ -165,7 +165,7 @@ module _ {D : Type 0} (state : D → DeviceState) where
   pub each-same : (old new : JournalValue D) → new ≡ old → OpensNow old.journal (state old.device).disk → HoldsDuringTurns state old new
   each-same old new same opens = subst (λ (v : JournalValue D). HoldsDuringTurns state old v) (sym same) (each-still old opens)
 
-  -- a device that stays adds none, where as many are committed
+  -- an unchanged device adds no moments, if as many are committed
   pub each-device : (old mid new : JournalValue D) → new.device ≡ mid.device → new.journal.engine.committed ≡ mid.journal.engine.committed →
       HoldsDuringTurns state old mid → HoldsDuringTurns state old new
   each-device old mid new same count holds = record {
@@ -176,7 +176,7 @@ module _ {D : Type 0} (state : D → DeviceState) where
         (subst (λ (d : D). HomeAddsOnly (IsCopyOfTurns old.journal mid.journal.engine.committed) (state old.device).disk (state d).disk) (sym same) holds.home);
   }
 
-  -- the moments of one call after those of another
+  -- the moments of one call, then those of another
   each-on : (a b c : JournalValue D) → IsLater a.journal b.journal → HoldsDuringTurns state a b → HoldsDuringTurns state b c → HoldsDuringTurns state a c
   each-on a b c later first second =
       let P = IsDuringTurns a.journal (state a.device).disk in
@@ -211,15 +211,15 @@ module _ {D : Type 0} (state : D → DeviceState) where
         after-seal a.journal.front a.journal.front.running.handles ts refl (subst (λ (f : Front). IsSealedInClose f ts) has.front among);
   }
 
-  -- after steps of commits and of rounds
+  -- moments after commit and checkpoint steps
   pub each-went : (a b c : JournalValue D) → GoesOn state a b → HoldsDuringTurns state a b → HoldsDuringTurns state b c → HoldsDuringTurns state a c
   each-went a b c on first second = each-on a b c (on-later a b on) first second
 
-  -- after a seal
+  -- moments after a seal
   pub each-sealed : (a b c : JournalValue D) → HasSealed state a b → HoldsDuringTurns state a b → HoldsDuringTurns state b c → HoldsDuringTurns state a c
   each-sealed a b c has first second = each-on a b c (sealed-later a b has) first second
 
-  -- those of a commit step
+  -- the moments of a commit step
   pub each-commit : (old new : JournalValue D) → old.journal.engine.committed ≤ new.journal.engine.committed →
       EachMoment (IsDuringTurn old.journal (state old.device).disk) (state old.device) (state new.device) → HoldsDuringTurns state old new
   each-commit old new count each = record {
@@ -230,7 +230,7 @@ module _ {D : Type 0} (state : D → DeviceState) where
     home = adds-none _ (state old.device).disk (state new.device).disk each.now.home.same;
   }
 
-  -- those of rounds
+  -- the moments of rounds
   pub each-rounds : (old new : JournalValue D) → new.journal.engine.committed ≡ old.journal.engine.committed → HoldsDuringRounds state old new →
       HoldsDuringTurns state old new
   each-rounds old new same holds =
@@ -250,7 +250,7 @@ module _ {D : Type 0} (state : D → DeviceState) where
         (record { home = adds-none _ (state v.device).disk (state v.device).disk (λ b. refl); opens = opens });
   }
 
-  -- a step of a round after others, which leave the front and what is committed
+  -- a checkpoint step after others, which left front and committed count
   pub rounds-on : (a b c : JournalValue D) → GoesOn state a b → b.journal.front ≡ a.journal.front → b.journal.engine.committed ≡ a.journal.engine.committed →
       Agrees b.journal → HoldsDuringRounds state a b →
       EachMoment (IsDuringCheckTurn b.journal (state b.device).disk) (state b.device) (state c.device) → HoldsDuringRounds state a c
@@ -276,7 +276,7 @@ module _ {D : Type 0} (state : D → DeviceState) where
                 (subst (λ (s : Shape). OpensOver s b.journal.front.sealed b.journal.engine.committed (length b.journal.front.sealed) disk) on.measures during.opens));
           }
 
-  -- the close of the log after all that comes before it
+  -- the log's close after everything before it
   each-finished : (a b : JournalValue D) (device : D) → IsFinished state a b → b.journal.engine.shape ≡ a.journal.engine.shape → HoldsDuringTurns state a b →
       EachRoundTo b device → EachTo a device
   each-finished a b device done shape first second =
@@ -305,7 +305,7 @@ module _ {D : Type 0} (state : D → DeviceState) where
             subst (λ (s : Shape). OpensOver s b.journal.front.sealed b.journal.engine.committed (length b.journal.front.sealed) disk) shape during.opens;
       }
 
-  -- whatever the answer of the close is
+  -- so it is for either answer of the close
   pub each-closed : {T E : Type 0} (honest : D → Type 0) (r : Result T E) (in_ok : T → D) (in_err : E → D) (a b : JournalValue D) → IsFinished state a b →
       b.journal.engine.shape ≡ a.journal.engine.shape → (honest b.device → HoldsDuringTurns state a b) →
       MatchResult r (λ x. honest (in_ok x) → honest b.device) (λ e. honest (in_err e) → honest b.device) →
@@ -314,7 +314,7 @@ module _ {D : Type 0} (state : D → DeviceState) where
   each-closed honest (Ok x) in_ok in_err a b done shape first back each = λ now. each-finished a b (in_ok x) done shape (first (back now)) (each now)
   each-closed honest (Err e) in_ok in_err a b done shape first back each = λ now. each-finished a b (in_err e) done shape (first (back now)) (each now)
 
-  -- a request changes no more than the lock
+  -- a request changes only the lock
   record IsAsked (a b : JournalValue D) : Type 0 where
     later : IsLater a.journal b.journal
     count : b.journal.engine.committed ≡ a.journal.engine.committed
@@ -340,7 +340,7 @@ module _ {D : Type 0} (state : D → DeviceState) where
       (λ (other : (eqb tid a.journal.front.running.tid ≡ false) × (tid ≢ a.journal.front.running.tid)). asked-same a b (asks.other other.1))
       (eqb_tells tid a.journal.front.running.tid)
 
-  -- the moments after one
+  -- the moments after a request
   pub each-asked : (tid : ℕ) (a b c : JournalValue D) → Requests state tid a b → b.device ≡ a.device → OpensNow a.journal (state a.device).disk →
       HoldsDuringTurns state b c → HoldsDuringTurns state a c
   each-asked tid a b c asks device opens holds =

@@ -1,4 +1,4 @@
--- What comes of a call that takes turns until none is left, and why it is refused.
+-- What a call that takes all turns does, and why it is refused.
 use Rattle.std.specs.Prelude.{◌≡◌, ℕ, ◌<◌, true, false, [], length}
 use Rattle.journal_model.specs.declared.refusal.JournalError.{JournalError}
 use Rattle.journal_model.specs.declared.refusal.JournalError.TheVariants.{Aborted, Device, Memory, NotRunning}
@@ -10,25 +10,24 @@ use Rattle.journal_steps.specs.Values.{JournalValue}
 use Rattle.group_commit.specs.Close.{HasSealed, Went, WentWrong}
 use Rattle.group_commit.specs.Rounds.{MakesNoRound, MakesRoomAlone}
 
--- why rounds do not come to their end: the device failed before, and nothing was done; or it failed in one of them
+-- why the rounds do not finish: the device failed before, and nothing was done; or it failed in one of them
 pub data ReleaseRefused {D : Type 0} (state : D → DeviceState) (old new : JournalValue D) : JournalError → Type 0 where
   ReleaseAborted : old.journal.engine.aborted ≡ true → new ≡ old → ReleaseRefused state old new Aborted
   ReleaseFailed : old.journal.engine.aborted ≡ false → WentWrong state old new → ReleaseRefused state old new Device
 
--- the running transaction takes no further handles, and has no open one
+-- the running transaction is locked and has no open handle
 abbrev pub IsReadyToSeal : Front → Type 0
 IsReadyToSeal f = (f.locked ≡ true) × (f.open_handles ≡ [])
 
--- all that can be committed is: where the running transaction was ready, it too, behind rounds where the ring had no room for it; and else
+-- everything that can be committed is: the running transaction too if it was ready, after rounds if the ring had no room for it; else
 -- what was sealed before, with no round
 pub data CommitsAll {D : Type 0} (state : D → DeviceState) (old new : JournalValue D) : Type 0 where
   WithRunning : IsReadyToSeal old.journal.front → HasSealed state old new → MakesRoomAlone state old new → CommitsAll state old new
   WithoutRunning : (IsReadyToSeal old.journal.front → ⊥) → Went state old new → MakesNoRound old.journal.engine new.journal.engine → CommitsAll state old new
 
--- Why not all that can be committed is: the device failed before, and nothing was done; it failed in a step, and nothing was sealed;
--- the running transaction was ready, and it failed in a step behind the seal; or that was ready, and memory ran out for its seal. Then
--- nothing was done, or steps of commits and of rounds alone, with all that was sealed committed: the running transaction is as it
--- was. (The code makes all room for the seal first, so that the last does not come.)
+-- Why not everything is committed: the device failed before, and nothing was done; it failed in a step before the seal, or after it; or
+-- the running transaction was ready, and memory for its seal ran out. Then nothing was done, or every sealed transaction is committed
+-- and the running one is as it was. (The code reserves room first, so the last does not come.)
 pub data AllTurnsRefused {D : Type 0} (state : D → DeviceState) (old new : JournalValue D) : JournalError → Type 0 where
   TurnsAborted : old.journal.engine.aborted ≡ true → new ≡ old → AllTurnsRefused state old new Aborted
   FailedUnsealed : old.journal.engine.aborted ≡ false → WentWrong state old new → AllTurnsRefused state old new Device
@@ -39,15 +38,15 @@ pub data AllTurnsRefused {D : Type 0} (state : D → DeviceState) (old new : Jou
   StaysReady : old.journal.engine.aborted ≡ false → IsReadyToSeal old.journal.front → 0 < length old.journal.front.running.handles → Went state old new →
       new.journal.engine.committed ≡ length new.journal.front.sealed → AllTurnsRefused state old new Memory
 
--- a request of the transaction, and behind it all that can be committed, so that nothing is being committed
+-- a request of the transaction, then all that can be committed, so that no commit is under way
 pub record CommitsThrough {D : Type 0} (state : D → DeviceState) (tid : ℕ) (old new : JournalValue D) : Type 0 where
   pub asked : JournalValue D
   pub requests : Requests state tid old asked
   pub commits : CommitsAll state asked new
   pub idle : new.journal.engine.stage ≡ Idle
 
--- why a transaction is not committed behind a request: it could not be asked for; turns were refused behind the request; or all turns
--- were taken, and it is not ready for its seal
+-- why a transaction is not committed after a request: the request was refused; the turns were; or all were taken, and the transaction
+-- is not ready to be sealed
 pub data CommitRefused {D : Type 0} (state : D → DeviceState) (tid : ℕ) (old new : JournalValue D) (e : JournalError) : Type 0 where
   Unasked : e ≡ Aborted → old.journal.front.aborted ≡ true → new ≡ old → CommitRefused state tid old new e
   Unfinished : (asked : JournalValue D) → Requests state tid old asked → AllTurnsRefused state asked new e → CommitRefused state tid old new e

@@ -1,4 +1,4 @@
--- The close of a journal: the moves of the machine that it makes, what it seals, how far it came, and why it is refused.
+-- The close of a journal: the machine's moves, what it seals, how far it comes, and why it is refused.
 use Rattle.std.specs.Prelude.{◌≡◌, ◌⊎◌, ℕ, ◌<◌, ◌≤◌, true, false, List, [], ◌∷◌, ◌++◌, length, Some}
 use Rattle.journal_model.specs.declared.refusal.JournalError.{JournalError}
 use Rattle.journal_model.specs.declared.refusal.JournalError.TheVariants.{Aborted, Device, Memory, NeedSpace}
@@ -15,59 +15,58 @@ use Rattle.log_engine.specs.Close.{IsAllReleased}
 use Rattle.journal_steps.specs.Journal.{HasRoomFor}
 use Rattle.journal_steps.specs.Values.{JournalValue}
 
--- the sealed transactions, with the running one where these handles have joined it
+-- the sealed transactions, followed by the running one if these handles have joined it
 abbrev pub with_running : History → Transaction → List ℕ → History
 with_running sealed running [] = sealed
 with_running sealed running (handle ∷ handles) = sealed ++ running ∷ []
 
--- those that are sealed once a journal is closed
+-- the sealed transactions once the journal is closed
 abbrev pub closing : Front → History
 closing f = with_running f.sealed f.running f.running.handles
 
--- the front with its running transaction sealed, where these handles have joined it
+-- the front after the running transaction is sealed, if these handles have joined it
 abbrev pub sealed_with : Front → List ℕ → Front
 sealed_with f [] = f
 sealed_with f (handle ∷ handles) = sealing f
 
--- the front of which all is sealed that a close seals
+-- the front after everything is sealed that a close seals
 abbrev pub closing_front : Front → Front
 closing_front f = sealed_with f f.running.handles
 
--- the front, but for how far it is finished, the mark, and whether it knows of a failure: these are the other one's
+-- the front, with the other's `finished`, `mark` and `aborted`
 abbrev pub told_as : Front → Front → Front
 told_as f other = record f { finished = other.finished; mark = other.mark; aborted = other.aborted }
 
--- those that are sealed while it is closed: first those of before, then all that it seals
+-- the sealed transactions at a moment of the close: those from before it, or all that it seals
 abbrev pub IsSealedInClose : Front → History → Type 0
 IsSealedInClose f ts = (ts ≡ f.sealed) ⊎ (ts ≡ closing f)
 
--- the world in which this journal, in this epoch, works on this disk
+-- the world in which this journal works on this disk, in this epoch and phase
 abbrev pub world_with : JournalWorld → Epoch → Journal → Disk → Phase → JournalWorld
 world_with w epoch j disk phase = record w {
   below = record w.below { disk = disk; phase = phase; epoch = Some (record epoch { engine = j.engine }) };
   told = record w.told { front = j.front };
 }
 
--- whatever came before, some moves of the machine lead from the journal that runs on the one disk to this one on the other,
--- in this phase
+-- in any world and epoch, some moves of the machine lead from the running journal on the one disk to this one on the other, in this
+-- phase
 pub record ComesTo (old : Journal) (disk : Disk) (new : Journal) (after : Disk) (phase : Phase) : Type 0 where
   pub moves : List Move
   pub leads : (w : JournalWorld) (epoch : Epoch) → Leads (world_with w epoch old disk Running) moves (world_with w epoch new after phase)
 
--- such moves end with a journal that has these transactions sealed, and so many of them committed
+-- the moves end in a journal that has sealed these transactions, and committed so many of them
 pub record EndsWith (old : Journal) (disk : Disk) (sealed : History) (committed : ℕ) (after : Disk) (phase : Phase) : Type 0 where
   pub last : Journal
   pub comes : ComesTo old disk last after phase
   pub sealed_is : sealed ≡ last.front.sealed
   pub committed_is : committed ≡ last.engine.committed
 
--- what a close that answers Ok did: the last of these moves closed the log, or nothing was sealed since the opening
+-- what a close that answers Ok did: its last moves closed the log, or nothing was sealed since the opening
 pub data CloseDid (old : Journal) (disk : Disk) (sealed : History) (committed : ℕ) (after : Disk) : Type 0 where
   ClosesLog : EndsWith old disk sealed committed after Closed → CloseDid old disk sealed committed after
   StaysClean : sealed ≡ [] → EndsWith old disk sealed committed after Shut → CloseDid old disk sealed committed after
 
--- steps of commits and of rounds alone were made: of the front nothing has changed but how far it is finished, the mark, and
--- whether it knows of a failure, and no fewer are committed
+-- only commit and checkpoint steps were made: the front changed in `finished`, `mark` and `aborted` alone, and no fewer are committed
 pub record GoesOn {D : Type 0} (state : D → DeviceState) (old new : JournalValue D) : Type 0 where
   pub front : new.journal.front ≡ told_as old.journal.front new.journal.front
   pub measures : new.journal.engine.shape ≡ old.journal.engine.shape
@@ -77,20 +76,20 @@ pub record GoesOn {D : Type 0} (state : D → DeviceState) (old new : JournalVal
   pub shape : (state new.device).shape ≡ (state old.device).shape
   pub path : ComesTo old.journal (state old.device).disk new.journal (state new.device).disk Running
 
--- and the device has not failed
+-- such steps, without a device failure
 pub record Went {D : Type 0} (state : D → DeviceState) (old new : JournalValue D) : Type 0 where
   pub on : GoesOn state old new
   pub running : new.journal.engine.aborted ≡ false
   pub faults : (state new.device).faults ≡ (state old.device).faults
 
--- or it has, in the last of them, so that the journal is aborted
+-- such steps, the last of which the device failed, so that the journal is aborted
 pub record WentWrong {D : Type 0} (state : D → DeviceState) (old new : JournalValue D) : Type 0 where
   pub on : GoesOn state old new
   pub aborted : new.journal.engine.aborted ≡ true
   pub faults : (state new.device).faults ≡ one_more_fault (state old.device).faults
 
--- all is sealed that a close seals, so that behind a seal the next transaction runs, which no handle has joined; of the front
--- nothing else has changed but how far it is finished, the mark, and whether it knows of a failure; and the device has not failed
+-- everything is sealed that a close seals, and no handle has joined the running transaction; otherwise the front changed in `finished`,
+-- `mark` and `aborted` alone, and the device has not failed
 pub record HasSealed {D : Type 0} (state : D → DeviceState) (old new : JournalValue D) : Type 0 where
   pub front : new.journal.front ≡ told_as (closing_front old.journal.front) new.journal.front
   pub measures : new.journal.engine.shape ≡ old.journal.engine.shape
@@ -100,7 +99,7 @@ pub record HasSealed {D : Type 0} (state : D → DeviceState) (old new : Journal
   pub faults : (state new.device).faults ≡ (state old.device).faults
   pub path : ComesTo old.journal (state old.device).disk new.journal (state new.device).disk Running
 
--- all is done that comes before the close of the log
+-- all work before the close of the log is done
 pub record IsFinished {D : Type 0} (state : D → DeviceState) (old new : JournalValue D) : Type 0 where
   pub was_running : old.journal.engine.aborted ≡ false
   pub sealed : new.journal.front.sealed ≡ closing old.journal.front
@@ -109,7 +108,7 @@ pub record IsFinished {D : Type 0} (state : D → DeviceState) (old new : Journa
   pub committed : old.journal.engine.committed ≤ new.journal.engine.committed
   pub faults : (state new.device).faults ≡ (state old.device).faults
 
--- the running transaction, which a handle has joined, could not be sealed; all that were sealed before are committed
+-- the running transaction, which a handle has joined, was not sealed; all earlier ones are committed
 pub record StaysUnsealed (old : Journal) (sealed : History) (committed : ℕ) : Type 0 where
   pub joined : 0 < length old.front.running.handles
   pub same : sealed ≡ old.front.sealed
@@ -129,13 +128,13 @@ pub data CloseRefused {D : Type 0} (state : D → DeviceState) (old : JournalVal
   NoMemory : old.journal.engine.aborted ≡ false → StaysUnsealed old.journal sealed committed → (state device).faults ≡ (state old.device).faults →
       CloseRefused state old device sealed committed Memory
 
--- the journal whose running transaction takes no further handles
+-- the journal with its running transaction locked
 abbrev pub locked_journal : {D : Type 0} → JournalValue D → JournalValue D
 locked_journal old = record old { journal = record old.journal { front = locking old.journal.front } }
 
--- Why the running transaction, which a handle has joined, is not sealed and committed, and what that leaves of the journal: the device
--- failed in a step before the seal, or behind it; or memory ran out for the seal, before anything was done, or behind steps of
--- commits and of rounds. The code makes all room for the seal first, so that the last does not come.
+-- Why the running transaction, which a handle has joined, is not sealed and committed: the device failed in a step before the seal, or
+-- after it; or memory for the seal ran out, before anything was done, or after other steps. The code reserves room first, so the last
+-- does not come.
 pub data LastRefused {D : Type 0} (state : D → DeviceState) (old new : JournalValue D) : JournalError → Type 0 where
   FailedBefore : WentWrong state old new → LastRefused state old new Device
   FailedBehind : (mid : JournalValue D) → HasSealed state old mid → WentWrong state mid new → LastRefused state old new Device

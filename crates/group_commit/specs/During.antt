@@ -9,8 +9,8 @@ use Rattle.journal_steps.specs.Journal.{OpensNow, OpensOver}
 use Rattle.journal_steps.specs.Values.{JournalValue}
 use Rattle.group_commit.specs.Close.{IsSealedInClose}
 
--- the copy that the first n of these transactions leave of the block: they are those that were sealed before the call, or all that it
--- seals; n is no fewer than were committed before it, and no more than these
+-- the copy of the block that the first n transactions leave, of those sealed before the call or of all that it seals; n lies between
+-- the number committed before the call and this most
 pub record IsCopyOfTurns (j : Journal) (most b : ℕ) (v : List ℕ) : Type 0 where
   pub sealed : History
   pub among : IsSealedInClose j.front sealed
@@ -19,9 +19,9 @@ pub record IsCopyOfTurns (j : Journal) (most b : ℕ) (v : List ℕ) : Type 0 wh
   pub high : n ≤ most
   pub copy : IsCommittedCopy sealed n b v
 
--- A moment of a call of this journal that takes turns: what a stop leaves opens, over the transactions that are sealed by then, to a
--- number from the least to all, and the least is no fewer than were committed before the call; and home has changed by copies alone
--- that the first transactions leave, the least of them at most. So a copy is home only once no stop takes its transaction back.
+-- A moment of such a call on this journal: each crash image opens over the transactions sealed by then, to some number from `least` to
+-- all. `least` is at least the number committed before the call, and home gained only copies that at most the first `least`
+-- transactions leave. So a copy is home only once no crash can take its transaction back.
 pub record IsDuringTurns (j : Journal) (old disk : Disk) : Type 0 where
   pub least : ℕ
   pub low : j.engine.committed ≤ least
@@ -30,17 +30,18 @@ pub record IsDuringTurns (j : Journal) (old disk : Disk) : Type 0 where
   pub among : IsSealedInClose j.front sealed
   pub opens : OpensOver j.engine.shape sealed least (length sealed) disk
 
--- so is each moment from one journal to another; and at the last one as many are committed as this says
+-- this holds at each moment from one journal to the other, and in between home gained only copies of transactions that are committed at
+-- the end
 pub record HoldsDuringTurns {D : Type 0} (state : D → DeviceState) (old new : JournalValue D) : Type 0 where
   pub each : EachMoment (IsDuringTurns old.journal (state old.device).disk) (state old.device) (state new.device)
   pub count : old.journal.engine.committed ≤ new.journal.engine.committed
   pub home : HomeAddsOnly (IsCopyOfTurns old.journal new.journal.engine.committed) (state old.device).disk (state new.device).disk
 
--- a moment of rounds: home has changed by newest committed copies alone, and what a stop leaves opens
+-- a moment of checkpoint rounds: home gained newest committed copies alone, and each crash image opens
 pub record IsDuringRounds (j : Journal) (old disk : Disk) : Type 0 where
   pub home : HomeAddsOnly (IsCommittedCopy j.front.sealed j.engine.committed) old disk
   pub opens : OpensNow j disk
 
--- so is each from one journal to another
+-- this holds at each moment from one journal to the other
 pub record HoldsDuringRounds {D : Type 0} (state : D → DeviceState) (old new : JournalValue D) : Type 0 where
   pub each : EachMoment (IsDuringRounds old.journal (state old.device).disk) (state old.device) (state new.device)

@@ -1,5 +1,5 @@
--- Handles that need more: further credits for an open one, and a further one in place of it; what the calls do, and why they are
--- refused. Source: journalling.rst (journal_extend, journal_restart).
+-- Extension, start and restart of handles: what these calls do, and why they are refused.
+-- Source: journalling.rst (journal_extend, journal_restart).
 use Rattle.std.specs.Prelude.{◌≡◌, ℕ, ◌≤◌}
 use Rattle.journal_model.specs.declared.refusal.JournalError.{JournalError}
 use Rattle.block_device.specs.State.{DeviceState}
@@ -18,7 +18,7 @@ pub record Extends {D : Type 0} (state : D → DeviceState) (h n : ℕ) (old new
   pub extends : Does state granted (FrontStep (ExtendHandle h n)) new
   pub device : granted.device ≡ old.device
 
--- why they are not: they can't be granted; or they can be and were, the handle can't have them, and they were given back
+-- why the extension is refused: the credits are not granted; or they were granted, the handle can't have them, and they were given back
 pub data ExtensionRefused (f : Front) (h : HandleValue) (n : ℕ) (e : JournalError) : Type 0 where
   NotGranted : ReserveRefused f n e → ExtensionRefused f h n e
   NotExtended : n ≤ credits_left f → ExtendRefused (reserving f n) h n e → ExtensionRefused f h n e
@@ -30,24 +30,24 @@ pub record Starts {D : Type 0} (state : D → DeviceState) (n : ℕ) (old new : 
   pub joins : Does state granted (FrontStep (Join n)) new
   pub device : granted.device ≡ old.device
 
--- why none does: they can't be granted; or they can be and were, no handle may join with them, and they were given back
+-- why the start is refused: the credits are not granted; or they were granted, no handle may join with them, and they were given back
 pub data StartRefused (f : Front) (n : ℕ) (e : JournalError) : Type 0 where
   Ungranted : ReserveRefused f n e → StartRefused f n e
   NotJoined : n ≤ credits_left f → JoinRefused (reserving f n) n e → StartRefused f n e
 
--- a handle is stopped where it is an open one, and else nothing changes
+-- a handle is stopped if it is open; else nothing changes
 pub record EndsHandle {D : Type 0} (state : D → DeviceState) (h : HandleValue) (old new : JournalValue D) : Type 0 where
   pub stops : IsOpenHandle old.journal.front h → Does state old (FrontStep (StopHandle h.number)) new
   pub other : (IsOpenHandle old.journal.front h → ⊥) → new ≡ old
   pub device : new.device ≡ old.device
 
--- and then a further handle joins
+-- a handle is stopped, and a new one starts
 pub record Restarts {D : Type 0} (state : D → DeviceState) (h : HandleValue) (n : ℕ) (old new : JournalValue D) : Type 0 where
   pub stopped : JournalValue D
   pub ends : EndsHandle state h old stopped
   pub starts : Starts state n stopped new
 
--- or none does, and the handle is stopped all the same
+-- the handle is stopped, but the start of a new one is refused
 pub record RestartRefused {D : Type 0} (state : D → DeviceState) (h : HandleValue) (n : ℕ) (old new : JournalValue D) (e : JournalError) : Type 0 where
   pub ends : EndsHandle state h old new
   pub why : StartRefused new.journal.front n e

@@ -1,4 +1,4 @@
--- Which rounds a commit makes.
+-- Which checkpoint rounds a commit makes.
 use Rattle.std.specs.Prelude.{◌≡◌}
 use Rattle.block_device.specs.State.{DeviceState}
 use Rattle.journal_world.specs.declared.stage.Stage.TheVariants.{Idle}
@@ -7,14 +7,14 @@ use Rattle.journal_steps.specs.Journal.{HasRoomFor}
 use Rattle.journal_steps.specs.Values.{JournalValue}
 use Rattle.group_commit.specs.Close.{Went}
 
--- no step of a round was made: as much is released as before, and a round that was under way is where it was
+-- no checkpoint step was made: no more is released, and the round under way is where it was
 pub record MakesNoRound (old new : Engine) : Type 0 where
   pub released : new.released ≡ old.released
   pub tail : new.tail ≡ old.tail
   pub round : new.round ≡ old.round
 
--- rounds were made for want of room alone: the commit that was under way came to its end without one, and where the ring had room for the
--- running transaction then, none was made behind that either
+-- rounds were made only for lack of room: none until the commit under way ended, and none later if the ring then had room for the
+-- running transaction
 pub record MakesRoomAlone {D : Type 0} (state : D → DeviceState) (old new : JournalValue D) : Type 0 where
   pub mid : JournalValue D
   pub went : Went state old mid

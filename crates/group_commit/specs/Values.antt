@@ -1,4 +1,4 @@
--- What contracts see of tickets and receipts.
+-- Tickets and receipts as contracts see them.
 use Rattle.std.specs.Prelude.{ℕ, ◌<◌, ◌≤◌}
 use Rattle.journal_world.specs.Front.{Front}
 use Rattle.journal_model.specs.declared.status.Status.{Status}

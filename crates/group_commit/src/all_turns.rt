@@ -1,4 +1,4 @@
-//! Calls that take turns until none is left to take: those of commits, and those of checkpoint rounds.
+//! Calls that take every turn there is: commit one transaction, commit all, release all.
 ghost use Rattle.std.specs.Prelude.{◌≡◌, ◌≤◌, false, IfErr, IfOk, OnOk};
 ghost use Rattle.journal_world.specs.declared.stage.Stage.TheVariants.{Idle};
 ghost use Rattle.log_epochs.specs.EngineWorld.Phase.{Running};
@@ -16,14 +16,12 @@ use journal_front::Record;
 use journal_model::{JournalError, Tid};
 
 impl<D: Device, R: Record> Journal<D, R> {
-    /// Commits the transaction of a ticket: asks for that, and takes all turns that there are, as `commit_all`; nothing else changes. The
-    /// ticket becomes its receipt.
+    /// Requests the commit of the ticket's transaction and takes all turns; the ticket becomes its receipt.
     ///
     /// # Errors
     ///
-    /// The ticket comes back. Those of `commit_all`, with what each leaves; and `NotRunning` where all turns were taken and the
-    /// transaction is not committed, since another handle of it has not stopped: it takes no further ones, and is committed by this
-    /// call once they have. (So is a ticket of another journal answered.)
+    /// The ticket comes back. Those of `commit_all`; `NotRunning` if another handle of the transaction is still open: call again once
+    /// it has stopped. A ticket of another journal may get this answer too.
     /// Source: fs/jbd2/journal.c by behaviour (`jbd2_complete_transaction`).
     pub fn commit(&mut self, ticket: Ticket) -> Result<Receipt, (Ticket, JournalError)>
         ensures ok { IfOk result (λ receipt. (receipt ≡ ticket) × (ticket.tid ≤ self.new.journal.front.mark)) }
@@ -41,7 +39,7 @@ impl<D: Device, R: Record> Journal<D, R> {
         }
     }
 
-    /// Asks for the commit of the transaction with this number, and takes all turns that there are.
+    /// Requests the commit of this transaction, then takes all turns.
     fn commit_through(&mut self, tid: Tid) -> Result<(), JournalError>
         ensures ok { OnOk result (tid ≤ self.new.journal.front.mark) }
         ensures turns { OnOk result (CommitsThrough D.state tid self.old self.new) }
@@ -61,18 +59,14 @@ impl<D: Device, R: Record> Journal<D, R> {
         Ok(())
     }
 
-    /// Commits all that can be: takes the steps that are left of the commit that is under way; then, where the running transaction takes
-    /// no further handles and all of its handles have stopped, seals it, behind checkpoint rounds where the ring has no room for it, and
-    /// commits it. It answers the number of the last transaction that is told to be committed. It calls the device for these steps alone,
-    /// and at each moment of it a stop opens as between them.
+    /// Commits everything that can be committed, and answers the commit mark. It finishes the commit under way, then seals and commits
+    /// the running transaction if that is locked without open handles, after checkpoint rounds if the ring lacks room. It makes the
+    /// device calls of these steps alone, and at each moment the crash image opens as between them.
     ///
     /// # Errors
     ///
-    /// What was sealed and committed by then stays so. `Aborted` after a device failure: nothing was done. `Device` where the device
-    /// failed: the journal is aborted, until the device is opened again. `Memory` where it ran out for the seal: the transaction stays
-    /// as it is, with its handles and steps, and none begins. All memory that the call takes it asks for before its first call of the
-    /// device, so that nothing was done. (The contract leaves room for a refusal behind the commit that was under way, where all before
-    /// the transaction are committed.)
+    /// `Aborted`, `Device`, `Memory`. What was sealed and committed stays so. `Memory` is for the seal, and comes before the first
+    /// device call, so nothing is done. (The contract also allows it after the commit under way, with the transaction as it was.)
     /// Source: fs/jbd2/journal.c by behaviour (`jbd2_journal_flush` up to its checkpoint).
     pub fn commit_all(&mut self) -> Result<Tid, JournalError>
         ensures mark { IfOk result (λ tid. tid ≡ self.new.journal.front.mark) }
@@ -93,14 +87,12 @@ impl<D: Device, R: Record> Journal<D, R> {
         Ok(self.mark())
     }
 
-    /// Takes checkpoint turns until all that is committed is home, and its blocks of the ring are free. It takes no step of a commit: one
-    /// that is under way is where it was, and the handles and credits are as they were. It calls the device for the steps of its rounds
-    /// alone, and at each moment of it a stop opens as between them.
+    /// Takes checkpoint turns until everything committed is home and the whole ring is free. It takes no commit step, and leaves
+    /// handles and credits. It makes the device calls of its rounds alone, and at each moment the crash image opens as between them.
     ///
     /// # Errors
     ///
-    /// `Aborted` after a device failure: nothing was done. `Device` where the device failed: the journal is aborted, until the device
-    /// is opened again; what was written home by then is.
+    /// `Aborted`, `Device`. What was written home stays.
     /// Source: fs/jbd2/checkpoint.c by behaviour (`jbd2_log_do_checkpoint`).
     pub fn release_all(&mut self) -> Result<(), JournalError>
         ensures ok { OnOk result (Went D.state self.old self.new) }
@@ -122,8 +114,7 @@ impl<D: Device, R: Record> Journal<D, R> {
     }
 }
 
-/// Takes the steps that are left of the commit that is under way; then seals the running transaction where it is ready for that, and
-/// commits it.
+/// Finishes the commit under way, then seals and commits the running transaction if it is ready.
 fn commit_ready<D: Device, R: Record>(journal: &mut Journal<D, R>) -> Result<(), JournalError>
     requires { journal.old.journal.engine.aborted ≡ false }
     ensures ok { OnOk result (CommitsAll D.state journal.old journal.new) }

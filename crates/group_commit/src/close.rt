@@ -1,5 +1,4 @@
-//! What a journal does before its log is closed: the running transaction is sealed where a handle has joined it, and
-//! everything is committed and released.
+//! What a close does before it closes the log: it seals the running transaction, commits everything and releases it.
 ghost use Rattle.std.specs.Prelude.{◌≡◌, ◌<◌, ◌≤◌, false, length, [], IfErr, OnOk};
 ghost use Rattle.journal_model.specs.declared.refusal.JournalError.TheVariants.{Device as DeviceFailed};
 ghost use Rattle.journal_world.specs.declared.stage.Stage.TheVariants.{Idle};
@@ -16,8 +15,7 @@ use journal_front::Record;
 use journal_model::JournalError;
 use journal_steps::CheckTurn;
 
-/// Seals the running transaction where a handle has joined it, and commits and releases everything. Where it is refused,
-/// what was sealed and committed so far stays so.
+/// Seals the running transaction if a handle has joined it, then commits and releases everything.
 pub(crate) fn finish<D: Device, R: Record>(journal: &mut Journal<D, R>) -> Result<(), JournalError>
     requires { journal.old.journal.front.open_handles ≡ [] }
     ensures ok { OnOk result (IsFinished D.state journal.old journal.new) }
@@ -41,8 +39,8 @@ pub(crate) fn finish<D: Device, R: Record>(journal: &mut Journal<D, R>) -> Resul
     release_all(journal)
 }
 
-/// Seals the running transaction, which a handle has joined, and commits it, behind the commit that is under way. All memory that
-/// this takes is asked for first: where it runs out, nothing is done.
+/// Seals and commits the running transaction, after the commit under way. It requests all memory first: if that runs out, nothing is
+/// done.
 pub(crate) fn seal_last<D: Device, R: Record>(
     journal: &mut Journal<D, R>,
 ) -> Result<(), JournalError>
@@ -67,7 +65,7 @@ pub(crate) fn seal_last<D: Device, R: Record>(
     finish_commit(journal)
 }
 
-/// Takes the steps that are left of the commit that is under way.
+/// Takes the remaining steps of the commit under way.
 pub(crate) fn finish_commit<D: Device, R: Record>(
     journal: &mut Journal<D, R>,
 ) -> Result<(), JournalError>
@@ -88,8 +86,7 @@ pub(crate) fn finish_commit<D: Device, R: Record>(
     Ok(())
 }
 
-/// Finishes the commit that is under way, and releases what is committed where the ring has too few free blocks for the running
-/// transaction.
+/// Finishes the commit under way, then releases everything if the ring has too few free blocks for the running transaction.
 fn make_room<D: Device, R: Record>(journal: &mut Journal<D, R>) -> Result<(), JournalError>
     requires { journal.old.journal.engine.aborted ≡ false }
     ensures ok { OnOk result (Went D.state journal.old journal.new) }
@@ -109,7 +106,7 @@ fn make_room<D: Device, R: Record>(journal: &mut Journal<D, R>) -> Result<(), Jo
     release_all(journal)
 }
 
-/// Takes the steps of checkpoint rounds until all that is committed is released.
+/// Takes checkpoint steps until everything committed is released.
 pub(crate) fn release_all<D: Device, R: Record>(
     journal: &mut Journal<D, R>,
 ) -> Result<(), JournalError>

@@ -1,7 +1,5 @@
-//! Direct writes: bytes that go straight to home, past the log, to a block that the transactions leave to it; and the flush
-//! of home that makes them durable.
-//! Source: this project's own, by what journal.rst says of revokes (a block that is no longer journalled may be written in
-//! place).
+//! Direct writes: bytes go straight home, past the log, to a block that no transaction holds; a flush of home makes them durable.
+//! Source: this project's own, by what journal.rst says of revokes (a block that is no longer journalled may be written in place).
 ghost use Rattle.std.specs.Prelude.{◌≡◌, length, IfErr, OnOk};
 ghost use Rattle.journal_world.specs.Journal.Event.{DirectSync, DirectWrite};
 ghost use Rattle.block_device.specs.Call.{MakesOneCall};
@@ -15,18 +13,14 @@ use journal_model::{BlockNo, JournalError};
 use journal_steps::steps;
 
 impl<D: Device, R: Record> Journal<D, R> {
-    /// Writes a block of the home area directly, of one block of bytes, past the log: its last entry in the transactions that
-    /// were committed since the opening, released ones too, is a revoke, or it has none, and no transaction that is not
-    /// committed has an entry of it. What was written is durable behind a `sync_direct` that answers Ok. It takes no memory,
-    /// makes one device call, and takes no longer where there were more transactions.
+    /// Writes one block directly home, past the log. No uncommitted transaction may have an entry of the block, and its last entry in
+    /// the others since the opening, released ones too, must be a revoke or none. It is durable after a `sync_direct` that answers Ok.
+    /// It makes one device call, takes no memory, and is no slower after more transactions.
     ///
     /// # Errors
     ///
-    /// `Aborted` after a device failure; `BadBlock` where home has no such block, or its number is not below 2^32 (in a log with
-    /// numbers of 64 bits 2^48); `NotDirect` where the transactions have a copy of the block, or one that is not committed has
-    /// an entry of it: nothing changes.
-    /// `Device` where the device failed: the journal is aborted, and home reads the block as before or as these bytes, and a
-    /// stop may leave either.
+    /// `Aborted`; `BadBlock` as in `write`; `NotDirect` if an entry forbids it: nothing changes. `Device`: home reads, and a crash
+    /// leaves, the old bytes or these.
     /// Source: this project's own, by what journal.rst says of revokes.
     pub fn write_direct(&mut self, block: BlockNo, bytes: &[u8]) -> Result<(), JournalError>
         requires { length bytes.now ≡ (D.state self.old.device).shape.block_size }
@@ -39,12 +33,11 @@ impl<D: Device, R: Record> Journal<D, R> {
         steps::write_direct(&mut self.front, &mut self.engine, block, bytes)
     }
 
-    /// Flushes the home area, so that every direct write that answered Ok before is durable.
+    /// Flushes the home area: every earlier direct write that answered Ok is durable.
     ///
     /// # Errors
     ///
-    /// `Aborted` after a device failure: nothing changes. `Device` where the device failed: the journal is aborted, and nothing
-    /// more is durable.
+    /// `Aborted`. `Device`: nothing more is durable.
     /// Source: this project's own; a flush request (the kernel's writeback_cache_control.rst).
     pub fn sync_direct(&mut self) -> Result<(), JournalError>
         ensures ok { OnOk result (Does D.state self.old DirectSync self.new) }

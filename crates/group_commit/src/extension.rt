@@ -1,4 +1,4 @@
-//! Handles that need more: further credits for an open one, and a further one in place of it.
+//! Extensions, starts and restarts: calls that grant credits and give them to a handle.
 ghost use Rattle.std.specs.Prelude.{◌≡◌, ◌+◌, ◌≤◌, IfErr, IfOk, OnOk};
 ghost use Rattle.journal_world.specs.Front.{next_handle};
 ghost use Rattle.journal_world.specs.Front.FrontEvent.{ExtendHandle, GiveBack, Join};
@@ -14,13 +14,12 @@ use journal_front::{Credits, Handle, Record};
 use journal_model::JournalError;
 
 impl<D: Device, R: Record> Journal<D, R> {
-    /// Grants `n` further credits, and gives them to an open handle.
+    /// Grants `n` further credits to an open handle.
     ///
     /// # Errors
     ///
-    /// Nothing changes: where the credits were granted, they are given back. The first that applies of `TooMany` and `Full`,
-    /// as for `reserve`, `Aborted` after a device failure, `NotRunning` where the handle's transaction takes no further handles,
-    /// and `NoCredit` where the handle is none of this journal's open ones.
+    /// Nothing changes. The first of: those of `reserve`, `Aborted`, `NotRunning` (the transaction is locked), `NoCredit` (the handle
+    /// is not open here).
     /// Source: journalling.rst (`journal_extend`).
     pub fn extend(&mut self, handle: &mut Handle, n: u64) -> Result<(), JournalError>
         ensures ok { OnOk result (Extends D.state handle.old.number n self.old self.new) }
@@ -35,7 +34,7 @@ impl<D: Device, R: Record> Journal<D, R> {
         }
     }
 
-    /// Gives credits to an open handle; where that is refused, it takes them back.
+    /// Gives credits to an open handle, or takes them back.
     fn give(&mut self, handle: &mut Handle, credits: Credits) -> Result<(), JournalError>
         ensures ok { OnOk result (Does D.state self.old (FrontStep (ExtendHandle handle.old.number credits)) self.new) }
         ensures open { OnOk result (IsOpenHandle self.new.journal.front handle.new) }
@@ -53,12 +52,11 @@ impl<D: Device, R: Record> Journal<D, R> {
         }
     }
 
-    /// Grants `n` credits, and makes a handle of the running transaction with them.
+    /// Grants `n` credits and makes a handle of the running transaction with them.
     ///
     /// # Errors
     ///
-    /// Nothing changes: where the credits were granted, they are given back. `TooMany` and `Full`, as for `reserve`; else those
-    /// of `try_join`.
+    /// Nothing changes. Those of `reserve`, then those of `try_join`.
     /// Source: journalling.rst (`journal_start`).
     pub fn try_start(&mut self, n: u64) -> Result<Handle, JournalError>
         ensures ok { IfOk result (λ handle. Starts D.state n self.old self.new
@@ -73,7 +71,7 @@ impl<D: Device, R: Record> Journal<D, R> {
         }
     }
 
-    /// Makes a handle of the running transaction with these credits; where that is refused, it takes them back.
+    /// Makes a handle with these credits, or takes them back.
     fn join_or_return(&mut self, credits: Credits) -> Result<Handle, JournalError>
         ensures ok { IfOk result (λ handle. Does D.state self.old (FrontStep (Join credits)) self.new
             × (handle ≡ record { number = next_handle self.old.journal.front; tid = self.old.journal.front.running.tid; left = credits })) }
@@ -91,12 +89,11 @@ impl<D: Device, R: Record> Journal<D, R> {
         }
     }
 
-    /// Stops a handle, and makes a further one with `n` credits in its place, in the transaction that runs then. The new one
-    /// has a number of its own.
+    /// Stops a handle and makes a new one with `n` credits and a new number, in the transaction that then runs.
     ///
     /// # Errors
     ///
-    /// The handle is stopped all the same, and its ticket comes back; nothing else changes. Those of `try_start`.
+    /// Those of `try_start`. The handle is stopped all the same, and its ticket comes back.
     /// Source: journalling.rst (`journal_restart`).
     pub fn restart(&mut self, handle: Handle, n: u64) -> Result<Handle, (Ticket, JournalError)>
         ensures ok { IfOk result (λ other. Restarts D.state handle n self.old self.new

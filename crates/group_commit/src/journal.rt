@@ -1,4 +1,4 @@
-//! The journal that callers hold: a front and an engine.
+//! The journal of one thread: a front and an engine, and the calls on them.
 ghost use Rattle.std.specs.Prelude.{◌≡◌, ◌+◌, ◌<◌, ◌≤◌, ◌≢◌, ◌↔◌, true, false, length, [], IfOk, IfErr, MatchResult, OnOk, IsTrue, Some, None};
 ghost use Rattle.journal_model.specs.declared.refusal.JournalError.TheVariants.{Aborted, Device as DeviceFailed, Memory};
 ghost use Rattle.journal_model.specs.Disk.{Image, Leaves};
@@ -41,18 +41,21 @@ use std::alloc::Global;
 use std::marker::Model;
 
 /// A journal on an opened log.
+///
+/// In the errors of its calls, `Aborted` means that the device failed in an earlier call, and nothing changes. `Device` means that it
+/// failed in this one: the journal is then aborted, until the device is opened again.
 #[derive(Drop)]
 pub struct Journal<D: Device, R: Record = Unrecorded> {
     pub(crate) front: Front<R>,
     pub(crate) engine: Engine<D>,
 }
 
-/// What is left of a journal at its end.
+/// The parts of a journal that has ended.
 #[derive(Drop)]
 pub struct Parts<D, R = Unrecorded> {
     /// The device.
     pub device: D,
-    /// The transactions sealed since the opening, with their handles and steps, as the journal kept them.
+    /// The transactions sealed since the opening, as the journal recorded them.
     pub sealed: R,
     /// How many of them are committed.
     pub committed: u64,
@@ -72,7 +75,7 @@ impl<D: Device, R: Record> Model for Journal<D, R> {
 }
 
 impl<D: Device, R: Record> Journal<D, R> {
-    /// A journal on an opened log.
+    /// Makes a journal on an opened log.
     ///
     /// # Errors
     ///
@@ -101,7 +104,7 @@ impl<D: Device, R: Record> Journal<D, R> {
         Ok(Journal { front, engine })
     }
 
-    /// A journal of a front and an engine that agree.
+    /// The journal of a front and an engine that agree.
     pub fn of(front: Front<R>, engine: Engine<D>) -> Self
         requires agrees { Agrees (together front engine).journal }
         requires legal { KeepsLegal D.honest (together front engine) }
@@ -110,36 +113,35 @@ impl<D: Device, R: Record> Journal<D, R> {
         Journal { front, engine }
     }
 
-    /// Its front, to be looked at.
+    /// Its front, for inspection.
     pub fn front(&self) -> &Front<R>
         ensures { result.now ≡ self.now.journal.front }
     {
         &self.front
     }
 
-    /// How many bytes a block has.
+    /// Bytes per block.
     pub fn block_size(&self) -> usize
         ensures { result ≡ (D.state self.now.device).shape.block_size }
     {
         self.engine.block_size()
     }
 
-    /// The most credits that are held at once, and the most that one transaction can have.
+    /// The most credits that can be held at once; one transaction can have as many.
     pub fn capacity(&self) -> u64
         ensures { result ≡ self.now.journal.front.capacity }
     {
         self.front.capacity()
     }
 
-    /// How many credits are held: those that no handle was made of, those that open handles have left, and one for each block
-    /// that the running transaction has touched.
+    /// The credits held: in no handle yet, unused in open handles, and one for each block that the running transaction has touched.
     pub fn held(&self) -> u64
         ensures { result ≡ held self.now.journal.front }
     {
         self.front.held()
     }
 
-    /// How many entries the running transaction has: of how many blocks it has a copy or a revoke.
+    /// The entries of the running transaction: one copy or revoke for each block touched.
     pub fn entries(&self) -> usize
         ensures { result ≡ length (entries self.now.journal.front.running.steps) }
     {
@@ -150,8 +152,7 @@ impl<D: Device, R: Record> Journal<D, R> {
     ///
     /// # Errors
     ///
-    /// Nothing changes. `TooMany` where one transaction can never have so many, `Full` where the credits that are held
-    /// leave fewer.
+    /// Nothing changes. `TooMany` (more than one transaction can have) or `Full` (more than the credits held leave).
     /// Source: journalling.rst (`journal_start`).
     pub fn reserve(&mut self, n: u64) -> Result<Credits, JournalError>
         ensures ok { IfOk result (λ credits. (credits ≡ n) × Does D.state self.old (FrontStep (Reserve n)) self.new) }
@@ -161,7 +162,7 @@ impl<D: Device, R: Record> Journal<D, R> {
         self.front.reserve(n)
     }
 
-    /// Takes back credits that no handle was made of. More than are held so were granted by another journal: nothing changes.
+    /// Takes back credits that are in no handle. If this journal has granted fewer, they are another's, and nothing changes.
     pub fn give_back(&mut self, credits: Credits)
         ensures gives { credits ≤ self.old.journal.front.reserved → Does D.state self.old (FrontStep (GiveBack credits)) self.new }
         ensures other { self.old.journal.front.reserved < credits → self.new ≡ self.old }
@@ -170,14 +171,13 @@ impl<D: Device, R: Record> Journal<D, R> {
         self.front.take_back(credits);
     }
 
-    /// Makes a handle of the running transaction, with these credits.
+    /// Makes a handle of the running transaction with these credits.
     ///
     /// # Errors
     ///
-    /// The credits come back, and nothing else changes. The first that applies of `Aborted` after a device failure,
-    /// `NotRunning` where the transaction takes no further handles, `SequenceEnd` where no number is left for it or for the
-    /// handle, `NoCredit` where these are more credits than this journal has granted that no handle was made of, as those of
-    /// another journal may be, and `Memory`.
+    /// The credits come back, and nothing else changes. The first of: `Aborted`, `NotRunning` (the transaction is locked),
+    /// `SequenceEnd` (no number is left for transaction or handle), `NoCredit` (more than this journal granted and no handle holds),
+    /// `Memory`.
     /// Source: journalling.rst (`journal_start`).
     pub fn try_join(&mut self, credits: Credits) -> Result<Handle, (Credits, JournalError)>
         ensures ok { IfOk result (λ handle. Does D.state self.old (FrontStep (Join credits)) self.new
@@ -189,14 +189,12 @@ impl<D: Device, R: Record> Journal<D, R> {
         self.front.join_with(credits)
     }
 
-    /// Writes a block of the home area, of one block of bytes, as a part of the handle's transaction. The first touch of a
-    /// block in the transaction takes one of the handle's credits.
+    /// Writes one block of the home area in the handle's transaction. The transaction's first touch of a block takes one credit.
     ///
     /// # Errors
     ///
-    /// Nothing changes. The first that applies of `Aborted` after a device failure, `BadBlock` where home has no such block,
-    /// or its number is not below 2^32 (in a log with numbers of 64 bits 2^48), `NoCredit` where the handle is none of this
-    /// journal's open ones, or at a first touch without a credit left, and `Memory`.
+    /// Nothing changes. The first of: `Aborted`; `BadBlock` (home has no such block, or its number is not below 2^32, in a log with
+    /// 64-bit numbers 2^48); `NoCredit` (the handle is not open here, or has none for a first touch); `Memory`.
     /// Source: journalling.rst (`journal_get_write_access`, `journal_dirty_metadata`).
     pub fn write(
         &mut self,
@@ -215,13 +213,12 @@ impl<D: Device, R: Record> Journal<D, R> {
         self.front.write(handle, block, bytes)
     }
 
-    /// Revokes a block of the home area as a part of the handle's transaction: no older copy of the block is to come home
-    /// behind its commit, neither by a checkpoint nor by an opening. The first touch of a block in the transaction takes one of
-    /// the handle's credits; a revoke of a block that is revoked changes nothing more.
+    /// Revokes a block in the handle's transaction: once that commits, no checkpoint or opening brings an older copy home. The
+    /// transaction's first touch of a block takes one credit; revoking a revoked block changes nothing more.
     ///
     /// # Errors
     ///
-    /// Nothing changes. Those of `write`, in the same order.
+    /// Those of `write`, in that order; nothing changes.
     /// Source: journalling.rst (`journal_revoke`), fs/jbd2/revoke.c by behaviour.
     pub fn revoke(&mut self, handle: &mut Handle, block: BlockNo) -> Result<(), JournalError>
         ensures ok { OnOk result (Does D.state self.old (FrontStep (RevokeBlock handle.old.number block)) self.new) }
@@ -233,18 +230,15 @@ impl<D: Device, R: Record> Journal<D, R> {
         self.front.revoke(handle, block)
     }
 
-    /// Reads a block of the home area into a buffer of one block: the running transaction's copy, else that of the one that
-    /// is being committed, else the newest committed copy, else what home reads. What the handle sees is a step of its
-    /// transaction, and takes no credit. Isolation between handles is left to the caller. A block with a copy that is not home
-    /// for good is read without a device call, any other with one.
+    /// Reads one block of the home area: the running transaction's copy, else the copy being committed, else the newest committed copy,
+    /// else what home reads. The read becomes a step of the handle's transaction and takes no credit. The caller isolates handles from
+    /// each other. Only a block without a copy, or whose copy is home for good, needs a device call.
     ///
     /// # Errors
     ///
-    /// The first that applies; the buffer stays as it is. `Aborted` after a device failure; `BadBlock` where home has no such
-    /// block, or its number is not below 2^32 (in a log with numbers of 64 bits 2^48); `NoCredit` where the handle is none of
-    /// this journal's open ones; `Revoked` where the block's last entry in the transactions that are not committed is a revoke:
-    /// nothing changes. `Memory` where it ran out for the step: the journal stays as it is. `Device` where the device failed:
-    /// the journal is aborted.
+    /// The buffer stays, and so does the journal, except after `Device`. The first of: `Aborted`, `BadBlock` (as in `write`),
+    /// `NoCredit` (the handle is not open here), `Revoked` (the block's last uncommitted entry is a revoke), `Memory` (for the step),
+    /// `Device`.
     /// Source: journalling.rst (handles see the running transaction).
     pub fn read(
         &mut self,
@@ -254,7 +248,7 @@ impl<D: Device, R: Record> Journal<D, R> {
     ) -> Result<(), JournalError>
         requires { length into.old ≡ (D.state self.old.device).shape.block_size }
         ensures ok { OnOk result (D.honest self.new.device → Does D.state self.old (ReadBlock handle.old.number block into.new) self.new) }
-        // Also where reads were not honest. Where a copy is kept there is no device call.
+        // Reads need not be correct for this.
         ensures noted { OnOk result (NotesRead D.state self.old handle.old block into.new self.new) }
         ensures legal { KeepsLegal D.honest self.new }
         ensures err { IfErr result (ReadRefused D.state self.old handle.old block self.new) }
@@ -269,17 +263,12 @@ impl<D: Device, R: Record> Journal<D, R> {
         steps::read(&mut self.front, &mut self.engine, handle, block, into)
     }
 
-    /// Reads a block of the home area into a buffer of one block, without a handle: the bytes that a handle's read would see, which are
-    /// the running transaction's copy, else that of the one that is being committed, else the newest committed copy, else what home
-    /// reads. Nothing is noted: who only reads makes no transaction. It takes no memory. A block with a copy that is not home for good
-    /// is read without a device call, any other with one.
+    /// Reads the bytes that `read` would give, by the same device calls, without a handle. It records no step, makes no transaction and
+    /// takes no memory.
     ///
     /// # Errors
     ///
-    /// The first that applies. `Aborted` after a device failure; `BadBlock` where home has no such block, or its number is not below
-    /// 2^32 (in a log with numbers of 64 bits 2^48); `Revoked` where the block's last entry in the transactions that are not committed
-    /// is a revoke: nothing changes, nor does the buffer. `Device` where the device failed: the journal is aborted, and the buffer's
-    /// bytes are unspecified.
+    /// `Aborted`, `BadBlock`, `Revoked` as in `read`: nothing changes. `Device`: the buffer's bytes are unspecified.
     /// Source: this project's own (a file system reads its cache of buffers, and asks no journal).
     pub fn read_newest(&mut self, block: BlockNo, into: &mut [u8]) -> Result<(), JournalError>
         requires { length into.old ≡ (D.state self.old.device).shape.block_size }
@@ -295,8 +284,8 @@ impl<D: Device, R: Record> Journal<D, R> {
         steps::read_newest(&mut self.front, &mut self.engine, block, into)
     }
 
-    /// Ends a handle. Its credits that are left come back. It always succeeds, after a device failure too. Where the handle is
-    /// none of this journal's open ones nothing changes.
+    /// Ends a handle and takes back its unused credits. It always succeeds, even after a device failure; a handle not open here changes
+    /// nothing.
     /// Source: journalling.rst (`journal_stop`).
     pub fn stop(&mut self, handle: Handle) -> Ticket
         ensures stops { IsOpenHandle self.old.journal.front handle → Does D.state self.old (FrontStep (StopHandle handle.number)) self.new }
@@ -311,11 +300,11 @@ impl<D: Device, R: Record> Journal<D, R> {
         ticket
     }
 
-    /// Asks for the commit of the ticket's transaction: where it is still running, it takes no further handles.
+    /// Requests the commit of the ticket's transaction: if it is running, it takes no further handles.
     ///
     /// # Errors
     ///
-    /// `Aborted` after a device failure.
+    /// `Aborted`.
     /// Source: fs/jbd2/journal.c by behaviour (`jbd2_log_start_commit`).
     pub fn request(&mut self, ticket: &Ticket) -> Result<(), JournalError>
         ensures ok { OnOk result (Requests D.state ticket.now.tid self.old self.new) }
@@ -325,11 +314,11 @@ impl<D: Device, R: Record> Journal<D, R> {
         self.request_commit(ticket.tid())
     }
 
-    /// The same, of the transaction with this number.
+    /// As `request`, for the transaction with this number.
     ///
     /// # Errors
     ///
-    /// `Aborted` after a device failure.
+    /// `Aborted`.
     pub fn request_commit(&mut self, tid: Tid) -> Result<(), JournalError>
         ensures ok { OnOk result (Requests D.state tid self.old self.new) }
         ensures err { IfErr result (λ e. (e ≡ Aborted) × (self.old.journal.front.aborted ≡ true) × (self.new ≡ self.old)) }
@@ -344,12 +333,12 @@ impl<D: Device, R: Record> Journal<D, R> {
         Ok(())
     }
 
-    /// Locks the running transaction, so that it can be sealed once its open handles have stopped: where a handle has joined it, it
-    /// takes no further ones. It answers the transaction's number, also where nobody has joined it and nothing changes.
+    /// Locks the running transaction if a handle has joined it, so that it can be sealed once its handles have stopped. It answers the
+    /// transaction's number, even if no handle has joined.
     ///
     /// # Errors
     ///
-    /// `Aborted` after a device failure: nothing changes.
+    /// `Aborted`.
     /// Source: fs/jbd2/commit.c by behaviour (a transaction that is `T_LOCKED`).
     pub fn lock(&mut self) -> Result<Tid, JournalError>
         ensures current { IfOk result (λ tid. tid ≡ self.old.journal.front.running.tid) }
@@ -362,7 +351,7 @@ impl<D: Device, R: Record> Journal<D, R> {
         Ok(tid)
     }
 
-    /// Whether the ticket's transaction is committed, as far as the mark tells.
+    /// Whether the commit mark has reached the ticket's transaction.
     pub fn status(&self, ticket: &Ticket) -> Status
         ensures { StatusIs result ticket.now.tid self.now.journal.front }
     {
@@ -373,12 +362,11 @@ impl<D: Device, R: Record> Journal<D, R> {
         }
     }
 
-    /// The receipt for a ticket whose transaction is committed. The journal is one plain value, so that nobody else could
-    /// commit it meanwhile: ask `status` first, and take commit turns.
+    /// The receipt of a ticket whose transaction is committed. Take commit turns first, until `status` says so.
     ///
     /// # Errors
     ///
-    /// `Aborted` after a device failure: the ticket comes back.
+    /// `Aborted`: the ticket comes back.
     /// Source: fs/jbd2/journal.c by behaviour (`jbd2_log_wait_commit`).
     pub fn wait(&mut self, ticket: Ticket) -> Result<Receipt, (Ticket, JournalError)>
         requires { ticket.tid ≤ self.old.journal.front.mark }
@@ -392,21 +380,18 @@ impl<D: Device, R: Record> Journal<D, R> {
         Ok(Receipt::new(ticket.handle(), ticket.tid()))
     }
 
-    /// The number of the last transaction that is told to be committed; at first, the number before the first one.
+    /// The commit mark: the number of the last transaction acknowledged as committed, at first one less than the first number.
     pub fn mark(&self) -> Tid
         ensures { result ≡ self.now.journal.front.mark }
     {
         self.front.mark()
     }
 
-    /// Takes the next step of committing: one device call of a commit, or the seal of a transaction that takes no further
-    /// handles and has no open one.
+    /// Takes the next commit step: one device call of a commit, or the seal of a transaction that is locked without open handles.
     ///
     /// # Errors
     ///
-    /// `Aborted` after a device failure. `NeedSpace` where what is left of the ring is too short for the transaction, and
-    /// `Memory`: the transaction stays as it is. `Device` where the device failed: the journal is aborted, until the
-    /// device is opened again.
+    /// `Aborted`, `Device`. `NeedSpace` (too few free ring blocks) and `Memory`: the transaction stays as it is.
     /// Source: fs/jbd2/commit.c by behaviour; that each step is one device call is this project's own.
     pub fn commit_turn(&mut self) -> Result<Turn, JournalError>
         ensures ok { IfOk result (λ turn. TurnDid D.state turn self.old self.new) }
@@ -417,7 +402,7 @@ impl<D: Device, R: Record> Journal<D, R> {
         steps::commit_turn(&mut self.front, &mut self.engine)
     }
 
-    /// One step of the commit that is under way.
+    /// Takes one step of the commit under way.
     pub(crate) fn commit_step(&mut self) -> Result<Turn, JournalError>
         requires running { self.old.journal.engine.aborted ≡ false }
         requires busy { self.old.journal.engine.stage ≢ Idle }
@@ -431,7 +416,7 @@ impl<D: Device, R: Record> Journal<D, R> {
         steps::commit_step(&mut self.front, &mut self.engine)
     }
 
-    /// Seals the locked transaction, whose entries these are, and hands them to the engine.
+    /// Seals the locked transaction, which has these entries.
     fn seal(&mut self, batch: Batch) -> Result<Turn, JournalError>
         requires due { SealIsDue self.old.journal }
         requires plain { IsPlain self.old.journal.engine }
@@ -443,13 +428,12 @@ impl<D: Device, R: Record> Journal<D, R> {
         steps::seal_batch(&mut self.front, &mut self.engine, batch)
     }
 
-    /// Takes the next step of a checkpoint round: at most one device call, and none where it answers Idle. A round writes committed
-    /// copies home, and frees the log blocks of the transactions that were committed when it began.
+    /// Takes the next checkpoint step: at most one device call, and none if it answers `Idle`. A round writes committed copies home,
+    /// then frees the log blocks of the transactions committed when it began.
     ///
     /// # Errors
     ///
-    /// `Aborted` after a device failure. `Device` where the device failed: the journal is aborted, until the device is
-    /// opened again.
+    /// `Aborted`, `Device`.
     /// Source: fs/jbd2/checkpoint.c by behaviour; that each step is one device call is this project's own.
     pub fn checkpoint_turn(&mut self) -> Result<CheckTurn, JournalError>
         ensures ok { IfOk result (λ turn. CheckTurnDid D.state turn self.old self.new) }
@@ -462,7 +446,7 @@ impl<D: Device, R: Record> Journal<D, R> {
         steps::checkpoint_turn(&mut self.front, &mut self.engine)
     }
 
-    /// Whether a handle has not stopped.
+    /// Whether a handle is open.
     pub fn has_open_handles(&self) -> bool
         ensures some { IsTrue result ↔ (0 < length self.now.journal.front.open_handles) }
         ensures none { result ≡ false → self.now.journal.front.open_handles ≡ [] }
@@ -477,28 +461,24 @@ impl<D: Device, R: Record> Journal<D, R> {
         self.engine.is_aborted()
     }
 
-    /// Whether nothing is being committed.
     pub(crate) fn is_idle(&self) -> bool
         ensures { IsTrue result ↔ (self.now.journal.engine.stage ≡ Idle) }
     {
         self.engine.is_idle()
     }
 
-    /// Whether a handle has joined the running transaction.
     pub(crate) fn has_joined(&self) -> bool
         ensures { IsTrue result ↔ (0 < length self.now.journal.front.running.handles) }
     {
         self.front.has_joined()
     }
 
-    /// Whether the running transaction takes no further handles, and all of its handles have stopped.
     pub(crate) fn is_ready(&self) -> bool
         ensures { IsTrue result ↔ IsReadyToSeal self.now.journal.front }
     {
         self.front.is_locked() && !self.front.has_open_handles()
     }
 
-    /// Whether the ring has as many free blocks as the running transaction needs.
     pub(crate) fn has_room(&self) -> bool
         requires { self.now.journal.engine.stage ≡ Idle }
         ensures { IsTrue result ↔ HasRoomFor self.now.journal }
@@ -506,9 +486,8 @@ impl<D: Device, R: Record> Journal<D, R> {
         steps::room_for(&self.front, &self.engine).is_some()
     }
 
-    /// States what every journal keeps, for the proofs of callers: its engine knows what agrees, front and engine agree, the
-    /// running transaction needs at most a quarter of the ring, and where reads were honest what a stop leaves opens and the record is
-    /// legal. It does nothing.
+    /// Gives callers' proofs what every journal keeps, and does nothing: front and engine agree, the running transaction needs at most
+    /// a quarter of the ring, and if reads were correct each crash image opens and the record is legal.
     pub fn recall_invariant(&self)
         ensures plain { IsPlain self.now.journal.engine }
         ensures agrees { Agrees self.now.journal }
@@ -521,12 +500,7 @@ impl<D: Device, R: Record> Journal<D, R> {
         steps::recall_quarter(&self.front, &self.engine);
     }
 
-    /// The entries of the running transaction, with all the room made that their seal needs, whatever steps of commits and of rounds
-    /// come before it.
-    ///
-    /// # Errors
-    ///
-    /// `Memory`: nothing changes.
+    /// The running transaction's entries, with all memory reserved for their seal, whatever commit or checkpoint steps come first.
     pub(crate) fn ready_batch(&mut self) -> Result<Batch, JournalError>
         ensures ok { IfOk result (λ batch. batch ≡ batch_of self.old.journal.front.running) }
         ensures err { IfErr result (λ e. e ≡ Memory) }
@@ -535,7 +509,7 @@ impl<D: Device, R: Record> Journal<D, R> {
         steps::ready_batch(&self.front, &mut self.engine)
     }
 
-    /// Seals the running transaction, of which no handle is open and these are the entries, and hands them to the engine.
+    /// Locks and seals the running transaction, which has these entries and no open handle.
     pub(crate) fn seal_running(&mut self, batch: Batch) -> Result<(), JournalError>
         requires running { self.old.journal.engine.aborted ≡ false }
         requires idle { self.old.journal.engine.stage ≡ Idle }
@@ -604,7 +578,6 @@ impl<D: Device, R: Record> Journal<D, R> {
         }
     }
 
-    /// Closes the log once everything is committed and released.
     fn close_log(self) -> Result<Parts<D, R>, (Parts<D, R>, JournalError)>
         requires running { self.journal.engine.aborted ≡ false }
         requires all { IsAllReleased self.journal.engine }
@@ -658,7 +631,7 @@ impl<D: Device, R: Record> Journal<D, R> {
         }
     }
 
-    /// Ends the journal: the device, what was sealed, and how many transactions of it are committed.
+    /// Ends the journal, and answers its parts.
     pub fn into_parts(self) -> Parts<D, R>
         ensures device { result.device ≡ self.device }
         ensures sealed { R.transactions result.sealed ≡ self.journal.front.sealed }

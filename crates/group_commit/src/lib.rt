@@ -1,15 +1,11 @@
-//! The journal: handles join a running transaction and write blocks through it; a turn after another seals it, commits it
-//! to the log, and tells that it is committed. It is made of an opened log (`recovery`), and so is the next journal, of what
-//! a stop at any moment leaves.
+//! The journal of one thread: handles join a running transaction and write blocks through it; turns seal it, commit it to the log and
+//! acknowledge it.
 //!
-//! It is one plain value: its calls take `&mut self`, and there is no lock or thread. Two parts know each other by one
-//! contract each: the engine (`log_engine`) commits batches to the log and writes them home, and the front (`journal_front`) turns
-//! handles and their writes into batches. What needs both is a step of `journal_steps`, and the `journal` lends them to it.
-//! `extension` is for handles that need more, `direct` writes blocks past both, `all_turns` takes turns until none is left, and `close`
-//! those that are left before a log is closed. How a journal keeps what it sealed is its caller's to choose (`Record`).
+//! It is a plain value: calls take `&mut self`, with no lock or thread. The engine (`log_engine`) commits batches and writes them home;
+//! the front (`journal_front`) turns handles and writes into batches; `journal_steps` has the steps that need both. `recovery` opens
+//! the log that a journal is made of, and what a crash leaves. The caller chooses how sealed transactions are recorded (`Record`).
 //!
-//! Nobody but a journal has its front: so its credits and handles come of its own calls alone, and no transaction of it is sealed
-//! but by a turn or a close. Tickets and receipts (`ticket`) are made by journals alone.
+//! Only the journal has its front: credits and handles come of its calls alone, and only a turn or a close seals a transaction.
 #![tactic(auto)]
 
 mod all_turns;

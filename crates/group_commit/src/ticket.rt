@@ -1,9 +1,8 @@
-//! What callers hold of a journal beside credits and handles: tickets and receipts. A journal alone makes them:
-//! `Journal::{stop, wait}`.
+//! Tickets and receipts, which only a `Journal` makes.
 use journal_model::{HandleNo, Tid};
 use std::marker::Model;
 
-/// What is left of a handle that stopped: it asks when the handle's transaction is committed.
+/// What a stopped handle leaves, to ask whether its transaction is committed.
 #[derive(Debug, Drop)]
 pub struct Ticket {
     handle: HandleNo,
@@ -27,14 +26,14 @@ impl Ticket {
         Ticket { handle, tid }
     }
 
-    /// The number of the handle that stopped.
+    /// The stopped handle's number.
     pub fn handle(&self) -> HandleNo
         ensures { result ≡ self.now.handle }
     {
         self.handle
     }
 
-    /// The number of its transaction.
+    /// Its transaction's number.
     pub fn tid(&self) -> Tid
         ensures { result ≡ self.now.tid }
     {
@@ -42,8 +41,8 @@ impl Ticket {
     }
 }
 
-/// The proof that a handle's transaction is committed: whatever stops come, what it did is there, or what later
-/// transactions, and direct writes behind them, made of those blocks.
+/// Proof that a handle's transaction is committed: after any crash its changes are there, or what later transactions and direct writes
+/// made of those blocks.
 #[derive(Debug, Drop)]
 pub struct Receipt {
     handle: HandleNo,
@@ -67,14 +66,14 @@ impl Receipt {
         Receipt { handle, tid }
     }
 
-    /// The number of the handle.
+    /// The handle's number.
     pub fn handle(&self) -> HandleNo
         ensures { result ≡ self.now.handle }
     {
         self.handle
     }
 
-    /// The number of its transaction.
+    /// Its transaction's number.
     pub fn tid(&self) -> Tid
         ensures { result ≡ self.now.tid }
     {

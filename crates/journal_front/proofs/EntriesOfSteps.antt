@@ -44,7 +44,7 @@ lookup-effect ss b =
           lookup_from_place nat_eq_equiv (entries ss) there.0 b e (entries-distinct ss) at ∙ sym some
     ]
 
--- where no entry is of block b, an insertion adds one at the end
+-- if there is no entry of block b, an insertion adds one at the end
 insert-absent : (b : ℕ) (e : Entry) (es : List (ℕ × Entry)) → lookup (nat_eq b) es ≡ None → insert_entry nat_eq es b e ≡ es ++ (b, e) ∷ []
 insert-absent b e [] none = refl
 insert-absent b e ((c, f) ∷ es) none =
@@ -55,7 +55,7 @@ insert-absent b e ((c, f) ∷ es) none =
           rw apart (ap (λ (rest : List (ℕ × Entry)). (c, f) ∷ rest) (insert-absent b e es (rw apart at none)))
     ]
 
--- entries of other blocks stay as they are
+-- entries of other blocks stay
 apart-same : (b : ℕ) (e : Entry) (es : List (ℕ × Entry)) → AllByRecursion (λ c. nat_eq b c ≡ false) (keys_of es) →
     map (λ p. if p.0 == b then (b, e) else p) es ≡ es
 apart-same b e [] apart = refl
@@ -63,7 +63,7 @@ apart-same b e ((c, f) ∷ es) apart =
     let other : (c == b) ≡ false = grind (arith, nat_tests, apart.0) in
     rw other (ap (λ (rest : List (ℕ × Entry)). (c, f) ∷ rest) (apart-same b e es apart.1))
 
--- where one entry is of block b, an insertion changes it in its place
+-- if there is an entry of block b, an insertion changes it in place
 insert-present : (b : ℕ) (e old : Entry) (es : List (ℕ × Entry)) → IsDistinct nat_eq (keys_of es) → lookup (nat_eq b) es ≡ Some old →
     map (λ p. if p.0 == b then (b, e) else p) es ≡ insert_entry nat_eq es b e
 insert-present b e old [] distinct found = absurd (none-some old found)
@@ -92,7 +92,7 @@ entries-touch ss s e made =
           ∙ insert-present s.block e old (entries ss) (entries-distinct ss) (lookup-effect ss s.block ∙ some)
     ]
 
--- how many entries there are after an insertion
+-- an insertion adds as many entries as its touch costs credits
 insert-length : (es : List (ℕ × Entry)) (b : ℕ) (e : Entry) → length (insert_entry nat_eq es b e) ≡ length es + cost (touch_of (lookup (nat_eq b) es))
 insert-length [] b e = refl
 insert-length ((c, f) ∷ es) b e =
@@ -109,7 +109,7 @@ pub touch-length : (ss : List Step) (s : Step) (e : Entry) → entry_of s.op ≡
     length (entries (ss ++ s ∷ [])) ≡ length (entries ss) + cost (touch_of (effect s.block ss))
 touch-length ss s e made = rw (entries-touch ss s e made, ← lookup-effect ss s.block) (insert-length (entries ss) s.block e)
 
--- an insertion of the entry that is there changes nothing
+-- inserting an entry that is there changes nothing
 insert-same : (es : List (ℕ × Entry)) (b : ℕ) (e : Entry) → lookup (nat_eq b) es ≡ Some e → insert_entry nat_eq es b e ≡ es
 insert-same [] b e found = absurd (none-some e found)
 insert-same ((c, f) ∷ es) b e found =
@@ -122,11 +122,11 @@ insert-same ((c, f) ∷ es) b e found =
           rw apart (ap (λ (rest : List (ℕ × Entry)). (c, f) ∷ rest) (insert-same es b e (rw apart at found)))
     ]
 
--- a touch that leaves the entry that is there changes none
+-- a touch that leaves the block's entry changes no entry
 pub touch-again : (ss : List Step) (s : Step) (e : Entry) → entry_of s.op ≡ Some e → effect s.block ss ≡ Some e → entries (ss ++ s ∷ []) ≡ entries ss
 touch-again ss s e made is = entries-touch ss s e made ∙ insert-same (entries ss) s.block e (lookup-effect ss s.block ∙ is)
 
--- one more step, whatever it is
+-- the entries after one more step of any kind
 pub entries-step : (ss : List Step) (s : Step) → entries (ss ++ s ∷ []) ≡ option_map_or (λ e. insert_entry nat_eq (entries ss) s.block e) (entry_of s.op) (entries ss)
 entries-step ss s =
     elim (option-known (entry_of s.op)) [

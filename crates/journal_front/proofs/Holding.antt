@@ -1,4 +1,4 @@
--- A front and the handles that it holds open: what a look-up among these finds, and what each step of a front keeps.
+-- A front's open handles: what a look-up finds, and what each step keeps.
 use Rattle.std.proofs.Common.{Option, is_some, if◌then◌else◌, ◌≡◌, inl, inr, ℕ, ◌+◌, ◌-◌, ◌<◌, ◌≤◌, ◌^◌, false, true, List, [], ◌∷◌, ◌++◌, length, Some, refl, sym, ◌∙◌, ap, ap₂, subst, arith, nat_eq, eq-eqb, length-append}
 use Rattle.std.proofs.lemmas.Bool.{cases_eq}
 use Rattle.std.proofs.lemmas.Bool.Decides.{nat_tests}
@@ -21,7 +21,7 @@ use Rattle.journal_world.proofs.Elements.{all-weaker}
 use Rattle.journal_world.proofs.OpenHandles.{all-changed, all-without, left-among}
 use Rattle.journal_front.specs.Front.{IsFront, MayTouch}
 
--- the handle stands among others with so many credits, where an insertion of its number changes these and a removal takes it out
+-- the handle's place among the open ones, with these credits
 pub record IsAt (hs : List (ℕ × ℕ)) (h left : ℕ) : Type 0 where
   pub before : List (ℕ × ℕ)
   pub behind : List (ℕ × ℕ)
@@ -29,7 +29,7 @@ pub record IsAt (hs : List (ℕ × ℕ)) (h left : ℕ) : Type 0 where
   pub inserted : (n : ℕ) → insert_entry nat_eq hs h n ≡ before ++ (h, n) ∷ behind
   pub removed : remove_entry (nat_eq h) hs ≡ before ++ behind
 
--- so does each handle that a look-up finds
+-- each handle that a look-up finds has such a place
 pub at-handle : (hs : List (ℕ × ℕ)) (h left : ℕ) → lookup (nat_eq h) hs ≡ Some left → IsAt hs h left
 at-handle [] h left found = absurd (none-some left found)
 at-handle ((k, n) ∷ hs) h left found =
@@ -55,12 +55,12 @@ at-handle ((k, n) ∷ hs) h left found =
           }
     ]
 
--- it is open
+-- a handle that a look-up finds is open
 pub open-at : (f : Front) (h left : ℕ) → lookup (nat_eq h) f.open_handles ≡ Some left → IsOpen f h
 open-at f h left found =
     let at = at-handle f.open_handles h left found in record { left = left; before = at.before; behind = at.behind; stands = at.stands }
 
--- and has no more credits than are held
+-- it has no more credits than are held
 pub left-held : (f : Front) (h left : ℕ) → lookup (nat_eq h) f.open_handles ≡ Some left → left ≤ held f
 left-held f h left found =
     let at = at-handle f.open_handles h left found in
@@ -68,7 +68,7 @@ left-held f h left found =
     ap (λ (hs : List (ℕ × ℕ)). left_in hs) at.stands ∙ left-among at.before h left at.behind in
     omega arith
 
--- with those that no handle was made of
+-- nor do its credits and those in no handle together exceed those held
 pub left-reserved : (f : Front) (h left : ℕ) → lookup (nat_eq h) f.open_handles ≡ Some left → left + f.reserved ≤ held f
 left-reserved f h left found =
     let at = at-handle f.open_handles h left found in
@@ -85,7 +85,7 @@ found-inserted ((k, m) ∷ hs) h n =
       | inr other ↦ let apart : nat_eq h k ≡ false = grind (arith, nat_tests) in rw apart (rw apart (found-inserted hs h n))
     ]
 
--- a handle with a greater number than the others comes last
+-- a handle with a greater number than all others comes last
 pub inserted-last : (hs : List (ℕ × ℕ)) (given h n : ℕ) → AllByRecursion (λ o. o.0 ≤ given) hs → given < h → insert_entry nat_eq hs h n ≡ hs ++ (h, n) ∷ []
 inserted-last [] given h n least above = refl
 inserted-last ((k, m) ∷ hs) given h n least above =
@@ -93,7 +93,7 @@ inserted-last ((k, m) ∷ hs) given h n least above =
     let apart : nat_eq h k ≡ false = grind (arith, nat_tests) in
     rw apart (ap (λ (es : List (ℕ × ℕ)). (k, m) ∷ es) (inserted-last hs given h n least.1 above))
 
--- a front of which these are as they were
+-- a front whose invariant's parts hold is a front
 like-front : (old new : Front) → IsFront old → new.layout ≡ old.layout → held new ≤ new.capacity → AllByRecursion (λ h. h.0 ≤ new.given) new.open_handles →
     new.given < 2 ^ 64 → (new.locked ≡ true → 0 < length new.running.handles) → new.running.tid ≡ old.running.tid → IsFront new
 like-front old new front layout credits numbers given joined tid = record {
@@ -105,7 +105,7 @@ like-front old new front layout credits numbers given joined tid = record {
   number = let low : old.running.tid ≤ greatest_number + 1 = front.number in omega arith;
 }
 
--- what a front keeps true, it keeps over each step
+-- each step keeps a front's invariant
 pub is-front : (old new : Front) (event : FrontEvent) → FrontHappens old event new → IsFront old → IsFront new
 is-front old new event step front = by event step (held-within old new event step front.credits)
   where
@@ -159,7 +159,7 @@ is-front old new event step front = by event step (held-within old new event ste
     by (Raise t) step within =
         on _ step.after (λ fits. like-front old _ front refl fits front.numbers front.given front.joined refl) within
 
--- a handle that a look-up finds stops, where it is taken out
+-- taking a found handle out stops it
 pub stops : (f : Front) (h left : ℕ) (hs : List (ℕ × ℕ)) → lookup (nat_eq h) f.open_handles ≡ Some left → hs ≡ remove_entry (nat_eq h) f.open_handles →
     StopsHandle f h (record f { open_handles = hs })
 stops f h left hs found taken =
@@ -169,18 +169,18 @@ stops f h left hs found taken =
       after = ap (λ (es : List (ℕ × ℕ)). record f { open_handles = es }) (taken ∙ at.removed);
     }
 
--- then what it had left is no longer held
+-- then its unused credits are no longer held
 pub stops-held : (f : Front) (h left : ℕ) (hs : List (ℕ × ℕ)) → lookup (nat_eq h) f.open_handles ≡ Some left → hs ≡ remove_entry (nat_eq h) f.open_handles →
     held (record f { open_handles = hs }) + left ≡ held f
 unfolding stops
 stops-held f h left hs found taken = stopped-credits f (record f { open_handles = hs }) h (stops f h left hs found taken)
 
--- a front with these sealed transactions, and these handles and steps of the running one
+-- a front with these sealed transactions, open handles, and handles and steps of the running one
 abbrev pub remade : Front → History → List ℕ → List Step → List (ℕ × ℕ) → Front
 remade f sealed handles steps hs =
     record f { sealed = sealed; running = record f.running { handles = handles; steps = steps }; open_handles = hs }
 
--- a handle that a look-up finds touches a block, where its step is noted and its credits are
+-- noting a found handle's step and its credits is a touch of the block
 touched : (f : Front) (h b left : ℕ) (op : Op) (hs : List (ℕ × ℕ)) (found : lookup (nat_eq h) f.open_handles ≡ Some left) →
     hs ≡ insert_entry nat_eq f.open_handles h (left_after f b left) →
     remade f f.sealed f.running.handles (f.running.steps ++ record { handle = h; block = b; op = op } ∷ []) hs ≡ touching f h b op (open-at f h left found)
@@ -190,7 +190,7 @@ touched f h b left op hs found told =
     ap (λ (es : List (ℕ × ℕ)). remade f f.sealed f.running.handles (f.running.steps ++ record { handle = h; block = b; op = op } ∷ []) es)
     (told ∙ at.inserted (left_after f b left))
 
--- it writes
+-- that touch can be a write
 pub writes : (f : Front) (h b left : ℕ) (v : List ℕ) (hs : List (ℕ × ℕ)) → f.aborted ≡ false → lookup (nat_eq h) f.open_handles ≡ Some left →
     (IsFirstTouch f b → 0 < left) → MayTouch f b → length v ≡ f.layout.block_size → hs ≡ insert_entry nat_eq f.open_handles h (left_after f b left) →
     WritesBlock f h b v (remade f f.sealed f.running.handles (f.running.steps ++ write_step h b v ∷ []) hs)
@@ -204,7 +204,7 @@ writes f h b left v hs running found credit allowed whole told = record {
   after = touched f h b left (Write v) hs found told;
 }
 
--- or revokes
+-- or a revoke
 pub revokes : (f : Front) (h b left : ℕ) (hs : List (ℕ × ℕ)) → f.aborted ≡ false → lookup (nat_eq h) f.open_handles ≡ Some left →
     (IsFirstTouch f b → 0 < left) → MayTouch f b → hs ≡ insert_entry nat_eq f.open_handles h (left_after f b left) →
     RevokesBlock f h b (remade f f.sealed f.running.handles (f.running.steps ++ revoke_step h b ∷ []) hs)
@@ -217,7 +217,7 @@ revokes f h b left hs running found credit allowed told = record {
   after = touched f h b left Revoke hs found told;
 }
 
--- it gets further credits, where these are noted
+-- noting further credits extends a found handle
 pub extends : (f : Front) (h left n : ℕ) (hs : List (ℕ × ℕ)) → f.aborted ≡ false → f.locked ≡ false → lookup (nat_eq h) f.open_handles ≡ Some left →
     n ≤ f.reserved → hs ≡ insert_entry nat_eq f.open_handles h (left + n) → ExtendsHandle f h n (record f { reserved = f.reserved - n; open_handles = hs })
 unfolding open-at at-handle
@@ -231,7 +231,7 @@ extends f h left n hs running unlocked found granted told =
       after = ap (λ (es : List (ℕ × ℕ)). record f { reserved = f.reserved - n; open_handles = es }) (told ∙ at.inserted (left + n));
     }
 
--- a handle joins, where its number is noted with its credits
+-- noting a new number with its credits lets a handle join
 pub joins : (f : Front) (n : ℕ) (sealed : History) (handles : List ℕ) (hs : List (ℕ × ℕ)) → f.aborted ≡ false → MayJoin f → n ≤ f.reserved →
     AllByRecursion (λ h. h.0 ≤ f.given) f.open_handles → sealed ≡ f.sealed → handles ≡ f.running.handles ++ next_handle f ∷ [] →
     hs ≡ insert_entry nat_eq f.open_handles (next_handle f) n →
@@ -246,11 +246,11 @@ joins f n sealed handles hs running may granted least same noted told =
       after = ap (λ (ts : History). made ts handles hs) same ∙ ap₂ (λ (js : List ℕ) (es : List (ℕ × ℕ)). made f.sealed js es) noted (told ∙ last);
     }
 
--- a first touch takes a credit
+-- a first touch takes one credit
 pub left-first : (f : Front) (b left : ℕ) → IsFirstTouch f b → left_after f b left ≡ left - 1
 left-first f b left first = ap (λ (o : Option Entry). if is_some o then left else left - 1) first
 
--- and any other touch none
+-- a later touch takes none
 pub left-later : (f : Front) (b left : ℕ) → (IsFirstTouch f b → ⊥) → left_after f b left ≡ left
 left-later f b left later =
     elim (option-known (effect b f.running.steps)) [

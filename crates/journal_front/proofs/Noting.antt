@@ -1,4 +1,4 @@
--- A front that notes a read keeps what it keeps: the step takes no credit, and leaves every entry.
+-- Noting a read keeps a front's invariant: the step takes no credit and leaves every entry.
 use Rattle.std.proofs.Common.{arith, ap, refl, sym, ◌∙◌}
 use Rattle.std.specs.Prelude.{◌≡◌, ℕ, ◌≤◌, List, [], ◌∷◌, ◌++◌, length}
 use Rattle.journal_model.specs.declared.entry.Entry.{Entry}
@@ -11,14 +11,14 @@ use Rattle.journal_front.specs.Front.{IsFront}
 use Rattle.journal_front.specs.FrontView.{KeepsFront, front_of}
 use Rattle.journal_front.specs.Transaction.{noting, reserving}
 
--- as many credits are held
+-- a read leaves the credits held
 held-same : (f : Front) (h b : ℕ) (v : List ℕ) → held (reading_block f h b v) ≡ held f
 held-same f h b v =
     let same : length (entries (f.running.steps ++ read_step h b v ∷ [])) ≡ length (entries f.running.steps) =
     ap (λ (es : List (ℕ × Entry)). length es) (entries-push_read f.running.steps (read_step h b v) refl) in
     omega arith
 
--- it is a front still
+-- it leaves a front
 reads-front : (f : Front) (h b : ℕ) (v : List ℕ) → IsFront f → IsFront (reading_block f h b v)
 reads-front f h b v front =
     let same = held-same f h b v in
@@ -32,7 +32,7 @@ reads-front f h b v front =
       number = front.number;
     }
 
--- and keeps the rest
+-- it keeps the whole invariant
 pub keeps-read : {R : Type 0} (transactions : R → History) (has_room : R → Type 0) (f : Inside R) (h b : ℕ) (v : List ℕ) → KeepsFront transactions has_room f →
     KeepsFront transactions has_room (record f { running = noting (reserving f.running) (record { handle = h; block = b; op = Read v }) })
 keeps-read transactions has_room f h b v keeps = record {

@@ -1,4 +1,4 @@
--- A handle that touches a block: what its transaction and the open handles are behind the touch, and what it has left.
+-- A handle that touches a block: its transaction and the open handles after the touch, and the credits that it has left.
 use Rattle.std.proofs.Common.{◌≡◌, ℕ, ◌-◌, ◌<◌, List, [], ◌∷◌, ◌++◌, length, Option, None, Some, is_some, if◌then◌else◌, refl, sym, ◌∙◌, ap, ap₂, subst, arith, nat_eq}
 use Rattle.std.specs.Map.{lookup}
 use Rattle.indexmap.specs.IndexMap.{insert_entry}
@@ -16,20 +16,20 @@ use Rattle.journal_front.specs.Front.TouchRefused.{WithoutCredit, WithoutMemory}
 use Rattle.journal_front.specs.Values.{HandleValue}
 use Rattle.journal_front.proofs.Holding.{found-inserted, revokes, writes}
 
--- the front with this transaction, and these handles open
+-- the front with this running transaction and these open handles
 abbrev pub with_running : Front → OpenTransaction → List (ℕ × ℕ) → Front
 with_running f t hs = record f { running = t.transaction; locked = t.locked; open_handles = hs }
 
--- what a touch costs is one credit where it is the first of its block
+-- a first touch costs one credit
 cost-first : (o : Option Entry) → o ≡ None → cost (touch_of o) ≡ 1
 cost-first o none = ap (λ (x : Option Entry). cost (touch_of x)) none
 
--- else none
+-- a later touch costs none
 cost-later : (o : Option Entry) → (o ≡ None → ⊥) → cost (touch_of o) ≡ 0
 cost-later None later = absurd (later refl)
 cost-later (Some e) later = refl
 
--- it leaves the handle what the machine says
+-- it leaves the handle the credits that the machine says
 left-by : (o : Option Entry) (left : ℕ) → left - cost (touch_of o) ≡ (if is_some o then left else left - 1)
 left-by None left = refl
 left-by (Some e) left = omega arith
@@ -38,7 +38,7 @@ module _ (f : Front) (old new : OpenTransaction) (h paid : HandleValue) (number 
     (running : f.running ≡ old.transaction) (locked : f.locked ≡ old.locked) (may : MayStep f h b) (number_is : number ≡ h.number) (left_is : left ≡ h.left)
     (touches : Touches old left (record { handle = number; block = b; op = op }) touch new)
     (paid_is : paid ≡ record h { left = h.left - cost touch }) (told : hs ≡ insert_entry nat_eq f.open_handles paid.number paid.left) where
-  -- the cost of the touch is by the block's effect so far
+  -- the touch's cost follows from the block's effect so far
   cost-is : cost touch ≡ cost (touch_of (effect b f.running.steps))
   cost-is = ap cost touches.may.touch_is ∙ ap (λ t. cost (touch_of (effect b t.steps))) (sym running)
 
@@ -54,7 +54,7 @@ module _ (f : Front) (old new : OpenTransaction) (h paid : HandleValue) (number 
   told-is : hs ≡ insert_entry nat_eq f.open_handles h.number (left_after f b h.left)
   told-is = told ∙ ap₂ (λ (n m : ℕ). insert_entry nat_eq f.open_handles n m) (ap (λ (p : HandleValue). p.number) paid_is) left-is
 
-  -- behind it the transaction has one more step
+  -- after it the transaction has one more step
   noted-is : with_running f new hs ≡
       record f { running = record f.running { steps = f.running.steps ++ record { handle = h.number; block = b; op = op } ∷ [] }; open_handles = hs }
   noted-is =
@@ -74,11 +74,11 @@ module _ (f : Front) (old new : OpenTransaction) (h paid : HandleValue) (number 
   pub same-number : new.transaction.tid ≡ old.transaction.tid
   same-number = ap (λ (t : OpenTransaction). t.transaction.tid) touches.noted
 
-  -- and the same handles have joined it
+  -- its handles are the same
   pub same-handles : new.transaction.handles ≡ old.transaction.handles
   same-handles = ap (λ (t : OpenTransaction). t.transaction.handles) touches.noted
 
-  -- the handle was open, and is so still
+  -- the handle was open and still is
   pub open-still : IsOpenHandle f h × IsOpenHandle (with_running f new hs) paid
   open-still = (
     may.open_handle,
@@ -89,7 +89,7 @@ module _ (f : Front) (old new : OpenTransaction) (h paid : HandleValue) (number 
     },
   )
 
-  -- it has spent what the touch costs
+  -- it has paid for the touch
   pub spends : Spends f b h paid
   spends = record {
     first = λ first. (
@@ -101,21 +101,21 @@ module _ (f : Front) (old new : OpenTransaction) (h paid : HandleValue) (number 
         {x = h.left - cost touch} {y = h.left} (let none : cost touch ≡ 0 = cost-is ∙ cost-later (effect b f.running.steps) later in omega arith);
   }
 
-  -- where it wrote
+  -- a touch that writes is the machine's write
   pub wrote : (v : List ℕ) → op ≡ Write v → length v ≡ f.layout.block_size → WritesBlock f h.number b v (with_running f new hs)
   wrote v is whole =
       subst (WritesBlock f h.number b v)
       (sym (noted-is ∙ ap (λ (o : Op). record f { running = record f.running { steps = f.running.steps ++ record { handle = h.number; block = b; op = o } ∷ [] }; open_handles = hs }) is))
       (writes f h.number b h.left v hs may.running may.open_handle.left credit may.allowed whole told-is)
 
-  -- where it revoked
+  -- a touch that revokes is the machine's revoke
   pub revoked : op ≡ Revoke → RevokesBlock f h.number b (with_running f new hs)
   revoked is =
       subst (RevokesBlock f h.number b)
       (sym (noted-is ∙ ap (λ (o : Op). record f { running = record f.running { steps = f.running.steps ++ record { handle = h.number; block = b; op = o } ∷ [] }; open_handles = hs }) is))
       (revokes f h.number b h.left hs may.running may.open_handle.left credit may.allowed told-is)
 
--- why the transaction refuses a touch is why the front does
+-- if the transaction refuses a touch, so does the front
 pub refused-touch : (f : Front) (old : OpenTransaction) (h : HandleValue) (left b : ℕ) (e : JournalError) → f.running ≡ old.transaction → MayStep f h b → left ≡ h.left →
     StepRefused old left b e → TouchRefused f h b e
 refused-touch f old h left b e running may left_is (NoCreditLeft lacks) =

@@ -1,4 +1,4 @@
--- The transactions that are not finished: their last effect on a block, from the entries that the front keeps.
+-- The unfinished transactions: their last effect on a block, from the entries that the front keeps.
 use Rattle.std.proofs.Common.{◌≡◌, ℕ, ◌+◌, ◌-◌, ◌<◌, List, [], ◌∷◌, ◌++◌, length, drop, Option, refl, sym, ap, ap₂, subst, ◌∙◌, arith, nat_eq, append_assoc, length-append}
 use Rattle.std.specs.Map.{lookup}
 use Rattle.std.proofs.Math.Seq.{drop-append_seam}
@@ -10,7 +10,7 @@ use Rattle.journal_front.specs.FrontView.{AreCommitting}
 use Rattle.journal_front.specs.FrontView.AreCommitting.{AllFinished, LastUnfinished}
 use Rattle.journal_front.proofs.EntriesOfSteps.{lookup-effect}
 
--- where all sealed transactions are finished, the running one is left
+-- if all sealed transactions are finished, only the running one is left
 left-one : (f : Front) → f.finished + 1 ≡ f.running.tid → unfinished f ≡ f.running ∷ []
 left-one f told =
     ap (λ (n : ℕ). drop n (f.sealed ++ f.running ∷ [])) {x = f.finished + 1 + length f.sealed - f.running.tid} {y = length f.sealed} (omega arith)
@@ -25,7 +25,7 @@ left-two f before last are told =
     (ap (λ (ts : History). ts ++ f.running ∷ []) are ∙ append_assoc before (last ∷ []) (f.running ∷ []))
     ∙ drop-append_seam before (last ∷ f.running ∷ [])
 
--- their last effect on a block is what the entries have
+-- the kept entries give their last effect on a block
 pub unfinished-effect : (f : Front) (es : List (ℕ × Entry)) (b : ℕ) → AreCommitting f.sealed f.finished f.running.tid es →
     last_effect b (unfinished f) ≡ later (lookup (nat_eq b) es) (effect b f.running.steps)
 unfinished-effect f es b (AllFinished told) = ap (last_effect b) (left-one f told) ∙ sym (later-none (effect b f.running.steps))
@@ -33,21 +33,21 @@ unfinished-effect f es b (LastUnfinished before last are told) =
     ap (last_effect b) (left-two f before last are told)
     ∙ ap (λ (o : Option Entry). later o (effect b f.running.steps)) (sym (lookup-effect last.steps b))
 
--- where all are finished, no entries are kept
+-- if all are finished, no entries need be kept
 pub committing-none : (sealed : History) (finished running : ℕ) (es : List (ℕ × Entry)) → es ≡ [] → finished + 1 ≡ running → AreCommitting sealed finished running es
 committing-none sealed finished running es none told = subst (AreCommitting sealed finished running) (sym none) (AllFinished told)
 
--- behind a seal those of the sealed transaction are
+-- after a seal, the sealed transaction's entries are kept
 pub committing-sealed : (old sealed : History) (t : Transaction) (finished running : ℕ) (es : List (ℕ × Entry)) → sealed ≡ old ++ t ∷ [] → es ≡ entries t.steps →
     finished + 2 ≡ running → AreCommitting sealed finished running es
 committing-sealed old sealed t finished running es are same told = subst (AreCommitting sealed finished running) (sym same) (LastUnfinished old t are told)
 
--- one sealed transaction at most is not finished
+-- at most one sealed transaction is not finished
 pub one-untold : (sealed : History) (finished running : ℕ) (es : List (ℕ × Entry)) → AreCommitting sealed finished running es → finished + 1 < running → finished + 2 ≡ running
 one-untold sealed finished running es (AllFinished told) less = absurd (omega arith)
 one-untold sealed finished running es (LastUnfinished before last are told) less = told
 
--- where all are finished, none are kept
+-- if all are finished, no entries are kept
 pub all-told : (sealed : History) (finished running : ℕ) (es : List (ℕ × Entry)) → AreCommitting sealed finished running es → finished + 1 ≡ running → es ≡ []
 all-told sealed finished running es (AllFinished told) all = refl
 all-told sealed finished running es (LastUnfinished before last are told) all = absurd (omega arith)

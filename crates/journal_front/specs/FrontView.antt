@@ -1,4 +1,4 @@
--- The fields of a front as the pure machine sees them, and what a front keeps true of them.
+-- A front's fields as the pure machine sees them, and its invariant.
 use Rattle.std.specs.Prelude.{◌≡◌, ℕ, ◌+◌, ◌<◌, List, [], ◌∷◌, ◌++◌, length}
 use Rattle.journal_model.specs.declared.entry.Entry.{Entry}
 use Rattle.journal_model.specs.Transaction.{History, Transaction, entries}
@@ -6,7 +6,7 @@ use Rattle.journal_world.specs.Front.{Front, held}
 use Rattle.journal_front.specs.declared.front.Front.TheInside.{Inside}
 use Rattle.journal_front.specs.Front.{IsFront}
 
--- nobody reserves beside the front, so that a refused reserve has nothing to take back
+-- the front's value; nothing is reserved outside the front, so a refused reserve has nothing to take back
 abbrev pub front_of : {R : Type 0} → (R → History) → Inside R → Front
 front_of transactions f = record {
   layout = f.layout;
@@ -24,14 +24,14 @@ front_of transactions f = record {
   aborted = f.aborted;
 }
 
--- the entries that are kept of sealed transactions: those of the last one while it is not finished, and none where all are
+-- the entries kept of sealed transactions: the last one's while it is not finished, else none
 pub data AreCommitting (sealed : History) (finished running : ℕ) : List (ℕ × Entry) → Type 0 where
   AllFinished : finished + 1 ≡ running → AreCommitting sealed finished running []
   LastUnfinished : (before : History) (last : Transaction) → sealed ≡ before ++ last ∷ [] → finished + 2 ≡ running →
       AreCommitting sealed finished running (entries last.steps)
 
--- the count of credits is that of those held; the entries that are kept are those of the sealed transaction that is not
--- finished; and once a handle has joined the running one there is room to seal it
+-- a front's invariant: `held` counts the credits held; the kept entries are the unfinished sealed transaction's; once a handle has
+-- joined the running transaction, there is room to seal it
 pub record KeepsFront {R : Type 0} (transactions : R → History) (has_room : R → Type 0) (f : Inside R) : Type 0 where
   pub front : IsFront (front_of transactions f)
   pub held_are : f.held ≡ held (front_of transactions f)

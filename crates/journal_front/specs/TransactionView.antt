@@ -1,4 +1,4 @@
--- The fields of a transaction as contracts see them, and what they keep true.
+-- A transaction's fields as contracts see them, and its invariant.
 use Rattle.std.specs.Prelude.{◌≡◌, ◌<◌, ◌↔◌, Bool, true, false, [], length, vec_capacity}
 use Rattle.journal_model.specs.Transaction.{entries}
 use Rattle.journal_front.specs.declared.transaction.Transaction.TheInside.{Inside}
@@ -12,8 +12,8 @@ transaction_of t = record {
   committing = t.versions.committing;
 }
 
--- the entries are those of the steps; it is known whether a handle has joined; and where the record keeps data, handles and
--- steps are so too, and where room was made for one more step, it is there; and where it keeps none, there are none
+-- a transaction's invariant: the entries are those of the steps; `joined` says whether a handle has joined; if the record keeps data,
+-- handles and steps are data, with the room reserved for one more step; else none are kept
 pub record KeepsTransaction {R : Type 0} (keeps : Bool) (t : Inside R) : Type 0 where
   pub entries_are : t.versions.running ≡ entries t.known.steps
   pub joined_is : (t.joined ≡ true) ↔ (0 < length t.known.handles)

@@ -1,7 +1,7 @@
--- What contracts see of a handle.
+-- A handle as contracts see it.
 use Rattle.std.specs.Prelude.{ℕ}
 
--- its number, that of its transaction, and how many credits it has left
+-- its number, its transaction's number, and its unused credits
 pub record HandleValue : Type 0 where
   pub number : ℕ
   pub tid : ℕ

@@ -1,5 +1,5 @@
-//! The transaction that handles join, write to and revoke blocks in, the ones that are sealed, the open handles, and the
-//! credits. It knows the measures of log and device and whether the device has failed, and asks nobody else.
+//! The front: the running transaction, its open handles, the credits, and the sealed transactions. It also keeps the layouts of log and
+//! device and whether the device has failed, and calls no other part.
 ghost use Rattle.std.specs.Prelude.{◌≡◌, ◌+◌, ◌-◌, ◌<◌, ◌≤◌, ◌↔◌, nat_eq, true, false, [], IsTrue, length, None, OnOk, IfOk, IfErr, Some};
 ghost use Rattle.std.specs.Map.{lookup};
 ghost use Rattle.std.specs.Option.{option_copied};
@@ -23,35 +23,31 @@ use journal_model::{
 use std::alloc::Global;
 use std::marker::Model;
 
-/// The front of a journal. It alone makes credits and handles, and it takes none that it does not hold; who has it can seal its
-/// transaction, and say what is committed.
+/// The front of a journal. It alone makes credits and handles, and it takes only those that it holds. Its owner can seal its
+/// transaction and acknowledge commits.
 #[derive(Drop)]
 pub struct Front<R: Record> {
     alloc: Global,
-    /// The layout of the log.
     layout: LogLayout,
-    /// How many home blocks the device has.
     home_blocks: u64,
-    /// The most credits that are held.
+    /// The most credits that can be held.
     capacity: u64,
-    /// The credits held: those that no handle was made of, those that open handles have left, and one for each entry.
+    /// The credits held: in no handle yet, unused in open handles, and one for each entry.
     held: u64,
-    /// Those of them that no handle was made of.
+    /// Of these, the credits in no handle yet.
     reserved: u64,
-    /// The number of the last transaction that the front knows to be committed.
+    /// The last transaction that the front knows to be committed.
     finished: u32,
-    /// The number of the last transaction that callers are told is committed.
+    /// The commit mark: the last transaction acknowledged as committed.
     mark: u32,
     /// The transactions sealed since the opening.
     sealed: R,
-    /// The one that handles join, beside which are the entries of the last sealed one, while that is not finished.
+    /// The transaction that handles join. It also keeps the last sealed one's entries until that is finished.
     running: Transaction<R>,
-    /// The handles of the running one that have not stopped, in the order in which they joined, with the credits that each
-    /// has left.
+    /// Its open handles in the order of their joins, each with its unused credits.
     open_handles: IndexMap<HandleNo, u64>,
     /// How many handle numbers have been given out.
     given: u64,
-    /// The device has failed.
     aborted: bool,
 }
 
@@ -68,8 +64,7 @@ impl<R: Record> Model for Front<R> {
 }
 
 impl<R: Record> Front<R> {
-    /// The front of a journal whose first transaction has the number `first`, with so many credits, on a log of this layout
-    /// beside so many home blocks. It takes no memory.
+    /// The front of a journal whose first transaction has the number `first`. It takes no memory.
     pub fn new(
         alloc: Global,
         layout: LogLayout,
@@ -99,7 +94,7 @@ impl<R: Record> Front<R> {
         }
     }
 
-    /// The most credits that are held.
+    /// The most credits that can be held at once.
     pub fn capacity(&self) -> u64
         ensures { result ≡ self.now.capacity }
     {
@@ -113,7 +108,7 @@ impl<R: Record> Front<R> {
         self.held
     }
 
-    /// Grants credits.
+    /// Grants `n` credits. It answers `TooMany` if one transaction can never have so many, `Full` if the credits held leave fewer.
     pub fn reserve(&mut self, n: u64) -> Result<Credits, JournalError>
         ensures ok { IfOk result (λ credits. (credits ≡ n) × FrontHappens self.old (Reserve n) self.new) }
         ensures err { IfErr result (λ e. ReserveRefused self.old n e × (self.new ≡ self.old)) }
@@ -129,7 +124,7 @@ impl<R: Record> Front<R> {
         Ok(Credits::new(n))
     }
 
-    /// Takes credits back, of those that no handle was made of. More than there are were not granted here: nothing changes.
+    /// Takes back `n` credits that are in no handle. If there are fewer, they were not granted here, and nothing changes.
     pub fn give_back(&mut self, n: u64)
         ensures granted { n ≤ self.old.reserved → FrontHappens self.old (GiveBack n) self.new }
         ensures other { self.old.reserved < n → self.new ≡ self.old }
@@ -140,7 +135,7 @@ impl<R: Record> Front<R> {
         }
     }
 
-    /// Lets one more handle join, with so many of the credits that no other was made of.
+    /// Makes one more handle, with `n` of the credits that are in no handle.
     pub fn join(&mut self, n: u64) -> Result<Handle, JournalError>
         ensures ok { IfOk result (λ handle. FrontHappens self.old (Join n) self.new
             × (handle ≡ record { number = next_handle self.old; tid = self.old.running.tid; left = n })) }
@@ -173,7 +168,7 @@ impl<R: Record> Front<R> {
         Ok(Handle::new(number, tid, n))
     }
 
-    /// Whether a handle is one of the open ones, with the credits that it says, of the running transaction.
+    /// Whether the handle is open, in the running transaction, with the credits that it states.
     pub fn is_open(&self, handle: &Handle) -> bool
         ensures { IsTrue result ↔ IsOpenHandle self.now handle.now }
     {
@@ -183,56 +178,55 @@ impl<R: Record> Front<R> {
         }
     }
 
-    /// Whether a block is one that may be touched.
+    /// Whether home has this block and the log can hold its number.
     pub fn may_touch(&self, block: BlockNo) -> bool
         ensures { IsTrue result ↔ MayTouch self.now block }
     {
         block.is_allowed(self.layout, self.home_blocks)
     }
 
-    /// Whether the device has failed, as far as the front was told.
+    /// Whether the front knows of a device failure.
     pub fn is_aborted(&self) -> bool
         ensures { result ≡ self.now.aborted }
     {
         self.aborted
     }
 
-    /// Notes whether the device has failed. For who has the front's engine, as are `abort`, `seal` and `finish`: a front that is
-    /// told otherwise than its engine does no longer agrees with it.
+    /// Sets whether the device has failed. This call, `abort`, `seal` and `finish` are for the owner of the front's engine: a front
+    /// that learns otherwise than its engine no longer agrees with it.
     pub fn learn(&mut self, aborted: bool)
         ensures { self.new ≡ record self.old { aborted = aborted } }
     {
         self.aborted = aborted;
     }
 
-    /// Notes that the device has failed.
+    /// Records that the device has failed.
     pub fn abort(&mut self)
         ensures { self.new ≡ aborting self.old }
     {
         self.aborted = true;
     }
 
-    /// The last entry of a block in the transactions that are not finished: the running one's or, where that has none, that
-    /// of the sealed one.
+    /// The last entry of a block in the unfinished transactions: the running one's, else the sealed one's.
     pub fn newest(&self, block: BlockNo) -> Option<&Entry>
         ensures { option_copied result ≡ last_effect block (unfinished self.now) }
     {
         self.running.newest(block)
     }
 
-    /// Whether no transaction that is not finished has an entry of the block.
+    /// Whether no unfinished transaction has an entry of the block.
     pub fn is_untouched(&self, block: BlockNo) -> bool
         ensures { IsTrue result ↔ IsUntouched self.now block }
     {
         self.newest(block).is_none()
     }
 
-    /// Whether a handle may make a step on the block, but for the credit of a first touch. A read takes none.
+    /// Whether a handle may make a step on the block. The credit for a first touch is not checked; a read takes none.
     ///
     /// # Errors
     ///
-    /// The first that applies of `Aborted` after a device failure, `BadBlock` where the block is none that may be touched, and
-    /// `NoCredit` where the handle is none of the open ones.
+    /// The first that applies: `Aborted` after a device failure, `BadBlock` if the block may not be touched, `NoCredit` if the handle
+    /// is not open.
     pub fn admit(&self, handle: &Handle, block: BlockNo) -> Result<(), JournalError>
         ensures ok { OnOk result (MayStep self.now handle.now block) }
         ensures err { IfErr result (λ e. IsKeptOut self.now handle.now block e) }
@@ -249,8 +243,7 @@ impl<R: Record> Front<R> {
         Ok(())
     }
 
-    /// A handle writes a block, of one block of bytes; a first touch takes one of its credits. Where it is refused nothing
-    /// has changed.
+    /// Writes one block in the handle's transaction; a first touch takes one credit. On an error nothing changes.
     pub fn write(
         &mut self,
         handle: &mut Handle,
@@ -274,7 +267,7 @@ impl<R: Record> Front<R> {
         }
     }
 
-    /// A handle revokes a block; a first touch takes one of its credits. Where it is refused nothing has changed.
+    /// Revokes a block in the handle's transaction; a first touch takes one credit. On an error nothing changes.
     pub fn revoke(&mut self, handle: &mut Handle, block: BlockNo) -> Result<(), JournalError>
         ensures ok { OnOk result (FrontHappens self.old (RevokeBlock handle.old.number block) self.new) }
         ensures open { OnOk result (IsOpenHandle self.old handle.old × IsOpenHandle self.new handle.new) }
@@ -292,11 +285,11 @@ impl<R: Record> Front<R> {
         }
     }
 
-    /// Makes room for the step of a read, and for the bytes of the block that it sees.
+    /// Makes room for the step of a read, and a buffer of one block for its bytes.
     ///
     /// # Errors
     ///
-    /// `Memory`.
+    /// `Memory`: nothing changes.
     pub fn room_for_read(&mut self) -> Result<Vec<u8>, JournalError>
         ensures length { IfOk result (λ bytes. length bytes.items ≡ self.old.layout.block_size) }
         ensures same { self.new ≡ self.old }
@@ -306,11 +299,11 @@ impl<R: Record> Front<R> {
         Ok(vec![in self.alloc; 0; self.layout.block_size]?)
     }
 
-    /// An open handle has read a block, and these are the bytes that it saw: its transaction has one step more.
+    /// Records that an open handle read these bytes of a block, as one more step of its transaction.
     ///
     /// # Errors
     ///
-    /// `Memory`: nothing changes. Behind `room_for_read` one step takes no memory.
+    /// `Memory`: nothing changes. After `room_for_read` one step takes no memory.
     pub fn note_read(
         &mut self,
         handle: &Handle,
@@ -329,7 +322,7 @@ impl<R: Record> Front<R> {
         Ok(())
     }
 
-    /// Whether an open handle may get n further credits.
+    /// Whether an open handle may get `n` further credits.
     fn admit_more(&self, handle: &Handle, n: u64) -> Result<(), JournalError>
         ensures ok { OnOk result (MayExtend self.now handle.now n) }
         ensures err { IfErr result (λ e. ExtendRefused self.now handle.now n e) }
@@ -347,7 +340,7 @@ impl<R: Record> Front<R> {
         }
     }
 
-    /// Gives an open handle n further credits, of those that no handle was made of.
+    /// Gives an open handle `n` further credits, of those in no handle.
     pub fn extend(&mut self, handle: &mut Handle, n: u64) -> Result<(), JournalError>
         ensures ok { OnOk result (FrontHappens self.old (ExtendHandle handle.old.number n) self.new) }
         ensures open { OnOk result (IsOpenHandle self.new handle.new) }
@@ -364,7 +357,7 @@ impl<R: Record> Front<R> {
         Ok(())
     }
 
-    /// Lets an open handle stop, which has so many credits left.
+    /// Stops an open handle, which has `left` unused credits.
     pub fn stop(&mut self, handle: HandleNo, left: u64)
         requires { lookup (nat_eq handle) self.old.open_handles ≡ Some left }
         ensures { FrontHappens self.old (StopHandle handle) self.new }
@@ -373,7 +366,7 @@ impl<R: Record> Front<R> {
         self.held -= left;
     }
 
-    /// The running transaction takes no further handles, where one has joined it.
+    /// Locks the running transaction if a handle has joined it: it takes no further handles.
     pub fn lock(&mut self)
         requires { self.old.aborted ≡ false }
         ensures joined { 0 < length self.old.running.handles → FrontHappens self.old Lock self.new }
@@ -396,7 +389,7 @@ impl<R: Record> Front<R> {
         self.running.is_joined()
     }
 
-    /// Whether a handle of the running transaction has not stopped.
+    /// Whether a handle is open.
     pub fn has_open_handles(&self) -> bool
         ensures some { IsTrue result ↔ (0 < length self.now.open_handles) }
         ensures none { result ≡ false → self.now.open_handles ≡ [] }
@@ -404,14 +397,14 @@ impl<R: Record> Front<R> {
         !self.open_handles.is_empty()
     }
 
-    /// The number of the running transaction.
+    /// The running transaction's number.
     pub fn tid(&self) -> Tid
         ensures { result ≡ self.now.running.tid }
     {
         self.running.tid()
     }
 
-    /// The number of the last transaction that callers are told is committed.
+    /// The number of the last transaction acknowledged as committed.
     pub fn mark(&self) -> Tid
         ensures { result ≡ self.now.mark }
     {
@@ -425,7 +418,7 @@ impl<R: Record> Front<R> {
         self.running.len()
     }
 
-    /// How many entries of the running transaction are copies, and how many are revokes.
+    /// How many of them are copies, and how many revokes.
     pub fn counts(&self) -> (usize, usize)
         ensures copies { result.0 ≡ length (copied (entries self.now.running.steps)) }
         ensures revokes { result.1 ≡ length (revoked (entries self.now.running.steps)) }
@@ -433,7 +426,7 @@ impl<R: Record> Front<R> {
         self.running.counts()
     }
 
-    /// The entries of the running transaction. It fails where memory runs out.
+    /// A copy of the running transaction's entries. It fails with `Memory` only.
     pub fn batch(&self) -> Result<Batch, JournalError>
         ensures ok { IfOk result (λ batch. batch ≡ batch_of self.now.running) }
         ensures err { IfErr result (λ e. e ≡ Memory) }
@@ -441,7 +434,7 @@ impl<R: Record> Front<R> {
         self.running.batch()
     }
 
-    /// The running transaction is sealed, and the next one begins. Its entries (`batch`) are to be handed to the engine first.
+    /// Seals the running transaction and begins the next. Hand the entries (`batch`) to the engine first.
     pub fn seal(&mut self)
         requires locked { self.old.locked ≡ true }
         requires number { self.old.running.tid ≤ greatest_number }
@@ -453,7 +446,7 @@ impl<R: Record> Front<R> {
         self.held = self.held.saturating_sub(entries);
     }
 
-    /// One more transaction is committed, by the engine. No caller is told yet.
+    /// Records that the engine has committed one more transaction. The mark does not rise yet.
     pub fn finish(&mut self)
         requires { self.old.finished + 1 < self.old.running.tid }
         ensures { self.new ≡ finishing self.old }
@@ -462,7 +455,7 @@ impl<R: Record> Front<R> {
         self.running.finish();
     }
 
-    /// Callers are told that the transactions up to this one are committed, which are finished. The mark never falls.
+    /// Acknowledges the transactions up to this one, which are finished. The mark never falls.
     pub fn raise(&mut self, tid: Tid)
         requires { tid ≤ self.old.finished }
         ensures { FrontHappens self.old (Raise tid) self.new }

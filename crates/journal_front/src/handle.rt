@@ -1,5 +1,5 @@
-//! What callers hold of a front: credits and handles. A front alone makes them (`Front::{reserve, join}`), and a front alone
-//! ends them: `Front::{take_back, join_with, give, stop_handle}`. Neither can be dropped, so none is forgotten.
+//! Credits and handles, which callers hold. Only a front makes them (`Front::{reserve, join}`) and ends them (`Front::{take_back,
+//! join_with, give, stop_handle}`). Neither can be dropped, so none is forgotten.
 ghost use Rattle.std.specs.Prelude.{◌≡◌, ◌⊎◌, ◌+◌, ◌<◌, ◌≤◌, IfErr, IfOk, OnOk};
 ghost use Rattle.journal_world.specs.Front.{FrontHappens, next_handle};
 ghost use Rattle.journal_world.specs.Front.FrontEvent.{ExtendHandle, GiveBack, Join, StopHandle};
@@ -11,9 +11,8 @@ use crate::record::Record;
 use journal_model::{HandleNo, JournalError, Tid};
 use std::marker::Model;
 
-/// Credits that were granted: the right of one handle to touch so many further blocks. They have to be given back to the journal
-/// that granted them, or used up by a handle that is made of them: a value of this type can't be dropped or copied. While they
-/// are held, others can have the fewer.
+/// Granted credits: each lets a handle touch one more block. They can't be dropped or copied: give them back to the journal that
+/// granted them, or use them in a handle. While they are held, others can have fewer.
 /// Source: journalling.rst (the credits of `journal_start`).
 #[derive(Debug)]
 pub struct Credits {
@@ -37,7 +36,7 @@ impl Credits {
         Credits { count }
     }
 
-    /// How many there are.
+    /// How many credits these are.
     pub fn count(&self) -> u64
         ensures { result ≡ self.now }
     {
@@ -45,9 +44,8 @@ impl Credits {
     }
 }
 
-/// A handle: it writes and revokes blocks as a part of one transaction, and all that it does is there after a stop, or
-/// nothing of it. It has to be stopped, after a device failure too: a value of this type can't be dropped or copied. Until it
-/// has stopped its transaction can't be committed.
+/// A handle: it writes and revokes blocks in one transaction, and after a crash all of its changes are there or none. It can't be
+/// dropped or copied: stop it, after a device failure too. Its transaction can't be committed before.
 /// Source: journalling.rst (`journal_start` and `journal_stop`).
 #[derive(Debug)]
 pub struct Handle {
@@ -74,14 +72,14 @@ impl Handle {
         Handle { number, tid, left }
     }
 
-    /// Its number. No other handle of the journal has it.
+    /// Its number, unique in the journal.
     pub fn number(&self) -> HandleNo
         ensures { result ≡ self.now.number }
     {
         self.number
     }
 
-    /// The number of its transaction.
+    /// Its transaction's number.
     pub fn tid(&self) -> Tid
         ensures { result ≡ self.now.tid }
     {
@@ -95,7 +93,7 @@ impl Handle {
         self.left
     }
 
-    /// Takes what a touch costs of its credits.
+    /// Pays for a touch with its credits.
     pub(crate) fn pay(&mut self, touch: Touch)
         requires { cost touch ≤ self.old.left }
         ensures { self.new ≡ record self.old { left = self.old.left - cost touch } }
@@ -103,7 +101,7 @@ impl Handle {
         self.left -= touch.cost();
     }
 
-    /// Has n further credits.
+    /// Adds `n` credits.
     pub(crate) fn extend(&mut self, n: u64)
         requires { self.old.left + n < 2 ^ 64 }
         ensures { self.new ≡ record self.old { left = self.old.left + n } }
@@ -113,7 +111,7 @@ impl Handle {
 }
 
 impl<R: Record> Front<R> {
-    /// Takes credits back, of those that no handle was made of. More than there are were not granted here: nothing changes.
+    /// Takes back credits that are in no handle. If there are fewer, they were not granted here, and nothing changes.
     pub fn take_back(&mut self, credits: Credits)
         ensures granted { credits ≤ self.old.reserved → FrontHappens self.old (GiveBack credits) self.new }
         ensures other { self.old.reserved < credits → self.new ≡ self.old }
@@ -122,11 +120,11 @@ impl<R: Record> Front<R> {
         self.give_back(count);
     }
 
-    /// Lets one more handle join, with these credits.
+    /// Makes one more handle, with these credits.
     ///
     /// # Errors
     ///
-    /// Those of `join`: the credits come back, and nothing else changes.
+    /// Those of `join`. The credits come back, and nothing else changes.
     pub fn join_with(&mut self, credits: Credits) -> Result<Handle, (Credits, JournalError)>
         ensures ok { IfOk result (λ handle. FrontHappens self.old (Join credits) self.new
             × (handle ≡ record { number = next_handle self.old; tid = self.old.running.tid; left = credits })) }
@@ -142,11 +140,11 @@ impl<R: Record> Front<R> {
         }
     }
 
-    /// Gives an open handle these credits.
+    /// Gives these credits to an open handle.
     ///
     /// # Errors
     ///
-    /// Those of `extend`: the credits come back, and nothing else changes.
+    /// Those of `extend`. The credits come back, and nothing else changes.
     pub fn give(
         &mut self,
         handle: &mut Handle,
@@ -166,7 +164,7 @@ impl<R: Record> Front<R> {
         }
     }
 
-    /// Ends a handle: its credits that are left come back. Where it is none of the open ones nothing changes.
+    /// Ends a handle and takes back its unused credits. A handle that is not open changes nothing.
     pub fn stop_handle(&mut self, handle: Handle)
         ensures stops { IsOpenHandle self.old handle → FrontHappens self.old (StopHandle handle.number) self.new }
         ensures other { (IsOpenHandle self.old handle → ⊥) → self.new ≡ self.old }

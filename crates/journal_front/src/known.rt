@@ -1,10 +1,10 @@
-//! A transaction as contracts know it.
+//! A transaction of which only contracts know the handles and steps.
 ghost use Rattle.std.specs.Prelude.{◌≡◌, ◌++◌, ◌∷◌, []};
 
 use journal_model::{HandleNo, History, Step, Tid};
 use std::marker::Model;
 
-/// A transaction of which contracts know its handles and its steps, and the program its number alone. It takes no memory.
+/// A transaction whose number is data, and whose handles and steps only contracts know. It takes no memory.
 #[derive(Drop)]
 pub struct KnownTransaction {
     tid: Tid,
@@ -21,7 +21,7 @@ impl Model for KnownTransaction {
 }
 
 impl KnownTransaction {
-    /// One of this number, without handles and steps.
+    /// A transaction of this number, without handles and steps.
     pub(crate) fn new(tid: Tid) -> Self
         ensures { result ≡ record { tid = tid; handles = []; steps = [] } }
     {
@@ -39,14 +39,14 @@ impl KnownTransaction {
         self.tid
     }
 
-    /// One more handle has joined it.
+    /// Adds a handle.
     pub(crate) fn join(&mut self, handle: HandleNo)
         ensures { self.new ≡ record self.old { handles = self.old.handles ++ handle ∷ [] } }
     {
         self.handles.push(&handle);
     }
 
-    /// It has one more step, which the caller keeps.
+    /// Adds a step, which the caller keeps.
     pub(crate) fn note(&mut self, step: &Step)
         ensures { self.new ≡ record self.old { steps = self.old.steps ++ step.now ∷ [] } }
     {

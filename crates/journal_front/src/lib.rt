@@ -1,13 +1,12 @@
-//! The front of a journal: the transaction that handles join, write to and revoke blocks in, and what is kept of those that
-//! are sealed. It knows no device and no engine: `group_commit` keeps a front beside an engine, and both agree.
+//! The front of a journal: the transaction that handles join, and the record of sealed ones. It knows no device and no engine;
+//! `group_commit` keeps it in agreement with an engine.
 //!
-//! Credits and handles are made, changed and ended by a front alone, and no other call makes one. So only who has the front can
-//! do so, or seal its transaction: it is to be kept where callers can't reach it, as `group_commit::Journal` keeps its own.
-//! How a front keeps its transactions is its owner's to choose (`record`): as data, or known to contracts alone.
+//! A front alone makes, changes and ends credits and handles. Its owner alone can do so, or seal its transaction, so keep it out of
+//! callers' reach, as `group_commit::Journal` does. The owner chooses whether sealed transactions are kept as data or known to
+//! contracts alone (`record`).
 //!
-//! A transaction (`transaction`) takes handles while it is running, and none once it is locked; the steps of those that it has may
-//! go on until it is sealed. Of each block that these touch it has what the last write or revoke leaves, in the order of the
-//! first touches.
+//! A transaction (`transaction`) takes handles until it is locked; their steps may go on until it is sealed. It has one entry for each
+//! block touched, left by the last write or revoke, in the order of the first touches.
 #![tactic(auto)]
 
 mod front;

@@ -1,4 +1,4 @@
-//! How a journal keeps its transactions: those that it has sealed, and the one that runs.
+//! How a journal records its transactions, sealed and running.
 ghost use Rattle.std.specs.Prelude.{◌≡◌, Bool, true, [], ◌∷◌, ◌++◌, IfErr, OnOk};
 ghost use Rattle.journal_model.specs.declared.refusal.JournalError.TheVariants.{Memory};
 ghost use Rattle.journal_model.specs.Transaction.{History as Transactions};
@@ -7,9 +7,9 @@ use crate::known::KnownTransaction;
 use journal_model::{History, JournalError, Sealed};
 use std::alloc::Global;
 
-/// How a journal keeps its transactions since the opening: as data for its caller, or for contracts alone.
+/// How a journal keeps its transactions since the opening: as data, or for contracts alone.
 pub trait Record: Drop {
-    /// Whether handles and steps are kept as data: of the sealed transactions, and of the running one.
+    /// Whether handles and steps are kept as data, of sealed and running transactions.
     const KEEPS: bool;
 
     ghost KEEPS: { Bool };
@@ -17,32 +17,32 @@ pub trait Record: Drop {
     /// The sealed transactions, in order.
     ghost transactions: { Self → Transactions };
 
-    /// One more can be noted without memory.
+    /// One more can be added without memory.
     ghost has_room: { Self → Type 0 };
 
-    /// None so far.
+    /// An empty record.
     fn new(alloc: Global) -> Self
         ensures { transactions result ≡ [] };
 
-    /// Makes room for one more.
+    /// Makes room for one more transaction.
     ///
     /// # Errors
     ///
-    /// `Memory`.
+    /// `Memory`: nothing changes.
     fn make_room(&mut self) -> Result<(), JournalError>
         ensures room { OnOk result (has_room self.new) }
         ensures same { transactions self.new ≡ transactions self.old }
         ensures kept { has_room self.old → has_room self.new }
         ensures err { IfErr result (λ e. e ≡ Memory) };
 
-    /// Notes one more: `known` is the transaction as contracts know it, and `kept` the same as data, where the record keeps that.
+    /// Adds a transaction: `known` is its value for contracts, and `kept` the same as data, if the record keeps data.
     fn note(&mut self, known: &KnownTransaction, kept: Sealed)
         requires room { has_room self.old }
         requires data { KEEPS ≡ true → kept ≡ known.now }
         ensures { transactions self.new ≡ transactions self.old ++ known.now ∷ [] };
 }
 
-/// The transactions are kept, with the bytes of each step: what a journal takes of memory grows with each.
+/// Keeps the transactions as data, with the bytes of each step: a journal's memory grows with each.
 impl Record for Vec<Sealed> {
     ghost use Rattle.std.specs.Prelude.{◌<◌, length, vec_capacity};
 
@@ -68,13 +68,13 @@ impl Record for Vec<Sealed> {
     }
 }
 
-/// The transactions that a journal has sealed since the opening, known to contracts alone: it takes no memory.
+/// A record known to contracts alone, which takes no memory.
 #[derive(Drop)]
 pub struct Unrecorded {
     transactions: History<KnownTransaction>,
 }
 
-/// A journal gives the memory of a transaction back, and the running one has of each block what its last write or revoke left.
+/// A sealed transaction's memory is freed; the running one keeps one entry for each block.
 impl Record for Unrecorded {
     ghost use Rattle.std.specs.Prelude.{⊤, false};
 

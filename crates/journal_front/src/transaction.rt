@@ -1,6 +1,6 @@
-//! A transaction until its seal: its number, the handles that joined it, their steps, and the entries of these. Beside them it has
-//! those of the transaction before it, while that is being committed. Handles and steps are data where its record keeps data, and
-//! else known to contracts alone.
+//! A transaction until its seal: its number, its handles, their steps, and the entries that these leave. It also keeps its
+//! predecessor's entries while that is being committed. Handles and steps are data if its record keeps data; else only contracts know
+//! them.
 ghost use Rattle.std.specs.Prelude.{◌≡◌, ◌+◌, ◌-◌, ◌<◌, ◌^◌, ◌++◌, ◌∷◌, ◌↔◌, [], true, false, IsTrue, length, nat_eq, vec_capacity, IfErr, IfOk, None, OnOk, Some};
 ghost use Rattle.std.specs.Map.{lookup};
 ghost use Rattle.std.specs.Option.{option_copied};
@@ -17,13 +17,13 @@ use journal_model::{
 use std::alloc::Global;
 use std::marker::{Model, PhantomData};
 
-/// What a touch of a block, which is a write or a revoke of it, is to its transaction.
+/// Whether a write or revoke of a block is its first touch in the transaction.
 /// Source: journalling.rst (the credits of `journal_start`).
 #[derive(Clone, Copy, Debug, PartialEq, Eq)]
 pub enum Touch {
-    /// The first touch of the block: it adds an entry, and costs the handle that makes it a credit.
+    /// The first touch of the block: it adds an entry, and costs its handle one credit.
     First,
-    /// A later one: it changes the block's entry in its place, and costs nothing, whichever handle makes it.
+    /// A later touch, by any handle: it changes the block's entry in place, and costs nothing.
     Later,
 }
 
@@ -39,26 +39,22 @@ impl Touch {
     }
 }
 
-/// A transaction that is not sealed. It is running, until it is locked.
+/// A transaction that is not sealed; it runs until it is locked.
 ///
-/// A call that is refused changes nothing. Where a step has to be ready together with something else, make room first: after
-/// `reserve` one `note` takes no memory.
+/// A refused call changes nothing. After `reserve`, one `note` takes no memory.
 ///
-/// Where `R` keeps no data, it holds of each block that it touches one copy, and none of the steps: a later write of a block drops
-/// the bytes of the earlier one.
+/// If `R` keeps no data, it holds one copy for each block that it touches and none of the steps: a later write drops the earlier bytes.
 #[derive(Drop)]
 pub struct Transaction<R: Record> {
     alloc: Global,
     /// Its number, and what contracts know of its handles and steps.
     known: KnownTransaction,
-    /// Its handles as data, in the order in which they joined, where the record keeps data; else none.
+    /// Its handles in the order of their joins, if the record keeps data; else none.
     handles: Items<HandleNo>,
-    /// Its steps as data, in the order in which they were made, where the record keeps data; else none.
+    /// Its steps in order, if the record keeps data; else none.
     steps: Vec<Step>,
-    /// A handle has joined it.
     joined: bool,
-    /// What the steps leave of each block that they touch, in the order of the first touches, and what the transaction before left
-    /// while it is being committed.
+    /// The entries of its steps in the order of first touches, and its predecessor's entries while that is being committed.
     versions: VersionCache,
     /// It takes no further handles.
     locked: bool,
@@ -79,7 +75,7 @@ impl<R: Record> Model for Transaction<R> {
     ghost invariant = { KeepsTransaction R.KEEPS };
 }
 
-/// Makes room for one more step, where the record keeps data.
+/// Makes room for one more step, if the record keeps data.
 ///
 /// # Errors
 ///
@@ -96,7 +92,7 @@ fn room_for_step<R: Record>(steps: &mut Vec<Step>) -> Result<(), JournalError>
     Ok(())
 }
 
-/// Keeps a step, for which there is room, where the record keeps data. Else it is dropped.
+/// Keeps a step, for which there is room, if the record keeps data; else drops it.
 fn keep_step<R: Record>(steps: &mut Vec<Step>, step: Step)
     requires { R.KEEPS ≡ true → length steps.old.items < vec_capacity steps.old }
     ensures kept { R.KEEPS ≡ true → steps.new.items ≡ steps.old.items ++ step ∷ [] }
@@ -108,8 +104,7 @@ fn keep_step<R: Record>(steps: &mut Vec<Step>, step: Step)
 }
 
 impl<R: Record> Transaction<R> {
-    /// A running transaction of this number, which no handle has joined, with none before it that is being committed. It takes no
-    /// memory.
+    /// A running transaction of this number, without handles or a predecessor being committed. It takes no memory.
     pub fn new(alloc: Global, tid: Tid) -> Self
         ensures { result ≡ begun tid [] }
     {
@@ -147,14 +142,14 @@ impl<R: Record> Transaction<R> {
         self.locked
     }
 
-    /// How many blocks its steps touch: the credits that were paid for them.
+    /// How many blocks its steps touch, which is how many credits were paid for them.
     pub fn len(&self) -> usize
         ensures { result ≡ length (entries self.now.transaction.steps) }
     {
         self.versions.running().len()
     }
 
-    /// How many of its entries are copies, and how many are revokes. It looks at each of them.
+    /// How many of its entries are copies, and how many revokes. It visits each entry.
     pub fn counts(&self) -> (usize, usize)
         ensures copies { result.0 ≡ length (copied (entries self.now.transaction.steps)) }
         ensures revokes { result.1 ≡ length (revoked (entries self.now.transaction.steps)) }
@@ -170,21 +165,21 @@ impl<R: Record> Transaction<R> {
         (copies, all - copies)
     }
 
-    /// The entry of a block: what the last write or revoke of it leaves, or nothing where no step touches it.
+    /// The block's entry, which its last write or revoke leaves, or none if no step touches it.
     pub fn get(&self, block: BlockNo) -> Option<&Entry>
         ensures { option_copied result ≡ effect block self.now.transaction.steps }
     {
         self.versions.running().get(&block)
     }
 
-    /// The newer entry of a block: its own, or else that of the transaction before it, while that is being committed.
+    /// The newer entry of a block: its own, else its predecessor's while that is being committed.
     pub fn newest(&self, block: BlockNo) -> Option<&Entry>
         ensures { option_copied result ≡ later (lookup (nat_eq block) self.now.committing) (effect block self.now.transaction.steps) }
     {
         self.versions.get(block)
     }
 
-    /// What a touch of the block would be.
+    /// Whether a touch of the block would be its first.
     pub fn touch(&self, block: BlockNo) -> Touch
         ensures { result ≡ touch_of (effect block self.now.transaction.steps) }
     {
@@ -194,7 +189,7 @@ impl<R: Record> Transaction<R> {
         }
     }
 
-    /// One more handle joins. The caller's condition: the transaction is running.
+    /// Adds a handle. The transaction must not be locked.
     ///
     /// # Errors
     ///
@@ -212,7 +207,7 @@ impl<R: Record> Transaction<R> {
         Ok(())
     }
 
-    /// From now on it takes no further handles, where one has joined it; else nothing changes.
+    /// Locks it if a handle has joined it: it takes no further ones.
     /// Source: fs/jbd2/commit.c (T_LOCKED).
     pub fn lock(&mut self)
         ensures joined { 0 < length self.old.transaction.handles → self.new ≡ locking self.old }
@@ -223,11 +218,11 @@ impl<R: Record> Transaction<R> {
         }
     }
 
-    /// Makes room for one more step that touches no block, which `note` makes.
+    /// Makes room for one `note`.
     ///
     /// # Errors
     ///
-    /// `Memory`: nothing has changed.
+    /// `Memory`: nothing changes.
     pub fn reserve(&mut self) -> Result<(), JournalError>
         ensures ok { OnOk result (self.new ≡ reserving self.old) }
         ensures err { IfErr result (λ e. (e ≡ Memory) × (self.new ≡ self.old)) }
@@ -237,7 +232,7 @@ impl<R: Record> Transaction<R> {
         Ok(())
     }
 
-    /// Makes a step that touches no block, as a read, for which there is room. It takes no memory.
+    /// Adds a step that touches no block, such as a read; `reserve` made room for it.
     pub fn note(&mut self, step: Step)
         requires room { self.old.reserved ≡ true }
         requires untouched { entry_of step.op ≡ None }
@@ -248,12 +243,12 @@ impl<R: Record> Transaction<R> {
         keep_step::<R>(&mut self.steps, step);
     }
 
-    /// Makes a step, which leaves this of its block. Whether the touch is paid for is the caller's to see. The list of steps, if it
-    /// is kept, grows first, so that nothing changes where the entry has no room.
+    /// Adds a step, which leaves this entry of its block. The caller has checked that the touch is paid for. The list of steps grows
+    /// first, so that nothing changes if the entry has no room.
     ///
     /// # Errors
     ///
-    /// `Memory`: nothing has changed.
+    /// `Memory`: nothing changes.
     fn note_touch(&mut self, step: Step, entry: Entry) -> Result<(), JournalError>
         requires { entry_of step.op ≡ Some entry }
         ensures ok { OnOk result (self.new ≡ noting self.old step) }
@@ -267,7 +262,7 @@ impl<R: Record> Transaction<R> {
         Ok(())
     }
 
-    /// Whether a handle with so many credits left may touch the block, and what that touch is.
+    /// Which touch of the block this would be, if a handle with `left` credits may make it.
     fn paid_touch(&self, left: u64, block: BlockNo) -> Result<Touch, JournalError>
         ensures ok { IfOk result (λ touch. MayTouch self.now left block touch) }
         ensures err { IfErr result (λ e. LacksCredit self.now left block e) }
@@ -279,12 +274,11 @@ impl<R: Record> Transaction<R> {
         Ok(touch)
     }
 
-    /// A handle with `left` credits writes these bytes, one block of them, to the block. It answers what the touch is, and so
-    /// what it costs the handle.
+    /// Writes one block for a handle with `left` credits. It answers which touch this is, and so its cost.
     ///
     /// # Errors
     ///
-    /// Nothing has changed. `NoCredit` at a first touch by a handle without a credit left; else `Memory`.
+    /// Nothing changes. `NoCredit` at a first touch without a credit; else `Memory`.
     /// Source: journalling.rst (`journal_get_write_access`, `journal_dirty_metadata`).
     pub fn touch_write(
         &mut self,
@@ -303,12 +297,12 @@ impl<R: Record> Transaction<R> {
         Ok(touch)
     }
 
-    /// A handle with `left` credits revokes the block: no older copy of it is to be replayed. It answers what the touch is,
-    /// and so what it costs the handle. Where the block's entry is a revoke already, no entry changes.
+    /// Revokes a block for a handle with `left` credits: no older copy of it is to be replayed. It answers which touch this is, and so
+    /// its cost. If the block's entry is a revoke already, no entry changes.
     ///
     /// # Errors
     ///
-    /// Nothing has changed. `NoCredit` at a first touch by a handle without a credit left; else `Memory`.
+    /// Those of `touch_write`; nothing changes.
     /// Source: journalling.rst (`journal_revoke`), fs/jbd2/revoke.c by behaviour.
     pub fn touch_revoke(
         &mut self,
@@ -325,8 +319,8 @@ impl<R: Record> Transaction<R> {
         Ok(touch)
     }
 
-    /// A copy of its entries, as the batch that is written to the log. The transaction stays as it is, so that the batch may
-    /// still be refused. Room for all of them is made at once, so that it makes one request for memory however many they are.
+    /// A copy of its entries, as the batch to write to the log. The transaction stays, so that the batch may still be refused. One
+    /// request makes room for the list of all entries.
     ///
     /// # Errors
     ///
@@ -347,9 +341,9 @@ impl<R: Record> Transaction<R> {
         })
     }
 
-    /// It is sealed: the record `into` notes it, and the next one begins in its place, beside which its entries stay while it is being
-    /// committed: none of them is moved or copied. The caller's conditions: it is locked, there is a next number, the one before
-    /// it is finished, and the record has room for one more. It takes no memory, and can't be refused.
+    /// Seals it: the record `into` gets it, and the next transaction begins in its place, with these entries as its predecessor's; none
+    /// is moved or copied. It must be locked, there must be a next number, its predecessor must be finished, and the record must have
+    /// room. It takes no memory and can't be refused.
     pub fn seal(&mut self, into: &mut R)
         requires locked { self.old.locked ≡ true }
         requires number { self.old.transaction.tid < 2 ^ 32 - 1 }
@@ -377,7 +371,7 @@ impl<R: Record> Transaction<R> {
         );
     }
 
-    /// The transaction before it is finished: its entries are dropped.
+    /// Drops its predecessor's entries, as that is finished.
     pub fn finish(&mut self)
         ensures { self.new ≡ finishing self.old }
     {

@@ -1,4 +1,4 @@
--- What a front keeps of its handles, kept by each of its steps, by a read that is noted, and by a seal.
+-- Each step of a front, a noted read and a seal keep the facts about its handles.
 use Rattle.std.proofs.Common.{arith, sym, ap, subst, ◌∙◌}
 use Rattle.std.specs.Prelude.{◌≡◌, ℕ, zero, suc, ◌+◌, ◌≤◌, nat_eq, Bool, false, List, [], ◌∷◌, ◌++◌, map, Contains}
 use Rattle.std.specs.List.{AllByRecursion, IsDistinct, list_any}
@@ -18,14 +18,14 @@ use Rattle.journal_world.proofs.OpenHandles.{all-changed, all-without, distinct-
 use Rattle.journal_model.specs.Layout.{Layout}
 use Rattle.journal_steps.specs.Handles.{KeepsHandles}
 
--- the first so many numbers
+-- the first n numbers are at most n
 numbers-least : (n : ℕ) → AllByRecursion (λ h. h ≤ n) (handle_numbers n)
 numbers-least zero = tt
 numbers-least (suc n) =
     each-append (λ h. h ≤ suc n) (handle_numbers n) (suc n ∷ [])
     (all-weaker (λ h. h ≤ n) (λ h. h ≤ suc n) (λ h low. omega arith) (handle_numbers n) (numbers-least n)) (omega arith, tt)
 
--- so none of the handles has a number that is still to be given
+-- so no handle has a number that is still to be given
 pub has-handles : (f : Front) → KeepsHandles f → HasHandles f.given (f.sealed ++ f.running ∷ [])
 has-handles f kept = record { each = kept.each; all = kept.all; least = subst (AllByRecursion (λ h. h ≤ f.given)) (sym kept.all) (numbers-least f.given) }
 
@@ -35,7 +35,7 @@ running-least f kept h joined =
     All-contains (λ n. n ≤ f.given) (handles_of (f.sealed ++ f.running ∷ [])) h (All-from_recursion _ (handles_of (f.sealed ++ f.running ∷ [])) (has-handles f kept).least)
     (subst (λ (hs : List ℕ). Contains hs h) (sym (handles-last f.sealed f.running)) (Contains-append_right (handles_of f.sealed) f.running.handles h joined))
 
--- the next number is that of no open handle
+-- the next number is no open handle's
 next-fresh : (f : Front) → KeepsHandles f → list_any (nat_eq (next_handle f)) (map (λ h. h.0) f.open_handles) ≡ false
 next-fresh f kept = none-passes (nat_eq (f.given + 1)) (map (λ h. h.0) f.open_handles) (apart f.open_handles kept.joined)
   where
@@ -44,11 +44,11 @@ next-fresh f kept = none-passes (nat_eq (f.given + 1)) (map (λ h. h.0) f.open_h
     apart [] all = tt
     apart (h ∷ rest) all = let low : h.0 ≤ f.given = running-least f kept h.0 all.0 in (grind (arith, nat_tests, low), apart rest all.1)
 
--- what is finished, what is told and whether the device has failed do not matter
+-- `finished`, `mark` and `aborted` do not matter
 pub kept-beside : (f : Front) (finished mark : ℕ) (aborted : Bool) → KeepsHandles f → KeepsHandles (record f { finished = finished; mark = mark; aborted = aborted })
 kept-beside f finished mark aborted kept = record { each = kept.each; all = kept.all; joined = kept.joined; once = kept.once }
 
--- a handle joins
+-- a join keeps them
 join-kept : (f : Front) (n : ℕ) → KeepsHandles f → KeepsHandles (joining f n)
 join-kept f n kept =
     let number : ℕ × ℕ → ℕ = λ h. h.0 in
@@ -66,7 +66,7 @@ join-kept f n kept =
           (IsDistinct-push nat_eq_equiv (map number f.open_handles) (next_handle f) kept.once (next-fresh f kept));
     }
 
--- an open handle gets further credits
+-- an extension keeps them
 extend-kept : (f : Front) (h n : ℕ) (handle : IsOpen f h) → KeepsHandles f → KeepsHandles (extending f h n handle)
 extend-kept f h n handle kept = record {
   each = kept.each;
@@ -79,18 +79,18 @@ extend-kept f h n handle kept = record {
       kept.once;
 }
 
--- an open handle is one of those that joined
+-- an open handle has joined
 own-handle : (handles : List ℕ) (h left : ℕ) (before behind : List (ℕ × ℕ)) →
     AllByRecursion (λ o. Contains handles o.0) (before ++ (h, left) ∷ behind) → Contains handles h
 own-handle handles h left [] behind all = all.0
 own-handle handles h left (o ∷ before) behind all = own-handle handles h left before behind all.1
 
--- so is one of which a look-up finds the credits
+-- so has a handle whose credits a look-up finds
 pub is-own : (f : Front) (h : ℕ) → IsOpen f h → KeepsHandles f → Contains f.running.handles h
 is-own f h handle kept =
     own-handle f.running.handles h handle.left handle.before handle.behind (subst (AllByRecursion (λ o. Contains f.running.handles o.0)) handle.stands kept.joined)
 
--- an open handle touches a block
+-- a touch keeps them
 touch-kept : (f : Front) (h b : ℕ) (op : Op) (handle : IsOpen f h) → KeepsHandles f → KeepsHandles (touching f h b op handle)
 touch-kept f h b op handle kept =
     let has = handles-step f.given f.sealed f.running (record { handle = h; block = b; op = op }) (is-own f h handle kept) (has-handles f kept) in
@@ -105,13 +105,13 @@ touch-kept f h b op handle kept =
           kept.once;
     }
 
--- an open handle reads a block
+-- a read keeps them
 pub read-kept : (f : Front) (h b : ℕ) (v : List ℕ) → IsOpen f h → KeepsHandles f → KeepsHandles (reading_block f h b v)
 read-kept f h b v handle kept =
     let has = handles-step f.given f.sealed f.running (read_step h b v) (is-own f h handle kept) (has-handles f kept) in
     record { each = has.each; all = has.all; joined = kept.joined; once = kept.once }
 
--- an open handle stops
+-- a stop keeps them
 stop-kept : (f : Front) (h : ℕ) (handle : IsOpen f h) → KeepsHandles f → KeepsHandles (stopping f h handle)
 stop-kept f h handle kept = record {
   each = kept.each;
@@ -124,7 +124,7 @@ stop-kept f h handle kept = record {
       (subst (λ (hs : List (ℕ × ℕ)). IsDistinct nat_eq (map (λ o. o.0) hs)) handle.stands kept.once);
 }
 
--- a seal, where none is open
+-- a seal without open handles keeps them
 pub seal-kept : (f : Front) → f.open_handles ≡ [] → KeepsHandles f → KeepsHandles (sealing f)
 seal-kept f none kept =
     let has = handles-begin f.given (f.sealed ++ f.running ∷ []) (suc f.running.tid) (has-handles f kept) in
@@ -135,13 +135,13 @@ seal-kept f none kept =
       once = kept.once;
     }
 
--- a front that was just made
+-- a new front has them
 pub fresh-kept : (layout : Layout) (home_blocks capacity first : ℕ) → KeepsHandles (fresh_front layout home_blocks capacity first)
 fresh-kept layout home_blocks capacity first =
     let has = handles-empty first in
     record { each = has.each; all = has.all; joined = tt; once = unfold IsDistinct in tt }
 
--- each step of the front alone
+-- each step of the front alone keeps them
 pub step-kept : (f front : Front) (event : FrontEvent) → FrontHappens f event front → KeepsHandles f → KeepsHandles front
 step-kept f front event step kept = by event step
   where

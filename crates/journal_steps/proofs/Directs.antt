@@ -1,4 +1,4 @@
--- Direct writes of a journal: the right to them by front and engine, and both agree behind a direct call.
+-- Direct writes of a journal: the right to them, and that front and engine agree after a direct call.
 use Rattle.std.proofs.Common.{inl, refl, sym, ap, ap₂, subst, ◌∙◌}
 use Rattle.std.specs.Prelude.{◌≡◌, Bool, ℕ, true, false, List, [], ◌∷◌, ◌++◌, length, drop, Option, Some, None}
 use Rattle.std.proofs.Math.Seq.{drop-append_seam, take-append_seam}
@@ -32,17 +32,17 @@ use Rattle.journal_steps.proofs.Rounding.{told-again}
 use Rattle.journal_steps.proofs.Sealing.{agrees-told, allowed-here}
 use Rattle.journal_steps.proofs.Turning.{opens-now}
 
--- where transactions and one more have no effect, the first have none
+-- if transactions and one more have no effect, the first have none
 first-none : (x y : Option Entry) → later x y ≡ None → x ≡ None
 first-none x None none = none
 first-none x (Some e) none = absurd (none-some e (sym none))
 
 module _ (j : Journal) (agrees : Agrees j) (plain : IsPlain j.engine) (b : ℕ) where
-  -- a block that neither front nor engine has an entry of has the right to be written
+  -- a block may be written directly if neither front nor engine has an entry of it
   pub right-from : IsUntouched j.front b → IsLeftToHome j.engine b → MayWriteDirectly j b
   right-from untouched left = front-right j.front j.engine b agrees.batches (few j agrees plain) untouched left
 
-  -- the engine's transactions that are not committed are among the front's that are not finished
+  -- the engine's uncommitted transactions are among the front's unfinished ones
   untouched-below : IsUntouched j.front b → last_effect b (drop j.engine.committed j.front.sealed) ≡ None
   untouched-below untouched =
       let c = j.engine.committed in
@@ -57,7 +57,7 @@ module _ (j : Journal) (agrees : Agrees j) (plain : IsPlain j.engine) (b : ℕ) 
       first-none (last_effect b (drop c j.front.sealed)) (effect b j.front.running.steps)
       (sym both ∙ ap (last_effect b) (sym behind) ∙ ap (last_effect b) (sym count) ∙ untouched)
 
-  -- and one that has the right is left to home by both
+  -- a block that may be written directly has no entry in front or engine
   pub right-gives : MayWriteDirectly j b → IsUntouched j.front b × IsLeftToHome j.engine b
   right-gives right = (
     right.untouched,
@@ -80,7 +80,7 @@ each-direct j b v before after agrees each =
     written : (disk : Disk) → WriteMoment j.engine b v before.disk disk → IsDuringDirectWrite j b v before.disk disk
     written disk during = record { home = during.home; opens = opens-now j disk agrees during.opens }
 
--- and each of its flush of home
+-- so is each moment of its flush of home
 pub each-sync : (j : Journal) (before after : DeviceState) → Agrees j → EachMoment (SyncMoment j.engine before.disk) before after →
     EachMoment (IsDuringDirectSync j before.disk) before after
 each-sync j before after agrees each =
@@ -90,12 +90,12 @@ each-sync j before after agrees each =
     flushed : (disk : Disk) → SyncMoment j.engine before.disk disk → IsDuringDirectSync j before.disk disk
     flushed disk during = record { home = during.home; opens = opens-now j disk agrees during.opens }
 
--- front and engine agree behind a direct call that succeeded, which changes neither
+-- a successful direct call changes neither front nor engine, which agree
 pub agrees-direct : (f : Front) (old new : Engine) (disk after : Disk) (call : Call) → Agrees (record { front = f; engine = old }) →
     DirectSteps old disk call new after → Agrees (record { front = f; engine = new })
 agrees-direct f old new disk after call agrees step = subst (λ (e : Engine). Agrees (record { front = f; engine = e })) (sym step.engine) agrees
 
--- and behind one that failed, once the front is told
+-- they agree after a failed one, once the front is told
 pub agrees-direct_fault : (f front : Front) (old new : Engine) (disk after : Disk) (call : Call) → Agrees (record { front = f; engine = old }) →
     front ≡ aborting f → DirectFaults old disk call new after → Agrees (record { front = front; engine = new })
 agrees-direct_fault f front old new disk after call agrees told fault =
@@ -103,31 +103,31 @@ agrees-direct_fault f front old new disk after call agrees told fault =
     (subst (λ (e : Engine). Agrees (record { front = aborting f; engine = e })) (sym fault.engine)
     (agrees-told f old (record old { aborted = true }) agrees (record { shape = refl; layout = refl; accepted = refl; first = refl; ring = refl }) true refl refl))
 
--- where a direct write is refused before its call, the disk is as in one
+-- a direct write refused before its call leaves the disk as in one
 pub during-unwritten : (j : Journal) (b : ℕ) (v : List ℕ) (disk : Disk) → OpensNow j disk → IsDuringDirectWrite j b v disk disk
 during-unwritten j b v disk opens = record {
   home = record { adds = λ ts are. record { reads = λ c. inl refl; left = λ c w one. inl one } };
   opens = opens;
 }
 
--- a front that is told what it knows is as it was
+-- a front told what it knows stays as it was
 told-same : (f : Front) (aborted : Bool) → aborted ≡ f.aborted → record f { aborted = aborted } ≡ f
 told-same f aborted same = ap (λ (a : Bool). record f { aborted = a }) same
 
--- where the engine is as it was, so is the front that is told what the engine knows
+-- so it does if it is told what an unchanged engine knows
 told-unchanged : {D : Type 0} (f front : Front) (old new : EngineValue D) → Agrees (record { front = f; engine = old.engine }) →
     front ≡ record f { aborted = new.engine.aborted } → new ≡ old → front ≡ f
 told-unchanged {D} f front old new agrees told unchanged =
     told ∙ told-same f new.engine.aborted (ap (λ (x : EngineValue D). x.engine.aborted) unchanged ∙ sym agrees.aborted)
 
--- so they agree
+-- then they agree
 agrees-unchanged : {D : Type 0} (f front : Front) (old new : EngineValue D) → Agrees (record { front = f; engine = old.engine }) →
     front ≡ record f { aborted = new.engine.aborted } → new ≡ old → Agrees (record { front = front; engine = new.engine })
 agrees-unchanged {D} f front old new agrees told unchanged =
     subst (λ (x : Front). Agrees (record { front = x; engine = new.engine })) (sym (told-unchanged f front old new agrees told unchanged))
     (subst (λ (x : EngineValue D). Agrees (record { front = f; engine = x.engine })) (sym unchanged) agrees)
 
--- front and engine agree behind a direct write that was refused, once the front is told what the engine knows
+-- they agree after a refused direct write, once the front is told what the engine knows
 pub agrees-unwritten : {D : Type 0} (state : D → DeviceState) (f front : Front) (old new : EngineValue D) (b : ℕ) (v : List ℕ) (e : JournalError) →
     Agrees (record { front = f; engine = old.engine }) → front ≡ record f { aborted = new.engine.aborted } → EngineWriteRefused state old b v new e →
     Agrees (record { front = front; engine = new.engine })
@@ -137,7 +137,7 @@ agrees-unwritten state f front old new b v e agrees told (EngineHasEntries on ma
 agrees-unwritten state f front old new b v e agrees told (FailedEngine fault counted) =
     agrees-direct_fault f front old.engine new.engine _ _ _ agrees (told ∙ ap (λ (x : Engine). record f { aborted = x.aborted }) fault.engine) fault
 
--- the engine refuses a direct write of a block that no transaction of the front has an entry of for what the journal does
+-- if the front has no entry of the block, the engine's refusal of a direct write is the journal's
 pub refused-direct : {D : Type 0} (state : D → DeviceState) (f front : Front) (old new : EngineValue D) (b : ℕ) (v : List ℕ) (e : JournalError) →
     Agrees (record { front = f; engine = old.engine }) → IsPlain old.engine → old.engine.aborted ≡ false → MayTouch f b → IsUntouched f b →
     front ≡ record f { aborted = new.engine.aborted } → EngineWriteRefused state old b v new e →
@@ -159,7 +159,7 @@ refused-direct state f front old new b v e agrees plain running may untouched to
     })
     counted
 
--- and a flush of home for what the journal does
+-- after a refused flush of home, front and engine agree once the front is told
 pub agrees-unsynced : {D : Type 0} (state : D → DeviceState) (f front : Front) (old new : EngineValue D) (e : JournalError) →
     Agrees (record { front = f; engine = old.engine }) → front ≡ aborting f → EngineSyncRefused state old new e →
     Agrees (record { front = front; engine = new.engine })

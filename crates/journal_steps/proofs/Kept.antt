@@ -1,4 +1,4 @@
--- A front and an engine that agree do so after each call of the front, whatever it answers.
+-- A front and an engine agree after each call of the front, whatever it answers.
 use Rattle.std.proofs.Common.{arith, sym, subst, ⊎_elim}
 use Rattle.std.specs.Prelude.{◌≡◌, ◌⊎◌, ℕ, ◌<◌, ◌≤◌, Result, Ok, Err, IfErr, IfOk, OnOk, List, length}
 use Rattle.std.proofs.lemmas.Bool.Decides.{leb_tells}
@@ -9,7 +9,7 @@ use Rattle.journal_steps.specs.Journal.{Agrees}
 use Rattle.journal_steps.proofs.Sealing.{IsTouch, agrees-revoked, agrees-untouched, agrees-written}
 
 module _ (f front : Front) (e : Engine) (agrees : Agrees (record { front = f; engine = e })) where
-  -- where the front is as it was
+  -- if the front is as it was
   pub kept-same : front ≡ f → Agrees (record { front = front; engine = e })
   kept-same same = subst (λ (x : Front). Agrees (record { front = x; engine = e })) (sym same) agrees
 
@@ -17,13 +17,13 @@ module _ (f front : Front) (e : Engine) (agrees : Agrees (record { front = f; en
   pub kept-step : (event : FrontEvent) → (IsTouch event → ⊥) → FrontHappens f event front → Agrees (record { front = front; engine = e })
   kept-step event other step = agrees-untouched f front e event other step agrees
 
-  -- after credits that are granted, or not
+  -- after a reserve, granted or not
   pub kept-reserve : {A R : Type 0} (Says : A → Type 0) (Why : R → Type 0) (r : Result A R) (n : ℕ) → IfOk r (λ a. Says a × FrontHappens f (Reserve n) front) →
       IfErr r (λ x. Why x × (front ≡ f)) → Agrees (record { front = front; engine = e })
   kept-reserve Says Why (Ok a) n ok err = kept-step (Reserve n) (λ touch. touch) ok.1
   kept-reserve Says Why (Err x) n ok err = kept-same err.1
 
-  -- after credits that come back, or are not held
+  -- after credits come back, held or not
   pub kept-give_back : (n : ℕ) → (n ≤ f.reserved → FrontHappens f (GiveBack n) front) → (f.reserved < n → front ≡ f) → Agrees (record { front = front; engine = e })
   kept-give_back n gives other =
       ⊎_elim
@@ -31,23 +31,23 @@ module _ (f front : Front) (e : Engine) (agrees : Agrees (record { front = f; en
       (λ (more : _ × (f.reserved < n)). kept-same (other more.1))
       (leb_tells n f.reserved)
 
-  -- after a handle that joins, or does not
+  -- after a join, accepted or not
   pub kept-join : {A R : Type 0} (Says : A → Type 0) (Why : R → Type 0) (r : Result A R) (n : ℕ) → IfOk r (λ a. FrontHappens f (Join n) front × Says a) →
       IfErr r (λ x. Why x × (front ≡ f)) → Agrees (record { front = front; engine = e })
   kept-join Says Why (Ok a) n ok err = kept-step (Join n) (λ touch. touch) ok.0
   kept-join Says Why (Err x) n ok err = kept-same err.1
 
-  -- the same, where the credits come back
+  -- so too if the credits come back
   pub kept-join_with : {A R : Type 0} (Says : A → Type 0) (Back Why : R → Type 0) (r : Result A R) (n : ℕ) → IfOk r (λ a. FrontHappens f (Join n) front × Says a) →
       IfErr r (λ x. Back x × Why x × (front ≡ f)) → Agrees (record { front = front; engine = e })
   kept-join_with Says Back Why (Ok a) n ok err = kept-step (Join n) (λ touch. touch) ok.0
   kept-join_with Says Back Why (Err x) n ok err = kept-same err.2
 
-  -- after a handle that stops, or is none of the open ones
+  -- after a stop, of an open handle or not
   pub kept-stop : (h : ℕ) → (FrontHappens f (StopHandle h) front ⊎ (front ≡ f)) → Agrees (record { front = front; engine = e })
   kept-stop h = ⊎_elim (λ stops. kept-step (StopHandle h) (λ touch. touch) stops) kept-same
 
-  -- after a lock, which a transaction without handles does not take
+  -- after a lock, with or without handles
   pub kept-lock : (0 < length f.running.handles → FrontHappens f Lock front) → (length f.running.handles ≡ 0 → front ≡ f) → Agrees (record { front = front; engine = e })
   kept-lock locks empty =
       ⊎_elim

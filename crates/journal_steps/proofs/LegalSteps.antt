@@ -34,16 +34,16 @@ use Rattle.journal_world.proofs.Legal.{legal-begin, legal-empty, legal-less, leg
 abbrev IsLegalFront : Front → Type 0
 IsLegalFront f = IsLegal (transactions f)
 
--- a front of which no step is made yet
+-- a front without steps is legal
 pub legal-fresh : (f : Front) (n : ℕ) → f.sealed ≡ [] → f.running.steps ≡ [] → IsLegal (transactions f)
 legal-fresh f n none empty =
     subst (λ ts. IsLegal (ts ++ f.running ∷ [])) (sym none) (legal-same [] (record { tid = n; handles = []; steps = [] }) f.running empty (legal-empty n))
 
--- what is sealed, of all transactions
+-- a legal record's sealed part is legal
 pub legal-sealed : (f : Front) → IsLegal (transactions f) → IsLegal f.sealed
 legal-sealed f legal = legal-less f.sealed f.running legal
 
--- a step of the front alone
+-- a step of the front alone leaves it legal
 pub legal-front : (old : Front) (event : FrontEvent) (new : Front) → FrontHappens old event new → IsLegal (transactions old) → IsLegal (transactions new)
 legal-front old (Reserve n) new step legal = subst IsLegalFront (sym step.after) legal
 legal-front old (RefuseReserve n) new step legal = subst IsLegalFront (sym step.after) legal
@@ -63,7 +63,7 @@ legal-front old (StopHandle h) new step legal = subst IsLegalFront (sym step.aft
 legal-front old Lock new step legal = subst IsLegalFront (sym step.after) legal
 legal-front old (Raise t) new step legal = subst IsLegalFront (sym step.after) legal
 
--- a step of the journal
+-- so does a step of the journal
 pub legal-happens : (old : Journal) (disk : Disk) (event : Event) (new : Journal) (after : Disk) → Happens old disk event new after →
     IsLegal (transactions old.front) → IsLegal (transactions new.front)
 legal-happens old disk (FrontStep event) new after step legal = legal-front old.front event new.front step.front legal
@@ -84,7 +84,7 @@ legal-happens old disk DirectSyncFault new after step legal = subst IsLegalFront
 legal-happens old disk Finish new after step legal = subst IsLegalFront (sym step.front) legal
 legal-happens old disk AbortMark new after step legal = subst IsLegalFront (sym step.front) legal
 
--- calls of the front, whatever they answer
+-- calls of the front leave it legal, whatever they answer
 module _ (f front : Front) (legal : IsLegal (transactions f)) where
   pub kept_legal-same : front ≡ f → IsLegal (transactions front)
   kept_legal-same same = subst IsLegalFront (sym same) legal
@@ -119,13 +119,13 @@ module _ (f front : Front) (legal : IsLegal (transactions f)) where
       (λ (some : _ × (0 < length f.running.handles)). kept_legal-step Lock (locks some.1))
       (leb_tells (length f.running.handles) 0)
 
-  -- a write or a revoke
+  -- so do a write and a revoke
   pub kept_legal-touch : {A R : Type 0} (Why Rest : R → Type 0) (r : Result A R) (event : FrontEvent) →
       OnOk r (FrontHappens f event front) → IfErr r (λ x. Why x × (front ≡ f) × Rest x) → IsLegal (transactions front)
   kept_legal-touch Why Rest (Ok a) event ok err = kept_legal-step event ok
   kept_legal-touch Why Rest (Err x) event ok err = kept_legal-same err.1
 
--- calls of both, whatever they answer
+-- so do calls of both parts
 module _ {D : Type 0} (state : D → DeviceState) (honest : D → Type 0) (old new : JournalValue D) (back : honest new.device → honest old.device)
     (legal : KeepsLegal honest old) where
   pub does-legal : (event : Event) → Does state old event new → KeepsLegal honest new
@@ -153,7 +153,7 @@ module _ {D : Type 0} (state : D → DeviceState) (honest : D → Type 0) (old n
   read-legal (Ok a) h b v ok err = λ is. does-legal (ReadBlock h.number b v) (ok is) is
   read-legal (Err e) h b v ok err = read-refused h b e err
 
-  -- the same, where what it saw is noted, or memory ran out for it
+  -- so does a read, noted or out of memory
   pub noted-legal : {A : Type 0} (r : Result A JournalError) (h b : ℕ) (v before : List ℕ) → OnOk r (honest new.device → Does state old (ReadBlock h b v) new) →
       IfErr r (λ e. (e ≡ Memory) × (new.journal.front ≡ old.journal.front) × (v ≡ before)) → KeepsLegal honest new
   noted-legal (Ok a) h b v before ok err = λ is. does-legal (ReadBlock h b v) (ok is) is

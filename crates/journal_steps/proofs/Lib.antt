@@ -1,11 +1,11 @@
--- The lemmas of this crate that crates above it cite.
+-- Lemmas that crates above cite.
 pub mod Audited
 pub mod Kept
 pub mod LegalSteps
 pub mod Newest
 pub mod Reading
 pub mod Turning
--- The others.
+-- Lemmas that only this crate cites.
 mod Directs
 mod Noting
 mod Quarter

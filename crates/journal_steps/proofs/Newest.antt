@@ -1,4 +1,4 @@
--- A read without a handle: what it answers where the front hands out a copy, where the engine reads, and where that is refused.
+-- A read without a handle: the front hands out a copy, the engine reads, or the read is refused.
 use Rattle.std.proofs.Common.{refl, sym, ap, ◌∙◌}
 use Rattle.std.specs.Prelude.{◌≡◌, ℕ, List, false, Some, None}
 use Rattle.std.proofs.lemmas.Bool.{true≢false}
@@ -21,7 +21,7 @@ use Rattle.journal_steps.specs.Values.{together}
 use Rattle.journal_steps.proofs.Reading.{kept-pending, seen-kept, seen-read}
 use Rattle.journal_steps.proofs.Sealing.{allowed-here}
 
--- copies that are the same entry have the same bytes
+-- equal copies have equal bytes
 some-copy : (v w : List ℕ) → Some (Copy v) ≡ Some (Copy w) → v ≡ w
 some-copy v w same = cc
 
@@ -38,7 +38,7 @@ module _ {D : Type 0} (state : D → DeviceState) (honest : D → Type 0) (f : F
     pending = λ none i w is. absurd (none-some (Copy v) (sym none ∙ last));
   }
 
-  -- it keeps none, and the engine has read
+  -- it keeps none, and the engine reads
   pub reads-newest : (new : EngineValue D) (v : List ℕ) → last_effect b (unfinished f) ≡ None → (honest new.device → IsRead old.engine (state old.device).disk b v) →
       new.engine ≡ old.engine → ((i : ℕ) (w : List ℕ) → IsPending old.engine i b w → (v ≡ w) × (new ≡ old)) →
       ReadsNewest state honest (together f old) b v (together f new)
@@ -51,7 +51,7 @@ module _ {D : Type 0} (state : D → DeviceState) (honest : D → Type 0) (f : F
     pending = λ still i w is. let p = pending i w is in (p.0, ap (λ (x : EngineValue D). together f x) p.1);
   }
 
-  -- or the device failed in the read, and the front was told
+  -- or the device failed, and the front is told
   pub refused-newest : (front : Front) (new : EngineValue D) (e : JournalError) → last_effect b (unfinished f) ≡ None → Stays (state old.device) (state new.device) →
       front ≡ aborting f → ReadRefused state old b new e → NewestRefused state (together f old) b (together front new) e
   refused-newest front new e none stays told (ReadAborted is same) = absurd (true≢false (sym is ∙ sym agrees.aborted ∙ running))

@@ -1,4 +1,4 @@
--- A read whose step is noted, or for which memory ran out: what it leaves, whatever was answered.
+-- A read whose step is noted, or out of memory: what it leaves.
 use Rattle.std.proofs.Common.{refl, sym, ap, subst, ◌∙◌}
 use Rattle.std.specs.Prelude.{◌≡◌, ℕ, List, length, Result, Ok, Err, IfErr, OnOk, Some}
 use Rattle.journal_model.specs.declared.entry.Entry.TheVariants.{Revoke as RevokeEntry}
@@ -21,7 +21,7 @@ use Rattle.journal_steps.proofs.Reading.{IsSeen}
 use Rattle.journal_steps.proofs.Rounding.{reads-block}
 use Rattle.journal_steps.proofs.Sealing.{agrees-read}
 
--- the front has no copy to hand out
+-- if the front has no copy to hand out, the read is refused
 pub unheld : {D : Type 0} (state : D → DeviceState) (old : JournalValue D) (h : HandleValue) (b : ℕ) (e : JournalError) → MayStep old.journal.front h b →
     NoCopy old.journal.front b e → ReadRefused state old h b old e
 unheld state old h b e may (OfRevoke last is) = ReadRevoked may last refl is
@@ -49,7 +49,7 @@ module _ {A D : Type 0} (state : D → DeviceState) (honest : D → Type 0) (f f
   by-sealed (Ok a) noted unnoted = ap (λ (x : Front). x.sealed) noted.0
   by-sealed (Err e) noted unnoted = ap (λ (x : Front). x.sealed) unnoted.1
 
-  -- what is sealed is the same
+  -- the sealed transactions stay
   pub noted-sealed : front.sealed ≡ f.sealed
   noted-sealed = by-sealed r noted unnoted
 
@@ -73,7 +73,7 @@ module _ {A D : Type 0} (state : D → DeviceState) (honest : D → Type 0) (f f
       (record { may = may; front = noted.0; engine = same; kept = kept })
   by-notes (Err e) noted kept = noted
 
-  -- with these bytes, also where the device was not honest
+  -- with these bytes, even if the device's reads are incorrect
   pub noted-notes : (HasCopyKept (together f old).journal b → new.device ≡ old.device) → OnOk r (NotesRead state (together f old) h b into (together front new))
   noted-notes kept = by-notes r noted kept
 
@@ -87,7 +87,7 @@ module _ {A D : Type 0} (state : D → DeviceState) (honest : D → Type 0) (f f
           ap (λ (x : Front). let j : Journal = record { front = x; engine = new.engine } in j) unnoted.1
           ∙ ap (λ (e : Engine). let j : Journal = record { front = f; engine = e } in j) same
 
-  -- where it is refused memory ran out for it
+  -- if it is refused, memory ran out
   pub noted-refused : (last_effect b (unfinished f) ≡ Some RevokeEntry → ⊥) → (state new.device).faults ≡ (state old.device).faults →
       IfErr r (ReadRefused state (together f old) h b (together front new))
   noted-refused other faults = by-refused r unnoted other faults

@@ -1,4 +1,4 @@
--- A transaction of no more entries than the capacity takes at most a quarter of the ring.
+-- A transaction with no more entries than the capacity needs at most a quarter of the ring.
 use Rattle.std.proofs.Common.{refl, arith}
 use Rattle.std.specs.Prelude.{◌≡◌, ℕ, ◌+◌, ◌-◌, ◌*◌, ◌/◌, ◌<◌, ◌≤◌, zero, suc, List, [], ◌∷◌, length}
 use Rattle.std.proofs.Math.Nat.{div-lt_iff_lt-mul}
@@ -11,7 +11,7 @@ use Rattle.log_model.specs.Room.{IsCapacity, need}
 use Rattle.log_model.proofs.OwnTextHeader.{measures, numbers_of-positive, tags_of-positive}
 use Rattle.journal_world.specs.Front.{Front, held}
 
--- a quotient that is rounded up is no greater than the number
+-- a rounded-up quotient is at most the number
 few : (c n : ℕ) → 0 < n → ceil_div c n ≤ c
 few c n positive = let less : ceil_div c n < c + 1 = (div-lt_iff_lt-mul positive).1 (let enough = times c in omega arith) in omega arith
   where
@@ -19,14 +19,14 @@ few c n positive = let less : ceil_div c n < c + 1 = (div-lt_iff_lt-mul positive
     times zero = omega arith
     times (suc c) = let rest = times c in omega arith
 
--- and a smaller number has no greater one
+-- a smaller number has no greater quotient
 no-more : (c d n : ℕ) → 0 < n → c ≤ d → ceil_div c n ≤ ceil_div d n
 no-more c d n positive low =
     let above : d + n - 1 < (ceil_div d n + 1) * n = (div-lt_iff_lt-mul positive).0 (omega arith) in
     let less : ceil_div c n < ceil_div d n + 1 = (div-lt_iff_lt-mul positive).1 (omega arith) in
     omega arith
 
--- copies and revokes that are no more than the capacity
+-- copies and revokes within the capacity fit a quarter
 pub fits-quarter : (l : Layout) (ring k c r : ℕ) → IsLayout l → IsCapacity l ring k → c + r ≤ k → need l c r ≤ ring / 4
 fits-quarter l ring k c r taken capacity within =
     let all = measures l taken in
@@ -41,7 +41,7 @@ counted [] = refl
 counted ((b, Copy v) ∷ es) = omega (arith, counted es)
 counted ((b, Revoke) ∷ es) = omega (arith, counted es)
 
--- so the running transaction takes no more, since a credit is held for each of its entries
+-- so does the running transaction, as each of its entries holds a credit
 pub needs-quarter : (f : Front) (ring : ℕ) → IsLayout f.layout → IsCapacity f.layout ring f.capacity → held f ≤ f.capacity →
     need f.layout (length (copied (entries f.running.steps))) (length (revoked (entries f.running.steps))) ≤ ring / 4
 needs-quarter f ring taken capacity within =

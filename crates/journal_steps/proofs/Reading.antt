@@ -1,4 +1,4 @@
--- What a read answers: what the front keeps, or else what the engine reads, is what the block's last effect makes of home.
+-- What a read answers: the front's copy, else what the engine reads, is the block's last effect on home.
 use Rattle.std.proofs.Common.{◌≡◌, inl, inr, ℕ, zero, suc, ◌<◌, ◌≤◌, List, [], ◌∷◌, ◌++◌, length, take, drop, Option, Some, None, Ok, arith, refl, sym, ap, ap₂, subst, ◌∙◌}
 use Rattle.std.specs.Cmp.{nat_eq_equiv}
 use Rattle.std.specs.List.{Contains, slice_get}
@@ -32,18 +32,18 @@ use Rattle.journal_steps.specs.Journal.{Agrees, HasCopyKept}
 use Rattle.journal_steps.specs.Journal.HasCopyKept.{OfPending, OfUnfinished}
 use Rattle.journal_steps.proofs.Sealing.{copy-good}
 
--- a read of the block is to answer these bytes
+-- a read of the block should answer these bytes
 abbrev pub IsSeen : Journal → Disk → ℕ → List ℕ → Type 0
 IsSeen j disk b v = seen (transactions j.front) (finished_count j.front) b (disk Home b).reads ≡ Ok v
 
--- the last effect of transactions is that of the first, and then of those behind
+-- the last effect of transactions is the first ones', then the others'
 pub last-from : (b r : ℕ) (ts : History) → last_effect b ts ≡ later (last_effect b (take r ts)) (last_effect b (drop r ts))
 last-from b zero ts = sym (later-none (last_effect b ts))
 last-from b (suc r) [] = refl
 last-from b (suc r) (t ∷ ts) =
     ap (later (effect b t.steps)) (last-from b r ts) ∙ sym (later-later (effect b t.steps) (last_effect b (take r ts)) (last_effect b (drop r ts)))
 
--- an element among the first stands below their count
+-- an element of the first n stands below n
 take-below : {X : Type 0} (n k : ℕ) (xs : List X) (x : X) → slice_get (take n xs) k ≡ Some x → k < n
 take-below n k xs x there =
     let within : k < length (take n xs) = slice_get_within (take n xs) k x there in
@@ -51,18 +51,18 @@ take-below n k xs x there =
     omega arith
 
 module _ (e : Engine) (ts : History) (b : ℕ) (plain : IsPlain e) (are : AreBatchesOf ts e.accepted) where
-  -- the batches of the committed transactions
+  -- the committed transactions' batches are the first ones accepted
   taken : AreBatchesOf (take e.committed ts) (take e.committed e.accepted)
   taken = batches-take e.committed ts e.accepted are
 
-  -- where these have no effect on a block, it has no newest copy
+  -- if these have no effect on a block, it has no newest copy
   none-newest : last_effect b (take e.committed ts) ≡ None → (i : ℕ) (w : List ℕ) → IsNewestCopy e i b w → ⊥
   none-newest none i w newest =
       none-in b (take e.committed ts) (take e.committed e.accepted) taken none i newest.copy.batch
       (get-take e.committed e.accepted i newest.copy.committed ∙ newest.copy.stands)
       (contains-map (λ p. p.0) newest.copy.batch.entries (b, Copy w) newest.copy.copy)
 
-  -- the last entry that is a copy is the newest one
+  -- if the last entry is a copy, it is the newest
   last-newest : (i : ℕ) (v : List ℕ) → IsLastIn (take e.committed e.accepted) b i (Copy v) → IsNewestCopy e i b v
   last-newest i v l =
       let below : i < e.committed = take-below e.committed i e.accepted l.batch l.stands in
@@ -77,7 +77,7 @@ module _ (e : Engine) (ts : History) (b : ℕ) (plain : IsPlain e) (are : AreBat
       let batch : IsBatch e.layout e.shape c = all-at (IsBatch e.layout e.shape) e.accepted i c plain.batches stands in
       same_Some x y (sym (lookup-from_Contains nat_eq_equiv b x c.entries batch.once one) ∙ lookup-from_Contains nat_eq_equiv b y c.entries batch.once other)
 
-  -- where the last entry is a revoke, there is no newest copy
+  -- if the last entry is a revoke, there is no newest copy
   revoked-newest : (i : ℕ) → IsLastIn (take e.committed e.accepted) b i Revoke → (j : ℕ) (w : List ℕ) → IsNewestCopy e j b w → ⊥
   revoked-newest i l j w newest =
       let below : i < e.committed = take-below e.committed i e.accepted l.batch l.stands in
@@ -102,7 +102,7 @@ module _ (e : Engine) (ts : History) (b : ℕ) (plain : IsPlain e) (are : AreBat
       apart : (w : List ℕ) → ◌≡◌ {A = Entry} Revoke (Copy w) → ⊥
       apart w same = cc
 
-  -- so what the engine reads is what the committed transactions make of home
+  -- what the engine reads is what the committed transactions make of home
   read-answers : (disk : Disk) (v : List ℕ) → IsRead e disk b v →
       answer_of (last_effect b (take e.committed ts)) None (disk Home b).reads ≡ Ok v
   read-answers disk v read =
@@ -119,7 +119,7 @@ module _ (e : Engine) (ts : History) (b : ℕ) (plain : IsPlain e) (are : AreBat
       by-entry Revoke i l = ap Ok (sym (read.other (revoked-newest i l)))
 
 module _ (j : Journal) (agrees : Agrees j) (plain : IsPlain j.engine) where
-  -- as many transactions are finished as are committed
+  -- as many transactions are finished as committed
   pub finished-is : finished_count j.front ≡ j.engine.committed
   finished-is =
       let same = same-length j.front.sealed j.engine.accepted agrees.batches in
@@ -127,7 +127,7 @@ module _ (j : Journal) (agrees : Agrees j) (plain : IsPlain j.engine) where
       let told = agrees.finished in
       omega arith
 
-  -- they are among the sealed ones
+  -- the committed ones are among the sealed ones
   pub few : j.engine.committed ≤ length j.front.sealed
   few =
       let same = same-length j.front.sealed j.engine.accepted agrees.batches in
@@ -138,17 +138,17 @@ module _ (j : Journal) (agrees : Agrees j) (plain : IsPlain j.engine) where
   abbrev pub all : History
   all = transactions j.front
 
-  -- the last effect on a block of those that are not finished is that of all
+  -- the unfinished transactions' last effect on a block is that of all
   pub last-of : (b : ℕ) (e : Entry) → last_effect b (unfinished j.front) ≡ Some e → last_effect b all ≡ Some e
   last-of b e made =
       last-from b (finished_count j.front) all ∙ ap (later (last_effect b (take (finished_count j.front) all))) made
 
-  -- where it is a copy, a read answers that
+  -- if it is a copy, a read answers that
   pub seen-kept : (disk : Disk) (b : ℕ) (v : List ℕ) → last_effect b (unfinished j.front) ≡ Some (Copy v) → IsSeen j disk b v
   seen-kept disk b v made =
       ap (λ (o : Option Entry). answer_of o (last_effect b (unfinished j.front)) (disk Home b).reads) (last-of b (Copy v) made)
 
-  -- where they have none, what the engine reads is
+  -- if they have none, a read answers what the engine reads
   pub seen-read : (disk : Disk) (b : ℕ) (v : List ℕ) → last_effect b (unfinished j.front) ≡ None → IsRead j.engine disk b v → IsSeen j disk b v
   seen-read disk b v none read =
       let first : take (finished_count j.front) all ≡ take j.engine.committed j.front.sealed =
@@ -162,7 +162,7 @@ module _ (j : Journal) (agrees : Agrees j) (plain : IsPlain j.engine) where
 copied-there : (es : List (ℕ × Entry)) (b : ℕ) (v : List ℕ) → Contains es (b, Copy v) → Contains (copied es) (b, v)
 copied-there es b v m = contains-filter_map (λ p. copy_of p.0 p.1) es (b, Copy v) (b, v) m refl
 
--- a copy that is the last effect of sealed transactions is a whole one
+-- a copy that is the sealed transactions' last effect is a whole block
 sealed-whole : (e : Engine) (ts : History) (b : ℕ) (v : List ℕ) → IsPlain e → AreBatchesOf ts e.accepted → last_effect b ts ≡ Some (Copy v) →
     length v ≡ e.shape.block_size
 sealed-whole e ts b v plain are made =
@@ -190,7 +190,7 @@ kept-whole j b v agrees plain made =
           (some ∙ sym (ap (later (last_effect b f.sealed)) some) ∙ sym split ∙ whole)
     ]
 
--- a copy that is kept is pending where none of these has an entry
+-- a kept copy is pending, if no unfinished transaction has an entry
 pub kept-pending : (j : Journal) (b : ℕ) (P : Type 0) → last_effect b (unfinished j.front) ≡ None →
     ((i : ℕ) (v : List ℕ) → IsPending j.engine i b v → P) → HasCopyKept j b → P
 kept-pending j b P none pending (OfUnfinished v some) = absurd (none-some (Copy v) (sym none ∙ some))

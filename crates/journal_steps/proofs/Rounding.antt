@@ -1,4 +1,4 @@
--- A checkpoint turn and a read beside the front: front and engine agree after them, and what refuses them.
+-- Checkpoint turns and reads beside the front: it agrees with the engine after them, and what refuses them.
 use Rattle.std.proofs.Common.{refl, sym, ap, ap₂, subst, ◌∙◌}
 use Rattle.std.specs.Prelude.{◌≡◌, ℕ, List, Bool, true, false, None, length}
 use Rattle.std.proofs.lemmas.Bool.{true≢false}
@@ -28,7 +28,7 @@ use Rattle.journal_steps.proofs.Reading.{IsSeen, kept-pending}
 use Rattle.journal_steps.proofs.Sealing.{agrees-moved, agrees-told, allowed-here}
 use Rattle.journal_steps.proofs.Turning.{round-fault-keeps, round-keeps}
 
--- front and engine agree after a step of a round, whatever it did
+-- front and engine agree after any checkpoint step
 pub agrees-round : (f : Front) (old new : Engine) (disk after : Disk) (p : Progress) → Agrees (record { front = f; engine = old }) →
     RoundDid p old disk new after → Agrees (record { front = f; engine = new })
 agrees-round f old new disk after NoProgress agrees did = subst (λ (x : Engine). Agrees (record { front = f; engine = x })) (sym did.3) agrees
@@ -41,7 +41,7 @@ agrees-round f old new disk after (Done tid) agrees did =
 agrees-aborted : (f : Front) (e : Engine) → Agrees (record { front = f; engine = e }) → e.aborted ≡ true → Agrees (record { front = aborting f; engine = e })
 agrees-aborted f e agrees is = agrees-told f e e agrees (record { shape = refl; layout = refl; accepted = refl; first = refl; ring = refl }) true refl is
 
--- and after one that was refused
+-- they agree after a refused checkpoint step
 pub agrees-round_refused : (f front : Front) (old new : Engine) (before after : DeviceState) (e : JournalError) → Agrees (record { front = f; engine = old }) →
     front ≡ aborting f → RoundRefused old before new after e → Agrees (record { front = front; engine = new })
 agrees-round_refused f front old new before after e agrees told (RoundAborted is same stays counted) =
@@ -52,11 +52,11 @@ agrees-round_refused f front old new before after e agrees told (RoundFailed fau
     subst (λ (x : Front). Agrees (record { front = x; engine = new })) (sym told)
     (agrees-told f old new agrees keeps.0 true keeps.1 (ap (λ (x : Engine). x.aborted) fault.engine))
 
--- a front that knows of a failure is as it was once it is told again
+-- a front told again of a failure stays as it was
 pub told-again : (f : Front) (e : Engine) → Agrees (record { front = f; engine = e }) → e.aborted ≡ true → aborting f ≡ f
 told-again f e agrees is = ap (λ (b : Bool). record f { aborted = b }) (sym (agrees.aborted ∙ is))
 
--- a step of a round that is refused refuses the turn
+-- a refused checkpoint step refuses the turn
 pub refused-check : {D : Type 0} (state : D → DeviceState) (f front : Front) (d other : D) (old new : Engine) (e : JournalError) →
     Agrees (record { front = f; engine = old }) → front ≡ aborting f → RoundRefused old (state d) new (state other) e →
     CheckTurnRefused state (record { device = d; journal = record { front = f; engine = old } }) (record { device = other; journal = record { front = front; engine = new } }) e
@@ -69,7 +69,7 @@ refused-check state f front d other old new e agrees told (RoundFailed fault cou
       tells = record { failed = ap (λ (x : Engine). x.aborted) fault.engine; front = told; engine = refl; disk_is = refl };
     }) counted
 
--- a step of a round that did nothing is a turn that did nothing
+-- a checkpoint step that did nothing is an idle turn
 pub idle-check : {D : Type 0} (state : D → DeviceState) (f : Front) (d other : D) (old new : Engine) →
     RoundDid NoProgress old (state d).disk new (state other).disk →
     CheckTurnDid state IdleTurn (record { device = d; journal = record { front = f; engine = old } }) (record { device = other; journal = record { front = f; engine = new } })
@@ -82,14 +82,14 @@ pub step-check : {D : Type 0} (state : D → DeviceState) (f : Front) (d other :
     CheckTurnDid state StepTurn (record { device = d; journal = record { front = f; engine = old } }) (record { device = other; journal = record { front = f; engine = new } })
 step-check state f d other old new did = (record { front = refl; engine = did.0 }, did.1)
 
--- and the last one releases what it tells
+-- the last one releases what it answers
 pub done-check : {D : Type 0} (state : D → DeviceState) (f : Front) (d other : D) (old new : Engine) (tid : ℕ) →
     RoundDid (Done tid) old (state d).disk new (state other).disk →
     CheckTurnDid state (Released tid) (record { device = d; journal = record { front = f; engine = old } })
     (record { device = other; journal = record { front = f; engine = new } })
 done-check state f d other old new tid did = (record { front = refl; engine = did.0 }, did.1, did.2)
 
--- front and engine agree after a read that was refused, once the front is told
+-- front and engine agree after a refused read, once the front is told
 pub agrees-read_refused : {D : Type 0} (state : D → DeviceState) (f front : Front) (old new : EngineValue D) (b : ℕ) (e : JournalError) →
     Agrees (record { front = f; engine = old.engine }) → old.engine.aborted ≡ false → IsAllowedBlock old.engine.layout old.engine.shape.home_blocks b →
     front ≡ aborting f → ReadRefused state old b new e → Agrees (record { front = front; engine = new.engine })
@@ -101,7 +101,7 @@ agrees-read_refused state f front old new b e agrees running may told (ReadFaile
     subst (λ (x : Front). Agrees (record { front = x; engine = new.engine })) (sym told)
     (subst (λ (x : Engine). Agrees (record { front = aborting f; engine = x })) (sym same) now)
 
--- the engine refuses a read of a block that may be touched, of which the front keeps no copy, where the device failed in it
+-- the engine refuses a read of an allowed block without a copy in the front only if the device failed
 pub refused-read : {D : Type 0} (state : D → DeviceState) (f front : Front) (old new : EngineValue D) (h : HandleValue) (b : ℕ) (e : JournalError) →
     Agrees (record { front = f; engine = old.engine }) → MayStep f h b → last_effect b (unfinished f) ≡ None →
     Stays (state old.device) (state new.device) → front ≡ aborting f → ReadRefused state old b new e →
@@ -115,14 +115,14 @@ refused-read state f front old new h b e agrees may none stays told (ReadFailed 
     FailedRead may none (kept-pending (record { front = f; engine = old.engine }) b ⊥ none unkept)
     (record { running = sym agrees.aborted ∙ may.running; front = told; engine = same; disk_is = stays.disk }) counted refl
 
--- the handle sees what it is to see
+-- the handle sees the right bytes
 pub reads-block : (f front : Front) (old new : Engine) (disk after : Disk) (h : HandleValue) (b : ℕ) (v : List ℕ) → MayStep f h b → IsOpen f h.number →
     IsSeen (record { front = f; engine = old }) disk b v → front ≡ reading_block f h.number b v → new ≡ old → after ≡ disk →
     Happens (record { front = f; engine = old }) disk (ReadBlock h.number b v) (record { front = front; engine = new }) after
 reads-block f front old new disk after h b v may is sees noted same stays =
     record { running = may.running; handle = is; allowed = may.allowed; sees = sees; front = noted; engine = same; disk_is = stays }
 
--- what a stop leaves opens as before, where the disk, the sealed transactions and the count of the committed ones are the same
+-- each crash image opens as before, if disk, sealed transactions and committed count stay
 opens-same : (f front : Front) (old new : Engine) (disk after : Disk) → front.sealed ≡ f.sealed → new.shape ≡ old.shape → new.committed ≡ old.committed →
     after ≡ disk → OpensNow (record { front = f; engine = old }) disk → OpensNow (record { front = front; engine = new }) after
 opens-same f front old new disk after sealed shape committed same opens =
@@ -131,7 +131,7 @@ opens-same f front old new disk after sealed shape committed same opens =
     (subst (λ (n : ℕ). OpensOver new.shape f.sealed n (length f.sealed) disk) (sym committed)
     (subst (λ (s : Shape). OpensOver s f.sealed old.committed (length f.sealed) disk) (sym shape) opens)))
 
--- so it does where the engine refused a read
+-- so it does after a refused read
 pub opens-unread : {D : Type 0} (state : D → DeviceState) (f front : Front) (old new : EngineValue D) (b : ℕ) (e : JournalError) →
     OpensNow (record { front = f; engine = old.engine }) (state old.device).disk → front ≡ aborting f → Stays (state old.device) (state new.device) →
     ReadRefused state old b new e → OpensNow (record { front = front; engine = new.engine }) (state new.device).disk
@@ -144,7 +144,7 @@ opens-unread {D} state f front old new b e opens told stays (ReadOutside on none
 opens-unread {D} state f front old new b e opens told stays (ReadFailed on touched none same counted) =
     opens-same f front old.engine new.engine _ _ (ap (λ (x : Front). x.sealed) told) (ap (λ (x : Engine). x.shape) same) (ap (λ (x : Engine). x.committed) same) stays.disk opens
 
--- and where it answered one, or memory ran out behind it
+-- and after an answered read, noted or out of memory
 pub opens-read : (f front : Front) (old new : Engine) (disk after : Disk) → front.sealed ≡ f.sealed → new ≡ old → after ≡ disk →
     OpensNow (record { front = f; engine = old }) disk → OpensNow (record { front = front; engine = new }) after
 opens-read f front old new disk after sealed same stays opens =

@@ -1,4 +1,4 @@
--- The batch of a transaction whose steps are good ones, and a front and an engine that still agree after each step.
+-- The batch of a transaction of good steps; front and engine still agree after each step.
 use Rattle.std.proofs.Common.{arith, refl, sym, ap, ap₂, subst, ◌∙◌, length-append}
 use Rattle.std.specs.Prelude.{◌≡◌, ◌≢◌, ⊤, ℕ, ◌+◌, ◌/◌, ◌<◌, ◌≤◌, ◌==◌, max, Bool, true, false, if◌then◌else◌, List, [], ◌∷◌, ◌++◌, length, Option, Some, None, option_map, option_to_list, nat_eq}
 use Rattle.std.specs.List.{AllByRecursion, IsDistinct, filter_map}
@@ -49,7 +49,7 @@ use Rattle.journal_steps.proofs.Audited.{kept-beside, read-kept, seal-kept, step
 use Rattle.journal_steps.proofs.Quarter.{needs-quarter}
 use Rattle.journal_steps.proofs.Turning.{Keeps, fault-keeps, step-keeps}
 
--- a block that may be touched may be, by the same layout and count
+-- an allowed block is allowed under equal layout and count
 pub allowed-here : {l m : Layout} {count n b : ℕ} → l ≡ m → count ≡ n → IsAllowedBlock l count b → IsAllowedBlock m n b
 allowed-here {l} {m} {count} {n} {b} layout same allowed =
     subst (λ (x : Layout). IsAllowedBlock x n b) layout (subst (λ (k : ℕ). IsAllowedBlock l k b) same allowed)
@@ -59,12 +59,12 @@ abbrev IsWholeEntry : ℕ → Entry → Type 0
 IsWholeEntry size (Copy v) = length v ≡ size
 IsWholeEntry size Revoke = ⊤
 
--- an entry that a transaction of good steps may have
+-- an entry that good steps may leave
 record IsGoodEntry (l : Layout) (shape : Shape) (p : ℕ × Entry) : Type 0 where
   whole : IsWholeEntry shape.block_size p.1
   allowed : IsAllowedBlock l shape.home_blocks p.0
 
--- what one good step leaves
+-- one good step leaves a good entry
 op-good : (l : Layout) (shape : Shape) (b : ℕ) (op : Op) (e : Entry) → IsWhole shape.block_size op → IsAllowedBlock l shape.home_blocks b →
     entry_of op ≡ Some e → IsGoodEntry l shape (b, e)
 op-good l shape b (Write v) e whole allowed leaves =
@@ -81,56 +81,56 @@ step-good l shape b s e true good is leaves =
     subst (λ (n : ℕ). IsGoodEntry l shape (n, e)) same (op-good l shape s.block s.op e good.whole good.allowed leaves)
 step-good l shape b s e false good is leaves = absurd (none-some e leaves)
 
--- of the steps behind it, or of the first one
+-- so do a step and the later ones
 effect-by : (l : Layout) (shape : Shape) (b : ℕ) (s : Step) (e : Entry) (o : Option Entry) → IsGoodStep l shape s → (o ≡ Some e → IsGoodEntry l shape (b, e)) →
     later (if s.block == b then entry_of s.op else None) o ≡ Some e → IsGoodEntry l shape (b, e)
 effect-by l shape b s e None good rest leaves = step-good l shape b s e (s.block == b) good refl leaves
 effect-by l shape b s e (Some x) good rest leaves = rest leaves
 
--- what good steps leave of a block
+-- good steps leave a good entry of a block
 effect-good : (l : Layout) (shape : Shape) (b : ℕ) (ss : List Step) (e : Entry) → AllByRecursion (IsGoodStep l shape) ss → effect b ss ≡ Some e → IsGoodEntry l shape (b, e)
 effect-good l shape b [] e all leaves = absurd (none-some e leaves)
 effect-good l shape b (s ∷ ss) e all leaves = effect-by l shape b s e (effect b ss) all.0 (λ rest. effect-good l shape b ss e all.1 rest) leaves
 
--- the first value that is found, or none, before those that are found behind it
+-- a property of the value found first, and of the later ones
 found-by : {Y : Type 0} (P : Y → Type 0) (o : Option Y) (ys : List Y) → ((y : Y) → o ≡ Some y → P y) → AllByRecursion P ys →
     AllByRecursion P (option_to_list o ++ ys)
 found-by P None ys found all = all
 found-by P (Some y) ys found all = (found y refl, all)
 
--- what a function finds in a list, from its first value on
+-- a function's values in a list, from the first on
 found-first : {X Y : Type 0} (h : X → Option Y) (x : X) (xs : List X) (o : Option Y) → h x ≡ o → filter_map h (x ∷ xs) ≡ option_to_list o ++ filter_map h xs
 found-first h x xs None is = rw is
 found-first h x xs (Some y) is = rw is
 
--- what holds of each value that a function finds, holds of those that it finds in a list
+-- what holds of each value found holds of all in the list
 each-found : {X Y : Type 0} (P : Y → Type 0) (h : X → Option Y) (xs : List X) → ((x : X) (y : Y) → h x ≡ Some y → P y) → AllByRecursion P (filter_map h xs)
 each-found P h [] found = tt
 each-found P h (x ∷ xs) found =
     subst (AllByRecursion P) (sym (found-first h x xs (h x) refl)) (found-by P (h x) (filter_map h xs) (found x) (each-found P h xs found))
 
--- an entry is found with what the steps leave of its block
+-- an entry found is what the steps leave of its block
 entry-found : (b : ℕ) (o : Option Entry) (y : ℕ × Entry) → option_map (λ e. (b, e)) o ≡ Some y → (e : Entry) × (o ≡ Some e) × (y ≡ (b, e))
 entry-found b None y is = absurd (none-some y is)
 entry-found b (Some e) y is = (e, refl, sym (same_Some (b, e) y is))
 
--- each entry of good steps is a good one
+-- each entry of good steps is good
 entries-good : (l : Layout) (shape : Shape) (ss : List Step) → AllByRecursion (IsGoodStep l shape) ss → AllByRecursion (IsGoodEntry l shape) (entries ss)
 entries-good l shape ss all = each-found (IsGoodEntry l shape) (λ b. option_map (λ e. (b, e)) (effect b ss)) (touched ss)
     (λ b y is. let found = entry-found b (effect b ss) y is in subst (IsGoodEntry l shape) (sym found.2) (effect-good l shape b ss found.0 all found.1))
 
--- so its copies are whole blocks
+-- its copies are whole blocks
 copies-good : (l : Layout) (shape : Shape) (es : List (ℕ × Entry)) → AllByRecursion (IsGoodEntry l shape) es → AllByRecursion (λ c. length c.1 ≡ shape.block_size) (copied es)
 copies-good l shape [] all = tt
 copies-good l shape ((b, Copy v) ∷ es) all = (all.0.whole, copies-good l shape es all.1)
 copies-good l shape ((b, Revoke) ∷ es) all = copies-good l shape es all.1
 
--- a weaker fact of each element
+-- a weaker property of each element
 each-weaker : {X : Type 0} (P Q : X → Type 0) → ((x : X) → P x → Q x) → (xs : List X) → AllByRecursion P xs → AllByRecursion Q xs
 each-weaker P Q weaker [] all = tt
 each-weaker P Q weaker (x ∷ xs) all = (weaker x all.0, each-weaker P Q weaker xs all.1)
 
--- the batch of a transaction of good steps is one that the engine takes
+-- the engine takes the batch of a transaction of good steps
 pub batch-good : (l : Layout) (shape : Shape) (t : Transaction) → AllByRecursion (IsGoodStep l shape) t.steps → IsBatch l shape (batch_of t)
 batch-good l shape t all =
     let good = entries-good l shape t.steps all in
@@ -140,22 +140,22 @@ batch-good l shape t all =
       whole = All-from_recursion _ (copied (entries t.steps)) (copies-good l shape (entries t.steps) good);
     }
 
--- the copy that good steps leave of a block is a whole one
+-- a copy that good steps leave is a whole block
 pub copy-good : (l : Layout) (shape : Shape) (b : ℕ) (ss : List Step) (v : List ℕ) → AllByRecursion (IsGoodStep l shape) ss → effect b ss ≡ Some (Copy v) → length v ≡ shape.block_size
 copy-good l shape b ss v all leaves = (effect-good l shape b ss (Copy v) all leaves).whole
 
--- the ring has room for its batch where it has the blocks that so many copies and revokes need
+-- the ring has room for a batch if it has the blocks that its copies and revokes need
 pub room-good : (e : Engine) (t : Transaction) → IsPlain e → e.start + need_of e.layout t ≤ e.tail + e.ring.blocks → HasRoom e (batch_of t)
 room-good e t plain room =
     let blocks : length (text_blocks (text_of e (batch_of t))) ≡ need_of e.layout t =
     length_own_text e.layout e.uuid t.tid (entries t.steps) plain.layout.0 in
     omega arith
 
--- where a call is due, a transaction is being committed
+-- if a call is due, a transaction is being committed
 busy : (e : Engine) (call : Call) → call_due e ≡ Some call → e.stage ≢ Idle
 busy e call due idle = none-some call (sym (ap (call_in e) idle) ∙ due)
 
--- and one transaction more is accepted than is committed
+-- then one more transaction is accepted than committed
 due-one : (e : Engine) (stage : Stage) → StageAgrees e stage → stage ≢ Idle → length e.accepted ≡ e.committed + 1
 due-one e Idle agrees busy = absurd (busy refl)
 due-one e SuperblockWrite agrees busy = agrees.0
@@ -177,12 +177,12 @@ counts-same e (Blocks k) busy = refl
 counts-same e CommitWrite busy = refl
 counts-same e CommitFlush busy = absurd (busy refl)
 
--- neither of the stages behind a block is the last
+-- no stage after a block is the last
 not-idle : (more : Bool) (k : ℕ) → (if more then Blocks (k + 1) else CommitWrite) ≡ Idle → ⊥
 not-idle true k is = cc
 not-idle false k is = cc
 
--- a step that leaves none due commits one transaction
+-- a step that leaves no call due commits one transaction
 pub counts-one : (e : Engine) (stage : Stage) → stage ≢ Idle → (stepped_from e stage).stage ≡ Idle → (stepped_from e stage).committed ≡ e.committed + 1
 counts-one e Idle busy idle = absurd (busy refl)
 counts-one e SuperblockWrite busy idle = cc
@@ -205,7 +205,7 @@ module _ (f : Front) (old new : Engine) (agrees : Agrees (record { front = f; en
   capacity-kept : IsCapacity f.layout new.ring.blocks f.capacity
   capacity-kept = subst (λ (x : Ring). IsCapacity f.layout x.blocks f.capacity) (sym keeps.ring) agrees.capacity
 
-  -- front and engine agree after a step that commits nothing, where the front knows whether the engine is aborted
+  -- front and engine agree after a step that commits nothing, once the front knows whether the engine is aborted
   pub agrees-told : (aborted : Bool) → new.committed ≡ old.committed → new.aborted ≡ aborted → Agrees (record { front = record f { aborted = aborted }; engine = new })
   agrees-told aborted same told = record {
     layout = agrees.layout ∙ sym keeps.layout;
@@ -223,11 +223,11 @@ module _ (f : Front) (old new : Engine) (agrees : Agrees (record { front = f; en
     handles = kept-beside f f.finished f.mark aborted agrees.handles;
   }
 
-  -- so it is where the step succeeds
+  -- so it is if the step succeeds
   pub agrees-moved : new.committed ≡ old.committed → new.aborted ≡ old.aborted → Agrees (record { front = f; engine = new })
   agrees-moved same unfailed = agrees-told f.aborted same (unfailed ∙ sym agrees.aborted)
 
-  -- and after one that commits, where the front knows it and tells of it
+  -- they agree after a step that commits, once the front records and acknowledges it
   pub agrees-done : new.committed ≡ old.committed + 1 → new.aborted ≡ old.aborted →
       Agrees (record { front = raising (finishing f) (finishing f).finished; engine = new })
   agrees-done more unfailed = record {
@@ -246,7 +246,7 @@ module _ (f : Front) (old new : Engine) (agrees : Agrees (record { front = f; en
     handles = kept-beside f (f.finished + 1) (max f.mark (f.finished + 1)) f.aborted agrees.handles;
   }
 
--- and after the seal of a transaction whose entries the engine took
+-- they agree after a seal whose entries the engine took
 pub agrees-sealed : (f : Front) (old new : Engine) → Agrees (record { front = f; engine = old }) → f.open_handles ≡ [] → new ≡ accepting old (batch_of f.running) →
     Agrees (record { front = sealing f; engine = new })
 agrees-sealed f old new agrees none after =
@@ -271,13 +271,13 @@ agrees-sealed f old new agrees none after =
       handles = seal-kept f none agrees.handles;
     }
 
--- such a transaction takes at most a quarter of the ring
+-- the running transaction takes at most a quarter of the ring
 pub quarter : (f : Front) (e : Engine) → Agrees (record { front = f; engine = e }) → IsPlain e → FitsQuarter (record { front = f; engine = e })
 quarter f e agrees plain =
     let taken : IsLayout f.layout = subst IsLayout (sym agrees.layout) plain.layout.0 in
     subst (λ (l : Layout). need_of l f.running ≤ e.ring.blocks / 4) agrees.layout (needs-quarter f e.ring.blocks taken agrees.capacity agrees.credits)
 
--- the engine may be handed the batch of a transaction that is due to be sealed
+-- the engine may take the batch of a transaction whose seal is due
 pub may-hand_over : (f : Front) (e : Engine) → Agrees (record { front = f; engine = e }) → IsPlain e → SealIsDue (record { front = f; engine = e }) →
     MayHandOver e (batch_of f.running)
 may-hand_over f e agrees plain due = record {
@@ -287,7 +287,7 @@ may-hand_over f e agrees plain due = record {
   batch = batch-good e.layout e.shape f.running agrees.steps;
 }
 
--- such a transaction is the first that is not finished
+-- then the running transaction is the first unfinished one
 pub all-told : (f : Front) (e : Engine) → Agrees (record { front = f; engine = e }) → IsPlain e → e.stage ≡ Idle → f.finished + 1 ≡ f.running.tid
 all-told f e agrees plain idle =
     let count = idle-all e plain idle in
@@ -295,7 +295,7 @@ all-told f e agrees plain idle =
     let number = agrees.number in
     omega arith
 
--- the engine refuses it where memory runs out
+-- the engine refuses the batch only if memory runs out
 pub refused-seal : {D : Type 0} (state : D → DeviceState) (f : Front) (d : D) (e : Engine) (new : JournalValue D) (r : JournalError) →
     SealIsDue (record { front = f; engine = e }) → HasRoomFor (record { front = f; engine = e }) → AcceptRefused e r →
     new ≡ record { device = d; journal = record { front = f; engine = e } } →
@@ -303,7 +303,7 @@ pub refused-seal : {D : Type 0} (state : D → DeviceState) (f : Front) (d : D) 
 refused-seal state f d e new r due room (AfterFailure is) same = absurd (true≢false (sym is ∙ due.running))
 refused-seal state f d e new r due room (MemoryIsShort running) same = NoMemory due room same
 
--- front and engine agree after a step that was refused, once the front is told
+-- front and engine agree after a refused step, once the front is told
 pub agrees-refused : (f front : Front) (old new : Engine) (before after : DeviceState) (e : JournalError) → Agrees (record { front = f; engine = old }) →
     front ≡ aborting f → StepRefused old before new after e → Agrees (record { front = front; engine = new })
 agrees-refused f front old new before after e agrees told (WasAborted is same stays counted) =
@@ -315,7 +315,7 @@ agrees-refused f front old new before after e agrees told (DeviceFailed fault co
     (agrees-told f old new agrees (fault-keeps old new before.disk after.disk fault) true (ap (λ (x : Engine). x.committed) fault.engine)
     (ap (λ (x : Engine). x.aborted) fault.engine))
 
--- after a step that is not the last one
+-- they agree after a step that is not the last
 pub agrees-step : (f : Front) (old new : Engine) (disk after : Disk) → Agrees (record { front = f; engine = old }) → CommitSteps old disk new after →
     new.stage ≢ Idle → Agrees (record { front = f; engine = new })
 agrees-step f old new disk after agrees step going =
@@ -329,18 +329,18 @@ one-more old new disk after step idle =
     ap (λ (x : Engine). x.committed) step.engine
     ∙ counts-one old old.stage (busy old step.call step.due) (sym (ap (λ (x : Engine). x.stage) step.engine) ∙ idle)
 
--- its number is the one that the front comes to
+-- its number is the next that the front finishes
 committed-number : (f : Front) (old : Engine) (tid : ℕ) → Agrees (record { front = f; engine = old }) → tid ≡ old.first + old.committed → tid ≡ (finishing f).finished
 committed-number f old tid agrees number = number ∙ sym agrees.finished
 
--- which it is then told of
+-- so the front may acknowledge it
 pub may-raise : (f done : Front) (old : Engine) (tid : ℕ) → Agrees (record { front = f; engine = old }) → tid ≡ old.first + old.committed → done ≡ finishing f →
     tid ≤ done.finished
 may-raise f done old tid agrees number finished =
     let same : tid ≡ f.finished + 1 = committed-number f old tid agrees number in
     subst (λ (x : Front). tid ≤ x.finished) (sym finished) (omega arith)
 
--- after it they agree, where the front knows it and tells of it
+-- after it they agree, once the front records and acknowledges it
 pub agrees-last : (f done front : Front) (old new : Engine) (disk after : Disk) (tid : ℕ) → Agrees (record { front = f; engine = old }) →
     CommitSteps old disk new after → new.stage ≡ Idle → tid ≡ old.first + old.committed → done ≡ finishing f → front ≡ raising done tid →
     Agrees (record { front = front; engine = new })
@@ -349,7 +349,7 @@ agrees-last f done front old new disk after tid agrees step idle number finished
     (sym (told ∙ ap₂ (λ (x : Front) (t : ℕ). raising x t) finished (committed-number f old tid agrees number)))
     (agrees-done f old new agrees (step-keeps old new disk after step) (one-more old new disk after step idle) (step-unfailed old new disk after step))
 
--- a commit step that is refused refuses the turn
+-- a refused commit step refuses the turn
 pub refused-turn : {D : Type 0} (state : D → DeviceState) (f front : Front) (d other : D) (old new : Engine) (e : JournalError) → old.aborted ≡ false →
     front ≡ aborting f → StepRefused old (state d) new (state other) e →
     TurnRefused state (record { device = d; journal = record { front = f; engine = old } }) (record { device = other; journal = record { front = front; engine = new } }) e
@@ -361,7 +361,7 @@ refused-turn state f front d other old new e running told (DeviceFailed fault co
       tells = record { failed = ap (λ (x : Engine). x.aborted) fault.engine; front = told; engine = refl; disk_is = refl };
     }) counted
 
--- the last step of a commit, with what the front knows and tells
+-- the last commit step, recorded and acknowledged by the front
 pub finishes-commit : {D : Type 0} (state : D → DeviceState) (f done front : Front) (d other : D) (old new : Engine) (tid : ℕ) →
     Agrees (record { front = f; engine = old }) → CommitSteps old (state d).disk new (state other).disk → new.stage ≡ Idle →
     tid ≡ old.first + old.committed → done ≡ finishing f → Raises done tid front →
@@ -389,7 +389,7 @@ finishes-commit state f done front d other old new tid agrees step idle number f
       ∙ max-eq_right (let same : tid ≡ f.finished + 1 = committed-number f old tid agrees number in let mark = agrees.mark in omega arith);
 }
 
--- a transaction that is being committed lies before the running one
+-- a transaction being committed has a lower number than the running one
 pub finished-below : (f : Front) (e : Engine) → Agrees (record { front = f; engine = e }) → IsPlain e → e.stage ≢ Idle → f.finished + 1 < f.running.tid
 finished-below f e agrees plain going =
     let one = due-one e e.stage plain.stage going in
@@ -413,7 +413,7 @@ IsTouch (StopHandle h) = ⊥
 IsTouch Lock = ⊥
 IsTouch (Raise t) = ⊥
 
--- a front of the same measures and the same transactions agrees with the same engine
+-- a front with the same layouts and transactions agrees with the same engine
 agrees-like : (f made : Front) (e : Engine) → Agrees (record { front = f; engine = e }) → made.layout ≡ f.layout → made.home_blocks ≡ f.home_blocks →
     made.aborted ≡ f.aborted → made.sealed ≡ f.sealed → made.running.tid ≡ f.running.tid → made.finished ≡ f.finished → made.mark ≡ f.mark →
     AllByRecursion (IsGoodStep e.layout e.shape) made.running.steps → (0 < length made.running.handles → made.running.tid ≤ greatest_number) →
@@ -437,15 +437,15 @@ agrees-like f made e agrees layout home_blocks aborted sealed tid finished mark 
   handles = handles;
 }
 
--- no more credits are held than may be, after a step of the front
+-- a step of the front keeps the credits within the capacity
 within : (f front made : Front) (event : FrontEvent) → FrontHappens f event front → front ≡ made → held f ≤ f.capacity → held made ≤ made.capacity
 within f front made event step is fits = subst (λ (x : Front). held x ≤ x.capacity) is (held-within f front event step fits)
 
--- and its handles are kept
+-- and keeps its handles
 stepped : (f front made : Front) (event : FrontEvent) → FrontHappens f event front → front ≡ made → KeepsHandles f → KeepsHandles made
 stepped f front made event step is kept = subst KeepsHandles is (step-kept f front event step kept)
 
--- front and engine agree after a step of the front alone that touches no block
+-- front and engine agree after a front step that touches no block
 pub agrees-untouched : (f front : Front) (e : Engine) (event : FrontEvent) → (IsTouch event → ⊥) → FrontHappens f event front →
     Agrees (record { front = f; engine = e }) → Agrees (record { front = front; engine = e })
 agrees-untouched f front e (Reserve n) other step agrees =

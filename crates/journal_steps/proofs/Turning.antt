@@ -1,4 +1,4 @@
--- A turn of the journal: what a step of the engine is beside the front, and what holds at each moment of it.
+-- A journal's turn: the engine's step beside the front, and what holds at each moment.
 use Rattle.std.proofs.Common.{arith, refl, sym, ap, subst, ◌∙◌}
 use Rattle.std.specs.Prelude.{◌≡◌, ℕ, ◌<◌, ◌≤◌, List, [], ◌∷◌, length}
 use Rattle.std.specs.List.{AllByRecursion}
@@ -23,7 +23,7 @@ use Rattle.log_engine.specs.Engine.{IsDuringCommit, IsDuringRound}
 use Rattle.journal_steps.specs.Journal.{Agrees, IsDuringCheckTurn, IsDuringTurn, OpensNow, OpensOver}
 use Rattle.journal_steps.proofs.Audited.{fresh-kept}
 
--- what opens over the batches opens over the transactions that they are of
+-- what opens over batches opens over their transactions
 pub opens-over : (shape : Shape) (ts : History) (accepted : List Batch) (low : ℕ) (disk : Disk) → AreBatchesOf ts accepted →
     OpensBetween shape accepted low (length accepted) disk → OpensOver shape ts low (length ts) disk
 opens-over shape ts accepted low disk are opens = record {
@@ -34,16 +34,16 @@ opens-over shape ts accepted low disk are opens = record {
       (at.0, at.1, (omega arith), at.3.opens ts are, at.3.count ts are);
 }
 
--- so it is for a journal whose front and engine agree
+-- so it does for a journal whose front and engine agree
 pub opens-now : (j : Journal) (disk : Disk) → Agrees j →
     OpensBetween j.engine.shape j.engine.accepted j.engine.committed (length j.engine.accepted) disk → OpensNow j disk
 opens-now j disk agrees opens = opens-over j.engine.shape j.front.sealed j.engine.accepted j.engine.committed disk agrees.batches opens
 
--- where the device does nothing, the disk is as in a turn
+-- if the device does nothing, the disk is as in a turn
 pub during-stay : (j : Journal) (disk : Disk) → OpensNow j disk → IsDuringTurn j disk disk
 during-stay j disk opens = record { home = record { same = λ b. refl }; opens = opens }
 
--- what holds of each disk of a list, where something stronger does
+-- a weaker property holds of each disk of a list
 all-weaker : (P Q : Disk → Type 0) → ((disk : Disk) → P disk → Q disk) → (disks : List Disk) → AllByRecursion P disks → AllByRecursion Q disks
 all-weaker P Q weaker [] all = tt
 all-weaker P Q weaker (d ∷ disks) all = (weaker d all.0, all-weaker P Q weaker disks all.1)
@@ -58,7 +58,7 @@ each-turn j before after agrees each =
     turned : (disk : Disk) → IsDuringCommit j.engine before.disk disk → IsDuringTurn j before.disk disk
     turned disk during = record { home = during.home; opens = opens-now j disk agrees during.opens }
 
--- each moment of a step of a round is one of the checkpoint turn
+-- each moment of a checkpoint step is one of the checkpoint turn
 pub each-check : (j : Journal) (before after : DeviceState) → Agrees j → EachMoment (IsDuringRound j.engine before.disk) before after →
     EachMoment (IsDuringCheckTurn j before.disk) before after
 each-check j before after agrees each =
@@ -68,7 +68,7 @@ each-check j before after agrees each =
     checked : (disk : Disk) → IsDuringRound j.engine before.disk disk → IsDuringCheckTurn j before.disk disk
     checked disk during = record { home = during.home; opens = opens-now j disk agrees during.opens }
 
--- what a step of a commit or of a round leaves as it was
+-- what a commit or checkpoint step leaves as it was
 pub record Keeps (old new : Engine) : Type 0 where
   pub shape : new.shape ≡ old.shape
   pub layout : new.layout ≡ old.layout
@@ -90,21 +90,21 @@ step-keeps old new disk after step = subst (Keeps old) (sym step.engine) (keeps-
 pub fault-keeps : (old new : Engine) (disk after : Disk) → CommitFaults old disk new after → Keeps old new
 fault-keeps old new disk after fault = subst (Keeps old) (sym fault.engine) (record { shape = refl; layout = refl; accepted = refl; first = refl; ring = refl })
 
--- where a round begins
+-- the begin of a round keeps it
 begun-keeps : (e : Engine) (round : Round) → Keeps e (begun_from e round) × ((begun_from e round).committed ≡ e.committed)
 begun-keeps e NoRound = (record { shape = refl; layout = refl; accepted = refl; first = refl; ring = refl }, refl)
 begun-keeps e (Copies transaction block) = (record { shape = refl; layout = refl; accepted = refl; first = refl; ring = refl }, refl)
 begun-keeps e TailWrite = (record { shape = refl; layout = refl; accepted = refl; first = refl; ring = refl }, refl)
 begun-keeps e TailFlush = (record { shape = refl; layout = refl; accepted = refl; first = refl; ring = refl }, refl)
 
--- by each call of a round
+-- each call of a round keeps it
 call-keeps : (e : Engine) (round : Round) (call : Call) (new : Engine) → RoundCall e round call new → Keeps e new × (new.committed ≡ e.committed)
 call-keeps e round call new (CopyHome transaction block i b v next) = (record { shape = refl; layout = refl; accepted = refl; first = refl; ring = refl }, refl)
 call-keeps e round call new (FlushHome transaction block none) = (record { shape = refl; layout = refl; accepted = refl; first = refl; ring = refl }, refl)
 call-keeps e round call new WriteTail = (record { shape = refl; layout = refl; accepted = refl; first = refl; ring = refl }, refl)
 call-keeps e round call new FlushTail = (record { shape = refl; layout = refl; accepted = refl; first = refl; ring = refl }, refl)
 
--- a step of a round commits nothing
+-- a checkpoint step commits nothing
 pub round-keeps : (old new : Engine) (disk after : Disk) → RoundSteps old disk new after → Keeps old new × (new.committed ≡ old.committed)
 round-keeps old new disk after step =
     let begins = begun-keeps old old.round in
@@ -113,14 +113,14 @@ round-keeps old new disk after step =
       calls.1 ∙ begins.1,
     )
 
--- nor does one that fails
+-- nor does a failed one
 pub round-fault-keeps : (old new : Engine) (disk after : Disk) → RoundFaults old disk new after → Keeps old new × (new.committed ≡ old.committed)
 round-fault-keeps old new disk after fault =
     let begins = begun-keeps old old.round in
     subst (λ (e : Engine). Keeps old e × (e.committed ≡ old.committed)) (sym fault.engine)
     (record { shape = begins.0.shape; layout = begins.0.layout; accepted = begins.0.accepted; first = begins.0.first; ring = begins.0.ring }, begins.1)
 
--- front and engine of a journal that was just made agree
+-- front and engine of a new journal agree
 pub fresh-agrees : (shape : Shape) (superblock : List ℕ) (next capacity : ℕ) (j : Journal) → j.engine ≡ fresh_engine shape superblock next →
     j.front ≡ fresh_front j.engine.layout j.engine.shape.home_blocks capacity next → IsCapacity j.engine.layout j.engine.ring.blocks capacity →
     0 < next → Agrees j
@@ -148,7 +148,7 @@ fresh-agrees shape superblock next capacity j engine front is some =
     } in
     subst Agrees (sym (ap (λ (f : Front). record { front = f; engine = e }) front)) agrees
 
--- and it is as an opening leaves it
+-- it is as an opening leaves it
 pub fresh-journal : (shape : Shape) (superblock : List ℕ) (next capacity : ℕ) (j : Journal) → j.engine ≡ fresh_engine shape superblock next →
     j.front ≡ fresh_front j.engine.layout j.engine.shape.home_blocks capacity next → IsCapacity j.engine.layout j.engine.ring.blocks capacity →
     IsFresh shape superblock next j
@@ -160,7 +160,7 @@ fresh-journal shape superblock next capacity j engine front is =
       capacity = subst (IsCapacity j.engine.layout j.engine.ring.blocks) (sym credits) is;
     }
 
--- a fresh journal is so by what its engine says of the log
+-- a fresh journal is fresh by its engine's own fields
 pub fresh-itself : (shape : Shape) (superblock : List ℕ) (next : ℕ) (j : Journal) → IsFresh shape superblock next j →
     IsFresh j.engine.shape j.engine.superblock j.engine.first j
 fresh-itself shape superblock next j fresh =

@@ -1,4 +1,4 @@
--- What the calls of a journal do, each as one step of the pure machine, and why they are refused.
+-- What a journal's calls do, each as a step of the pure machine, and why they are refused.
 use Rattle.std.specs.Prelude.{◌≡◌, ◌≢◌, ⊤, ℕ, ◌+◌, ◌/◌, ◌<◌, ◌≤◌, Bool, true, false, List, [], length, Ok, Some, None}
 use Rattle.std.specs.List.{AllByRecursion}
 use Rattle.journal_model.specs.declared.entry.Entry.TheVariants.{Copy, Revoke as RevokeEntry}
@@ -35,24 +35,24 @@ use Rattle.journal_front.specs.Values.{HandleValue}
 use Rattle.journal_steps.specs.Handles.{KeepsHandles}
 use Rattle.journal_steps.specs.Values.{JournalValue}
 
--- the journal and the disk of its device go from old to new by this one step
+-- this one step leads from the old journal and disk to the new ones
 abbrev pub Does : {D : Type 0} → (D → DeviceState) → JournalValue D → Event → JournalValue D → Type 0
 Does state old event new = Happens old.journal (state old.device).disk event new.journal (state new.device).disk
 
--- what is written or read is a whole block
+-- a whole block is written or read
 abbrev pub IsWhole : ℕ → Op → Type 0
 IsWhole size (Write v) = length v ≡ size
 IsWhole size Revoke = ⊤
 IsWhole size (Read v) = length v ≡ size
 
--- of a block that may be touched
+-- the step is of a whole block that may be touched
 pub record IsGoodStep (l : Layout) (shape : Shape) (s : HandleStep) : Type 0 where
   pub whole : IsWhole shape.block_size s.op
   pub allowed : IsAllowedBlock l shape.home_blocks s.block
 
--- front and engine agree: what is sealed is what is accepted, what is finished is what is committed, and callers are told
--- just that; the front knows the measures of log and device, and whether the device has failed; no more credits are held than
--- the most that a transaction of this log may have; and its handles are as an audit needs them
+-- Front and engine agree: sealed transactions are the accepted batches, finished and acknowledged ones are the committed ones; the
+-- front knows the layouts and whether the device has failed; credits are within the capacity for this log; and its handles are as an
+-- audit needs them.
 pub record Agrees (j : Journal) : Type 0 where
   pub layout : j.front.layout ≡ j.engine.layout
   pub home_blocks : j.front.home_blocks ≡ j.engine.shape.home_blocks
@@ -68,26 +68,26 @@ pub record Agrees (j : Journal) : Type 0 where
   pub credits : held j.front ≤ j.front.capacity
   pub handles : KeepsHandles j.front
 
--- the front's last entry of a block is no copy that a read may hand out: it is a revoke, or memory ran out for a copy's holder
+-- why the front has no copy of the block to hand out: its last entry is a revoke, or memory ran out
 pub data NoCopy (f : Front) (b : ℕ) (e : JournalError) : Type 0 where
   OfRevoke : last_effect b (unfinished f) ≡ Some RevokeEntry → e ≡ Revoked → NoCopy f b e
   OfMemory : (last_effect b (unfinished f) ≡ Some RevokeEntry → ⊥) → e ≡ Memory → NoCopy f b e
 
--- a copy of the block is kept: it is the last entry of the transactions that are not finished, or one is pending
+-- a copy of the block is kept: as the last entry of the unfinished transactions, or pending
 pub data HasCopyKept (j : Journal) (b : ℕ) : Type 0 where
   OfUnfinished : (v : List ℕ) → last_effect b (unfinished j.front) ≡ Some (Copy v) → HasCopyKept j b
   OfPending : (i : ℕ) (v : List ℕ) → IsPending j.engine i b v → HasCopyKept j b
 
--- a read of the block by this handle saw these bytes: the transaction has one step more, and the engine has not changed; where a
--- copy is kept nor has the device
+-- a read by this handle saw these bytes: the transaction has one more step, and the engine is unchanged; if a copy is kept, so is the
+-- device
 pub record NotesRead {D : Type 0} (state : D → DeviceState) (old : JournalValue D) (h : HandleValue) (b : ℕ) (v : List ℕ) (new : JournalValue D) : Type 0 where
   pub may : MayStep old.journal.front h b
   pub front : new.journal.front ≡ reading_block old.journal.front h.number b v
   pub engine : new.journal.engine ≡ old.journal.engine
   pub kept : HasCopyKept old.journal b → new.device ≡ old.device
 
--- why a read is refused: the handle may not make a step on the block; the last entry of the transactions that are not finished is
--- a revoke; memory ran out for its step; or no copy of it is kept and the device failed in the read
+-- why a read is refused: the handle may make no step on the block; its last entry in the unfinished transactions is a revoke; memory
+-- for the step ran out; or no copy is kept, and the device failed
 pub data ReadRefused {D : Type 0} (state : D → DeviceState) (old : JournalValue D) (h : HandleValue) (b : ℕ) (new : JournalValue D) (e : JournalError) : Type 0 where
   ReadKeptOut : IsKeptOut old.journal.front h b e → new ≡ old → ReadRefused state old h b new e
   ReadRevoked : MayStep old.journal.front h b → last_effect b (unfinished old.journal.front) ≡ Some RevokeEntry → new ≡ old → e ≡ Revoked →
@@ -97,14 +97,14 @@ pub data ReadRefused {D : Type 0} (state : D → DeviceState) (old : JournalValu
   ReadFailed : MayStep old.journal.front h b → last_effect b (unfinished old.journal.front) ≡ None → (HasCopyKept old.journal b → ⊥) → Does state old ReadFault new →
       (state new.device).faults ≡ one_more_fault (state old.device).faults → e ≡ Device → ReadRefused state old h b new e
 
--- what a front may hand out of a block, where it is asked for bytes: the copy that is the block's last entry in the transactions that
--- are not finished; or they have none, and the buffer is as it was
+-- what the front puts in a buffer: the copy that is the block's last entry in the unfinished transactions; or nothing, if they have
+-- none
 abbrev pub HandsOut : Front → ℕ → (buffer : List ℕ) → Bool → List ℕ → Type 0
 HandsOut f b buffer true v = last_effect b (unfinished f) ≡ Some (Copy v)
 HandsOut f b buffer false v = (last_effect b (unfinished f) ≡ None) × (v ≡ buffer)
 
--- a read of the block without a handle saw these bytes, which are those that a handle's read would see; the journal stays as it is.
--- Where a copy is kept they are the copy's, and nor has the device changed
+-- a read without a handle saw the bytes that a handle's read would see, and left the journal; if a copy is kept, they are its bytes,
+-- and the device is unchanged
 pub record ReadsNewest {D : Type 0} (state : D → DeviceState) (honest : D → Type 0) (old : JournalValue D) (b : ℕ) (v : List ℕ) (new : JournalValue D) : Type 0 where
   pub running : old.journal.front.aborted ≡ false
   pub allowed : MayTouch old.journal.front b
@@ -113,8 +113,8 @@ pub record ReadsNewest {D : Type 0} (state : D → DeviceState) (honest : D → 
   pub copied : (w : List ℕ) → last_effect b (unfinished old.journal.front) ≡ Some (Copy w) → (v ≡ w) × (new ≡ old)
   pub pending : last_effect b (unfinished old.journal.front) ≡ None → (i : ℕ) (w : List ℕ) → IsPending old.journal.engine i b w → (v ≡ w) × (new ≡ old)
 
--- why it is refused: the device failed before; the block is none that may be touched; its last entry in the transactions that are not
--- finished is a revoke; or no copy of it is kept and the device failed in the read
+-- why it is refused: the device failed before; the block may not be touched; its last entry in the unfinished transactions is a revoke;
+-- or no copy is kept, and the device failed
 pub data NewestRefused {D : Type 0} (state : D → DeviceState) (old : JournalValue D) (b : ℕ) (new : JournalValue D) (e : JournalError) : Type 0 where
   NewestAborted : old.journal.front.aborted ≡ true → new ≡ old → e ≡ Aborted → NewestRefused state old b new e
   NewestOutside : old.journal.front.aborted ≡ false → (MayTouch old.journal.front b → ⊥) → new ≡ old → e ≡ BadBlock → NewestRefused state old b new e
@@ -124,7 +124,7 @@ pub data NewestRefused {D : Type 0} (state : D → DeviceState) (old : JournalVa
       (HasCopyKept old.journal b → ⊥) → Does state old ReadFault new → (state new.device).faults ≡ one_more_fault (state old.device).faults → e ≡ Device →
       NewestRefused state old b new e
 
--- a request locks the ticket's transaction where that is still running, and a handle has joined it; else it does nothing
+-- a request locks the ticket's transaction, if it is running and a handle has joined it; else nothing changes
 pub record Requests {D : Type 0} (state : D → DeviceState) (tid : ℕ) (old new : JournalValue D) : Type 0 where
   pub running : old.journal.front.aborted ≡ false
   pub same : tid ≡ old.journal.front.running.tid → 0 < length old.journal.front.running.handles → Does state old (FrontStep Lock) new
@@ -135,7 +135,7 @@ pub record Requests {D : Type 0} (state : D → DeviceState) (tid : ℕ) (old ne
 abbrev pub need_of : Layout → Transaction → ℕ
 need_of l t = need l (length (copied (entries t.steps))) (length (revoked (entries t.steps)))
 
--- the ring has as many free blocks as the running transaction needs
+-- the ring has that many free blocks for the running transaction
 abbrev pub HasRoomFor : Journal → Type 0
 HasRoomFor j =
     j.engine.start + need_of j.engine.layout j.front.running ≤ j.engine.tail + j.engine.ring.blocks
@@ -144,14 +144,14 @@ HasRoomFor j =
 abbrev pub FitsQuarter : Journal → Type 0
 FitsQuarter j = need_of j.engine.layout j.front.running ≤ j.engine.ring.blocks / 4
 
--- nothing is being committed, and the running transaction takes no further handles and has no open one
+-- no commit is under way, and the running transaction is locked and has no open handle
 pub record SealIsDue (j : Journal) : Type 0 where
   pub running : j.engine.aborted ≡ false
   pub idle : j.engine.stage ≡ Idle
   pub locked : j.front.locked ≡ true
   pub stopped : j.front.open_handles ≡ []
 
--- The commit step was the last one of its transaction: it is committed, the front knows it, and then it is told.
+-- The last commit step of its transaction: it is committed, the front records it, then acknowledges it.
 pub record FinishesCommit {D : Type 0} (state : D → DeviceState) (tid : ℕ) (old new : JournalValue D) : Type 0 where
   pub mid : Journal
   pub done : Journal
@@ -162,7 +162,7 @@ pub record FinishesCommit {D : Type 0} (state : D → DeviceState) (tid : ℕ) (
   pub raises : Happens done (state new.device).disk (FrontStep (Raise tid)) new.journal (state new.device).disk
   pub told : new.journal.front.mark ≡ tid
 
--- The device failed in the first step, and then the front was told: nobody else comes in between.
+-- The device failed in the first step, then the front is told, with nothing between.
 pub record FailsAndTells {D : Type 0} (state : D → DeviceState) (fault : Event) (old new : JournalValue D) : Type 0 where
   pub mid : Journal
   pub fails : Happens old.journal (state old.device).disk fault mid (state new.device).disk
@@ -173,13 +173,13 @@ pub record StepsCommit {D : Type 0} (state : D → DeviceState) (old new : Journ
   pub commits : Does state old CommitStep new
   pub busy : new.journal.engine.stage ≢ Idle
 
--- nothing is being committed, and the running transaction takes further handles
+-- no commit is under way, and the running transaction is not locked
 pub record NothingIsDue (j : Journal) : Type 0 where
   pub running : j.engine.aborted ≡ false
   pub idle : j.engine.stage ≡ Idle
   pub unlocked : j.front.locked ≡ false
 
--- it takes none, and one of its handles has not stopped
+-- no commit is under way; the running transaction is locked and has an open handle
 pub record StopIsAwaited (j : Journal) : Type 0 where
   pub running : j.engine.aborted ≡ false
   pub idle : j.engine.stage ≡ Idle
@@ -194,8 +194,7 @@ TurnDid state Step old new = StepsCommit state old new
 TurnDid state (Sealed tid) old new = Does state old Seal new × (tid ≡ old.journal.front.running.tid) × FitsQuarter old.journal
 TurnDid state (Committed tid) old new = FinishesCommit state tid old new
 
--- why a commit turn is refused: the device failed before, or in this turn; or a seal is due, and the ring or memory is
--- too short
+-- why a commit turn is refused: the device failed before or in it; or a seal is due, and the ring or memory is short
 pub data TurnRefused {D : Type 0} (state : D → DeviceState) (old new : JournalValue D) : JournalError → Type 0 where
   WasAborted : old.journal.engine.aborted ≡ true → new ≡ old → TurnRefused state old new Aborted
   RingIsShort : SealIsDue old.journal → (HasRoomFor old.journal → ⊥) → new ≡ old → TurnRefused state old new NeedSpace
@@ -209,7 +208,7 @@ pub record NothingToRelease (e : Engine) : Type 0 where
   pub idle : e.round ≡ NoRound
   pub released : e.released ≡ e.committed
 
--- what a checkpoint turn did: the round is over behind its last step
+-- what a checkpoint turn did; its last step ends the round
 abbrev pub CheckTurnDid : {D : Type 0} → (D → DeviceState) → CheckTurn → JournalValue D → JournalValue D → Type 0
 CheckTurnDid state IdleCheck old new =
     NothingToRelease old.journal.engine × (new.journal ≡ old.journal) × ((state new.device).disk ≡ (state old.device).disk)
@@ -217,32 +216,32 @@ CheckTurnDid state StepCheck old new = Does state old CheckpointStep new × (new
 CheckTurnDid state (Released tid) old new =
     Does state old CheckpointStep new × (new.journal.engine.round ≡ NoRound) × (tid + 1 ≡ new.journal.engine.first + new.journal.engine.released)
 
--- why a checkpoint turn is refused: the device failed before, or in this turn
+-- why a checkpoint turn is refused: the device failed before or in it
 pub data CheckTurnRefused {D : Type 0} (state : D → DeviceState) (old new : JournalValue D) : JournalError → Type 0 where
   CheckAborted : old.journal.engine.aborted ≡ true → new.journal ≡ old.journal → Stays (state old.device) (state new.device) →
       (state new.device).faults ≡ (state old.device).faults → CheckTurnRefused state old new Aborted
   CheckFailed : FailsAndTells state CheckpointFault old new → (state new.device).faults ≡ one_more_fault (state old.device).faults →
       CheckTurnRefused state old new Device
 
--- every image that a crash of the disk may leave opens, to a number of these transactions from low to high
+-- every crash image of the disk opens, to a number of these transactions from low to high
 pub record OpensOver (shape : Shape) (ts : History) (low high : ℕ) (disk : Disk) : Type 0 where
   pub each : (image : Image) → Leaves disk image → (n : ℕ) × (low ≤ n) × (n ≤ high) × Opens shape ts n image × IsCountOf shape image ts n
 
--- the same of a journal: from its committed transactions to its sealed ones
+-- so for a journal, from its committed to its sealed transactions
 abbrev pub OpensNow : Journal → Disk → Type 0
 OpensNow j disk = OpensOver j.engine.shape j.front.sealed j.engine.committed (length j.front.sealed) disk
 
--- a moment of a turn: home is as it was, and what a stop leaves opens
+-- a moment of a turn: home is as it was, and each crash image opens
 pub record IsDuringTurn (j : Journal) (old disk : Disk) : Type 0 where
   pub home : KeepsHome old disk
   pub opens : OpensNow j disk
 
--- a moment of a checkpoint turn: home has changed by newest committed copies alone, and what a stop leaves opens
+-- a moment of a checkpoint turn: home gained newest committed copies alone, and each crash image opens
 pub record IsDuringCheckTurn (j : Journal) (old disk : Disk) : Type 0 where
   pub home : CopiesHome j.engine old disk
   pub opens : OpensNow j disk
 
--- a checkpoint turn that made a call leaves fewer of those that are left
+-- a checkpoint turn that made a call leaves fewer to make
 abbrev pub LeavesFewerRounds : CheckTurn → Engine → Engine → Type 0
 LeavesFewerRounds IdleCheck old new = ⊤
 LeavesFewerRounds StepCheck old new = round_calls new < round_calls old

@@ -1,6 +1,5 @@
-//! The steps that need both the front and the engine: each is lent both, and is one step of the machine, or several in a row
-//! that nobody else sees between. The steps of the front alone are its own, and so are those of the engine (`log_engine`).
-//! Front and engine agree before a step and behind it.
+//! The steps that need both front and engine. Each is one step of the machine, or several that nobody sees between; front and engine
+//! agree before and after it. Steps of one part alone are that part's own.
 ghost use Rattle.std.specs.Prelude.{◌≡◌, ◌<◌, ◌≢◌, ◌↔◌, List, ℕ, false, length, is_some, option_map, Some, IfOk, IfErr, IfSome, OnOk, IsTrue};
 ghost use Rattle.journal_model.specs.declared.entry.Entry.TheVariants.{Copy, Revoke as RevokeEntry};
 ghost use Rattle.journal_model.specs.declared.refusal.JournalError.TheVariants.{Device as DeviceFailed, Memory, Revoked};
@@ -25,11 +24,11 @@ use journal_front::{Front, Handle, Record};
 use journal_model::{Batch, Block, BlockNo, Entry, JournalError};
 use log_engine::{Engine, Progress};
 
-/// The copy of a block that the front keeps: that of the last entry in the transactions that are not finished, if there is one.
+/// The copy of a block that the front keeps: its last entry in the unfinished transactions, if there is one.
 ///
 /// # Errors
 ///
-/// `Revoked` where that entry is a revoke; else `Memory`.
+/// `Revoked`: that entry is a revoke. Else `Memory`.
 fn held_copy<R: Record>(front: &Front<R>, block: BlockNo) -> Result<Option<Block>, JournalError>
     ensures ok { IfOk result (λ copy. last_effect block (unfinished front.now) ≡ option_map Copy copy) }
     ensures err { IfErr result (NoCopy front.now block) }
@@ -41,7 +40,7 @@ fn held_copy<R: Record>(front: &Front<R>, block: BlockNo) -> Result<Option<Block
     }
 }
 
-/// Notes what a read saw as a step of its handle, and hands it out.
+/// Records a read as a step of its handle, and hands out its bytes.
 ///
 /// # Errors
 ///
@@ -65,16 +64,15 @@ fn note<R: Record>(
     Ok(())
 }
 
-/// Reads a block of the home area into a buffer of one block, by an open handle: the running transaction's copy, else that of
-/// the one that is being committed, else what the engine reads. What it sees is a step of the handle, and takes no credit.
+/// Reads one block of the home area by an open handle: the running transaction's copy, else the copy being committed, else what the
+/// engine reads. The read becomes a step of the handle, and takes no credit. A legal record stays legal, whatever it answers.
 ///
 /// # Errors
 ///
-/// The first that applies; the buffer stays as it is. `Aborted` after a device failure; `BadBlock` where home has no such block,
-/// or its number is not below 2^32 (in a log with numbers of 64 bits 2^48); `NoCredit` where the handle is none of this journal's
-/// open ones; `Revoked` where the block's last entry in the transactions that are not committed is a revoke: nothing changes.
-/// `Memory` where it ran out for the step: the journal stays as it is. `Device` where the device failed: the journal is aborted.
-/// Whatever it answers, a record that was legal stays so.
+/// The buffer stays as it is. The first that applies: `Aborted` after a device failure; `BadBlock` if home has no such block, or its
+/// number is not below 2^32 (2^48 in a log with 64-bit numbers); `NoCredit` if the handle is not open; `Revoked` if the block's last
+/// entry in the uncommitted transactions is a revoke; `Memory` for the step: the journal stays too. `Device`: the device failed, and
+/// the journal is aborted.
 pub fn read<D: Device, R: Record>(
     front: &mut Front<R>,
     engine: &mut Engine<D>,
@@ -109,12 +107,12 @@ pub fn read<D: Device, R: Record>(
     note(front, handle, block, Block::new(bytes)?, into)
 }
 
-/// Copies what the front holds of a block into a buffer of one block: the copy that is its last entry in the transactions that are not
-/// finished. It answers whether there is such a copy; where there is none the buffer stays as it is.
+/// Copies a block's last entry in the unfinished transactions into the buffer, if it is a copy. It answers whether it did; if there is
+/// no entry, the buffer stays.
 ///
 /// # Errors
 ///
-/// `Revoked` where that entry is a revoke: the buffer stays as it is.
+/// `Revoked`: that entry is a revoke, and the buffer stays.
 /// Source: journalling.rst (handles see the running transaction).
 pub fn hand_out<R: Record>(
     front: &Front<R>,
@@ -135,16 +133,13 @@ pub fn hand_out<R: Record>(
     Ok(true)
 }
 
-/// Reads a block of the home area into a buffer of one block, without a handle: the bytes that a handle's read would see. Nothing is
-/// noted, so it makes no transaction, and it takes no memory. A block with a copy that is not home for good is read without a device
-/// call, any other with one.
+/// Reads the bytes that `read` would give, without a handle. It records no step, makes no transaction and takes no memory. A block with
+/// a copy that is not home for good needs no device call; any other needs one.
 ///
 /// # Errors
 ///
-/// The first that applies. `Aborted` after a device failure; `BadBlock` where home has no such block, or its number is not below 2^32
-/// (in a log with numbers of 64 bits 2^48); `Revoked` where the block's last entry in the transactions that are not committed is a
-/// revoke: nothing changes, nor does the buffer. `Device` where the device failed: the journal is aborted, and the buffer's bytes are
-/// unspecified.
+/// `Aborted`, `BadBlock` and `Revoked` as in `read`: nothing changes. `Device`: the device failed, the journal is aborted, and the
+/// buffer's bytes are unspecified.
 pub fn read_newest<D: Device, R: Record>(
     front: &mut Front<R>,
     engine: &mut Engine<D>,
@@ -180,13 +175,12 @@ pub fn read_newest<D: Device, R: Record>(
     Ok(())
 }
 
-/// Takes the next step of committing: one device call of a commit, or the seal of a transaction that takes no further handles
-/// and has no open one.
+/// Takes the next commit step: one device call of a commit, or the seal of a transaction that is locked and has no open handle.
 ///
 /// # Errors
 ///
-/// `Aborted` after a device failure. `NeedSpace` where what is left of the ring is too short for the transaction, and `Memory`:
-/// the transaction stays as it is. `Device` where the device failed: the journal is aborted.
+/// `Aborted` after an earlier device failure. `NeedSpace`: the ring has too few free blocks for the transaction, and `Memory`: it stays
+/// as it is. `Device`: the device failed, and the journal is aborted.
 /// Source: fs/jbd2/commit.c by behaviour; that each step is one device call is this project's own.
 pub fn commit_turn<D: Device, R: Record>(
     front: &mut Front<R>,
@@ -215,11 +209,11 @@ pub fn commit_turn<D: Device, R: Record>(
     seal(front, engine)
 }
 
-/// One step of the commit that is under way. Behind its last one the front knows that the transaction is committed, and tells it.
+/// Takes one step of the commit under way. After its last one the front records the commit and acknowledges it.
 ///
 /// # Errors
 ///
-/// `Device` where the device failed: the journal is aborted.
+/// `Device`: the device failed, and the journal is aborted.
 pub fn commit_step<D: Device, R: Record>(
     front: &mut Front<R>,
     engine: &mut Engine<D>,
@@ -253,11 +247,11 @@ pub fn commit_step<D: Device, R: Record>(
     }
 }
 
-/// Seals the locked transaction, of which no handle is open, and hands its entries to the engine.
+/// Seals the locked transaction, which has no open handle, and hands its entries to the engine.
 ///
 /// # Errors
 ///
-/// `NeedSpace` where what is left of the ring is too short for the transaction, and `Memory`: nothing changes.
+/// `NeedSpace`: the ring has too few free blocks for it; and `Memory`. Nothing changes.
 /// Source: fs/jbd2/commit.c by behaviour.
 pub fn seal<D: Device, R: Record>(
     front: &mut Front<R>,
@@ -277,8 +271,8 @@ pub fn seal<D: Device, R: Record>(
     seal_batch(front, engine, batch)
 }
 
-/// The entries of the running transaction, with all the room made that their seal needs. They may be had before the seal is due, while
-/// another transaction is being committed: as long as no step of a handle comes between, a seal by them makes no request for memory.
+/// The running transaction's entries. It reserves all memory that their seal needs, even while another transaction is being committed.
+/// A seal by them requests no memory, as long as no handle makes a step in between.
 ///
 /// # Errors
 ///
@@ -296,12 +290,12 @@ pub fn ready_batch<D: Device, R: Record>(
     Ok(batch)
 }
 
-/// Seals the locked transaction, of which no handle is open and these are the entries (`ready_batch`), and hands them to the engine.
+/// Seals the locked transaction, which has no open handle and these entries (`ready_batch`), and hands them to the engine.
 ///
 /// # Errors
 ///
-/// `NeedSpace` where what is left of the ring is too short for the transaction, and `Memory`, which does not come where room was made
-/// for these entries: nothing changes.
+/// `NeedSpace`: the ring has too few free blocks for it; and `Memory`, which can't occur if room was made for these entries. Nothing
+/// changes.
 /// Source: fs/jbd2/commit.c by behaviour.
 pub fn seal_batch<D: Device, R: Record>(
     front: &mut Front<R>,
@@ -328,8 +322,7 @@ pub fn seal_batch<D: Device, R: Record>(
     Ok(Turn::Sealed(tid))
 }
 
-/// States for the proofs of callers that the running transaction needs at most a quarter of the ring: no more credits are held than
-/// fit that, and one for each entry. It does nothing.
+/// Tells callers' proofs that the running transaction needs at most a quarter of the ring, by the credits held. It does nothing.
 pub fn recall_quarter<D: Device, R: Record>(front: &Front<R>, engine: &Engine<D>)
     requires agrees { Agrees (together front.now engine.now).journal }
     ensures { FitsQuarter (together front.now engine.now).journal }
@@ -338,7 +331,7 @@ pub fn recall_quarter<D: Device, R: Record>(front: &Front<R>, engine: &Engine<D>
     let _front = front;
 }
 
-/// How many log blocks the running transaction needs, where the ring has as many free ones.
+/// How many log blocks the running transaction needs, if the ring has as many free.
 pub fn room_for<D: Device, R: Record>(front: &Front<R>, engine: &Engine<D>) -> Option<u64>
     requires { engine.now.engine.stage ≡ Idle }
     ensures blocks { IfSome result (λ n. n ≡ need_of engine.now.engine.layout front.now.running) }
@@ -348,11 +341,11 @@ pub fn room_for<D: Device, R: Record>(front: &Front<R>, engine: &Engine<D>) -> O
     engine.room_for(copies, revokes)
 }
 
-/// Takes the next step of a checkpoint round: at most one device call, and none where it answers Idle.
+/// Takes the next checkpoint step: at most one device call, and none if it answers `Idle`.
 ///
 /// # Errors
 ///
-/// `Aborted` after a device failure. `Device` where the device failed: the journal is aborted.
+/// `Aborted` after an earlier device failure. `Device`: the device failed, and the journal is aborted.
 /// Source: fs/jbd2/checkpoint.c by behaviour; that each step is one device call is this project's own.
 pub fn checkpoint_turn<D: Device, R: Record>(
     front: &mut Front<R>,
@@ -381,13 +374,12 @@ pub fn checkpoint_turn<D: Device, R: Record>(
     }
 }
 
-/// Writes a block of the home area directly, of one block of bytes, past the log. It makes one device call.
+/// Writes one block directly home, past the log, by one device call.
 ///
 /// # Errors
 ///
-/// `Aborted` after a device failure; `BadBlock` where home has no such block, or its number is not below 2^32 (in a log with
-/// numbers of 64 bits 2^48); `NotDirect` where the transactions have a copy of the block, or one that is not committed has an
-/// entry of it: nothing changes. `Device` where the device failed: the journal is aborted.
+/// `Aborted` after an earlier device failure, `BadBlock` as in `read`, `NotDirect` if the transactions have a copy of the block, or an
+/// uncommitted one has an entry of it: nothing changes. `Device`: the device failed, and the journal is aborted.
 /// Source: this project's own, by what journal.rst says of revokes.
 pub fn write_direct<D: Device, R: Record>(
     front: &mut Front<R>,
@@ -423,12 +415,12 @@ pub fn write_direct<D: Device, R: Record>(
     }
 }
 
-/// Flushes the home area, so that every direct write that answered Ok before is durable.
+/// Flushes the home area: every earlier direct write that answered Ok is durable.
 ///
 /// # Errors
 ///
-/// `Aborted` after a device failure: nothing changes. `Device` where the device failed: the journal is aborted, and nothing more
-/// is durable.
+/// `Aborted` after an earlier device failure: nothing changes. `Device`: the device failed, the journal is aborted, and nothing more is
+/// durable.
 /// Source: this project's own; a flush request (the kernel's writeback_cache_control.rst).
 pub fn sync_direct<D: Device, R: Record>(
     front: &mut Front<R>,

@@ -1,4 +1,4 @@
-//! What a turn did.
+//! The answers of commit and checkpoint turns: what a turn did.
 use journal_model::Tid;
 
 /// What a commit turn did.
@@ -6,13 +6,13 @@ use journal_model::Tid;
 pub enum Turn {
     /// Nothing: the transaction is running.
     Idle,
-    /// Nothing: the transaction is locked, and has a handle that has not stopped.
+    /// Nothing: the transaction is locked, and has an open handle.
     Waiting,
     /// One step of a commit.
     Step,
-    /// This transaction was sealed, and is to be committed.
+    /// It sealed this transaction, which is then to be committed.
     Sealed(Tid),
-    /// The last step of a commit: this transaction is committed, and told to be so.
+    /// The last step of a commit: this transaction is committed and acknowledged.
     Committed(Tid),
 }
 

@@ -25,7 +25,7 @@ use Rattle.log_scan.specs.Finding.{every_block}
 use Rattle.log_dump.specs.Lines.{ended, placed_lines}
 use Rattle.log_dump.proofs.Written.{appends-joins, appends-same}
 
--- fields that were accepted for a block and an area of these sizes are so for the device's
+-- fields accepted for equal sizes are accepted for the device's
 pub accepted-for : (told block_size tells log_blocks : ℕ) (fields log : Super) → told ≡ block_size → tells ≡ log_blocks → log ≡ fields →
     IsAccepted told tells fields → IsAccepted block_size log_blocks log
 accepted-for told block_size tells log_blocks fields log size count same accepted =
@@ -38,7 +38,7 @@ text-clean s clean =
     let test : (s.s_start == 0) ≡ true = grind (arith, nat_tests) in
     rw test (ap (λ (text : List ℕ). ended (super_line s) ++ text) (sym (append-nil (ended (codes "empty sequence=" ++ decimal s.s_sequence)))))
 
--- the lines of a log that is not
+-- the lines of any other log are its dump
 text-chain : (s : Super) (texts : List Text) → s.s_start ≢ 0 →
     ended (super_line s) ++ (placed_lines s 0 (texts_captions s.s_sequence texts) ++ ended (end_line s texts)) ≡ dump_text s texts
 unfolding dump_text
@@ -49,12 +49,12 @@ text-chain s texts started =
     (ap (λ (text : List ℕ). placed_lines s 0 (texts_captions s.s_sequence texts) ++ text) (sym (append-nil (ended (end_line s texts))))
     ∙ sym (flat_map-append ended (block_lines s texts) (end_line s texts ∷ []))))
 
--- the two lines of a clean log were written
+-- a clean log's two lines make its dump
 pub written-clean : (s : Super) (old mid new : Option (List ℕ)) → s.s_start ≡ 0 → Appends old mid (ended (super_line s)) →
     Appends mid new (ended (codes "empty sequence=" ++ decimal s.s_sequence)) → Appends old new (dump_text s [])
 written-clean s old mid new clean first second = appends-same old new _ (dump_text s []) (text-clean s clean) (appends-joins old mid new _ _ first second)
 
--- the first line, those of the blocks, and the last line were written
+-- the first line, those of the blocks and the last line make a dump
 pub written-chain : (s : Super) (texts : List Text) (first count : ℕ) (old mid behind new : Option (List ℕ)) → s.s_start ≢ 0 → first ≡ s.s_sequence → count ≡ length texts →
     Appends old mid (ended (super_line s)) → Appends mid behind (placed_lines s 0 (texts_captions s.s_sequence texts)) →
     Appends behind new (ended (codes "end sequence=" ++ decimal (first + count) ++ codes " transactions=" ++ decimal count)) → Appends old new (dump_text s texts)
@@ -63,7 +63,7 @@ written-chain s texts first count old mid behind new started number all one two 
     (ap₂ (λ (f n : ℕ). ended (codes "end sequence=" ++ decimal (f + n) ++ codes " transactions=" ++ decimal n)) number all) three in
     appends-same old new _ (dump_text s texts) (text-chain s texts started) (appends-joins old mid new _ _ one (appends-joins mid behind new _ _ two last))
 
--- what the tests say of a block says so of the device's measures
+-- the tests of a block hold for the device's sizes
 pub tested-for : (fields : Super) (size blocks length_is count : ℕ) (block other : List ℕ) (answer : Option JournalError) → length_is ≡ size → count ≡ blocks → block ≡ other →
     (let s : Shape = record { block_size = length_is; log_blocks = count; home_blocks = every_block fields } in super_refusal s block ≡ answer) →
     super_refusal (dump_shape fields size blocks) other ≡ answer
@@ -72,7 +72,7 @@ tested-for fields size blocks length_is count block other answer long many same 
     (subst (λ (s : Shape). super_refusal s block ≡ answer)
     (ap₂ (λ (a b : ℕ). let s : Shape = record { block_size = a; log_blocks = b; home_blocks = every_block fields } in s) long many) tested)
 
--- why the superblock is refused is why the log is
+-- a refused superblock refuses the log
 pub log-refused : (honest unwritten : Type 0) (old new : DeviceState) (e : JournalError) → unwritten → IsLogRefused honest old new e → DumpRefused honest unwritten old new e
 log-refused honest unwritten old new e nothing (inl failed) = record {
   device = λ is. failed.1;
@@ -115,7 +115,7 @@ module _ (size blocks : ℕ) (image : Image) (s : Super) (read : IsReadLog (dump
         subst (λ (t : Super). IsDump (dump_shape (super_of image) size blocks) image (dump_text t texts)) (sym read.same)
         (OfChain texts (chain-of texts (subst (λ (t : Super). AreTextsOf t (every_block t) image texts) read.same are)))
 
-    -- a damaged block is why it has none
+    -- a damaged block refuses the dump
     pub damage-refused : (e : JournalError) → IsDamageOf s (every_block s) image e → IsDumpRefused (dump_shape (super_of image) size blocks) image e
     damage-refused e damage = by (subst (λ (t : Super). IsDamageOf t (every_block t) image e) read.same damage)
       where
@@ -124,13 +124,13 @@ module _ (size blocks : ℕ) (image : Image) (s : Super) (read : IsReadLog (dump
             subst (IsDumpRefused (dump_shape (super_of image) size blocks) image) (sym d.refusal)
             (ByDamage d.k (record { started = image-started; damaged = d.damaged }))
 
--- damage that the ring of an accepted log has is behind its superblock
+-- damage in an accepted log's ring is after its superblock
 damage-content : (shape : Shape) (s : Super) (e : JournalError) → IsAccepted shape.block_size shape.log_blocks s → NamesDamage s.s_first s.s_maxlen e → IsContentRefusal shape e
 damage-content shape s e accepted names =
     let behind = accepted.behind in
     inr (damage-around s.s_first s.s_maxlen 1 shape.log_blocks e (omega arith) accepted.within names)
 
--- why the transactions are not counted is why the log is refused
+-- if the transactions can't be counted, the log is refused
 pub count-refused : (honest unwritten : Type 0) (s : Super) (old mid new : DeviceState) (e : JournalError) → unwritten → s.s_start ≢ 0 → mid.faults ≡ old.faults → mid.disk ≡ old.disk →
     IsAccepted old.shape.block_size old.shape.log_blocks s → (honest → IsReadLog (shape_of old) (reading old.disk) s) →
     IsScanRefused honest s (every_block s) mid new e → DumpRefused honest unwritten old new e
@@ -154,7 +154,7 @@ count-refused honest unwritten s old mid new e nothing started faults disk accep
   );
 }
 
--- why the counted transactions are not printed
+-- why counted transactions are not printed
 pub print-refused : (honest unwritten impossible : Type 0) (s : Super) (old mid new : DeviceState) (e : Fault) → mid.faults ≡ old.faults →
     IsAccepted old.shape.block_size old.shape.log_blocks s → (honest → HasDump (shape_of old) (reading old.disk)) → (honest → impossible → ⊥) →
     IsPrintRefused honest impossible s mid new e → IsDumpFault honest unwritten old new e
@@ -172,12 +172,12 @@ print-refused honest unwritten impossible s old mid new (Refused e) faults accep
   content = λ other more. (damage-content old.shape s e accepted names, λ h. absurd (never h (cannot h)));
 }
 
--- what holds holds where a call failed
+-- what holds anyway holds on a failure
 pub on-err : {T E : Type 0} {P : Type 0} (r : Result T E) → P → OnErr r P
 on-err (Ok x) p = tt
 on-err (Err e) p = p
 
--- what the test of s_start says
+-- if the test of s_start holds, it is 0
 pub test-clean : (start : ℕ) → true ≡ (start == 0) → start ≡ 0
 test-clean start test = grind (arith, nat_tests)
 

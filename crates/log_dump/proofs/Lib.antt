@@ -1,4 +1,4 @@
--- The lemmas of this crate: none above it cites them.
+-- Lemmas that only this crate cites.
 mod Dumps
 mod Placed
 mod PrintingSteps

@@ -1,4 +1,4 @@
--- The lines of blocks, one after another, and numbers with commas between them.
+-- The lines of blocks in order, and numbers with commas between them.
 use Rattle.std.proofs.Common.{◌≡◌, ℕ, ◌+◌, ◌-◌, ◌<◌, ◌==◌, List, [], ◌∷◌, ◌++◌, length, map, take, get_or, refl, sym, ◌∙◌, ap, arith, append_assoc, append-nil, true, false}
 use Rattle.std.specs.Prelude.{codes, if◌then◌else◌}
 use Rattle.std.specs.Fmt.{decimal}
@@ -13,7 +13,7 @@ use Rattle.log_model.specs.Opening.{ring_of}
 use Rattle.log_model.specs.Superblock.{Super}
 use Rattle.log_dump.specs.Lines.{copies_captions, ended, listed, placed_line, placed_lines}
 
--- one more text in a row with commas between each two: it is behind the others
+-- one more text at the end of a list with commas
 pub join-push : (i : ℕ) (xs : List (List ℕ)) (x : List ℕ) → i ≡ length xs →
     join_with_byte comma (xs ++ x ∷ []) ≡ join_with_byte comma xs ++ (if i == 0 then x else comma ∷ x)
 join-push i [] x is = let first : (i == 0) ≡ true = grind (arith, nat_tests) in rw first refl
@@ -26,7 +26,7 @@ join-push i (y ∷ z ∷ xs) x is =
     (ap (λ (text : List ℕ). y ++ comma ∷ text) rest
     ∙ sym (append_assoc y (comma ∷ join_with_byte comma (z ∷ xs)) (comma ∷ x)))
 
--- the lines of blocks in a row are those of the first, and then those of the rest
+-- the lines of joined blocks are the first ones' lines, then the others'
 pub placed-append : (s : Super) (k : ℕ) (xs ys : List (List ℕ)) →
     placed_lines s k (xs ++ ys) ≡ placed_lines s k xs ++ placed_lines s (k + length xs) ys
 placed-append s k [] ys = ap (λ (n : ℕ). placed_lines s n ys) (omega arith)

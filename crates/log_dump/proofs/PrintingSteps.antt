@@ -1,4 +1,4 @@
--- One step of the second way over a log, which prints its transactions.
+-- One step of the second pass over a log, which prints its transactions.
 use Rattle.std.proofs.Common.{◌≡◌, ℕ, suc, ◌+◌, ◌<◌, List, [], ◌∷◌, ◌++◌, Option, length, drop, refl, sym, ◌∙◌, ap, ap₂, subst, arith, inl, inr, append_assoc, append-nil, length-append}
 use Rattle.std.specs.Prelude.{codes}
 use Rattle.std.specs.Fmt.{decimal}
@@ -37,7 +37,7 @@ module _ (l : Layout) (count : ℕ) where
   piece-lines sequence (Revokes b numbers) is = refl
   piece-lines sequence (Copies b tags copies) is = let each = is.each_tag in let lines = length-map tags (copy_caption sequence) in omega arith
 
-  -- and so have pieces
+  -- so do pieces
   pieces-lines : (sequence : ℕ) (ps : List Piece) → AllByRecursion (IsPiece l count sequence) ps → length (flat_map (piece_captions sequence) ps) ≡ length (pieces_blocks ps)
   pieces-lines sequence [] all = refl
   pieces-lines sequence (p ∷ ps) all =
@@ -45,14 +45,14 @@ module _ (l : Layout) (count : ℕ) where
       ∙ ap₂ (λ (m n : ℕ). m + n) (piece-lines sequence p all.0) (pieces-lines sequence ps all.1)
       ∙ sym (length-append (piece_blocks p) (pieces_blocks ps))
 
-  -- a text
+  -- so does a text
   text-lines : (sequence : ℕ) (t : Text) → IsText l count sequence t → length (text_captions sequence t) ≡ length (text_blocks t)
   text-lines sequence t is =
       length-append (flat_map (piece_captions sequence) t.pieces) ((codes "commit " ++ decimal sequence) ∷ [])
       ∙ ap (λ (n : ℕ). n + 1) (pieces-lines sequence t.pieces is.pieces)
       ∙ sym (length-append (pieces_blocks t.pieces) (t.commit ∷ []))
 
-  -- and texts
+  -- so do texts
   texts-lines : (sequence : ℕ) (ts : List Text) → AreTexts l count sequence ts → length (texts_captions sequence ts) ≡ length (texts_blocks ts)
   texts-lines sequence [] are = refl
   texts-lines sequence (t ∷ ts) are =
@@ -60,14 +60,14 @@ module _ (l : Layout) (count : ℕ) where
       ∙ ap₂ (λ (m n : ℕ). m + n) (text-lines sequence t are.0) (texts-lines (suc sequence) ts are.1)
       ∙ sym (length-append (text_blocks t) (texts_blocks ts))
 
--- the lines of one more piece
+-- the lines of pieces and one more
 pieces-push : (sequence : ℕ) (ps : List Piece) (p : Piece) →
     flat_map (piece_captions sequence) (ps ++ p ∷ []) ≡ flat_map (piece_captions sequence) ps ++ piece_captions sequence p
 pieces-push sequence ps p =
     flat_map-append (piece_captions sequence) ps (p ∷ [])
     ∙ ap (λ (xs : List (List ℕ)). flat_map (piece_captions sequence) ps ++ xs) (append-nil (piece_captions sequence p))
 
--- and of one more text
+-- the lines of texts and one more
 texts-push : (sequence due : ℕ) (ts : List Text) (t : Text) → due ≡ sequence + length ts →
     texts_captions sequence (ts ++ t ∷ []) ≡ texts_captions sequence ts ++ text_captions due t
 texts-push sequence due [] t is = append-nil (text_captions sequence t) ∙ ap (λ (n : ℕ). text_captions n t) (omega arith)
@@ -75,7 +75,7 @@ texts-push sequence due (u ∷ ts) t is =
     ap (λ (xs : List (List ℕ)). text_captions sequence u ++ xs) (texts-push (suc sequence) due ts t (omega arith))
     ∙ sym (append_assoc (text_captions sequence u) (texts_captions (suc sequence) ts) (text_captions due t))
 
--- the lines of one part behind those of another
+-- the lines of one part after those of another
 lines-more : (s : Super) (k n position : ℕ) (old mid new : Option (List ℕ)) (before next all : List (List ℕ)) → n ≡ length before → position ≡ k + n →
     all ≡ before ++ next → Appends old mid (placed_lines s k before) → Appends mid new (placed_lines s position next) → Appends old new (placed_lines s k all)
 lines-more s k n position old mid new before next all size place whole first second =
@@ -84,7 +84,7 @@ lines-more s k n position old mid new before next all size place whole first sec
     (ap (λ (m : ℕ). placed_lines s k before ++ placed_lines s m next) at ∙ sym (placed-append s k before next) ∙ ap (placed_lines s k) (sym whole))
     (appends-joins old mid new (placed_lines s k before) (placed_lines s position next) first second)
 
--- pieces of a text that begins at one position were printed, up to another
+-- pieces of the text that begins at `start` were printed, up to this position
 pub record PrintedPieces (s : Super) (image : Image) (sequence : ℕ) (old new : Option (List ℕ)) (start position : ℕ) : Type 0 where
   pub pieces : List Piece
   pub inside : ℕ
@@ -92,7 +92,7 @@ pub record PrintedPieces (s : Super) (image : Image) (sequence : ℕ) (old new :
   pub place : position ≡ start + inside
   pub written : Appends old new (placed_lines s start (flat_map (piece_captions sequence) pieces))
 
--- none
+-- at first none
 pub printed-none : (s : Super) (image : Image) (sequence : ℕ) (old : Option (List ℕ)) (start : ℕ) → PrintedPieces s image sequence old old start start
 printed-none s image sequence old start = record {
   pieces = [];
@@ -103,15 +103,15 @@ printed-none s image sequence old start = record {
 }
 
 module _ (s : Super) (image : Image) (sequence : ℕ) (old mid : Option (List ℕ)) (start position : ℕ) (so : PrintedPieces s image sequence old mid start position) where
-  -- the blocks at the position
+  -- the blocks from the position on
   here : drop so.inside (blocks_from s image start) ≡ blocks_from s image position
   here = from-behind s image start so.inside ∙ ap (blocks_from s image) (sym so.place)
 
-  -- there are as many lines as blocks
+  -- as many lines as blocks
   lines : so.inside ≡ length (flat_map (piece_captions sequence) so.pieces)
   lines = so.begun.front.size ∙ sym (pieces-lines (layout_of s) (every_block s) sequence so.pieces so.begun.well_formed)
 
-  -- one more piece
+  -- after one more piece
   pub printed-piece : (new : Option (List ℕ)) (p : Piece) (n end : ℕ) → end ≡ position + n → PieceBegins (layout_of s) (every_block s) sequence (blocks_from s image position) p n →
       Appends mid new (placed_lines s position (piece_captions sequence p)) → PrintedPieces s image sequence old new start end
   printed-piece new p n end is next line = record {
@@ -126,7 +126,7 @@ module _ (s : Super) (image : Image) (sequence : ℕ) (old mid : Option (List �
         (pieces-push sequence so.pieces p) so.written line;
   }
 
-  -- the commit block
+  -- after the commit block
   pub printed-text : (new : Option (List ℕ)) → BlockBegins (IsCommitBlock sequence) (blocks_from s image position) →
       Appends mid new (placed_lines s position ((codes "commit " ++ decimal sequence) ∷ [])) → IsPrinted s image sequence old new start (position + 1)
   printed-text new commit line = record {
@@ -141,27 +141,27 @@ module _ (s : Super) (image : Image) (sequence : ℕ) (old mid : Option (List �
     there : BlockBegins (IsCommitBlock sequence) (drop so.inside (blocks_from s image start))
     there = subst (BlockBegins (IsCommitBlock sequence)) (sym here) commit
 
-  -- no text begins where a malformed block stands behind the pieces
+  -- no text begins if a malformed block follows the pieces
   pub unprinted-malformed : BlockBegins (IsMalformed (layout_of s) (every_block s) sequence) (blocks_from s image position) →
       NoTextBegins (layout_of s) (every_block s) sequence (blocks_from s image start)
   unprinted-malformed bad =
       no-text-malformed (layout_of s) (every_block s) sequence (omega arith) (blocks_from s image start) so.pieces so.inside so.begun
       (subst (BlockBegins (IsMalformed (layout_of s) (every_block s) sequence)) (sym here) bad)
 
-  -- nor where nothing does
+  -- nor if nothing follows them
   pub unprinted-nothing : NothingBegins (layout_of s) (every_block s) sequence (blocks_from s image position) →
       NoTextBegins (layout_of s) (every_block s) sequence (blocks_from s image start)
   unprinted-nothing nothing =
       no-text-nothing (layout_of s) (every_block s) sequence (omega arith) (blocks_from s image start) so.pieces so.inside so.begun
       (subst (NothingBegins (layout_of s) (every_block s) sequence) (sym here) nothing)
 
--- so many texts were printed, up to a position
+-- so many texts were printed, up to this position
 pub record PrintedTexts (s : Super) (image : Image) (old new : Option (List ℕ)) (count position : ℕ) : Type 0 where
   pub texts : List Text
   pub whole : TextsBegin (layout_of s) (every_block s) s.s_sequence (lap (ring_of s) image s.s_start) texts (s.s_sequence + count) position
   pub written : Appends old new (placed_lines s 0 (texts_captions s.s_sequence texts))
 
--- none
+-- at first none
 pub texts-unprinted : (s : Super) (image : Image) (old : Option (List ℕ)) → PrintedTexts s image old old 0 0
 texts-unprinted s image old = record {
   texts = [];
@@ -170,7 +170,7 @@ texts-unprinted s image old = record {
 }
 
 module _ (s : Super) (image : Image) (old mid : Option (List ℕ)) (count position : ℕ) (so : PrintedTexts s image old mid count position) where
-  -- one more text
+  -- after one more text
   pub texts-printed : (number end : ℕ) (new : Option (List ℕ)) → number ≡ s.s_sequence + count → IsPrinted s image number mid new position end → PrintedTexts s image old new (count + 1) end
   texts-printed number end new is next = record {
     texts = so.texts ++ next.text ∷ [];
@@ -185,7 +185,7 @@ module _ (s : Super) (image : Image) (old mid : Option (List ℕ)) (count positi
         (texts-push s.s_sequence number so.texts next.text (is ∙ so.whole.due)) so.written next.written;
   }
 
-  -- where no further text begins, there are no more
+  -- if no further text begins, there are no more
   pub texts-no-more : (number : ℕ) (texts : List Text) → number ≡ s.s_sequence + count → count < length texts →
       NoTextBegins (layout_of s) (every_block s) number (blocks_from s image position) → IsChainOf s (every_block s) image texts → ⊥
   texts-no-more number texts is more none are =
@@ -195,7 +195,7 @@ module _ (s : Super) (image : Image) (old mid : Option (List ℕ)) (count positi
       so.whole.numbered begins.numbered (is ∙ so.whole.due) none (sym so.whole.front.split ∙ begins.split) in
       omega arith
 
-  -- as many as the log has are those that it has
+  -- if as many texts were printed as the log has, they are the log's
   pub texts-all : (texts : List Text) → count ≡ length texts → IsChainOf s (every_block s) image texts → Appends old mid (placed_lines s 0 (texts_captions s.s_sequence texts))
   texts-all texts all are =
       let begins = are.begins in
@@ -212,7 +212,7 @@ line-placed s k place caption old new at written =
     appends-same old new (ended (placed_line place caption)) (placed_lines s k (caption ∷ []))
     (ap (λ (p : ℕ). ended (placed_line p caption)) at ∙ sym (placed-one s k caption)) written
 
--- what can't be is nothing else either, and the device that had not failed before has failed once
+-- a refusal carries over to a weaker impossibility, after a device that had not failed
 pub refused-through : (honest one other : Type 0) (s : Super) (old mid new : DeviceState) (e : Fault) → (honest → one → other) → mid.faults ≡ old.faults →
     IsPrintRefused honest one s mid new e → IsPrintRefused honest other s old new e
 refused-through honest one other s old mid new (Output e) on same refused = refused ∙ same

@@ -1,4 +1,4 @@
-//! Printing the log of a device.
+//! Dumping the log of a device: the superblock is tested, the transactions are counted, then all is printed.
 ghost use Rattle.std.specs.Prelude.{◌≡◌, ◌≢◌, ◌⊎◌, ◌<◌, ◌≤◌, List, [], length, None, IfOk, IfErr, OnOk, OnErr, MatchResult};
 ghost use Rattle.std.specs.Io.KnownBytes.{Appends};
 ghost use Rattle.log_model.specs.declared.log.Text.{Text};
@@ -22,23 +22,23 @@ use std::alloc::Global;
 use std::io;
 use std::io::Write;
 
-/// Prints the dump of the log that the device's log area holds: the fields of its superblock, one line for each block of
-/// its complete transactions, and the number behind the last of them. A transaction without a commit block is not printed.
-/// `docs/JBENCH.md` has the lines.
+/// Prints the dump of the device's log: a line for the superblock, one for each block of its complete transactions, and the number
+/// after the last of them. A transaction without a commit block is not printed. `docs/JBENCH.md` has the lines.
 ///
-/// The home area is not known, so block numbers are not tested, and neither is what is left in the ring from earlier laps,
-/// nor whether a number is left for a further transaction. All other tests of an opening are made, and nothing is written
-/// before all have passed. It holds a block, and room for the tags and numbers of one, without taking memory. (Where the device's
-/// blocks are larger than 4096 bytes, which no log's are, block 0 is read in memory.) No block is read more than twice, and the device is not written.
+/// All tests of an opening pass before anything is printed, except those of home block numbers, of remains of earlier laps, and of a
+/// next number. No block is read more than twice; the device is not written, and no memory is taken. (If blocks exceed 4096 bytes, as
+/// no log's do, block 0 is read into allocated memory.)
 /// Source: fs/jbd2/recovery.c by behaviour; the refusals and the lines are this project's own.
 ///
 /// # Errors
 ///
-/// `BadMagic` to `ErrnoSet` and `BadLength`: the superblock is refused, or there is none. `Damage`: a descriptor or revoke
-/// block behind the complete transactions, of the number that is due there, is malformed, and stands at this place of the
-/// log area. `Memory`, of which nothing but such a large block 0 is taken. At these nothing was written. `Device`: a read failed, and the first lines may have been written.
-/// `Fault::Output`: the log is not refused and the output can't be written; a part of the dump may have been. The device is
-/// as it was in each case.
+/// The device is as it was.
+/// - `BadMagic` to `ErrnoSet` and `BadLength`: the superblock is refused, or there is none. `Damage`: a descriptor or revoke block
+///   after the complete transactions, with the number due there, is malformed at this place of the log area. If reads were correct,
+///   nothing is printed.
+/// - `Memory` for such a large block 0: nothing is printed.
+/// - `Device`: a read failed; the first lines may have been printed.
+/// - `Fault::Output`: the log is not refused, and the output can't be written; part of the dump may have been.
 pub fn dump<D: Device, W: Write>(alloc: Global, device: &mut D, out: &mut W) -> Result<(), Fault>
     ensures printed { OnOk result (D.honest device.new → PrintsDump (shape_of (D.state device.old)) (reading (D.state device.old).disk) (W.contents out.old) (W.contents out.new)) }
     ensures refused { IfErr result (IsDumpFault (D.honest device.new) (out.new ≡ out.old) (D.state device.old) (D.state device.new)) }
@@ -56,12 +56,12 @@ pub fn dump<D: Device, W: Write>(alloc: Global, device: &mut D, out: &mut W) -> 
     write_log(device, &log, &mut finder, transactions, out)
 }
 
-/// Prints the dump of the log that the device's log area holds up to a damaged block: as `dump` does, but that a malformed block after
-/// the complete transactions refuses nothing. The answer is its place, where there is one.
+/// Prints as `dump`, up to a damaged block: a malformed block after the complete transactions refuses nothing. It answers that block's
+/// place, if there is one.
 ///
 /// # Errors
 ///
-/// Those of `dump`, but for `Damage`, which comes where the log reads otherwise while it is printed, and a part of the dump was written.
+/// Those of `dump`. `Damage` comes only if the log reads otherwise during printing, with part of the dump printed.
 pub fn dump_up_to_damage<D: Device, W: Write>(
     alloc: Global,
     device: &mut D,
@@ -103,7 +103,7 @@ fn read_log<D: Device>(alloc: Global, device: &mut D) -> Result<Log, JournalErro
     Ok(Log::new(fields))
 }
 
-/// Why a log is refused whose blocks are larger than any log's. Block 0 is read in memory.
+/// Why a log is refused whose blocks exceed any log's. It reads block 0 into allocated memory.
 fn refusal_of_large<D: Device>(alloc: Global, device: &mut D) -> JournalError
     requires some { 0 < (D.state device.old).shape.log_blocks }
     requires large { most_bytes < (D.state device.old).shape.block_size }
@@ -115,7 +115,7 @@ fn refusal_of_large<D: Device>(alloc: Global, device: &mut D) -> JournalError
         Err(e) => return e,
     };
     match Super::read(block.bytes(), device.blocks(Area::Log)) {
-        // Not met: no log has such blocks.
+        // Unreachable: no log has such blocks.
         Ok(_) => JournalError::BadBlockSize,
         Err(e) => e,
     }
@@ -129,7 +129,7 @@ fn write_clean<W: Write>(out: &mut W, fields: &Super) -> io::Result<()>
     write_empty(out, fields.s_sequence)
 }
 
-/// Prints the dump of a log that is not clean, of whose complete transactions so many were counted.
+/// Prints the dump of a log that is not clean, with this many complete transactions.
 fn write_log<D: Device, W: Write>(
     device: &mut D,
     log: &Log,

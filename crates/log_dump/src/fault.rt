@@ -1,9 +1,9 @@
-//! Why there is no dump.
+//! The fault of a dump: why there is none, or only a part.
 use journal_model::JournalError;
 use std::error::Error;
 use std::{fmt, io};
 
-/// Why there is no dump.
+/// Why there is no dump, or only a part of one.
 #[derive(Debug, Drop)]
 pub enum Fault {
     /// The log is refused, the device failed, or memory ran out.

@@ -1,4 +1,4 @@
-//! The lines of a dump.
+//! The lines of a dump: how each is printed.
 ghost use Rattle.std.specs.Prelude.{◌≡◌, ◌+◌, ◌++◌, ◌∷◌, [], OnOk, codes, length, map};
 ghost use Rattle.std.specs.Fmt.{decimal};
 ghost use Rattle.std.specs.Io.KnownBytes.{Appends};
@@ -12,7 +12,7 @@ use log_model::Tag;
 use std::io;
 use std::io::Write;
 
-/// Prints the line of the superblock.
+/// Prints the superblock's line.
 pub(crate) fn write_super<W: Write>(out: &mut W, fields: &Super) -> io::Result<()>
     ensures { OnOk result (Appends (W.contents out.old) (W.contents out.new) (ended (super_line fields.now))) }
 {
@@ -24,7 +24,7 @@ pub(crate) fn write_super<W: Write>(out: &mut W, fields: &Super) -> io::Result<(
     )
 }
 
-/// What the line of the superblock says of the width of block numbers.
+/// The superblock line's word for the width of block numbers.
 fn width_word(fields: &Super) -> &'static str
     ensures { result.now ≡ width_word fields.now }
 {
@@ -35,28 +35,28 @@ fn width_word(fields: &Super) -> &'static str
     }
 }
 
-/// Prints the last line of a clean log: its s_sequence.
+/// Prints the last line of a clean log, with its s_sequence.
 pub(crate) fn write_empty<W: Write>(out: &mut W, sequence: u32) -> io::Result<()>
     ensures { OnOk result (Appends (W.contents out.old) (W.contents out.new) (ended (codes "empty sequence=" ++ decimal sequence))) }
 {
     writeln!(out, "empty sequence={sequence}")
 }
 
-/// Prints the last line of a log that is not clean: the number behind its last complete transaction, and how many it has.
+/// Prints the last line of any other log: the number after its last complete transaction, and how many it has.
 pub(crate) fn write_end<W: Write>(out: &mut W, sequence: u64, transactions: u64) -> io::Result<()>
     ensures { OnOk result (Appends (W.contents out.old) (W.contents out.new) (ended (codes "end sequence=" ++ decimal sequence ++ codes " transactions=" ++ decimal transactions))) }
 {
     writeln!(out, "end sequence={sequence} transactions={transactions}")
 }
 
-/// Prints the line of the commit block at this place.
+/// Prints the line of a commit block.
 pub(crate) fn write_commit<W: Write>(out: &mut W, place: u64, sequence: u64) -> io::Result<()>
     ensures { OnOk result (Appends (W.contents out.old) (W.contents out.new) (ended (placed_line place (codes "commit " ++ decimal sequence)))) }
 {
     writeln!(out, "{place} commit {sequence}")
 }
 
-/// Prints the line of the descriptor at this place, which has so many tags.
+/// Prints the line of a descriptor with so many tags.
 pub(crate) fn write_descriptor<W: Write>(
     out: &mut W,
     place: u64,
@@ -68,7 +68,7 @@ pub(crate) fn write_descriptor<W: Write>(
     writeln!(out, "{place} descriptor {sequence} tags={tags}")
 }
 
-/// Prints the line of the copy at this place, which the tag names.
+/// Prints the line of the copy that this tag names.
 pub(crate) fn write_copy<W: Write>(
     out: &mut W,
     place: u64,
@@ -85,7 +85,7 @@ pub(crate) fn write_copy<W: Write>(
     )
 }
 
-/// Prints the line of the revoke block at this place, which has these numbers.
+/// Prints the line of a revoke block with these numbers.
 pub(crate) fn write_revokes<W: Write>(
     out: &mut W,
     place: u64,
@@ -99,7 +99,7 @@ pub(crate) fn write_revokes<W: Write>(
     writeln!(out)
 }
 
-/// Prints numbers, with a comma between each two.
+/// Prints numbers, with commas between them.
 fn write_numbers<W: Write>(out: &mut W, numbers: &[BlockNo]) -> io::Result<()>
     ensures { OnOk result (Appends (W.contents out.old) (W.contents out.new) (join_with_byte comma (map decimal numbers.now))) }
 {
@@ -110,7 +110,7 @@ fn write_numbers<W: Write>(out: &mut W, numbers: &[BlockNo]) -> io::Result<()>
     Ok(())
 }
 
-/// Prints a number of a list, with a comma before it unless it is the first.
+/// Prints a number of a list, after a comma unless it is the first.
 fn write_listed<W: Write>(out: &mut W, i: usize, number: u64) -> io::Result<()>
     ensures { OnOk result (Appends (W.contents out.old) (W.contents out.new) (listed i number)) }
 {

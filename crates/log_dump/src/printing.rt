@@ -1,4 +1,4 @@
-//! The second way over a log: the complete transactions are printed.
+//! The second pass over a log, which prints the complete transactions.
 ghost use Rattle.std.specs.Prelude.{◌≡◌, ℕ, ◌+◌, ◌≤◌, List, length, IfOk, IfErr, OnOk, MatchResult};
 ghost use Rattle.std.specs.Io.KnownBytes.{Appends};
 ghost use Rattle.log_model.specs.declared.log.Text.{Text};
@@ -23,7 +23,7 @@ use log_scan::{Finder, Found, Log};
 use std::io;
 use std::io::Write;
 
-/// Prints the lines of the first transactions of a log, so many as were counted there.
+/// Prints the lines of the first `transactions` transactions.
 pub(crate) fn write_transactions<D: Device, W: Write>(
     device: &mut D,
     log: &Log,
@@ -46,7 +46,7 @@ pub(crate) fn write_transactions<D: Device, W: Write>(
     Ok(())
 }
 
-/// Prints the lines of the transaction that begins at this position, and answers the position behind it.
+/// Prints the lines of the transaction that begins at this position, and answers the position after it.
 fn write_text<D: Device, W: Write>(
     device: &mut D,
     log: &Log,
@@ -89,7 +89,7 @@ fn write_text<D: Device, W: Write>(
     }
 }
 
-/// Prints the lines of the descriptor at this position, and of the copies behind it.
+/// Prints the lines of the descriptor at this position, and of its copies.
 fn write_copies<W: Write>(
     out: &mut W,
     log: &Log,

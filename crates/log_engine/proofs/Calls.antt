@@ -1,4 +1,4 @@
--- What one device call leaves, as the engine's steps speak of it.
+-- What one device call leaves, in the terms of the engine's steps.
 use Rattle.std.proofs.Common.{sym, ap, subst, ◌∙◌}
 use Rattle.std.specs.Prelude.{◌≡◌, ℕ, List, Some, Result, Ok, Err, OnOk, OnErr}
 use Rattle.std.proofs.lemmas.Option.{same_Some}
@@ -15,55 +15,55 @@ use Rattle.log_ledger.specs.Due.{call_of}
 use Rattle.block_device.specs.Call.{IsOneMoment}
 use Rattle.block_device.specs.Call.IsOneMoment.{Same, Another}
 
--- what holds in any case holds where it is asked of a failure
+-- what holds anyway holds on a failure
 pub on-err : {T E P : Type 0} (r : Result T E) → P → OnErr r P
 on-err (Ok x) p = tt
 on-err (Err e) p = p
 
--- and where it is asked of a success
+-- and on a success
 pub on-ok : {T E P : Type 0} (r : Result T E) → P → OnOk r P
 on-ok (Ok x) p = p
 on-ok (Err e) p = tt
 
--- what follows from what is known of a failure
+-- an implication carries over to a failure
 pub err-map : {T E P Q : Type 0} (r : Result T E) → (P → Q) → OnErr r P → OnErr r Q
 err-map (Ok x) f p = tt
 err-map (Err e) f p = f p
 
--- and of a success
+-- and to a success
 pub ok-map : {T E P Q : Type 0} (r : Result T E) → (P → Q) → OnOk r P → OnOk r Q
 ok-map (Ok x) f p = f p
 ok-map (Err e) f p = tt
 
--- a write that was due and succeeded
+-- a due write that succeeded
 pub done-write : (due : Due) (area : Area) (place : ℕ) (bytes : List ℕ) (call : Call) (old new : DeviceState) → due ≡ WriteDue area place →
     call_of due bytes ≡ Some call → Moves old new (written old.disk area place bytes) → new.disk ≡ after_success call old.disk
 done-write due area place bytes call old new is named moves =
     let same : Write area place bytes ≡ call = same_Some (Write area place bytes) call (sym (ap (λ d. call_of d bytes) is) ∙ named) in
     subst (λ c. new.disk ≡ after_success c old.disk) same moves.now
 
--- and a flush
+-- a due flush that succeeded
 pub done-flush : (due : Due) (area : Area) (bytes : List ℕ) (call : Call) (old new : DeviceState) → due ≡ FlushDue area →
     call_of due bytes ≡ Some call → Moves old new (flushed old.disk area) → new.disk ≡ after_success call old.disk
 done-flush due area bytes call old new is named moves =
     let same : Flush area ≡ call = same_Some (Flush area) call (sym (ap (λ d. call_of d bytes) is) ∙ named) in
     subst (λ c. new.disk ≡ after_success c old.disk) same moves.now
 
--- a write, whether it answered Ok or failed, leaves what a failed one may leave
+-- a write, failed or not, leaves what a failed one may leave
 pub fault-write : (area : Area) (place : ℕ) (bytes : List ℕ) (old new : DeviceState) → Writes old new area place bytes →
     IsAfterFault (Write area place bytes) old.disk new.disk
 fault-write area place bytes old new (Undone stays) = NotDone (Write area place bytes) old.disk new.disk stays.disk
 fault-write area place bytes old new (Whole moves) = AllDone area place bytes old.disk new.disk moves.now
 fault-write area place bytes old new (HandedOver moves) = Given area place bytes old.disk new.disk moves.now
 
--- the same of the call that was due
+-- so does the write that was due
 pub fault-due : (due : Due) (area : Area) (place : ℕ) (bytes : List ℕ) (call : Call) (old new : DeviceState) → due ≡ WriteDue area place →
     call_of due bytes ≡ Some call → Writes old new area place bytes → IsAfterFault call old.disk new.disk
 fault-due due area place bytes call old new is named writes =
     let same : Write area place bytes ≡ call = same_Some (Write area place bytes) call (sym (ap (λ d. call_of d bytes) is) ∙ named) in
     subst (λ c. IsAfterFault c old.disk new.disk) same (fault-write area place bytes old new writes)
 
--- and of a flush
+-- and so does a failed flush that was due
 pub fault-flush : (due : Due) (area : Area) (bytes : List ℕ) (call : Call) (old new : DeviceState) → due ≡ FlushDue area →
     call_of due bytes ≡ Some call → Stays old new → IsAfterFault call old.disk new.disk
 fault-flush due area bytes call old new is named stays =

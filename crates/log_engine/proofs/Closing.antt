@@ -1,4 +1,4 @@
--- A close on a device: the moves of the machine that it makes, and what holds at each of its moments and at its end.
+-- A close on a device: the machine's moves, and what holds at each moment and at the end.
 use Rattle.std.proofs.Common.{refl, sym, ◌∙◌, ap, subst, arith, inl, inr, ⊎_elim}
 use Rattle.std.specs.Prelude.{◌≡◌, ℕ, ◌≤◌, true, false, List, [], ◌∷◌, length, None, Result, Ok, Err, OnOk, OnErr}
 use Rattle.journal_model.specs.declared.number.Area.TheVariants.{Log}
@@ -32,20 +32,20 @@ use Rattle.log_engine.specs.Close.IsWritingFirst.{Handed, Durable}
 use Rattle.block_device.proofs.OneCall.{each-one}
 use Rattle.log_engine.proofs.Calls.{fault-write, moment-write}
 
--- a log that is not clean may be closed once all is released
+-- a log that is not clean may be closed once everything is released
 pub may-close : (e : Engine) → e.aborted ≡ false → e.started ≡ true → IsAllReleased e → MayClose e
 may-close e running started all = record { running = running; started = started; idle = all.idle; released = all.released }
 
--- where nothing is being committed, all is committed
+-- if no commit is under way, everything accepted is committed
 all-committed : (e : Engine) → IsPlain e → e.stage ≡ Idle → length e.accepted ≡ e.committed
 all-committed e plain idle = (subst (StageAgrees e) idle plain.stage).0
 
--- so whatever a stop leaves opens to all
+-- then each crash image opens to everything
 opens-all : (e : Engine) (disk : Disk) → Sound e disk → e.stage ≡ Idle → OpensBetween e.shape e.accepted (length e.accepted) (length e.accepted) disk
 opens-all e disk sound idle =
     subst (λ (n : ℕ). OpensBetween e.shape e.accepted n (length e.accepted) disk) (sym (all-committed e sound.plain idle)) (images-open e disk sound)
 
--- where the disk is as it was, a moment is one of the close
+-- an unchanged disk is a moment of the close
 pub during-same : (e : Engine) (disk : Disk) → Sound e disk → e.stage ≡ Idle → IsDuringClose e disk disk
 during-same e disk sound idle = record {
   home = record { same = λ b. refl };
@@ -54,7 +54,7 @@ during-same e disk sound idle = record {
   opens = opens-all e disk sound idle;
 }
 
--- where nothing was handed over since the opening, the log is closed
+-- if nothing was handed over since the opening, the log is closed
 pub was-closed : (e : Engine) (disk : Disk) → Sound e disk → KeepsClean e disk → e.started ≡ false → e.stage ≡ Idle → IsClosedLog e disk
 was-closed e disk sound keeps fresh idle = record { clean = clean; opens = opens-all e disk sound idle }
   where
@@ -77,7 +77,7 @@ module _ (e : Engine) (disk after : Disk) (sound : Sound e disk) (may : MayClose
   running : IsRunning e.shape disk [] e disk
   running = record { shape_is = refl; sound = sound; home = right-first disk [] e }
 
-  -- each image that may be left of block 0, written or not, opens to all
+  -- each image of the written or unwritten block 0 opens to everything
   written-to : (image : Image) (ts : History) → Leaves after image → AreBatchesOf ts e.accepted →
       Opens e.shape ts (length e.accepted) image × IsCountOf e.shape image ts (length e.accepted)
   written-to image ts leaves are =
@@ -109,7 +109,7 @@ module _ (e : Engine) (disk after : Disk) (sound : Sound e disk) (may : MayClose
     opens = written-opens;
   }
 
-  -- and one where it is flushed
+  -- so is a moment after its flush
   during-flushed : (after Log 0).reads ≡ closed_superblock e → IsDuringClose e disk (flushed after Log)
   during-flushed reads = record {
     home = record { same = λ b. write.home.same b };
@@ -143,12 +143,12 @@ each-closing e old new sound may each = record {
   now = while-closing e old.disk new.disk sound may each.now;
 }
 
--- where the device does nothing, what holds now holds at the one moment
+-- if the device does nothing, the one moment holds what holds now
 pub each-unclosed : (e : Engine) (state : DeviceState) → Sound e state.disk → e.stage ≡ Idle → EachMoment (IsDuringClose e state.disk) state state
 each-unclosed e state sound idle =
     each-stays (IsDuringClose e state.disk) state state (record { shape = refl; disk = refl; past = refl }) (during-same e state.disk sound idle)
 
--- at its end the log is closed
+-- at the end the log is closed
 pub is-closed : (e : Engine) (old new : Disk) → Sound e old → MayClose e → new ≡ flushed (written old Log 0 (closed_superblock e)) Log → IsClosedLog e new
 is-closed e old new sound may is =
     subst (IsClosedLog e) (sym is)
@@ -178,7 +178,7 @@ closes-by e old new may is =
       );
     })
 
--- where one of them fails, it fails in the same way
+-- if one of them fails, the machine's close fails alike
 pub close-fails : (e : Engine) (old new : Disk) → MayClose e → IsAfterFault (Write Log 0 (closed_superblock e)) old new → ClosesBy e old (CloseFault ∷ []) new Shut
 close-fails e old new may fault = record {
   leads = λ w epoch. (
@@ -202,7 +202,7 @@ write-moments block old new writes =
     each-one (IsWritingFirst block old.disk) old new (moment-write Log 0 block old new writes) (Handed (Undone (Write Log 0 block) old.disk old.disk refl))
     (Handed (fault-write Log 0 block old new writes))
 
--- and of the flush behind it
+-- and of the flush after it
 pub flush-moments : {T E : Type 0} (r : Result T E) (block : List ℕ) (old mid new : DeviceState) → Moves old mid (written old.disk Log 0 block) →
     EachMoment (IsWritingFirst block old.disk) old mid → OnOk r (Moves mid new (flushed mid.disk Log)) → OnErr r (Stays mid new) →
     EachMoment (IsWritingFirst block old.disk) old new
@@ -212,7 +212,7 @@ flush-moments (Ok x) block old mid new wrote each moves stays =
 flush-moments (Err e) block old mid new wrote each moves stays =
     each-joins (IsWritingFirst block old.disk) old mid new each (each-stays (IsWritingFirst block old.disk) mid new stays each.now)
 
--- a flush that fails leaves what a failed write may leave
+-- a failed flush leaves what a failed write may leave
 pub flush-lost : {T E : Type 0} (r : Result T E) (block : List ℕ) (old mid new : DeviceState) → Moves old mid (written old.disk Log 0 block) →
     OnErr r (Stays mid new) → OnErr r (IsAfterFault (Write Log 0 block) old.disk new.disk)
 flush-lost (Ok x) block old mid new wrote stays = tt

@@ -1,4 +1,4 @@
--- A direct call of a device: what it does to the engine and the disk, and what holds at each of its moments.
+-- A direct device call: what it does to engine and disk, and what holds at each moment.
 use Rattle.std.proofs.Common.{refl, sym, ap, subst}
 use Rattle.std.specs.Prelude.{◌≡◌, ℕ, true, false, List, length, Result, Ok, Err, IfErr, OnErr, OnOk}
 use Rattle.journal_model.specs.declared.number.Area.TheVariants.{Home}
@@ -23,7 +23,7 @@ use Rattle.log_engine.specs.Direct.DirectWriteRefused.{WriteFailed}
 use Rattle.log_engine.specs.Engine.{EngineValue}
 use Rattle.block_device.proofs.OneCall.{each-one}
 
--- the engine, on a device whose shape stays, where the call succeeds
+-- a successful direct call, on a device whose shape stays
 pub directs-here : (e : Engine) (shape : Shape) (call : Call) (disk after : Disk) → shape ≡ e.shape → e.aborted ≡ false → DirectCall e call →
     after ≡ after_success call disk → DirectSteps e disk call (record e { shape = shape }) after
 directs-here e shape call disk after same running due done = record {
@@ -33,7 +33,7 @@ directs-here e shape call disk after same running due done = record {
   disk_is = done;
 }
 
--- and where it fails
+-- and a failed one
 pub direct-faults-here : (e : Engine) (shape : Shape) (call : Call) (disk after : Disk) → shape ≡ e.shape → e.aborted ≡ false → DirectCall e call →
     IsAfterFault call disk after → DirectFaults e disk call (record e { shape = shape; aborted = true }) after
 direct-faults-here e shape call disk after same running due fault = record {
@@ -43,7 +43,7 @@ direct-faults-here e shape call disk after same running due fault = record {
   disk_is = fault;
 }
 
--- what a stop leaves behind the call opens to a number between the same bounds
+-- after the call each crash image opens to a number within the same bounds
 step-opens : (old new : Engine) (disk after : Disk) (call : Call) → Sound old disk → DirectSteps old disk call new after →
     OpensBetween old.shape old.accepted old.committed (length old.accepted) after
 step-opens old new disk after call sound step =
@@ -60,7 +60,7 @@ module _ (e : Engine) (b : ℕ) (v : List ℕ) where
   pub during-write : (disk : Disk) → Sound e disk → IsDuringDirectWrite e b v disk disk
   during-write disk sound = record { home = record { adds = λ ts are. adds-none _ disk disk (λ c. refl) }; opens = images-open e disk sound }
 
-  -- at each moment of a direct write, whether it succeeds or fails
+  -- each moment of a direct write, failed or not
   pub each-write : {T E : Type 0} (r : Result T E) (new : Engine) (before after : DeviceState) → IsOneMoment before after → Sound e before.disk →
       OnOk r (DirectSteps e before.disk (Write Home b v) new after.disk) → OnErr r (DirectFaults e before.disk (Write Home b v) new after.disk) →
       EachMoment (IsDuringDirectWrite e b v before.disk) before after
@@ -85,7 +85,7 @@ module _ (e : Engine) where
   pub during-sync : (disk : Disk) → Sound e disk → IsDuringDirectSync e disk disk
   during-sync disk sound = record { home = adds-none NoAddition disk disk (λ b. refl); opens = images-open e disk sound }
 
-  -- the same of the flush of home
+  -- each moment of the flush of home, failed or not
   pub each-sync : {T E : Type 0} (r : Result T E) (new : Engine) (before after : DeviceState) → IsOneMoment before after → Sound e before.disk →
       OnOk r (DirectSteps e before.disk (Flush Home) new after.disk) → OnErr r (DirectFaults e before.disk (Flush Home) new after.disk) →
       EachMoment (IsDuringDirectSync e before.disk) before after
@@ -105,7 +105,7 @@ module _ (e : Engine) where
       })
 
 module _ {D T : Type 0} (state : D → DeviceState) (old new : EngineValue D) where
-  -- a direct write that is refused once its call is made has failed
+  -- a direct write refused after its call has failed
   pub write-lost : (r : Result T JournalError) (b : ℕ) (v : List ℕ) →
       OnErr r (DirectFaults old.engine (state old.device).disk (Write Home b v) new.engine (state new.device).disk) → IfErr r (λ e. e ≡ Device) →
       CountsFaults r (state old.device) (state new.device) → IfErr r (λ e. DirectWriteRefused state old b v new e)

@@ -1,4 +1,4 @@
--- The table has the last effects of the transactions that were handed over, whatever step comes next.
+-- The table has the last effects of the batches handed over, after any step.
 use Rattle.std.proofs.Common.{refl, sym, ap, ◌∙◌}
 use Rattle.std.specs.Prelude.{◌≡◌, ℕ, List, [], None}
 use Rattle.journal_model.specs.declared.entry.Batch.{Batch}
@@ -14,27 +14,27 @@ use Rattle.log_ledger.proofs.Rounds.{call-keeps}
 use Rattle.log_engine.specs.Engine.{HasEffects}
 use Rattle.log_engine.proofs.Rounding.{begun-commit, both-keep}
 
--- where no transaction was handed over there are none
+-- if no batch was handed over, there are none
 pub none-noted : (e : Engine) (table : EffectsValue) → e.accepted ≡ [] → table.effects ≡ [] → HasEffects e table
 none-noted e table accepted effects = λ b.
     ap (λ (es : List (ℕ × LastEffect)). effect_on (record { room = 0; effects = es }) b) effects ∙ ap (λ (bs : List Batch). last_effect bs b None) (sym accepted)
 
--- they depend on nothing but these
+-- they depend on the batches alone
 pub same-noted : (e new : Engine) (table : EffectsValue) → new.accepted ≡ e.accepted → HasEffects e table → HasEffects new table
 same-noted e new table accepted has = λ b. has b ∙ ap (λ (bs : List Batch). last_effect bs b None) (sym accepted)
 
--- and room changes none of them
+-- more room changes none of them
 pub roomy-noted : (e : Engine) (table new : EffectsValue) → new.effects ≡ table.effects → HasEffects e table → HasEffects e new
 roomy-noted e table new effects has = λ b. ap (λ (es : List (ℕ × LastEffect)). effect_on (record { room = 0; effects = es }) b) effects ∙ has b
 
--- a batch that is taken is noted
+-- an accepted batch is noted
 pub taken-noted : (e new : Engine) (batch : Batch) (table noted : EffectsValue) → new ≡ accepting e batch →
     ((b : ℕ) → effect_on noted b ≡ last_among batch.tid batch.entries b (effect_on table b)) → HasEffects e table → HasEffects new noted
 taken-noted e new batch table noted is notes has = λ b.
     notes b ∙ ap (last_among batch.tid batch.entries b) (has b) ∙ sym (last-more e.accepted batch b None)
     ∙ ap (λ (x : Engine). last_effect x.accepted b None) (sym is)
 
--- a step of a commit hands over nothing
+-- a commit step hands over nothing
 stepped-accepted : (e : Engine) (stage : Stage) → (stepped_from e stage).accepted ≡ e.accepted
 stepped-accepted e Idle = refl
 stepped-accepted e SuperblockWrite = refl
@@ -47,13 +47,13 @@ pub step-noted : (old new : Engine) (disk after : Disk) (table : EffectsValue) �
 step-noted old new disk after table step has =
     same-noted old new table (ap (λ (e : Engine). e.accepted) step.engine ∙ stepped-accepted old old.stage) has
 
--- nor does one of a round
+-- nor does a checkpoint step
 pub round-noted : (old new : Engine) (disk after : Disk) (table : EffectsValue) → RoundSteps old disk new after → HasEffects old table → HasEffects new table
 round-noted old new disk after table step has =
     let keeps = both-keep old (begun old) new (begun-commit old old.round) (call-keeps (begun old) (begun old).round step.call new step.due) in
     same-noted old new table keeps.accepted has
 
--- nor one that fails
+-- nor does a failed one
 pub round-fault-noted : (old new : Engine) (disk after : Disk) (table : EffectsValue) → RoundFaults old disk new after → HasEffects old table → HasEffects new table
 round-fault-noted old new disk after table fault has =
     let keeps = begun-commit old old.round in

@@ -1,4 +1,4 @@
--- Each call of a commit or of a round leaves fewer of them.
+-- Each call of a commit or a round leaves fewer to make.
 use Rattle.std.proofs.Common.{refl, sym, ap, subst, arith, inl, inr, ⊎_elim, le_refl, lt_of_lt_of_le, mul_comm, suc-mul}
 use Rattle.std.specs.Prelude.{◌≡◌, ◌≢◌, ℕ, zero, suc, ◌+◌, ◌-◌, ◌*◌, ◌<◌, ◌≤◌, nat_lt, Bool, true, false, if◌then◌else◌, List, [], ◌∷◌, length, Contains}
 use Rattle.std.specs.List.{AllByRecursion}
@@ -28,17 +28,17 @@ use Rattle.log_engine.specs.Engine.{RoundDid, StepDid}
 use Rattle.log_engine.specs.Left.{LeavesFewer, calls_from, commit_calls, round_calls, round_calls_from, whole_round}
 use Rattle.log_engine.proofs.Stepping.{busy}
 
--- up to the last call of a commit its transaction is the same
+-- until its last call, a commit's transaction stays the same
 same-due : (e new : Engine) → KeepsCommit e new → length (due_blocks new) ≡ length (due_blocks e)
 same-due e new keeps = ap length (due-alike e new keeps)
 
--- behind block k comes another one, or the commit block
+-- after block k comes another block, or the commit block
 after-block : (blocks other k : ℕ) (more : Bool) → nat_lt (k + 1) blocks ≡ more → other ≡ blocks → k < blocks →
     calls_from other (if more then Blocks (k + 1) else CommitWrite) < calls_from blocks (Blocks k)
 after-block blocks other k true is same below = omega arith
 after-block blocks other k false is same below = omega arith
 
--- a call of a commit leaves one less
+-- a commit's call leaves one less
 stage-fewer : (e : Engine) (stage : Stage) → StageAgrees e stage → stage ≢ Idle →
     commit_calls (stepped_from e stage) < calls_from (length (due_blocks e)) stage
 stage-fewer e Idle agrees busy = absurd (busy refl)
@@ -52,7 +52,7 @@ stage-fewer e (Blocks k) agrees busy =
 stage-fewer e CommitWrite agrees busy = omega arith
 stage-fewer e CommitFlush agrees busy = omega arith
 
--- so does a step
+-- so does a commit step
 commit-fewer : (old new : Engine) (disk after : Disk) → IsPlain old → CommitSteps old disk new after → commit_calls new < commit_calls old
 commit-fewer old new disk after plain step =
     subst (λ (e : Engine). commit_calls e < commit_calls old) (sym step.engine)
@@ -63,19 +63,19 @@ step-fewer NoProgress old new disk after plain did = tt
 step-fewer Step old new disk after plain did = commit-fewer old new disk after plain did.0
 step-fewer (Done tid) old new disk after plain did = commit-fewer old new disk after plain did.0
 
--- what holds of each element of a list holds of one of them
+-- what holds of each element of a list holds of one
 contained : {X : Type 0} (P : X → Type 0) (xs : List X) (x : X) → AllByRecursion P xs → Contains xs x → P x
 contained P [] x all has = absurd (contains-none x has)
 contained P (y ∷ ys) x all has = ⊎_elim (λ same. subst P same all.0) (λ behind. contained P ys x all.1 behind) (contains-cases y ys x has)
 
--- a newest copy is one of a block of home
+-- a newest copy is of a block of home
 copy-home : (e : Engine) (i b : ℕ) (v : List ℕ) → IsPlain e → IsNewestCopy e i b v → b < e.shape.home_blocks
 copy-home e i b v plain newest =
     let batch = all-at (IsBatch e.layout e.shape) e.accepted i newest.copy.batch plain.batches newest.copy.stands in
     let allowed = recursion_from_All (λ p. IsAllowedBlock e.layout e.shape.home_blocks p.0) newest.copy.batch.entries batch.allowed in
     (contained (λ (p : ℕ × Entry). IsAllowedBlock e.layout e.shape.home_blocks p.0) newest.copy.batch.entries (b, Copy v) allowed newest.copy.copy).in_home
 
--- behind a copy there are fewer
+-- after a copy fewer calls are left
 copy-fewer : (bound transaction block i b home rest : ℕ) → IsFrom transaction block i b → i < bound → b < home →
     (bound - (i + 1)) * home + (home - (b + 1)) + 3 + rest < (bound - (transaction + 1)) * home + (home - block) + 3 + rest
 copy-fewer bound transaction block i b home rest (inl later) due there =
@@ -89,7 +89,7 @@ copy-fewer bound transaction block i b home rest (inr same) due there =
     let order : block ≤ b = same.1 in
     omega arith
 
--- a call of a round leaves fewer of them
+-- a call of a round leaves fewer
 call-fewer : (e : Engine) (round : Round) (call : Call) (new : Engine) → IsPlain e → RoundCall e round call new → round_calls new < round_calls_from e round
 call-fewer e round call new plain (CopyHome transaction block i b v next) =
     copy-fewer e.bound transaction block i b e.shape.home_blocks (whole_round e e.bound) next.unwritten.from next.unwritten.due
@@ -98,7 +98,7 @@ call-fewer e round call new plain (FlushHome transaction block none) = omega ari
 call-fewer e round call new plain WriteTail = omega arith
 call-fewer e round call new plain FlushTail = omega arith
 
--- a round that begins has no more than a whole one
+-- a new round needs at most the calls of a whole one
 begins-within : (committed released home : ℕ) → released < committed →
     (committed - (0 + 1)) * home + (home - 0) + 3 + (if nat_lt committed committed then committed * home + 3 else 0)
     ≤ (if nat_lt released committed then committed * home + 3 else 0)
@@ -122,7 +122,7 @@ begun-within e (Copies transaction block) at has = subst (λ (r : Round). round_
 begun-within e TailWrite at has = subst (λ (r : Round). round_calls_from e e.round ≤ round_calls_from e r) at (le_refl (round_calls_from e e.round))
 begun-within e TailFlush at has = subst (λ (r : Round). round_calls_from e e.round ≤ round_calls_from e r) at (le_refl (round_calls_from e e.round))
 
--- so does a step
+-- a checkpoint step leaves fewer calls
 steps-fewer : (old new : Engine) (disk after : Disk) → IsPlain old → RoundSteps old disk new after → round_calls new < round_calls old
 steps-fewer old new disk after plain step =
     let fewer = call-fewer (begun old) (begun old).round step.call new (begun-plain old plain step.round) step.due in

@@ -9,7 +9,7 @@ use Rattle.journal_world.proofs.Fresh.{fresh-plain}
 use Rattle.journal_world.proofs.Superblocks.{accepted-first, accepted-ring, accepted-size}
 use Rattle.recovery.specs.Values.{IsNextNamed}
 
--- what the fields of an accepted superblock say of a ring
+-- the fields of an accepted superblock that describe a ring
 pub record HasFields (superblock : List ℕ) : Type 0 where
   pub long : 1024 ≤ length superblock
   pub some : 0 < (super_in superblock).s_first

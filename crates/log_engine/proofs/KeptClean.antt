@@ -1,4 +1,4 @@
--- As long as nothing was handed over since the opening, block 0 is durable as the opening left it.
+-- Until something is handed over, block 0 is durable as the opening left it.
 use Rattle.std.proofs.Common.{refl, sym, ◌∙◌, ap, subst, arith}
 use Rattle.std.specs.Prelude.{◌≡◌, ◌≢◌, ℕ, ◌<◌, Bool, true, false, if◌then◌else◌, List}
 use Rattle.journal_model.specs.declared.entry.Batch.{Batch}
@@ -22,7 +22,7 @@ use Rattle.journal_world.proofs.Copying.{home-fault, home-written}
 use Rattle.log_engine.specs.Close.{KeepsClean}
 use Rattle.log_engine.proofs.Stepping.{busy}
 
--- nothing is said while a transaction is being committed
+-- while a commit is under way, nothing is claimed
 clean-busy : (e : Engine) (disk : Disk) → e.stage ≢ Idle → KeepsClean e disk
 clean-busy e disk busy = record { durable = λ fresh idle. absurd (busy idle) }
 
@@ -35,7 +35,7 @@ pub fresh-clean : (shape : Shape) (disk : Disk) (superblock : List ℕ) (next : 
     KeepsClean (fresh_engine shape superblock next) disk
 fresh-clean shape disk superblock next log = record { durable = λ fresh idle. log.durable }
 
--- an engine and a disk that have not changed keep it
+-- an unchanged engine and disk keep it
 pub same-clean : (e new : Engine) (disk after : Disk) → new.started ≡ e.started → new.stage ≡ e.stage → new.superblock ≡ e.superblock → after ≡ disk →
     KeepsClean e disk → KeepsClean new after
 same-clean e new disk after started stage superblock same keeps = record {
@@ -48,7 +48,7 @@ first-busy : (started : Bool) → (if started then Blocks 0 else SuperblockWrite
 first-busy true is = cc
 first-busy false is = cc
 
--- where a batch is taken a transaction is being committed
+-- an accepted batch puts a commit under way
 pub taken-clean : (e new : Engine) (b : Batch) (disk : Disk) → Accepts e b new → KeepsClean new disk
 taken-clean e new b disk accepts =
     subst (λ (x : Engine). KeepsClean x disk) (sym accepts.after) (clean-busy (accepting e b) disk (first-busy e.started))
@@ -61,19 +61,19 @@ started-at e (Blocks k) agrees busy = agrees.1
 started-at e CommitWrite agrees busy = agrees.1
 started-at e CommitFlush agrees busy = agrees.1
 
--- behind a step of a commit the log is not clean
+-- after a commit step the log is not clean
 pub step-clean : (old new : Engine) (disk after : Disk) → IsPlain old → CommitSteps old disk new after → KeepsClean new after
 step-clean old new disk after plain step =
     clean-started new after
     (ap (λ (e : Engine). e.started) step.engine ∙ started-at old old.stage plain.stage (busy old step.call step.due))
 
--- where one fails the transaction is still being committed
+-- after a failed one the commit is still under way
 pub fault-clean : (old new : Engine) (disk after : Disk) → CommitFaults old disk new after → KeepsClean new after
 fault-clean old new disk after fault =
     clean-busy new after
     (λ idle. busy old fault.call fault.due (sym (ap (λ (e : Engine). e.stage) fault.engine) ∙ idle))
 
--- a round changes neither the commit nor what the superblock says of the log's begin
+-- a round leaves the commit and what the superblock says of the log's start
 record KeepsRest (e new : Engine) : Type 0 where
   started : new.started ≡ e.started
   stage : new.stage ≡ e.stage
@@ -90,7 +90,7 @@ call-rest e round call new (FlushHome transaction block none) = record { started
 call-rest e round call new WriteTail = record { started = refl; stage = refl }
 call-rest e round call new FlushTail = record { started = refl; stage = refl }
 
--- where there is something to release, a transaction was handed over
+-- if there is something to release, a transaction was handed over
 never-fresh : (e : Engine) → IsPlain e → HasRound e → e.started ≡ false → e.stage ≡ Idle → ⊥
 never-fresh e plain has fresh idle =
     let agrees : StageAgrees e Idle = subst (StageAgrees e) idle plain.stage in
@@ -103,14 +103,14 @@ rest-clean e new disk plain has rest = record {
   durable = λ fresh idle. absurd (never-fresh e plain has (sym rest.started ∙ fresh) (sym rest.stage ∙ idle));
 }
 
--- so there is nothing to say behind a step of a round
+-- so nothing is claimed after a checkpoint step
 pub round-clean : (old new : Engine) (disk after : Disk) → IsPlain old → RoundSteps old disk new after → KeepsClean new after
 round-clean old new disk after plain step =
     let begins = begun-rest old old.round in
     let calls = call-rest (begun old) (begun old).round step.call new step.due in
     rest-clean old new after plain step.round (record { started = calls.started ∙ begins.started; stage = calls.stage ∙ begins.stage })
 
--- nor behind one that fails
+-- nor after a failed one
 pub round-fault-clean : (old new : Engine) (disk after : Disk) → IsPlain old → RoundFaults old disk new after → KeepsClean new after
 round-fault-clean old new disk after plain fault =
     let begins = begun-rest old old.round in
@@ -120,17 +120,17 @@ round-fault-clean old new disk after plain fault =
       stage = ap (λ (e : Engine). e.stage) fault.engine ∙ begins.stage;
     })
 
--- a direct call that succeeds leaves the log alone
+-- a successful direct call leaves the log
 direct-log : (e : Engine) (disk : Disk) (call : Call) → DirectCall e call → (n : ℕ) → after_success call disk Log n ≡ disk Log n
 direct-log e disk call (WriteDirect b v left allowed whole) n = (home-written disk b v).log n
 direct-log e disk call SyncDirect n = refl
 
--- so does one that fails
+-- so does a failed one
 fault-log : (e : Engine) (disk after : Disk) (call : Call) → DirectCall e call → IsAfterFault call disk after → (n : ℕ) → after Log n ≡ disk Log n
 fault-log e disk after call (WriteDirect b v left allowed whole) fault n = (home-fault disk after b v fault).log n
 fault-log e disk after call SyncDirect (Undone flush x y same) n = ap (λ (d : Disk). d Log n) same
 
--- so block 0 stays as it is
+-- so block 0 stays
 pub direct-clean : (old new : Engine) (disk after : Disk) (call : Call) → DirectSteps old disk call new after → KeepsClean old disk → KeepsClean new after
 direct-clean old new disk after call step keeps =
     subst (λ (e : Engine). KeepsClean e after) (sym step.engine)

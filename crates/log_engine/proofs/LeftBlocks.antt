@@ -1,4 +1,4 @@
--- Whether a block is left to home, by the last effect on it of the transactions that were handed over.
+-- Whether a block is left to home, by the last effect on it of the batches handed over.
 use Rattle.std.proofs.Common.{arith, inl, inr, refl, sym, ap, subst, ◌∙◌}
 use Rattle.std.specs.Prelude.{◌≡◌, ◌↔◌, ℕ, ◌+◌, ◌<◌, ◌≤◌, nat_eq, List, map, Option, Some, None, slice_get, Contains}
 use Rattle.std.specs.Cmp.{nat_eq_equiv}
@@ -29,7 +29,7 @@ one-entry es b x y once one other =
 copy-apart : (v : List ℕ) → ◌≡◌ {A = Entry} (Copy v) Revoke → ⊥
 copy-apart v same = cc
 
--- which entry has an effect
+-- the effect `Copied` comes of a copy
 entry-copied : (tid : ℕ) (entry : Entry) → Copied ≡ effect_of tid entry → (v : List ℕ) × (entry ≡ Copy v)
 entry-copied tid (Copy v) is = (v, refl)
 entry-copied tid Revoke is = absurd cc
@@ -39,7 +39,7 @@ entry-revoked tid t (Copy v) is = absurd cc
 entry-revoked tid t Revoke is = (refl, cc)
 
 module _ (e : Engine) (b : ℕ) where
-  -- a block of which no transaction has an entry is left to home
+  -- a block without an entry is left to home
   left-none : HasNoEntry e.accepted b → IsLeftToHome e b
   left-none none = record {
     none_newest = λ i v newest. none i newest.copy.batch newest.copy.stands (entry-block newest.copy.batch.entries b (Copy v) newest.copy.copy);
@@ -51,7 +51,7 @@ module _ (e : Engine) (b : ℕ) where
     due-kept : e.committed ≤ l.index → IsLeftToHome e b → ⊥
     due-kept due left = left.none_due l.index l.transaction due l.stands (entry-block l.transaction.entries b l.entry l.has)
 
-    -- nor one whose last entry is a copy
+    -- nor is one whose last entry is a copy
     copy-kept : (v : List ℕ) → l.entry ≡ Copy v → IsLeftToHome e b → ⊥
     copy-kept v is left =
         elim (cases_lt l.index e.committed) [
@@ -69,7 +69,7 @@ module _ (e : Engine) (b : ℕ) where
           | inr due ↦ due-kept (omega arith) left
         ]
 
-    -- one whose last entry is a revoke is, once that is committed
+    -- one whose last entry is a committed revoke is
     left-revoked : IsPlain e → l.entry ≡ Revoke → l.index < e.committed → IsLeftToHome e b
     left-revoked plain is below = record {
       none_newest = λ i v newest.
@@ -92,7 +92,7 @@ module _ (e : Engine) (b : ℕ) where
       none_due = λ j due least stands has. l.last j due (omega arith) stands has;
     }
 
-  -- so its last effect tells
+  -- so its last effect decides
   left-told : IsPlain e → (o : Option LastEffect) → last_effect e.accepted b None ≡ o → IsLeft o (e.first + e.committed) ↔ IsLeftToHome e b
   left-told plain None is = (λ yes. left-none ((none-entered e.accepted b).0 is), λ left. tt)
   left-told plain (Some Copied) is =
@@ -109,7 +109,7 @@ module _ (e : Engine) (b : ℕ) where
             elim (cases_lt l.index e.committed) [ inl below ↦ omega arith | inr due ↦ absurd (due-kept (Revoked t) l (omega arith) left) ],
       )
 
--- what the table of the transactions tells
+-- the table decides whether a block is left to home
 pub table-told : (e : Engine) (table : EffectsValue) (b next : ℕ) → IsPlain e → HasEffects e table → next ≡ e.first + e.committed →
     IsLeft (effect_on table b) next ↔ IsLeftToHome e b
 table-told e table b next plain has is =

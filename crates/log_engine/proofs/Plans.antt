@@ -1,4 +1,4 @@
--- The plan is that of the transaction that is being committed, whatever step comes next.
+-- The plan is that of the transaction being committed, after any step.
 use Rattle.std.proofs.Common.{arith, sym, ap, ap₂, subst, ◌∙◌}
 use Rattle.std.specs.Prelude.{◌≡◌, ℕ, ◌+◌, ◌≤◌, List, length, Some, slice_get}
 use Rattle.std.proofs.lemmas.Option.{none-some, same_Some, slice_get_past}
@@ -17,22 +17,22 @@ use Rattle.log_ledger.specs.Text.{IsPlanOf}
 use Rattle.log_ledger.proofs.Rounds.{call-keeps}
 use Rattle.log_engine.proofs.Rounding.{begun-commit, both-keep}
 
--- where all that was accepted is committed there is nothing to plan
+-- if everything accepted is committed, there is nothing to plan
 pub none-planned : (e : Engine) (plan : Plan) → length e.accepted ≤ e.committed → HasPlan e plan
 none-planned e plan all = λ b stands. absurd (none-some b (sym (slice_get_past e.accepted e.committed all) ∙ stands))
 
--- so where nothing is being committed
+-- so too if no commit is under way
 pub idle-planned : (e : Engine) (plan : Plan) → IsPlain e → e.stage ≡ Idle → HasPlan e plan
 idle-planned e plan plain idle =
     let agrees : StageAgrees e Idle = subst (StageAgrees e) idle plain.stage in
     none-planned e plan (let all = agrees.0 in omega arith)
 
--- the plan does not depend on anything but what is being committed
+-- the plan depends only on what is being committed
 pub same-planned : (e new : Engine) (plan : Plan) → new.accepted ≡ e.accepted → new.committed ≡ e.committed → HasPlan e plan → HasPlan new plan
 same-planned e new plan accepted committed planned = λ b stands.
     planned b (sym (ap₂ (λ (bs : List Batch) (n : ℕ). slice_get bs n) accepted committed) ∙ stands)
 
--- a batch that is taken with its plan has it
+-- a batch accepted with its plan has it
 pub taken-planned : (e new : Engine) (b : Batch) (plan : Plan) → IsPlain e → MayHandOver e b → new ≡ accepting e b → IsPlanOf b.entries plan → HasPlan new plan
 taken-planned e new b plan plain may is planned = λ c stands.
     let agrees : StageAgrees e Idle = subst (StageAgrees e) may.idle plain.stage in
@@ -40,7 +40,7 @@ taken-planned e new b plan plain may is planned = λ c stands.
     ap (λ (x : Engine). slice_get x.accepted x.committed) is ∙ get-last e.accepted b e.committed agrees.0 in
     subst (λ (x : Batch). IsPlanOf x.entries plan) (same_Some b c (sym there ∙ stands)) planned
 
--- a step of a commit goes on with the same transaction, or is the last of it
+-- a commit step goes on with its transaction, or ends it
 stepped-planned : (e : Engine) (plan : Plan) (stage : Stage) → StageAgrees e stage → HasPlan e plan → HasPlan (stepped_from e stage) plan
 stepped-planned e plan Idle agrees planned = planned
 stepped-planned e plan SuperblockWrite agrees planned = planned
@@ -54,13 +54,13 @@ pub step-planned : (old new : Engine) (disk after : Disk) (plan : Plan) → IsPl
 step-planned old new disk after plan plain step planned =
     subst (λ (e : Engine). HasPlan e plan) (sym step.engine) (stepped-planned old plan old.stage plain.stage planned)
 
--- a step of a round changes nothing of it
+-- a checkpoint step leaves the plan
 pub round-planned : (old new : Engine) (disk after : Disk) (plan : Plan) → RoundSteps old disk new after → HasPlan old plan → HasPlan new plan
 round-planned old new disk after plan step planned =
     let keeps = both-keep old (begun old) new (begun-commit old old.round) (call-keeps (begun old) (begun old).round step.call new step.due) in
     same-planned old new plan keeps.accepted keeps.committed planned
 
--- nor does one that fails
+-- so does a failed one
 pub round-fault-planned : (old new : Engine) (disk after : Disk) (plan : Plan) → RoundFaults old disk new after → HasPlan old plan → HasPlan new plan
 round-fault-planned old new disk after plan fault planned =
     let keeps = begun-commit old old.round in

@@ -1,4 +1,4 @@
--- What a read of a block gives: its pending copy, or what home reads.
+-- What a read of a block gives: its pending copy, else what home reads.
 use Rattle.std.proofs.Common.{sym, ap, subst, ◌∙◌, inl, inr}
 use Rattle.std.specs.Prelude.{◌≡◌, ℕ, ◌<◌, true, List, None}
 use Rattle.std.proofs.lemmas.Bool.{cases_lt}
@@ -14,29 +14,29 @@ use Rattle.journal_world.proofs.Pending.{newest-bytes}
 use Rattle.log_ledger.specs.declared.ledger.Ledger.{Ledger}
 use Rattle.log_ledger.specs.Ledger.{IsPlaced, KeepsPending, engine_of}
 
--- an engine whose device failed in a read, and stays as it was, is sound
+-- an engine whose read failed, and changed nothing, is sound
 pub aborted-sound : (s t : Shape) (l : Ledger) (disk after : Disk) → t ≡ s → after ≡ disk → Sound (engine_of s l) disk →
     Sound (engine_of t (record l { aborted = true })) after
 aborted-sound s t l disk after same stays sound =
     subst (λ (x : Shape). Sound (engine_of x (record l { aborted = true })) after) (sym same)
     (subst (λ (d : Disk). Sound (engine_of s (record l { aborted = true })) d) (sym stays) (abort-sound (engine_of s l) disk sound))
 
--- the bytes of a pending copy are what a read gives
+-- a read gives the bytes of a pending copy
 pub pending-read : (e : Engine) (disk : Disk) (i b k : ℕ) (v : List ℕ) → IsPlain e → (placed : IsPlaced e i b k) → v ≡ placed.bytes → IsRead e disk b v
 pending-read e disk i b k v plain placed is = record {
   copied = λ j w newest. is ∙ newest-bytes e i j b placed.bytes w plain placed.pending.newest newest;
   other = λ none. absurd (none i placed.bytes placed.pending.newest);
 }
 
--- and of each copy of the block that is pending
+-- all pending copies of a block have these bytes
 pub pending-bytes : (e : Engine) (i j b k : ℕ) (v w : List ℕ) → IsPlain e → (placed : IsPlaced e i b k) → v ≡ placed.bytes → IsPending e j b w → v ≡ w
 pending-bytes e i j b k v w plain placed is pending = is ∙ newest-bytes e i j b placed.bytes w plain placed.pending.newest pending.newest
 
--- where no copy is found, none is pending
+-- if no copy is found, none is pending
 pub none-pending : (e : Engine) (p : PendingValue) (i b : ℕ) (v : List ℕ) → KeepsPending e p → newest_of p b ≡ None → IsPending e i b v → ⊥
 none-pending e p i b v keeps none pending = let one = keeps.all i b v pending in none-some one.0 (sym none ∙ one.1)
 
--- so home has the newest one
+-- then home has the newest copy
 pub home-read : (e : Engine) (p : PendingValue) (disk : Disk) (b : ℕ) (v : List ℕ) → KeepsPending e p → newest_of p b ≡ None → Sound e disk →
     v ≡ (disk Home b).reads → IsRead e disk b v
 home-read e p disk b v keeps none sound is = record {

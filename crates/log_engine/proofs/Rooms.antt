@@ -1,4 +1,4 @@
--- The engine keeps all that it knows where room is made for a batch that is to come.
+-- Making room for a coming batch keeps all that holds of the engine.
 use Rattle.std.proofs.Common.{sym, ap, subst, ◌∙◌}
 use Rattle.std.specs.Prelude.{◌≡◌, ℕ, List, drop}
 use Rattle.journal_model.specs.declared.entry.Batch.{Batch}
@@ -17,7 +17,7 @@ use Rattle.log_engine.specs.Engine.{HasEffects}
 use Rattle.log_engine.proofs.Effects.{roomy-noted, same-noted}
 use Rattle.log_engine.proofs.Plans.{same-planned}
 
--- a plan with more room is of the same entries
+-- a plan with more room has the same entries
 roomy-plan : (entries : List (ℕ × Entry)) (plan new : Plan) → new.copies.items ≡ plan.copies.items → new.revokes.items ≡ plan.revokes.items →
     IsPlanOf entries plan → IsPlanOf entries new
 roomy-plan entries plan new copies revokes is = record {
@@ -25,7 +25,7 @@ roomy-plan entries plan new copies revokes is = record {
   revokes = revokes ∙ is.revokes;
 }
 
--- whatever is known of ledger, plan and table is known of them with more room
+-- so do ledger, plan and table with more room
 pub roomy-engine : (W honest : Type 0) (shape : Shape) (disk : Disk) (l new : Ledger) (plan roomy : Plan) (table wide : EffectsValue) →
     ((s : Shape) → engine_of s new ≡ engine_of s l) → new.ring ≡ l.ring → new.pending ≡ l.pending → new.kept.items ≡ l.kept.items →
     roomy.copies.items ≡ plan.copies.items → roomy.revokes.items ≡ plan.revokes.items → wide.effects ≡ table.effects →

@@ -1,4 +1,4 @@
--- A step of a checkpoint round on a device: what it does to the engine and the disk, and what holds at each of its moments.
+-- A checkpoint step on a device: what it does to engine and disk, and what holds at each moment.
 use Rattle.std.proofs.Common.{refl, sym, ap, subst, ◌∙◌}
 use Rattle.std.specs.Prelude.{◌≡◌, ℕ, true, false, List, length}
 use Rattle.journal_model.specs.declared.entry.Batch.{Batch}
@@ -33,7 +33,7 @@ use Rattle.block_device.proofs.OneCall.{each-one}
 pub during-round : (e : Engine) (disk : Disk) → Sound e disk → IsDuringRound e disk disk
 during-round e disk sound = record { home = keeps-copies e disk disk (record { same = λ b. refl }); opens = images-open e disk sound }
 
--- the beginning of a round changes nothing but the round
+-- the begin of a round changes the round alone
 pub begun-commit : (e : Engine) (round : Round) → KeepsCommit e (begun_from e round)
 begun-commit e NoRound = record { shape = refl; layout = refl; uuid = refl; accepted = refl; committed = refl; start = refl }
 begun-commit e (Copies transaction block) = record { shape = refl; layout = refl; uuid = refl; accepted = refl; committed = refl; start = refl }
@@ -50,7 +50,7 @@ both-keep e m new one other = record {
   start = other.start ∙ one.start;
 }
 
--- what a later engine's images open to lies between the old bounds
+-- a later engine's images open within the old bounds
 opens-alike : (old new : Engine) (disk : Disk) → KeepsCommit old new → Sound new disk →
     OpensBetween old.shape old.accepted old.committed (length old.accepted) disk
 opens-alike old new disk keeps sound =
@@ -59,7 +59,7 @@ opens-alike old new disk keeps sound =
     let taken = subst (λ (bs : List Batch). OpensBetween old.shape bs new.committed (length bs) disk) keeps.accepted shaped in
     subst (λ (n : ℕ). OpensBetween old.shape old.accepted n (length old.accepted) disk) keeps.committed taken
 
--- at each moment of a step that succeeds
+-- each moment of a successful step
 pub each-round : (old new : Engine) (before after : DeviceState) → IsOneMoment before after → Sound old before.disk →
     RoundSteps old before.disk new after.disk → EachMoment (IsDuringRound old before.disk) before after
 each-round old new before after moment sound step =
@@ -70,7 +70,7 @@ each-round old new before after moment sound step =
       opens = opens-alike old new after.disk keeps (round-sound old new before.disk after.disk sound step);
     })
 
--- and of one that fails
+-- and of a failed one
 pub each-round-fault : (old new : Engine) (before after : DeviceState) → IsOneMoment before after → Sound old before.disk →
     RoundFaults old before.disk new after.disk → EachMoment (IsDuringRound old before.disk) before after
 each-round-fault old new before after moment sound fault =
@@ -83,13 +83,13 @@ each-round-fault old new before after moment sound fault =
       opens = opens-alike old new after.disk keeps (round-fault-sound old new before.disk after.disk sound fault);
     })
 
--- what a step did, by the progress that it made
+-- what a step did, by its progress
 pub round-did : (p : Progress) (old new : Engine) (disk after : Disk) → IsRoundProgress p new → RoundSteps old disk new after → RoundDid p old disk new after
 round-did NoProgress old new disk after progress step = absurd progress
 round-did Step old new disk after progress step = (step, progress)
 round-did (Done tid) old new disk after progress step = (step, progress.0, progress.1)
 
--- a ledger that can run can run when it is aborted, on a device of the same shape
+-- a running ledger runs once aborted, on a device of the same shape
 pub aborted-runs : (s t : Shape) (l : Ledger) → t ≡ s → Runs s l → Runs t (record l { aborted = true })
 aborted-runs s t l same runs =
     let here : Runs s (record l { aborted = true }) = record {
@@ -102,11 +102,11 @@ aborted-runs s t l same runs =
 
 module _ (s t : Shape) (l m : Ledger) (due : Due) (bytes : List ℕ) (disk after : Disk) (same : t ≡ s) (running : l.aborted ≡ false)
     (has : HasRound (engine_of s l)) (is : engine_of s m ≡ begun (engine_of s l)) (h : HasDue (engine_of s m) due bytes) where
-  -- the due call of the round under way is one of the machine's
+  -- the round's due call is one of the machine's
   pub round-due : RoundCall (begun (engine_of s l)) (begun (engine_of s l)).round h.call h.stepped
   round-due = subst (λ (x : Engine). RoundCall x x.round h.call h.stepped) is h.round
 
-  -- where it fails the machine's engine fails
+  -- if it fails, the machine's engine fails
   pub round-faults : IsAfterFault h.call disk after → RoundFaults (engine_of s l) disk (engine_of t (record m { aborted = true })) after
   round-faults fault = record {
     running = running;
@@ -118,7 +118,7 @@ module _ (s t : Shape) (l m : Ledger) (due : Due) (bytes : List ℕ) (disk after
     disk_is = fault;
   }
 
-  -- where it succeeds, so does the machine's
+  -- if it succeeds, so does the machine's
   pub round-steps : (n : Ledger) → Runs s m → HasGone t m n → after ≡ after_success h.call disk → RoundSteps (engine_of s l) disk (engine_of t n) after
   round-steps n runs gone done =
       let there : HasGone s m n = subst (λ (x : Shape). HasGone x m n) same gone in

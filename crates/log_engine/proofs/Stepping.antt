@@ -1,4 +1,4 @@
--- A step of a commit on a device: what it does to the engine and the disk, and what holds at each of its moments.
+-- A commit step on a device: what it does to engine and disk, and what holds at each moment.
 use Rattle.std.proofs.Common.{arith, refl, sym, ap, subst, ◌∙◌}
 use Rattle.std.specs.Prelude.{◌≡◌, ◌≢◌, ℕ, ◌≤◌, true, false, List, length, Some, None}
 use Rattle.std.proofs.lemmas.Option.{none-some}
@@ -24,17 +24,17 @@ use Rattle.block_device.specs.Call.{IsOneMoment}
 use Rattle.log_engine.specs.Engine.{IsDuringCommit, StepDid}
 use Rattle.block_device.proofs.OneCall.{each-one}
 
--- a step that is to do something makes a call
+-- a step with something due makes a call
 pub call-there : (due : Due) (bytes : List ℕ) → (due ≡ Nothing → ⊥) → (call : Call) × (call_of due bytes ≡ Some call)
 call-there Nothing bytes some = absurd (some refl)
 call-there (WriteDue area place) bytes some = (_, refl)
 call-there (FlushDue area) bytes some = (_, refl)
 
--- where a call is due, a transaction is being committed
+-- if a call is due, a transaction is being committed
 pub busy : (e : Engine) (call : Call) → call_due e ≡ Some call → e.stage ≢ Idle
 busy e call due idle = none-some call (sym (ap (call_in e) idle) ∙ due)
 
--- where none is due, none is
+-- if no call is due, none is
 pub idle-at : (e : Engine) (stage : Stage) → call_in e stage ≡ None → stage ≡ Idle
 idle-at e Idle none = refl
 idle-at e SuperblockWrite none = absurd (none-some _ (sym none))
@@ -47,14 +47,14 @@ idle-at e CommitFlush none = absurd (none-some _ (sym none))
 pub during-now : (e : Engine) (disk : Disk) → Sound e disk → IsDuringCommit e disk disk
 during-now e disk sound = record { home = record { same = λ b. refl }; opens = images-open e disk sound }
 
--- bounds that are further apart
+-- wider bounds
 opens-wider : (shape : Shape) (accepted : List Batch) (low lower high : ℕ) (disk : Disk) → lower ≤ low → OpensBetween shape accepted low high disk →
     OpensBetween shape accepted lower high disk
 opens-wider shape accepted low lower high disk less opens = record {
   each = λ image left. let at = opens.each image left in (at.0, (let above : low ≤ at.0 = at.1 in omega arith), at.2, at.3);
 }
 
--- the engine keeps its shape and what it accepted, and commits no fewer
+-- the engine keeps shape and accepted batches, and commits no fewer
 record Advances (old new : Engine) : Type 0 where
   shape : new.shape ≡ old.shape
   layout : new.layout ≡ old.layout
@@ -69,7 +69,7 @@ advances-at e (Blocks k) = record { shape = refl; layout = refl; accepted = refl
 advances-at e CommitWrite = record { shape = refl; layout = refl; accepted = refl; committed = omega arith }
 advances-at e CommitFlush = record { shape = refl; layout = refl; accepted = refl; committed = omega arith }
 
--- so what a later engine's images open to lies between the old bounds
+-- a later engine's images open within the old bounds
 opens-before : (old new : Engine) (disk : Disk) → Advances old new → Sound new disk →
     OpensBetween old.shape old.accepted old.committed (length old.accepted) disk
 opens-before old new disk advances sound =
@@ -78,7 +78,7 @@ opens-before old new disk advances sound =
     let taken = subst (λ (bs : List Batch). OpensBetween old.shape bs new.committed (length bs) disk) advances.accepted shaped in
     opens-wider old.shape old.accepted new.committed old.committed (length old.accepted) disk advances.committed taken
 
--- at each moment of a step that succeeds
+-- each moment of a successful step
 pub each-step : (old new : Engine) (before after : DeviceState) → IsOneMoment before after → Sound old before.disk → CommitSteps old before.disk new after.disk →
     EachMoment (IsDuringCommit old before.disk) before after
 each-step old new before after moment sound step =
@@ -86,7 +86,7 @@ each-step old new before after moment sound step =
     each-one (IsDuringCommit old before.disk) before after moment (during-now old before.disk sound)
     (record { home = step-home old new before.disk after.disk step; opens = opens-before old new after.disk advances (step-sound old new before.disk after.disk sound step) })
 
--- and of one that fails
+-- and of a failed one
 pub each-fault : (old new : Engine) (before after : DeviceState) → IsOneMoment before after → Sound old before.disk → CommitFaults old before.disk new after.disk →
     EachMoment (IsDuringCommit old before.disk) before after
 each-fault old new before after moment sound fault =
@@ -95,7 +95,7 @@ each-fault old new before after moment sound fault =
     each-one (IsDuringCommit old before.disk) before after moment (during-now old before.disk sound)
     (record { home = fault-home old new before.disk after.disk fault; opens = opens-before old new after.disk advances (fault-sound old new before.disk after.disk sound fault) })
 
--- what a step did, by the progress that it made
+-- what a step did, by its progress
 pub step-did : (p : Progress) (old new : Engine) (disk after : Disk) → IsProgress p old new → CommitSteps old disk new after → StepDid p old disk new after
 step-did NoProgress old new disk after progress step = absurd progress
 step-did Step old new disk after progress step = (step, progress)

@@ -1,4 +1,4 @@
--- What the calls of an engine do, each as one step of the pure machine, and why they are refused.
+-- What an engine's calls do, each as a step of the pure machine, and why they are refused.
 use Rattle.std.specs.Prelude.{◌≡◌, ◌≢◌, ℕ, ◌+◌, false, true, List, None, length}
 use Rattle.journal_model.specs.declared.refusal.JournalError.{JournalError}
 use Rattle.journal_model.specs.declared.refusal.JournalError.TheVariants.{Aborted, BadBlock, Device, Memory}
@@ -19,11 +19,11 @@ pub record EngineValue (D : Type 0) : Type 0 where
   pub device : D
   pub engine : Engine
 
--- the table has the last effect on each block of the transactions that were handed over
+-- the table has the last effect on each block of the batches handed over
 abbrev pub HasEffects : Engine → EffectsValue → Type 0
 HasEffects e table = (b : ℕ) → effect_on table b ≡ last_effect e.accepted b None
 
--- why a batch that there is room for is refused: the device failed before, or memory runs out
+-- why a batch is refused for which the ring has room: the device failed before, or memory ran out
 pub data AcceptRefused (e : Engine) : JournalError → Type 0 where
   AfterFailure : e.aborted ≡ true → AcceptRefused e Aborted
   MemoryIsShort : e.aborted ≡ false → AcceptRefused e Memory
@@ -39,24 +39,23 @@ pub data StepRefused (old : Engine) (before : DeviceState) (new : Engine) (after
   WasAborted : old.aborted ≡ true → new ≡ old → Stays before after → after.faults ≡ before.faults → StepRefused old before new after Aborted
   DeviceFailed : CommitFaults old before.disk new after.disk → after.faults ≡ one_more_fault before.faults → StepRefused old before new after Device
 
--- what a step of a checkpoint round did: it is the last one where the round is over behind it
+-- what a checkpoint step did; the last one ends the round
 abbrev pub RoundDid : Progress → Engine → Disk → Engine → Disk → Type 0
 RoundDid NoProgress old disk new after =
     (old.round ≡ NoRound) × (old.released ≡ old.committed) × (old.aborted ≡ false) × (new ≡ old) × (after ≡ disk)
 RoundDid Step old disk new after = RoundSteps old disk new after × (new.round ≢ NoRound)
 RoundDid (Done tid) old disk new after = RoundSteps old disk new after × (new.round ≡ NoRound) × (tid + 1 ≡ new.first + new.released)
 
--- why it is refused: the device failed before, or in it
+-- why a checkpoint step is refused: the device failed before, or in it
 pub data RoundRefused (old : Engine) (before : DeviceState) (new : Engine) (after : DeviceState) : JournalError → Type 0 where
   RoundAborted : old.aborted ≡ true → new ≡ old → Stays before after → after.faults ≡ before.faults → RoundRefused old before new after Aborted
   RoundFailed : RoundFaults old before.disk new after.disk → after.faults ≡ one_more_fault before.faults → RoundRefused old before new after Device
 
--- the block is one that may be touched
+-- home has the block, and the log can hold its number
 abbrev pub MayTouch : Engine → ℕ → Type 0
 MayTouch e b = IsAllowedBlock e.layout e.shape.home_blocks b
 
--- why a read is refused: the device failed before, the block is none that may be touched, or no copy of it is pending and the
--- device failed in the read
+-- why a read is refused: the device failed before, the block may not be touched, or no copy is pending and the device failed in it
 pub data ReadRefused {D : Type 0} (state : D → DeviceState) (old : EngineValue D) (b : ℕ) (new : EngineValue D) : JournalError → Type 0 where
   ReadAborted : old.engine.aborted ≡ true → new ≡ old → ReadRefused state old b new Aborted
   ReadOutside : old.engine.aborted ≡ false → (MayTouch old.engine b → ⊥) → new ≡ old → ReadRefused state old b new BadBlock
@@ -64,13 +63,12 @@ pub data ReadRefused {D : Type 0} (state : D → DeviceState) (old : EngineValue
       new.engine ≡ record old.engine { aborted = true } → (state new.device).faults ≡ one_more_fault (state old.device).faults →
       ReadRefused state old b new Device
 
--- a moment of a commit step: home is as it was, and what a stop leaves opens to a number between the committed and the
--- accepted transactions
+-- a moment of a commit step: home is as it was, and each crash image opens to a number from the committed to the accepted transactions
 pub record IsDuringCommit (e : Engine) (old disk : Disk) : Type 0 where
   pub home : KeepsHome old disk
   pub opens : OpensBetween e.shape e.accepted e.committed (length e.accepted) disk
 
--- a moment of a step of a round: home has changed by newest committed copies alone, and what a stop leaves opens likewise
+-- a moment of a checkpoint step: home gained newest committed copies alone, and each crash image opens likewise
 pub record IsDuringRound (e : Engine) (old disk : Disk) : Type 0 where
   pub home : CopiesHome e old disk
   pub opens : OpensBetween e.shape e.accepted e.committed (length e.accepted) disk

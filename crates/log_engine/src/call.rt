@@ -1,4 +1,4 @@
-//! The device call of a step.
+//! The device call of a step: how it is made, and what it leaves.
 ghost use Rattle.std.specs.Prelude.{◌≡◌, Some, OnOk, OnErr};
 ghost use Rattle.block_device.specs.State.{CountsFaults, MakesAtMostOneCall};
 ghost use Rattle.journal_world.specs.Call.{Call, IsAfterFault, after_success};

@@ -1,4 +1,4 @@
-//! The device calls of a close: the write of block 0 of the log, and its flush.
+//! The device calls of a close: the write of block 0 of the log, and a flush of the log.
 //! Source: fs/jbd2/journal.c by behaviour (a journal that is destroyed is marked empty).
 ghost use Rattle.std.specs.Prelude.{◌≡◌, ◌+◌, ◌<◌, ◌≤◌, length, OnOk, OnErr};
 ghost use Rattle.journal_model.specs.declared.number.Area.TheVariants.{Log};
@@ -11,7 +11,7 @@ ghost use Rattle.log_engine.specs.Close.{IsWritingFirst};
 use block_device::{Device, DeviceFault};
 use journal_model::Area;
 
-/// Writes block 0 of the log, and flushes the log.
+/// Writes block 0 of the log, then flushes the log.
 pub(crate) fn write_first<D: Device>(device: &mut D, block: &[u8]) -> Result<(), DeviceFault>
     requires size { length block.now ≡ (D.state device.old).shape.block_size }
     requires there { 0 < (D.state device.old).shape.log_blocks }

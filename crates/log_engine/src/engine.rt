@@ -1,4 +1,4 @@
-//! The engine that a journal stands on: one contract for each step, of the machine's own steps.
+//! The engine of a journal: a contract for each of its calls, as steps of the machine.
 ghost use Rattle.std.specs.Prelude.{◌≡◌, ◌≢◌, ◌+◌, ◌≤◌, ◌↔◌, ℕ, List, IsTrue, false, length, is_some, IfOk, IfErr, IfSome, MatchResult, OnOk};
 ghost use Rattle.journal_model.specs.declared.refusal.JournalError.TheVariants.{Device as DeviceFailed, Memory};
 ghost use Rattle.journal_model.specs.Layout.{IsLayout};
@@ -33,14 +33,14 @@ use recovery::Opened;
 use std::alloc::Global;
 use std::marker::Model;
 
-/// The transactions of an opened log, and the device that it lies on.
+/// The transactions of an opened log, and its device.
 #[derive(Drop)]
 pub struct Engine<D: Device> {
     pub(crate) device: D,
     pub(crate) ledger: Ledger,
-    /// Of the batch that is being committed.
+    /// The plan of the batch being committed.
     pub(crate) plan: Plan,
-    /// Of the transactions that were handed over.
+    /// The last effect on each block of the batches handed over.
     pub(crate) effects: LastEffects,
     pub(crate) writer: TextWriter,
 }
@@ -65,7 +65,7 @@ impl<D: Device> Model for Engine<D> {
 }
 
 impl<D: Device> Engine<D> {
-    /// The engine of an opened log. It takes room for the pending copies that the ring can hold.
+    /// The engine of an opened log. It takes memory for all pending copies that the ring can hold.
     ///
     /// # Errors
     ///
@@ -93,8 +93,8 @@ impl<D: Device> Engine<D> {
         })
     }
 
-    /// States what every engine keeps, for the proofs of callers, who see its value alone: what it knows agrees, what a
-    /// stop leaves of its device opens, and its shape is the device's. It does nothing.
+    /// Gives callers' proofs what every engine keeps, and does nothing: its fields agree, its shape is the device's, and if reads were
+    /// correct each crash image opens.
     pub fn recall_invariant(&self)
         ensures plain { IsPlain self.now.engine }
         ensures opens { D.honest self.now.device →
@@ -111,28 +111,28 @@ impl<D: Device> Engine<D> {
         self.ledger.aborted
     }
 
-    /// How many of the batches that were handed over are committed.
+    /// How many batches are committed.
     pub fn committed(&self) -> usize
         ensures { result ≡ self.now.engine.committed }
     {
         self.ledger.committed
     }
 
-    /// Whether nothing is being committed.
+    /// Whether no commit is under way.
     pub fn is_idle(&self) -> bool
         ensures { IsTrue result ↔ (self.now.engine.stage ≡ Idle) }
     {
         matches!(self.ledger.stage, Stage::Idle)
     }
 
-    /// How many blocks the home area has.
+    /// Blocks of the home area.
     pub fn home_blocks(&self) -> u64
         ensures { result ≡ self.now.engine.shape.home_blocks }
     {
         self.device.blocks(Area::Home)
     }
 
-    /// How many bytes a block has.
+    /// Bytes per block.
     pub fn block_size(&self) -> usize
         ensures size { result ≡ self.now.engine.shape.block_size }
         ensures device { result ≡ (D.state self.now.device).shape.block_size }
@@ -140,7 +140,7 @@ impl<D: Device> Engine<D> {
         self.device.block_size()
     }
 
-    /// The layout of the log.
+    /// The log's layout.
     pub fn layout(&self) -> LogLayout
         ensures layout { result ≡ self.now.engine.layout }
         ensures taken { IsLayout result }
@@ -148,15 +148,15 @@ impl<D: Device> Engine<D> {
         self.ledger.layout
     }
 
-    /// How many blocks the ring has.
+    /// Blocks of the ring.
     pub fn ring_blocks(&self) -> u64
         ensures { result ≡ self.now.engine.ring.blocks }
     {
         self.ledger.ring.blocks()
     }
 
-    /// How many log blocks a transaction of so many copies and revokes needs, where the ring has as many free ones. The
-    /// blocks of committed transactions are free from the end of the checkpoint round on that releases them.
+    /// How many log blocks a transaction of so many copies and revokes needs, if the ring has as many free. A committed transaction's
+    /// blocks become free when a checkpoint round that releases it ends.
     pub fn room_for(&self, copies: usize, revokes: usize) -> Option<u64>
         requires { self.now.engine.stage ≡ Idle }
         ensures blocks { IfSome result (λ n. n ≡ need self.now.engine.layout copies revokes) }
@@ -166,9 +166,8 @@ impl<D: Device> Engine<D> {
         self.ledger.room_for(copies, revokes)
     }
 
-    /// Makes each growth that taking a batch of no more than so many entries will need, also while another one is being committed:
-    /// an `accept` behind it, with no other between, makes no request for memory. It calls no device, and the engine is as it was
-    /// whatever it answers.
+    /// Reserves all memory for accepting a batch of at most so many entries, even while another is being committed. The next `accept`
+    /// then requests none. It calls no device, and leaves the engine's value, whatever it answers.
     ///
     /// # Errors
     ///
@@ -183,10 +182,9 @@ impl<D: Device> Engine<D> {
         Ok(())
     }
 
-    /// Takes the entries of a transaction, which is then to be committed: copies of one block each and revokes, in any mix,
-    /// of different blocks that may be touched, with the next number, while nothing is being committed. They need so many
-    /// log blocks, and the ring has as many free ones (`room_for`). It makes every growth that the commit will need, so that
-    /// a commit takes time in proportion to its log blocks and its entries.
+    /// Takes the entries of the next transaction, which is then to be committed. No commit may be under way; the batch has the next
+    /// number, and its copies and revokes are of different allowed blocks. They need `blocks` log blocks, which the ring has free
+    /// (`room_for`). All memory of the commit is taken here, so a commit takes time in proportion to its log blocks and entries.
     ///
     /// # Errors
     ///
@@ -215,11 +213,11 @@ impl<D: Device> Engine<D> {
         Ok(())
     }
 
-    /// Makes the device call of the commit that is due, if one is. It takes no memory.
+    /// Makes the commit's next device call, if one is due. It takes no memory.
     ///
     /// # Errors
     ///
-    /// `Aborted` after a device failure. `Device` where the device fails: the journal is aborted.
+    /// `Aborted` after an earlier device failure. `Device`: the device failed, and the journal is aborted.
     pub fn commit_step(&mut self) -> Result<Progress, JournalError>
         ensures ok { IfOk result (λ p. StepDid p self.old.engine (D.state self.old.device).disk self.new.engine (D.state self.new.device).disk) }
         ensures err { IfErr result (λ e. StepRefused self.old.engine (D.state self.old.device) self.new.engine (D.state self.new.device) e) }
@@ -241,13 +239,13 @@ impl<D: Device> Engine<D> {
         Ok(self.ledger.advance())
     }
 
-    /// Makes the device call of the checkpoint round that is due, if one is. A round begins where a committed transaction
-    /// is not released, and releases all that are committed then; commits may come between its steps. It takes no memory. Where
-    /// it answers Idle it has called no device.
+    /// Makes the checkpoint round's next device call, if one is due. A round begins if a committed transaction is not released, and
+    /// releases all that are committed at that time; commit steps may come between its own. It takes no memory. If it answers `Idle`,
+    /// it made no call.
     ///
     /// # Errors
     ///
-    /// `Aborted` after a device failure. `Device` where the device fails: the journal is aborted.
+    /// `Aborted` after an earlier device failure. `Device`: the device failed, and the journal is aborted.
     /// Source: fs/jbd2/checkpoint.c by behaviour.
     pub fn checkpoint_step(&mut self) -> Result<Progress, JournalError>
         ensures ok { IfOk result (λ p. RoundDid p self.old.engine (D.state self.old.device).disk self.new.engine (D.state self.new.device).disk) }
@@ -271,13 +269,13 @@ impl<D: Device> Engine<D> {
         Ok(self.ledger.advance_round())
     }
 
-    /// Reads a block into a buffer of one block: its newest committed copy, or else what home reads. A block with a
-    /// pending copy is read without a device call, any other with one.
+    /// Reads one block: its newest committed copy, else what home reads. A block with a pending copy needs no device call; any other
+    /// needs one.
     ///
     /// # Errors
     ///
-    /// `Aborted` after a device failure; `BadBlock` where home has no such block, or no tag of the log can spell its number, or it
-    /// has more than 48 bits: nothing changes. `Device` where the device fails: the journal is aborted, and the buffer's bytes are
+    /// `Aborted` after an earlier device failure; `BadBlock` if home has no such block, or its number is not below 2^32 (2^48 in a log
+    /// with 64-bit numbers): nothing changes. `Device`: the device failed, the journal is aborted, and the buffer's bytes are
     /// unspecified.
     pub fn read(&mut self, block: BlockNo, into: &mut [u8]) -> Result<(), JournalError>
         requires { length into.old ≡ (D.state self.old.device).shape.block_size }
@@ -371,7 +369,7 @@ impl<D: Device> Engine<D> {
     }
 }
 
-/// How many blocks the ring of a log with this superblock has.
+/// Blocks of the ring of a log with this superblock.
 fn ring_blocks(superblock: &[u8]) -> usize
     requires long { 1024 ≤ length superblock.now }
     requires order { (super_in superblock.now).s_first ≤ (super_in superblock.now).s_maxlen }

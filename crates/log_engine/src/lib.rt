@@ -1,7 +1,8 @@
-//! The engine of a journal: it takes the entries of one transaction after another, commits each to the log, and writes
-//! committed copies home, so that their log blocks are free again. Each step is at most one device call, and steps of a
-//! commit and of a checkpoint round may alternate in any way. It takes memory where it is made, where room is made for a batch
-//! (`reserve`), and where one is handed over; no step does.
+//! The engine of a journal: it takes the entries of one transaction after another, commits each to the log, and writes committed copies
+//! home, which frees their log blocks.
+//!
+//! Each step makes at most one device call, and commit and checkpoint steps may alternate in any way. Memory is taken when the engine
+//! is made, when room is made for a batch (`reserve`), and when a batch is accepted; no step takes any.
 #![tactic(auto)]
 
 mod call;

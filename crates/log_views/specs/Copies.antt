@@ -1,4 +1,4 @@
--- A copy in a log, by its place.
+-- What it means that a log has a copy at a place.
 use Rattle.std.specs.Prelude.{◌≡◌, ℕ, ◌+◌, ◌<◌, List, length, Some, slice_get}
 use Rattle.log_model.specs.declared.log.Piece.{Piece}
 use Rattle.log_model.specs.declared.log.Tag.{Tag}
@@ -14,8 +14,8 @@ use Rattle.log_scan.specs.Finding.{every_block, log_block}
 use Rattle.log_scan.specs.Passing.{CopiesPassed}
 use Rattle.log_scan.specs.Scanning.{IsEndOf}
 
--- A copy of a complete transaction stands at this place of a log: behind the texts before it and these pieces of its own there is a
--- descriptor that has this tag for it. These are its bytes as they go home.
+-- A complete transaction has a copy at this place: after the texts and pieces before it comes a descriptor with this tag for it. These
+-- are its bytes as they go home.
 pub record IsCopyIn (s : Super) (image : Image) (place : ℕ) (bytes : List ℕ) : Type 0 where
   pub end : ChainEnd
   pub ends : IsEndOf s (every_block s) image end

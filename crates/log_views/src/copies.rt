@@ -1,4 +1,4 @@
-//! A copy in a log, by its place.
+//! Finding a copy in a log by its place.
 ghost use Rattle.std.specs.Prelude.{◌≡◌, ◌<◌, ◌≤◌, length, slice_get, take, Some, IfOk, IfSome, IsTrue};
 ghost use Rattle.journal_model.specs.Disk.{reading};
 ghost use Rattle.log_model.specs.Chain.{place_from};
@@ -16,14 +16,14 @@ use log_model::Tag;
 use log_scan::{ChainEnd, Cursor, Finder, Found, Log, find_end};
 use std::alloc::Global;
 
-/// A copy of a log, as it goes home.
+/// A copy in a log, as it goes home.
 #[derive(Drop)]
 pub struct Copy {
     finder: Finder,
 }
 
 impl Copy {
-    /// Its bytes: where it is escaped, the magic stands again in its first four.
+    /// Its bytes; if it is escaped, with the magic back in the first four.
     pub fn bytes(&self) -> &[u8]
         ensures { result.now ≡ self.now.finder.block }
     {
@@ -31,12 +31,12 @@ impl Copy {
     }
 }
 
-/// The copy of a complete transaction at this place of the log of a device, where there is one. What stands after the complete
-/// transactions is not looked at. The device is read, and nothing is written.
+/// The copy at this place of the device's log, if a complete transaction has one there; the contract speaks of a copy that is found.
+/// Blocks after the complete transactions are not examined, and nothing is written.
 ///
 /// # Errors
 ///
-/// Those of `read_log`; `Device`: a read failed.
+/// Those of `read_log`. `Device`: a read failed.
 pub fn copy_at<D: Device>(
     alloc: Global,
     device: &mut D,
@@ -59,7 +59,7 @@ pub fn copy_at<D: Device>(
     }
 }
 
-/// Reads the copy at this place of a log whose chain ends here, where a complete transaction has one there.
+/// Reads the copy at this place, if a complete transaction of this chain has one there.
 fn find_copy<D: Device>(
     device: &mut D,
     log: &Log,
@@ -91,7 +91,7 @@ fn find_copy<D: Device>(
     Ok(false)
 }
 
-/// Which position from the first up to an end is at a place, if one is.
+/// The position in `first..end` at this place, if there is one.
 fn position_at(log: &Log, first: u64, end: u64, place: u64) -> Option<u64>
     ensures { IfSome result (λ position. (first ≤ position) × (position < end) × (place ≡ place_from (ring_of log.now) log.now.s_start position)) }
 {
@@ -103,7 +103,7 @@ fn position_at(log: &Log, first: u64, end: u64, place: u64) -> Option<u64>
     None
 }
 
-/// Tag `k` of the descriptor that was found last, which has so many.
+/// Tag `k` of the last descriptor found, which has `count` tags.
 fn tag_of(finder: &Finder, count: usize, k: usize) -> Tag
     requires there { count ≤ length finder.now.tags }
     requires one { k < count }

@@ -1,4 +1,4 @@
-//! A block of the home area as an opening would leave it.
+//! The view of a home block as an opening would leave it.
 ghost use Rattle.std.specs.Prelude.{◌≡◌, ◌<◌, ℕ, List, length, IfOk, OnOk};
 ghost use Rattle.journal_model.specs.declared.number.Area.TheVariants.{Home, Log};
 ghost use Rattle.journal_model.specs.Disk.{written};
@@ -12,13 +12,13 @@ use journal_model::{Area, Block, JournalError};
 use recovery::open;
 use std::alloc::Global;
 
-/// Block `n` of the home area as an opening of the log of this device would leave it. The log and the block are copied into memory, and
-/// the log is opened there; the device is read, and nothing is written.
+/// Block `n` of the home area as an opening of this device's log would leave it. It copies log and block into memory and opens the log
+/// there; nothing is written to the device.
 ///
 /// # Errors
 ///
-/// `BadBlock`: the home area has no such block. Those of an opening of the log. `Device`: a read failed. `Memory`: the blocks of the log
-/// that are no zeros are held in memory, and the home blocks that it would write.
+/// `BadBlock`: home has no such block. Those of an opening. `Device`: a read failed. `Memory`: memory holds the log's nonzero blocks
+/// and the home blocks that the opening writes.
 pub fn block_left<D: Device>(alloc: Global, device: &mut D, n: u64) -> Result<Block, JournalError>
     ensures left { IfOk result (λ block. D.honest device.new → IsLeftIn (D.state device.old) n block) }
     ensures device { OnlyReads D.state D.honest device.old device.new }
@@ -36,7 +36,7 @@ pub fn block_left<D: Device>(alloc: Global, device: &mut D, n: u64) -> Result<Bl
     }
 }
 
-/// The log of a device and block `n` of its home area in memory. The other blocks of home are zeros there.
+/// A copy in memory of the log and of home block `n`; other home blocks are zeros.
 fn copied<D: Device>(alloc: Global, device: &mut D, n: u64) -> Result<MemDevice, JournalError>
     requires there { n < (D.state device.old).shape.home_blocks }
     ensures shape { IfOk result (λ copy. copy.shape ≡ (D.state device.old).shape) }
@@ -53,7 +53,7 @@ fn copied<D: Device>(alloc: Global, device: &mut D, n: u64) -> Result<MemDevice,
     Ok(copy)
 }
 
-/// Copies the blocks of a log by way of a buffer of one block.
+/// Copies the log, block by block through this buffer.
 fn copy_log<D: Device>(
     device: &mut D,
     copy: &mut MemDevice,

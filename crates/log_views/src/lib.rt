@@ -1,7 +1,5 @@
-//! What a user looks up in a log, and nothing of it is written: how much of its ring is used, one copy, and a block of the home area as
-//! an opening would leave it.
-//!
-//! `ring` counts the blocks of the ring, `copies` finds a copy by its place, and `leaving` opens a copy of the log in memory.
+//! Views of a log, which write nothing: how much of its ring is used (`ring`), one copy by its place (`copies`), and a home block as an
+//! opening would leave it (`leaving`, on a copy in memory).
 #![tactic(auto)]
 
 mod copies;

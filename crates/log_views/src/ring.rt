@@ -1,4 +1,4 @@
-//! How much of the ring of a log is used.
+//! How much of a log's ring is used.
 ghost use Rattle.std.specs.Prelude.{◌≡◌, ◌≤◌, IfOk};
 ghost use Rattle.journal_model.specs.Disk.{reading};
 ghost use Rattle.log_model.specs.Opening.{layout_of, ring_of, super_of};
@@ -12,16 +12,16 @@ use log_format::Super;
 use log_scan::{ChainEnd, Cursor, Finder, Log, find_end};
 use std::alloc::Global;
 
-/// How much of the ring of a log is used.
+/// The use of a log's ring.
 #[derive(Clone, Copy, Debug, PartialEq, Eq)]
 pub struct RingUse {
-    /// The blocks of the ring.
+    /// Blocks of the ring.
     pub blocks: u64,
-    /// How many of them the complete transactions take.
+    /// How many of them the complete transactions take. The contract says only that it is at most `blocks`.
     pub used: u64,
-    /// The number of the first of these transactions.
+    /// The first transaction's number.
     pub first: u64,
-    /// How many they are, and the damaged block after them, where one is.
+    /// How many complete transactions there are, and the damaged block after them, if any.
     pub end: ChainEnd,
 }
 
@@ -29,7 +29,7 @@ pub struct RingUse {
 ///
 /// # Errors
 ///
-/// `BadLength`: the log has no block. Those of `Super::read`; `Device`: the read failed; `Memory`.
+/// `BadLength`: the log area has no block. Those of `Super::read`. `Device`: the read failed. `Memory`.
 pub fn read_log<D: Device>(alloc: Global, device: &mut D) -> Result<Log, JournalError>
     ensures accepted { IfOk result (λ log. IsAccepted (D.state device.old).shape.block_size (D.state device.old).shape.log_blocks log) }
     ensures fields { IfOk result (λ log. D.honest device.new → log ≡ super_of (reading (D.state device.old).disk)) }
@@ -44,8 +44,8 @@ pub fn read_log<D: Device>(alloc: Global, device: &mut D) -> Result<Log, Journal
     Ok(Log::new(fields))
 }
 
-/// How much of the ring of the log on a device is used, whatever stands after its complete transactions. Of a clean log nothing is. The
-/// device is read, and nothing is written.
+/// How much of the ring of the device's log is used, whatever follows its complete transactions; in a clean log, nothing. Nothing is
+/// written.
 ///
 /// # Errors
 ///
@@ -78,7 +78,7 @@ pub fn ring_use<D: Device>(alloc: Global, device: &mut D) -> Result<RingUse, Jou
     })
 }
 
-/// How many blocks of the ring the first transactions of a log take, so many of them.
+/// How many ring blocks the first `transactions` transactions take.
 fn blocks_of<D: Device>(
     device: &mut D,
     log: &Log,

@@ -12,11 +12,11 @@ use Rattle.log_model.proofs.ReadingPieces.Ends.{commits}
 use Rattle.log_model.proofs.ReadingTexts.{one_list_of_texts, one_text}
 use Rattle.log_scan.specs.Passing.{StandBefore}
 
--- the blocks of texts, the first apart
+-- the blocks of texts, the first text's apart
 first-text : (t : Text) (ts : List Text) (xs : List (List ℕ)) → texts_blocks (t ∷ ts) ++ xs ≡ text_blocks t ++ (texts_blocks ts ++ xs)
 first-text t ts xs = append_assoc (text_blocks t) (texts_blocks ts) xs
 
--- pieces that blocks begin with, where a text's pieces and its commit block stand
+-- pieces at the front of some blocks begin the text that stands there
 pieces-begin : (l : Layout) (count sequence : ℕ) → 0 < l.number_bytes → (ps qs : List Piece) (xs ys : List (List ℕ)) (commit : List ℕ) →
     AllByRecursion (IsPiece l count sequence) ps → AllByRecursion (IsPiece l count sequence) qs → IsCommitBlock sequence commit →
     pieces_blocks ps ++ xs ≡ pieces_blocks qs ++ commit ∷ ys → (more : List Piece) × (qs ≡ ps ++ more)
@@ -32,7 +32,7 @@ pieces-begin l count sequence some (p ∷ ps) (q ∷ qs) xs ys commit are others
     let tail = rest.1 in
     (rest.0, cc)
 
--- fewer texts that the same blocks begin with: the next one
+-- the next text, if fewer texts than the chain's begin the same blocks
 record NextText (l : Layout) (count sequence : ℕ) (texts chain : List Text) (xs ys : List (List ℕ)) : Type 0 where
   text : Text
   rest : List Text
@@ -75,7 +75,7 @@ module _
     both : texts_blocks texts ++ drop so.before blocks ≡ texts_blocks chain ++ begins.rest
     both = sym so.whole.front.split ∙ begins.split
 
-    -- where the chain has more texts
+    -- if the chain has more texts, these begin it
     pub begins-chain : number < length chain → IsBeginning texts pieces chain
     begins-chain fewer =
         let due = so.whole.due in
@@ -89,7 +89,7 @@ module _
         next.text.commit own next.is.pieces next.is.commit there in
         record { text = next.text; rest = next.rest; more = more.0; split = next.split; pieces_are = more.1 }
 
-    -- and where it has as many, these are all
+    -- if it has as many, these are all
     pub is-chain : number ≡ length chain → chain ≡ texts
     is-chain all =
         let due = so.whole.due in

@@ -1,4 +1,4 @@
--- The changes of a chain, and what they say of the copies and the revokes of its texts.
+-- A chain's changes, and the copies and revokes of its texts that they contain.
 use Rattle.std.proofs.Common.{refl, sym, ◌∙◌, ap, subst, arith, inl, inr, zero}
 use Rattle.std.specs.Prelude.{◌≡◌, ℕ, suc, ◌≤◌, List, [], ◌∷◌, ◌++◌, map, Some, Contains, slice_get}
 use Rattle.std.proofs.lemmas.List.Elements.{Contains-append_cases, Contains-append_left, Contains-append_right}
@@ -12,7 +12,7 @@ use Rattle.recovery.specs.HomeCopies.{Change, chain_changes, text_changes}
 use Rattle.recovery.specs.HomeCopies.Change.{Copied, Revoked}
 use Rattle.recovery.proofs.LastCopies.{BlockCopies, copied, mapped-from, mapped-has}
 
--- the changes of copies with revokes behind them
+-- the changes of copies, then of revokes
 abbrev pub changes_of : BlockCopies → List ℕ → List Change
 changes_of cs rs = map copied cs ++ map Revoked rs
 
@@ -20,26 +20,26 @@ changes_of cs rs = map copied cs ++ map Revoked rs
 pub changes-copied : (cs : BlockCopies) (rs : List ℕ) (b : ℕ) (v : List ℕ) → Contains cs (b, v) → Contains (changes_of cs rs) (Copied b v)
 changes-copied cs rs b v among = Contains-append_left (map copied cs) (map Revoked rs) (Copied b v) (mapped-has copied cs (b, v) among)
 
--- and so is each revoke
+-- each revoke is one of them
 pub changes-revoked : (cs : BlockCopies) (rs : List ℕ) (b : ℕ) → Contains rs b → Contains (changes_of cs rs) (Revoked b)
 changes-revoked cs rs b among = Contains-append_right (map copied cs) (map Revoked rs) (Revoked b) (mapped-has Revoked rs b among)
 
--- one change is of one copy
+-- equal changes have equal copies
 one-copy : (c d : ℕ × List ℕ) → copied c ≡ copied d → c ≡ d
 one-copy c d same =
     let block : c.0 ≡ d.0 = cc in
     let bytes : c.1 ≡ d.1 = cc in
     ap (λ (n : ℕ). (n, c.1)) block ∙ ap (λ (w : List ℕ). (d.0, w)) bytes
 
--- of one revoke
+-- equal changes have equal revokes
 one-revoke : (r b : ℕ) → Revoked r ≡ Revoked b → r ≡ b
 one-revoke r b same = cc
 
--- and not of both
+-- a revoke is no copy
 revoke-copy : (r b : ℕ) (v : List ℕ) → Revoked r ≡ Copied b v → ⊥
 revoke-copy r b v same = cc
 
--- there are no other copies
+-- each copied change is one of the copies
 pub copied-from : (cs : BlockCopies) (rs : List ℕ) (b : ℕ) (v : List ℕ) → Contains (changes_of cs rs) (Copied b v) → Contains cs (b, v)
 copied-from cs rs b v among =
     elim (Contains-append_cases (map copied cs) (map Revoked rs) (Copied b v) among) [
@@ -49,7 +49,7 @@ copied-from cs rs b v among =
       | inr there ↦ let from = mapped-from Revoked rs (Copied b v) there in absurd (revoke-copy from.0 b v from.2)
     ]
 
--- and no other revokes
+-- each revoked change is one of the revokes
 pub revoked-from : (cs : BlockCopies) (rs : List ℕ) (b : ℕ) → Contains (changes_of cs rs) (Revoked b) → Contains rs b
 revoked-from cs rs b among =
     elim (Contains-append_cases (map copied cs) (map Revoked rs) (Revoked b) among) [
@@ -67,7 +67,7 @@ chain-has (t ∷ ts) zero text c stands has =
     Contains-append_left (text_changes t) (chain_changes ts) c (subst (λ (x : Text). Contains (text_changes x) c) (sym (same_Some t text stands)) has)
 chain-has (t ∷ ts) (suc j) text c stands has = Contains-append_right (text_changes t) (chain_changes ts) c (chain-has ts j text c stands has)
 
--- the copies of a chain are those of its changes
+-- each copy of a chain is one of its changes
 pub chain-copied : (texts : List Text) (b : ℕ) (v : List ℕ) → Contains (copies_of texts) (b, v) → Contains (chain_changes texts) (Copied b v)
 chain-copied [] b v among = absurd (contains-none (b, v) among)
 chain-copied (t ∷ ts) b v among =
@@ -77,7 +77,7 @@ chain-copied (t ∷ ts) b v among =
       | inr behind ↦ Contains-append_right (text_changes t) (chain_changes ts) (Copied b v) (chain-copied ts b v behind)
     ]
 
--- and there are no others
+-- each copied change of a chain is one of its copies
 pub chain-copied_from : (texts : List Text) (b : ℕ) (v : List ℕ) → Contains (chain_changes texts) (Copied b v) → Contains (copies_of texts) (b, v)
 chain-copied_from [] b v among = absurd (contains-none (Copied b v) among)
 chain-copied_from (t ∷ ts) b v among =
@@ -86,13 +86,13 @@ chain-copied_from (t ∷ ts) b v among =
       | inr behind ↦ Contains-append_right (text_copies t) (copies_of ts) (b, v) (chain-copied_from ts b v behind)
     ]
 
--- what covers a copy covers it in the chain with one more text in front
+-- a cover stays one with one more text in front
 pub covered-more : (t : Text) (ts : List Text) (i b : ℕ) → IsCovered ts i b → IsCovered (t ∷ ts) (suc i) b
 covered-more t ts i b covered =
     let before = covered.not_before in
     record { revoker = suc covered.revoker; text = covered.text; not_before = omega arith; stands = covered.stands; revokes = covered.revokes }
 
--- and without it
+-- and without that text
 pub covered-tail : (t : Text) (ts : List Text) (i b : ℕ) → IsCovered (t ∷ ts) (suc i) b → IsCovered ts i b
 covered-tail t ts i b covered = at covered.revoker covered.not_before covered.stands
   where
@@ -100,7 +100,7 @@ covered-tail t ts i b covered = at covered.revoker covered.not_before covered.st
     at zero before stands = absurd (omega arith)
     at (suc r) before stands = record { revoker = r; text = covered.text; not_before = omega arith; stands = stands; revokes = covered.revokes }
 
--- a copy is covered from an earlier text on too
+-- what covers from a text on covers from the first text on
 covered-earlier : (texts : List Text) (i b : ℕ) → IsCovered texts i b → IsCovered texts 0 b
 covered-earlier texts i b covered =
     record { revoker = covered.revoker; text = covered.text; not_before = omega arith; stands = covered.stands; revokes = covered.revokes }
@@ -115,7 +115,7 @@ revoked-covered (t ∷ ts) b among =
       | inr behind ↦ covered-earlier (t ∷ ts) 1 b (covered-more t ts 0 b (revoked-covered ts b behind))
     ]
 
--- and what covers a block is a revoke of the chain
+-- what covers a block is a revoke of the chain
 pub covered-revoked : (texts : List Text) (i b : ℕ) → IsCovered texts i b → Contains (chain_changes texts) (Revoked b)
 covered-revoked texts i b covered =
     chain-has texts covered.revoker covered.text (Revoked b) covered.stands

@@ -1,4 +1,4 @@
--- The choice of copies, one text, one piece or one copy after the other.
+-- The choice of copies, by one text, piece or copy more.
 use Rattle.std.proofs.Common.{sym, ◌∙◌, ap, arith, append_assoc, get_or}
 use Rattle.std.specs.Prelude.{◌≡◌, ℕ, suc, ◌+◌, ◌<◌, Bool, true, false, if◌then◌else◌, List, [], ◌∷◌, ◌++◌, length, take}
 use Rattle.std.specs.List.{flat_map}
@@ -29,7 +29,7 @@ chosen-append revokes places tid place (x ∷ xs) ys =
     (chosen-append revokes places tid (suc place) xs ys
     ∙ ap (λ (p : ℕ). chosen revokes places tid (suc place) xs ++ chosen revokes places tid p ys) next)
 
--- of joined texts
+-- the choice of joined texts
 pub chosen_all-append : (revokes places : BlockTable) (tid place : ℕ) (xs ys : List Text) →
     chosen_all revokes places tid place (xs ++ ys)
     ≡ chosen_all revokes places tid place xs ++ chosen_all revokes places (tid + length xs) (place + length (copies_of xs)) ys
@@ -50,7 +50,7 @@ chosen_all-append revokes places tid place (t ∷ xs) ys =
     (append_assoc own (chosen_all revokes places (suc tid) behind xs)
     (chosen_all revokes places (tid + suc (length xs)) (place + length (text_copies t ++ copies_of xs)) ys))
 
--- of texts with one more behind them
+-- the choice of texts and one more
 pub chosen_all-push : (revokes places : BlockTable) (tid place : ℕ) (texts : List Text) (t : Text) →
     chosen_all revokes places tid place (texts ++ t ∷ [])
     ≡ chosen_all revokes places tid place texts ++ chosen revokes places (tid + length texts) (place + length (copies_of texts)) (text_copies t)
@@ -59,7 +59,7 @@ chosen_all-push revokes places tid place texts t =
     ∙ ap (λ (x : BlockCopies). chosen_all revokes places tid place texts ++ x)
     (append-nil (chosen revokes places (tid + length texts) (place + length (copies_of texts)) (text_copies t)))
 
--- of the first texts of a list, with the next one
+-- the choice of a list's first texts and the next
 pub chosen_all-more : (revokes places : BlockTable) (tid place i : ℕ) (texts : List Text) (t : Text) → i < length texts → t ≡ get_or texts i t →
     chosen_all revokes places tid place (take (i + 1) texts)
     ≡ chosen_all revokes places tid place (take i texts) ++ chosen revokes places (tid + i) (place + length (copies_of (take i texts))) (text_copies t)
@@ -70,12 +70,12 @@ chosen_all-more revokes places tid place i texts t below read =
     ∙ ap
     (λ (n : ℕ). chosen_all revokes places tid place (take i texts) ++ chosen revokes places n (place + length (copies_of (take i texts))) (text_copies t)) count
 
--- the copies of pieces with one more behind them
+-- the copies of pieces and one more
 pub pieces-push : (pieces : List Piece) (piece : Piece) → flat_map piece_copies (pieces ++ piece ∷ []) ≡ flat_map piece_copies pieces ++ piece_copies piece
 pieces-push pieces piece =
     flat_map-append piece_copies pieces (piece ∷ []) ∙ ap (λ (x : BlockCopies). flat_map piece_copies pieces ++ x) (append-nil (piece_copies piece))
 
--- and their choice
+-- the choice of pieces and one more
 pub chosen-push : (revokes places : BlockTable) (tid place : ℕ) (pieces : List Piece) (piece : Piece) →
     chosen revokes places tid place (flat_map piece_copies (pieces ++ piece ∷ []))
     ≡ chosen revokes places tid place (flat_map piece_copies pieces)
@@ -84,7 +84,7 @@ chosen-push revokes places tid place pieces piece =
     ap (chosen revokes places tid place) (pieces-push pieces piece)
     ∙ chosen-append revokes places tid place (flat_map piece_copies pieces) (piece_copies piece)
 
--- that of the first pieces of a list, with the next one
+-- the choice of a list's first pieces and the next
 pub chosen-more : (revokes places : BlockTable) (tid place i : ℕ) (pieces : List Piece) (piece : Piece) → i < length pieces → piece ≡ get_or pieces i piece →
     chosen revokes places tid place (flat_map piece_copies (take (i + 1) pieces))
     ≡ chosen revokes places tid place (flat_map piece_copies (take i pieces))

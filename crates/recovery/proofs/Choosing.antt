@@ -1,4 +1,4 @@
--- The choice by the tables of a chain is the one by definition.
+-- A chain's tables choose the copies that go home by definition.
 use Rattle.std.proofs.Common.{refl, sym, ◌∙◌, ap, arith, inl, inr, append_assoc, true≢false}
 use Rattle.std.specs.Prelude.{◌≡◌, ◌↔◌, ℕ, suc, ◌+◌, ◌&&◌, not, nat_le, Bool, true, false, if◌then◌else◌, List, [], ◌∷◌, ◌++◌, length, map, Option, Some, None, Contains, IsTrue}
 use Rattle.std.specs.FinMap.{empty, get}
@@ -20,7 +20,7 @@ use Rattle.recovery.proofs.ChainChanges.{chain-copied, chain-copied_from, change
 use Rattle.recovery.proofs.LastCopies.{BlockCopies, changed-last, copied, last-among, none-copied, none-revoked, revoked-last}
 use Rattle.recovery.proofs.PlaceNotes.{HasNoCopy, covers-revoked, place-newest}
 
--- a place is noted where the test says so
+-- the test of a place holds if the place is noted
 place-noted : (place : ℕ) (o : Option ℕ) → (is_place place o ≡ true) ↔ (o ≡ Some place)
 place-noted place None = (λ is. absurd (true≢false (sym is)), λ is. absurd (none-some place is))
 place-noted place (Some noted) = (
@@ -28,7 +28,7 @@ place-noted place (Some noted) = (
   λ is. let same : noted ≡ place = same_Some noted place is in grind (arith, nat_tests),
 )
 
--- and a copy is covered
+-- the test of a revoke holds if the table covers the copy
 pub covers-reaches : (revokes : BlockTable) (b tid : ℕ) → (reaches tid (get revokes b) ≡ true) ↔ Covers revokes b tid
 covers-reaches revokes b tid = (λ is. to (get revokes b) refl is, from)
   where
@@ -42,13 +42,13 @@ covers-reaches revokes b tid = (λ is. to (get revokes b) refl is, from)
         let test : nat_le tid covers.number ≡ true = grind (arith, nat_tests) in
         ap (reaches tid) covers.noted ∙ test
 
--- both tests
+-- both tests hold or fail as their conjunction does
 both-true : (p q : Bool) → (p && not q) ≡ true → (p ≡ true) × (q ≡ false)
 both-true true true is = absurd (true≢false (sym is))
 both-true true false is = (refl, refl)
 both-true false q is = absurd (true≢false (sym is))
 
--- a copy goes home by the tables where its place is noted and it is not covered
+-- a copy goes home by the tables if its place is noted and no revoke covers it
 pub goes-home : (revokes places : BlockTable) (tid place b : ℕ) →
     (goes_by revokes places tid place b ≡ true) ↔ ((get places b ≡ Some place) × (Covers revokes b tid → ⊥))
 goes-home revokes places tid place b = (to, from)
@@ -66,7 +66,7 @@ goes-home revokes places tid place b = (to, from)
           | inr uncovered ↦ rw (newest, uncovered) refl
         ]
 
--- and else it doesn't
+-- else it doesn't
 goes-not : (revokes places : BlockTable) (tid place b : ℕ) → (((get places b ≡ Some place) × (Covers revokes b tid → ⊥)) → ⊥) →
     goes_by revokes places tid place b ≡ false
 goes-not revokes places tid place b none =
@@ -75,7 +75,7 @@ goes-not revokes places tid place b none =
       | inr stays ↦ stays
     ]
 
--- so says a test of both, however each is made
+-- any two such tests decide it
 pub goes-tested : (revokes places : BlockTable) (tid place b : ℕ) (newest covered : Bool) → (IsTrue newest ↔ (get places b ≡ Some place)) →
     (IsTrue covered ↔ Covers revokes b tid) → (newest && not covered) ≡ goes_by revokes places tid place b
 goes-tested revokes places tid place b true true is_newest is_covered = sym (goes-not revokes places tid place b (λ is. is.1 (is_covered.0 refl)))
@@ -83,11 +83,11 @@ goes-tested revokes places tid place b true false is_newest is_covered =
     sym ((goes-home revokes places tid place b).1 (is_newest.0 refl, λ covers. true≢false (sym (is_covered.1 covers))))
 goes-tested revokes places tid place b false covered is_newest is_covered = sym (goes-not revokes places tid place b (λ is. true≢false (sym (is_newest.1 is.0))))
 
--- the changes behind a copy of the first text
+-- the changes after a copy of the first text
 abbrev behind_copy : BlockCopies → Text → List Text → List Change
 behind_copy behind t ts = changes_of behind (text_revokes t) ++ chain_changes ts
 
--- where none of them is of its block, no copy of it stands behind
+-- if none of them is of its block, no later copy of it exists
 none-behind : (behind : BlockCopies) (t : Text) (ts : List Text) (b : ℕ) → list_any (is_of b) (behind_copy behind t ts) ≡ false → HasNoCopy b (behind ++ copies_of ts)
 none-behind behind t ts b none v among =
     elim (Contains-append_cases behind (copies_of ts) (b, v) among) [
@@ -113,7 +113,7 @@ none-revokes behind t ts b none among =
           (Contains-append_right (changes_of behind (text_revokes t)) (chain_changes ts) (Revoked b) there)
     ]
 
--- a copy among them is one behind
+-- a copy among them is a later copy
 copy-behind : (behind : BlockCopies) (t : Text) (ts : List Text) (b : ℕ) (v : List ℕ) → Contains (behind_copy behind t ts) (Copied b v) →
     Contains (behind ++ copies_of ts) (b, v)
 copy-behind behind t ts b v among =
@@ -122,7 +122,7 @@ copy-behind behind t ts b v among =
       | inr there ↦ Contains-append_right behind (copies_of ts) (b, v) (chain-copied_from ts b v there)
     ]
 
--- and a revoke is one of a text from there on
+-- a revoke among them is one of a text from there on
 revoke-behind : (behind : BlockCopies) (t : Text) (ts : List Text) (b : ℕ) → Contains (behind_copy behind t ts) (Revoked b) →
     Contains (chain_changes (t ∷ ts)) (Revoked b)
 revoke-behind behind t ts b among =
@@ -133,7 +133,7 @@ revoke-behind behind t ts b among =
       | inr there ↦ Contains-append_right (changes_of (text_copies t) (text_revokes t)) (chain_changes ts) (Revoked b) there
     ]
 
--- the copies of a chain, at one of them
+-- a chain's copies, split at one of them
 copies-split : (before ts : List Text) (t : Text) (front behind : BlockCopies) (c : ℕ × List ℕ) → text_copies t ≡ front ++ c ∷ behind →
     copies_of (before ++ t ∷ ts) ≡ (copies_of before ++ front) ++ c ∷ (behind ++ copies_of ts)
 copies-split before ts t front behind c split =
@@ -142,7 +142,7 @@ copies-split before ts t front behind c split =
     ∙ ap (λ (x : BlockCopies). copies_of before ++ x) (append_assoc front (c ∷ behind) (copies_of ts))
     ∙ sym (append_assoc (copies_of before) front (c ∷ (behind ++ copies_of ts)))
 
--- its place is noted where no other copy of its block stands behind
+-- its place is noted if no later copy of its block exists
 chain-newest : (before ts : List Text) (t : Text) (front behind : BlockCopies) (c : ℕ × List ℕ) → text_copies t ≡ front ++ c ∷ behind →
     (get (places_of (before ++ t ∷ ts)) c.0 ≡ Some (length (copies_of before) + length front)) ↔ HasNoCopy c.0 (behind ++ copies_of ts)
 chain-newest before ts t front behind c split =
@@ -153,7 +153,7 @@ chain-newest before ts t front behind c split =
     ap Some (length-append (copies_of before) front) in
     (λ noted. is.0 (sym same ∙ noted ∙ sym place), λ none. same ∙ is.1 none ∙ place)
 
--- a copy of a text goes home by the tables of its chain where none of the changes behind it is of its block
+-- a copy goes home by its chain's tables if no later change is of its block
 goes-last : (first : ℕ) (before ts : List Text) (t : Text) (front behind : BlockCopies) (c : ℕ × List ℕ) → text_copies t ≡ front ++ c ∷ behind →
     goes_by (revokes_of first (before ++ t ∷ ts)) (places_of (before ++ t ∷ ts)) (first + length before) (length (copies_of before) + length front) c.0
     ≡ not (list_any (is_of c.0) (behind_copy behind t ts))
@@ -179,7 +179,7 @@ goes-last first before ts t front behind c split =
           ∙ sym (ap not none)
     ]
 
--- one copy is chosen, or left out
+-- one copy is chosen or left out
 one-chosen : (goes any : Bool) (c : ℕ × List ℕ) (xs ys zs : BlockCopies) → goes ≡ not any → xs ++ ys ≡ zs →
     (if goes then c ∷ xs else xs) ++ ys ≡ (if any then zs else (c.0, c.1) ∷ zs)
 one-chosen true true c xs ys zs is same = absurd (true≢false is)
@@ -187,7 +187,7 @@ one-chosen true false c xs ys zs is same = ap (λ (l : BlockCopies). c ∷ l) sa
 one-chosen false true c xs ys zs is same = same
 one-chosen false false c xs ys zs is same = absurd (true≢false (sym is))
 
--- where each copy goes home if none of the changes behind it is of its block, those that are chosen are the last ones
+-- if each copy goes home unless a later change is of its block, the chosen copies are the last ones
 chosen-last : (revokes places : BlockTable) (tid place : ℕ) (copies : BlockCopies) (tail : List Change) →
     ((front behind : BlockCopies) (c : ℕ × List ℕ) → copies ≡ front ++ c ∷ behind →
     goes_by revokes places tid (place + length front) c.0 ≡ not (list_any (is_of c.0) (map copied behind ++ tail))) →
@@ -203,7 +203,7 @@ chosen-last revokes places tid place (c ∷ cs) tail rule =
     one-chosen (goes_by revokes places tid place c.0) (list_any (is_of c.0) (map copied cs ++ tail)) c (chosen revokes places tid (suc place) cs)
     (last_copies tail) (last_copies (map copied cs ++ tail)) here rest
 
--- so the choice of one text
+-- so it is for one text
 text-chosen : (first : ℕ) (before ts : List Text) (t : Text) →
     chosen (revokes_of first (before ++ t ∷ ts)) (places_of (before ++ t ∷ ts)) (first + length before) (length (copies_of before)) (text_copies t)
     ++ home_copies ts
@@ -220,15 +220,15 @@ text-chosen first before ts t =
     ∙ ap (λ (changes : List Change). not (list_any (is_of c.0) changes)) (append_assoc (map copied behind) (map Revoked (text_revokes t)) (chain_changes ts)))
     ∙ ap last_copies (sym (append_assoc (map copied (text_copies t)) (map Revoked (text_revokes t)) (chain_changes ts)))
 
--- the copies of one more text
+-- the copies of texts and one more
 pub copies-more : (texts : List Text) (t : Text) → copies_of (texts ++ t ∷ []) ≡ copies_of texts ++ text_copies t
 copies-more texts t = flat_map-append text_copies texts (t ∷ []) ∙ ap (λ (x : BlockCopies). copies_of texts ++ x) (append-nil (text_copies t))
 
--- and their count
+-- how many they are
 pub copies-count : (texts : List Text) (t : Text) → length (copies_of (texts ++ t ∷ [])) ≡ length (copies_of texts) + length (text_copies t)
 copies-count texts t = ap length (copies-more texts t) ∙ length-append (copies_of texts) (text_copies t)
 
--- and of the texts from one on
+-- so it is for the texts from one on
 pub suffix-chosen : (first : ℕ) (before ts texts : List Text) (tid place : ℕ) → texts ≡ before ++ ts → tid ≡ first + length before →
     place ≡ length (copies_of before) → chosen_all (revokes_of first texts) (places_of texts) tid place ts ≡ home_copies ts
 suffix-chosen first before [] texts tid place is number at = refl
@@ -242,6 +242,6 @@ suffix-chosen first before (t ∷ ts) texts tid place is number at =
     ∙ ap (λ (n : ℕ). chosen (revokes_of first (before ++ t ∷ ts)) (places_of (before ++ t ∷ ts)) (first + length before) n (text_copies t) ++ home_copies ts) at
     ∙ text-chosen first before ts t
 
--- the copies of a chain that are chosen by its tables are those that go home
+-- the copies that a chain's tables choose are those that go home
 pub home-chosen : (first : ℕ) (texts : List Text) → chosen_all (revokes_of first texts) (places_of texts) first 0 texts ≡ home_copies texts
 home-chosen first texts = suffix-chosen first [] texts texts first 0 refl (omega arith) refl

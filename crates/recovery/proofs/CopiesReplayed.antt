@@ -1,4 +1,4 @@
--- What is read once copies are written to home: where they are those of a chain, home is replayed.
+-- Reads after copies are written home: if they are a chain's, home is replayed.
 use Rattle.std.proofs.Common.{refl, sym, ◌∙◌, ap, arith, inl, inr, ⊎_elim}
 use Rattle.std.specs.Prelude.{◌≡◌, ◌⊎◌, ℕ, ◌==◌, true, false, List, [], ◌∷◌, Contains}
 use Rattle.std.proofs.lemmas.Bool.{cases_eq}
@@ -13,15 +13,15 @@ use Rattle.recovery.specs.HomeCopies.{home_copies}
 use Rattle.recovery.proofs.LastCopies.{BlockCopies}
 use Rattle.recovery.proofs.NewestHome.{home-copies-all, home-copies-newest}
 
--- a block reads as what was written there
+-- a written block reads as what was written
 written-reads : (disk : Disk) (b m : ℕ) (v : List ℕ) → b ≡ m → (written disk Home b v Home m).reads ≡ v
 written-reads disk b m v same = let here : (m == b) ≡ true = grind (arith, nat_tests) in rw here refl
 
--- another one reads as it did
+-- another block reads as before
 others-read : (disk : Disk) (b m : ℕ) (v : List ℕ) → (b ≡ m → ⊥) → (written disk Home b v Home m).reads ≡ (disk Home m).reads
 others-read disk b m v other = let apart : (m == b) ≡ false = grind (arith, nat_tests) in rw apart refl
 
--- home behind writes of these copies: a block reads as one of its copies, or it has none and reads as it did
+-- home after writes of these copies: a block reads as one of its copies, or has none and reads as before
 pub record IsBehindWrites (copies : BlockCopies) (old disk : Disk) (b : ℕ) : Type 0 where
   pub reads : Contains copies (b, (disk Home b).reads) ⊎ (((v : List ℕ) → Contains copies (b, v) → ⊥) × ((disk Home b).reads ≡ (old Home b).reads))
 
@@ -47,18 +47,18 @@ behind-more c cs old disk b is =
           ]
     ]
 
--- home behind writes of any copies
+-- home after writes of any copies
 pub behind-writes : (copies : BlockCopies) (disk : Disk) (b : ℕ) → IsBehindWrites copies disk (disk_after (writes_home copies) disk) b
 behind-writes [] disk b = record { reads = inr (λ v among. contains-none (b, v) among, refl) }
 behind-writes (c ∷ cs) disk b =
     behind-more c cs disk (disk_after (writes_home cs) (written disk Home c.0 c.1)) b (behind-writes cs (written disk Home c.0 c.1) b)
 
--- they change nothing of the log
+-- they leave the log
 pub copies-log : (copies : BlockCopies) (disk : Disk) (n : ℕ) → disk_after (writes_home copies) disk Log n ≡ disk Log n
 copies-log [] disk n = refl
 copies-log (c ∷ cs) disk n = copies-log cs (written disk Home c.0 c.1) n
 
--- once the copies of a chain that go home are written there, it is replayed
+-- once a chain's copies that go home are written, home is replayed
 pub copies-replayed : (count : ℕ) (texts : List Text) (disk : Disk) →
     IsReplayed count texts (reading disk Home) (reading (disk_after (writes_home (home_copies texts)) disk) Home)
 copies-replayed count texts disk b below =

@@ -1,4 +1,4 @@
--- Copies behind a descriptor that go home, one after the other.
+-- A descriptor's copies that go home, in order.
 use Rattle.std.proofs.Common.{refl, sym, ◌∙◌, ap, ap₂, subst, arith, append-nil}
 use Rattle.std.specs.Prelude.{◌≡◌, ℕ, suc, ◌+◌, ◌<◌, ◌≤◌, true, false, List, [], ◌∷◌, ◌++◌, length, take, drop, get_or, map, slice_get, Some}
 use Rattle.std.specs.List.{zip}
@@ -23,15 +23,15 @@ use Rattle.recovery.proofs.ChoiceSteps.{chosen-append}
 use Rattle.recovery.proofs.CopiesReplayed.{copies-log}
 use Rattle.recovery.proofs.MadeCalls.{begun-front, made-begun, made-joins}
 
--- a copy with its tag, as it goes home
+-- a copy with its tag, unescaped
 abbrev home_copy : Tag × List ℕ → ℕ × List ℕ
 home_copy p = (p.0.block, unescaped p.0.escaped p.1)
 
--- the copies with their tags, as they go home
+-- copies with their tags, unescaped
 abbrev pub tagged : List Tag → List (List ℕ) → List (ℕ × List ℕ)
 tagged tags blocks = map (λ p. (p.0.block, unescaped p.0.escaped p.1)) (zip tags blocks)
 
--- those of as many tags and blocks, and of more
+-- joined tags and blocks
 tagged-append : (xs ys : List Tag) (bs cs : List (List ℕ)) → length xs ≡ length bs → tagged (xs ++ ys) (bs ++ cs) ≡ tagged xs bs ++ tagged ys cs
 tagged-append [] ys [] cs same = refl
 tagged-append [] ys (b ∷ bs) cs same = absurd (omega arith)
@@ -40,23 +40,23 @@ tagged-append (x ∷ xs) ys (b ∷ bs) cs same =
     let rest : length xs ≡ length bs = omega arith in
     ap (λ (zs : List (ℕ × List ℕ)). (x.block, unescaped x.escaped b) ∷ zs) (tagged-append xs ys bs cs rest)
 
--- and how many they are
+-- how many they are
 tagged-count : (xs : List Tag) (bs : List (List ℕ)) → length xs ≡ length bs → length (tagged xs bs) ≡ length xs
 tagged-count [] [] same = refl
 tagged-count [] (b ∷ bs) same = absurd (omega arith)
 tagged-count (x ∷ xs) [] same = absurd (omega arith)
 tagged-count (x ∷ xs) (b ∷ bs) same = let rest : length xs ≡ length bs = omega arith in ap suc (tagged-count xs bs rest)
 
--- the writes of copies and of others
+-- the writes of joined copies
 pub writes-append : (xs ys : List (ℕ × List ℕ)) → writes_home (xs ++ ys) ≡ writes_home xs ++ writes_home ys
 writes-append xs ys = map-append _ xs ys
 
--- the first so many of the copies behind a descriptor which go home
+-- of a descriptor's first k copies, those that go home
 abbrev pub chosen_first : TablesValue → ℕ → ℕ → List Tag → List (List ℕ) → ℕ → List (ℕ × List ℕ)
 chosen_first tables tid place tags blocks k = chosen_behind tables tid place (take k tags) (take k blocks)
 
 module _ (tables : TablesValue) (tid place : ℕ) (tags : List Tag) (blocks : List (List ℕ)) (same : length tags ≡ length blocks) where
-  -- those in front, and those behind
+  -- those before copy k, then the others
   pub chosen-split : (k : ℕ) → k ≤ length tags →
       chosen_behind tables tid place tags blocks
       ≡ chosen_first tables tid place tags blocks k ++ chosen_behind tables tid (place + k) (drop k tags) (drop k blocks)
@@ -70,7 +70,7 @@ module _ (tables : TablesValue) (tid place : ℕ) (tags : List Tag) (blocks : Li
       (tagged-count (take k tags) (take k blocks) (few ∙ sym many) ∙ few)
 
   module _ (k : ℕ) (tag : Tag) (block : List ℕ) (below : k < length tags) (is : slice_get tags k ≡ Some tag) (stands : slice_get blocks k ≡ Some block) where
-    -- one more
+    -- one more copy
     chosen-one : chosen_first tables tid place tags blocks (k + 1)
         ≡ chosen_first tables tid place tags blocks k
         ++ chosen tables.revokes tables.copies tid (place + k) ((tag.block, unescaped tag.escaped block) ∷ [])
@@ -85,7 +85,7 @@ module _ (tables : TablesValue) (tid place : ℕ) (tags : List Tag) (blocks : Li
         ∙ ap (λ (n : ℕ). chosen_first tables tid place tags blocks k ++ chosen tables.revokes tables.copies tid (place + n) (tagged (tag ∷ []) (block ∷ [])))
         (tagged-count (take k tags) (take k blocks) (few ∙ sym many) ∙ few)
 
-    -- one that stays away
+    -- one more copy that stays
     pub one-stays : goes_by tables.revokes tables.copies tid (place + k) tag.block ≡ false → (old new : DeviceState) →
         HasMade (writes_home (chosen_first tables tid place tags blocks k)) old new → HasMade (writes_home (chosen_first tables tid place tags blocks (k + 1))) old new
     one-stays stays old new made =
@@ -94,7 +94,7 @@ module _ (tables : TablesValue) (tid place : ℕ) (tags : List Tag) (blocks : Li
         (sym (chosen-one ∙ ap (λ (cs : List (ℕ × List ℕ)). chosen_first tables tid place tags blocks k ++ cs) none ∙ append-nil (chosen_first tables tid place tags blocks k))) made
 
     module _ (goes : goes_by tables.revokes tables.copies tid (place + k) tag.block ≡ true) where
-      -- one that goes home
+      -- one more copy that goes home
       one-goes : writes_home (chosen_first tables tid place tags blocks (k + 1))
           ≡ writes_home (chosen_first tables tid place tags blocks k) ++ writes_home ((tag.block, unescaped tag.escaped block) ∷ [])
       one-goes =
@@ -108,7 +108,7 @@ module _ (tables : TablesValue) (tid place : ℕ) (tags : List Tag) (blocks : Li
           subst (λ (calls : List Call). HasMade calls old new) (sym one-goes)
           (made-joins (writes_home (chosen_first tables tid place tags blocks k)) (writes_home ((tag.block, unescaped tag.escaped block) ∷ [])) old mid new made one)
 
-      -- or fails
+      -- or whose write fails
       pub one-begun : (old mid new : DeviceState) → HasMade (writes_home (chosen_first tables tid place tags blocks k)) old mid →
           HasBegun (writes_home ((tag.block, unescaped tag.escaped block) ∷ [])) mid new → HasBegun (writes_home (chosen_behind tables tid place tags blocks)) old new
       one-begun old mid new made one =
@@ -120,13 +120,13 @@ module _ (tables : TablesValue) (tid place : ℕ) (tags : List Tag) (blocks : Li
           (subst (λ (calls : List Call). HasBegun calls old new) (sym one-goes)
           (made-begun (writes_home (chosen_first tables tid place tags blocks k)) (writes_home ((tag.block, unescaped tag.escaped block) ∷ [])) old mid new made one)))
 
--- the log reads as it did before writes home
+-- writes home leave what the log reads
 log-kept : (copies : List (ℕ × List ℕ)) (old mid : DeviceState) (place : ℕ) → HasMade (writes_home copies) old mid →
     log_block (reading mid.disk) place ≡ log_block (reading old.disk) place
 log-kept copies old mid place made =
     ap (λ (d : Disk). (d Log place).reads) made.disk ∙ ap (λ (c : Cell). c.reads) (copies-log copies old.disk place)
 
--- the call of a copy, as it is listed
+-- the write of a copy, as it is listed
 pub copy-listed : (s : Super) (copies : List (ℕ × List ℕ)) (old mid : DeviceState) (position count k at : ℕ) (tag : Tag) (block : List ℕ) (blocks : List (List ℕ)) → at ≡ position + k →
     HasMade (writes_home copies) old mid → StandAt s (reading old.disk) position count blocks → slice_get blocks k ≡ Some block →
     copy_calls s (reading mid.disk) at tag ≡ writes_home ((tag.block, unescaped tag.escaped block) ∷ [])

@@ -1,4 +1,4 @@
--- One step over the copies behind a descriptor.
+-- One step over a descriptor's copies.
 use Rattle.std.proofs.Common.{sym, ◌∙◌, ap, subst, arith}
 use Rattle.std.specs.Prelude.{◌≡◌, ℕ, ◌+◌, ◌<◌, ◌≤◌, true, false, List, [], ◌∷◌, length, take, drop, get_or, slice_get, Some}
 use Rattle.std.proofs.lemmas.List.{length-take-le, take-append-drop}
@@ -16,7 +16,7 @@ use Rattle.recovery.specs.Choice.{goes_by}
 use Rattle.recovery.specs.Gather.{TablesValue, chosen_behind, copy_calls}
 use Rattle.recovery.proofs.CopyRuns.{chosen_first, copy-listed, one-begun, one-made, one-stays}
 
--- an element of the first so many
+-- an element of the first n
 get-taken : {X : Type 0} (xs : List X) (n k : ℕ) (x : X) → n ≤ length xs → k < n → slice_get xs k ≡ Some x → slice_get (take n xs) k ≡ Some x
 get-taken xs n k x few below is =
     let size = length-take-le n xs few in
@@ -31,7 +31,7 @@ module _
     as-many : length (take count all) ≡ length blocks
     as-many = length-take-le count all few ∙ sym stand.count
 
-    -- the block of the copy
+    -- the copy's block
     stored : List ℕ
     stored = get_or blocks k []
 
@@ -49,19 +49,19 @@ module _
     listed : copy_calls s (reading mid.disk) at tag ≡ writes_home ((tag.block, unescaped tag.escaped stored) ∷ [])
     listed = copy-listed s (chosen_first tables tid place (take count all) blocks k) old mid position count k at tag stored blocks place_is made stand stands
 
-    -- a copy that stays away
+    -- a step past a copy that stays
     pub step-stays : goes_by tables.revokes tables.copies tid (place + k) tag.block ≡ false →
         HasMade (writes_home (chosen_first tables tid place (take count all) blocks (k + 1))) old mid
     step-stays stays = one-stays tables tid place (take count all) blocks as-many k tag stored within tagged-so stands stays old mid made
 
-    -- one that goes home
+    -- a step over a copy that goes home
     pub step-made : goes_by tables.revokes tables.copies tid (place + k) tag.block ≡ true → (new : DeviceState) →
         HasMade (copy_calls s (reading mid.disk) at tag) mid new → HasMade (writes_home (chosen_first tables tid place (take count all) blocks (k + 1))) old new
     step-made goes new one =
         one-made tables tid place (take count all) blocks as-many k tag stored within tagged-so stands goes old mid new made
         (subst (λ (calls : List Call). HasMade calls mid new) listed one)
 
-    -- or fails
+    -- or whose read or write fails
     pub step-begun : goes_by tables.revokes tables.copies tid (place + k) tag.block ≡ true → (new : DeviceState) →
         HasBegun (copy_calls s (reading mid.disk) at tag) mid new → HasBegun (writes_home (chosen_behind tables tid place (take count all) blocks)) old new
     step-begun goes new one =

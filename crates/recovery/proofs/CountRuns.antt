@@ -28,12 +28,12 @@ use Rattle.recovery.proofs.GatherRuns.{count-tagged, texts_so}
 use Rattle.recovery.proofs.ReplayRuns.{chain-chosen, chosen_so, so-commit, so-piece, so-whole}
 use Rattle.recovery.proofs.UnfinishedTables.{copies-begun, copies-finished, copies-piece_count}
 
--- one more, or not
+-- a list with or without one more element
 one-or-none : {X : Type 0} (c : Bool) (x : X) (xs : List X) → length (if c then x ∷ xs else xs) ≡ (if c then 1 else 0) + length xs
 one-or-none true x xs = omega arith
 one-or-none false x xs = omega arith
 
--- the copies behind a descriptor that go home are those that its tags count
+-- a descriptor's copies that go home are as many as its tags count
 pub count-behind : (tables : TablesValue) (tid place : ℕ) (tags : List Tag) (blocks : List (List ℕ)) → length tags ≡ length blocks →
     length (chosen_behind tables tid place tags blocks) ≡ count_chosen tables tid place tags
 count-behind tables tid place [] [] same = refl
@@ -62,7 +62,7 @@ count-push tables tid place (t ∷ tags) tag =
     let same : one_at tables tid tag (suc place + length tags) ≡ one_at tables tid tag (place + length (t ∷ tags)) = ap (one_at tables tid tag) at in
     omega arith
 
--- tag k of a list
+-- tag k of a list is counted
 pub count-more : (tables : TablesValue) (tid place k : ℕ) (tags : List Tag) (tag : Tag) → k < length tags → tag ≡ get_or tags k tag →
     count_chosen tables tid place (take (k + 1) tags)
     ≡ count_chosen tables tid place (take k tags) + (if goes_by tables.revokes tables.copies tid (place + k) tag.block then 1 else 0)
@@ -80,7 +80,7 @@ pub record Counts (s : Super) (limit : ℕ) (image : Image) (cursor : Cursor) (t
   pub place_is : place ≡ length (copies_of (texts_so texts pieces))
   pub count_is : count ≡ length (chosen_so tables s.s_sequence texts pieces)
 
--- none yet
+-- at first none
 pub counts-none : (s : Super) (limit : ℕ) (image : Image) (transactions : ℕ) (tables : TablesValue) →
     Counts s limit image (record { position = 0; transactions = 0 }) transactions 0 0 tables
 counts-none s limit image transactions tables = record {
@@ -95,11 +95,11 @@ counts-none s limit image transactions tables = record {
 module _ (s : Super) (limit : ℕ) (image : Image) (from to : Cursor) (transactions place count : ℕ) (tables : TablesValue)
     (so : Counts s limit image from transactions place count tables)
   where
-    -- the texts that were passed are as many as the cursor says
+    -- the cursor counts the texts passed
     counted : from.transactions ≡ length so.texts
     counted = passed-count s limit image so.texts so.pieces from so.passed
 
-    -- one more revoke block
+    -- after one more revoke block
     counts-revokes : (numbers : List ℕ) → from.transactions < transactions → to.transactions ≡ from.transactions →
         RevokesPassed s limit image so.texts so.pieces numbers to → Counts s limit image to transactions place count tables
     counts-revokes numbers below same passed = record {
@@ -113,7 +113,7 @@ module _ (s : Super) (limit : ℕ) (image : Image) (from to : Cursor) (transacti
           ∙ ap length (sym (so-piece tables s.s_sequence so.texts so.pieces (Revokes passed.block numbers) ∙ append-nil (chosen_so tables s.s_sequence so.texts so.pieces)));
     }
 
-    -- the end of a transaction
+    -- after a commit block
     counts-commit : CommitPassed s limit image so.texts so.pieces to → Counts s limit image to transactions place count tables
     counts-commit passed =
         let done : Text = record { pieces = so.pieces; commit = passed.commit } in
@@ -126,7 +126,7 @@ module _ (s : Super) (limit : ℕ) (image : Image) (from to : Cursor) (transacti
           count_is = so.count_is ∙ ap length (sym (so-commit tables s.s_sequence so.texts so.pieces passed.commit));
         }
 
-    -- the copies behind a descriptor
+    -- after a descriptor and its copies
     pub counts-copies : (tags : List Tag) (n tid more : ℕ) → n ≡ length tags → tid ≡ s.s_sequence + from.transactions → from.transactions < transactions →
         to.transactions ≡ from.transactions → CopiesPassed s limit image so.texts so.pieces tags from.position n to → more ≡ count_chosen tables tid place tags →
         Counts s limit image to transactions (place + n) (count + more) tables
@@ -152,7 +152,7 @@ module _ (s : Super) (limit : ℕ) (image : Image) (from to : Cursor) (transacti
         }
 
     module _ (chain : List Text) (are : IsChainOf s limit image chain) (all : transactions ≡ length chain) where
-      -- all of them are counted
+      -- at the end all are counted
       pub counts-all : tables ≡ tables_of s.s_sequence chain → from.transactions ≡ transactions → count ≡ length (home_copies chain)
       counts-all tables_are end =
           let texts : chain ≡ so.texts =
@@ -177,7 +177,7 @@ module _ (s : Super) (limit : ℕ) (image : Image) (from to : Cursor) (transacti
       counts-nowhere f found below (inl is) leads = counts-later below (subst (LeadsTo s limit image so.texts so.pieces f from to) is leads).0
       counts-nowhere f found below (inr is) leads = counts-later below (subst (LeadsTo s limit image so.texts so.pieces f from to) is leads).chain
 
-    -- behind a revoke block or a commit block
+    -- after a revoke block or a commit block
     pub counts-on : (f : FinderValue) (found : Found) → ((n : ℕ) × (found ≡ RevokeBlock n)) ⊎ (found ≡ CommitBlock) → to ≡ cursor_behind from found →
         from.transactions < transactions → LeadsTo s limit image so.texts so.pieces f from to found → Counts s limit image to transactions place count tables
     counts-on f found (inl (n, is)) moved below leads =

@@ -1,4 +1,4 @@
--- What a log that was read and tested says of the image that it was read from, and why an opening refuses it.
+-- What a log that was read and tested says of its image, and why an opening refuses it.
 use Rattle.std.proofs.Common.{refl, sym, ◌∙◌, ap, subst, arith, inl, inr}
 use Rattle.std.specs.Prelude.{◌≡◌, ◌≢◌, ℕ, ◌+◌, ◌<◌, ◌≤◌, ◌==◌, true, List, [], length, None}
 use Rattle.std.proofs.lemmas.Bool.{cases_eq}
@@ -32,7 +32,7 @@ pub record IsLayout (shape : Shape) (image : Image) : Type 0 where
   pub size : length (image Log 0) ≡ shape.block_size
   pub accepted : super_refusal shape (image Log 0) ≡ None
 
--- what was read and is accepted is
+-- an accepted superblock that was read makes it so
 pub taken : (shape : Shape) (image : Image) (superblock : List ℕ) (fields : Super) → IsWellRead shape superblock fields → superblock ≡ image Log 0 → IsLayout shape image
 taken shape image superblock fields well read =
     record { size = ap length (sym read) ∙ well.size; accepted = ap (super_refusal shape) (sym read) ∙ well.tested }
@@ -46,7 +46,7 @@ chain-image shape image texts is started are = record {
   undamaged = λ k damaged. are.undamaged k damaged.damaged;
 }
 
--- the limit of what it holds
+-- the limit of an image
 pub limit-image : (shape : Shape) (image : Image) (transactions : ℕ) → IsLayout shape image → HasTransactions (super_of image) shape.home_blocks image transactions →
     HasLimit shape image ((super_of image).s_sequence + transactions)
 limit-image shape image transactions is has =
@@ -61,7 +61,7 @@ limit-image shape image transactions is has =
           (OfChain scanned.texts (chain-image shape image scanned.texts is started scanned.are))
     ]
 
--- what the log is refused for, the image is
+-- a refusal of the log is one of the image
 pub refused-image : (shape : Shape) (image : Image) (e : JournalError) → IsLayout shape image → IsRefusedLog (super_of image) shape.home_blocks image e →
     IsRefused shape image e
 refused-image shape image e is (ForDamage f started damage) =
@@ -72,7 +72,7 @@ refused-image shape image e is (ForAhead transactions place has lowest) =
 refused-image shape image e is (ForNumber transactions has none great) =
     ByNumber ((super_of image).s_sequence + transactions) (limit-image shape image transactions is has) none great
 
--- what a tested log has is found on the disk
+-- the disk has what the tests found
 record Finds (shape : Shape) (disk : Disk) (transactions : ℕ) : Type 0 where
   found : Found
   is : IsFoundOn shape found disk
@@ -102,7 +102,7 @@ finds-clean shape disk transactions is tested small clean =
       texts = λ started. absurd (started clean);
     }
 
--- in any other, those that were scanned
+-- in any other, those scanned
 finds-chain : (shape : Shape) (disk : Disk) (transactions : ℕ) → IsLayout shape (reading disk) →
     IsTested (super_of (reading disk)) shape.home_blocks (reading disk) transactions → (super_of (reading disk)).s_sequence + transactions < greatest_number →
     (super_of (reading disk)).s_start ≢ 0 → Finds shape disk transactions
@@ -133,7 +133,7 @@ finds shape disk transactions is tested small =
       | inr started ↦ finds-chain shape disk transactions is tested small started
     ]
 
--- what was read, tested and gathered stands on the disk
+-- the disk has what was read, tested and gathered
 pub examined-on : (shape : Shape) (disk : Disk) (superblock : List ℕ) (fields : Super) (transactions : ℕ) (tables : TablesValue) → IsWellRead shape superblock fields →
     superblock ≡ reading disk Log 0 → IsTested fields shape.home_blocks (reading disk) transactions → fields.s_sequence + transactions < greatest_number →
     ((texts : List Text) → IsChainOf fields shape.home_blocks (reading disk) texts → transactions ≡ length texts → tables ≡ tables_of fields.s_sequence texts) →
@@ -158,11 +158,11 @@ examined-on shape disk superblock fields transactions tables well read tested sm
       },
     )
 
--- what is known of a device's measures and disk is known where nothing has changed
+-- what holds of a device's shape and disk held before, if nothing changed
 pub on-stays : (P : Shape → Disk → Type 0) (s t : DeviceState) → Stays s t → P t.shape t.disk → P s.shape s.disk
 on-stays P s t stays known = subst (P s.shape) stays.disk (subst (λ (m : Shape). P m t.disk) stays.shape known)
 
--- a failure of the device is a refusal
+-- a device failure is a refusal
 pub failure-refused : (honest : Type 0) (s t : DeviceState) (e : JournalError) → Stays s t → IsDeviceFailure s t e → OpeningRefused honest s t e
 failure-refused honest s t e stays (is, counted) = record {
   device = λ same. counted;
@@ -171,7 +171,7 @@ failure-refused honest s t e stays (is, counted) = record {
   content = λ other more. absurd (other is);
 }
 
--- so is want of memory, where the image is not refused, or its blocks are larger than any log's
+-- so is lack of memory, if the image is not refused or its blocks exceed any log's
 pub memory-refused : (honest : Type 0) (s t : DeviceState) (e : JournalError) → Stays s t → t.faults ≡ s.faults → e ≡ Memory →
     (honest → s.shape.block_size ≤ most_bytes → IsNotRefused s.shape (reading s.disk)) → OpeningRefused honest s t e
 memory-refused honest s t e stays same memory sound = record {
@@ -181,7 +181,7 @@ memory-refused honest s t e stays same memory sound = record {
   content = λ other more. absurd (more memory);
 }
 
--- and what stands in the log
+-- so is the log's content
 pub content-refused : (honest : Type 0) (s t : DeviceState) (e : JournalError) → Stays s t → t.faults ≡ s.faults → e ≢ Device → e ≢ Memory →
     IsContentRefusal s.shape e → (honest → IsRefused s.shape (reading s.disk) e) → OpeningRefused honest s t e
 content-refused honest s t e stays same other more listed refused = record {
@@ -191,7 +191,7 @@ content-refused honest s t e stays same other more listed refused = record {
   content = λ not_device not_memory. (inl stays, listed, refused);
 }
 
--- a refusal of the ring is neither the device's nor want of memory
+-- a refusal of the ring is not `Device`
 pub ring-device : (first end : ℕ) (e : JournalError) → IsRingRefusal first end e → e ≢ Device
 ring-device first end e (NamesDamaged f names) = damage-device first end e names
 ring-device first end e (NamesAhead place from below) = λ same. cc
@@ -209,14 +209,14 @@ ring-around first end low high e under over (NamesDamaged f names) =
 ring-around first end low high e under over (NamesAhead place from below) = NamesAhead place (omega arith) (omega arith)
 ring-around first end low high e under over NoNumber = NoNumber
 
--- so it is one of content, where the superblock is accepted
+-- it is one of content, if the superblock is accepted
 pub ring-content : (shape : Shape) (superblock : List ℕ) (fields : Super) (e : JournalError) → IsWellRead shape superblock fields →
     IsRingRefusal fields.s_first fields.s_maxlen e → IsContentRefusal shape e
 ring-content shape superblock fields e well names =
     let behind = well.accepted.behind in
     inr (ring-around fields.s_first fields.s_maxlen 1 shape.log_blocks e (omega arith) well.accepted.within names)
 
--- what is wrong with the superblock
+-- a refusal in reading block 0 refuses the opening
 pub reading-refused : (honest : Type 0) (s t : DeviceState) (e : JournalError) → Stays s t → IsReadingRefused honest s t e → OpeningRefused honest s t e
 reading-refused honest s t e stays (inl failure) = failure-refused honest s t e stays failure
 reading-refused honest s t e stays (inr (inl (memory, same, large))) =
@@ -224,18 +224,18 @@ reading-refused honest s t e stays (inr (inl (memory, same, large))) =
 reading-refused honest s t e stays (inr (inr (listed, same, refused))) =
     content-refused honest s t e stays same (super-device e listed) (super-memory e listed) (inl listed) (λ trust. BySuperblock e (refused trust))
 
--- and that the log area has no block
+-- so does a log area without a block
 pub no-log-refused : (honest : Type 0) (s : DeviceState) → s.shape.log_blocks ≡ 0 → OpeningRefused honest s s BadLength
 no-log-refused honest s none =
     content-refused honest s s BadLength (record { shape = refl; disk = refl; past = refl }) refl (λ e. cc) (λ e. cc)
     (inl (inr (inr (inr (inl refl)))))
     (λ trust. BySuperblock BadLength (let test : (s.shape.log_blocks == 0) ≡ true = grind (arith, nat_tests) in rw test refl))
 
--- a failure of the device behind reads that did not fail
+-- a device failure after reads that did not fail
 pub later-failure : (s t u : DeviceState) (e : JournalError) → t.faults ≡ s.faults → IsDeviceFailure t u e → IsDeviceFailure s u e
 later-failure s t u e same (is, counted) = (is, counted ∙ ap one_more_fault same)
 
--- what the ring is refused for
+-- a refusal of the ring refuses the opening
 pub test-refused : (honest : Type 0) (s t u : DeviceState) (superblock : List ℕ) (fields : Super) (e : JournalError) → IsWellRead s.shape superblock fields →
     (honest → superblock ≡ reading s.disk Log 0) → Stays s t → Stays t u → t.faults ≡ s.faults → IsTestRefused honest fields t u e → OpeningRefused honest s u e
 test-refused honest s t u superblock fields e well read first second same (inl failure) =
@@ -249,7 +249,7 @@ test-refused honest s t u superblock fields e well read first second same (inr (
     (subst (λ (f : Super). IsRefusedLog f s.shape.home_blocks (reading s.disk) e) is
     (on-stays (λ (m : Shape) (d : Disk). IsRefusedLog fields m.home_blocks (reading d) e) s t first (refused trust))))
 
--- the limit of an image is one
+-- an image has one limit
 one-limit : (shape : Shape) (image : Image) (limit : ℕ) (texts : List Text) (other : ℕ) → HasTexts shape image texts other → HasLimit shape image limit → limit ≡ other
 one-limit shape image limit texts other (NoTexts clean) (OfClean also) = refl
 one-limit shape image limit texts other (NoTexts clean) (OfChain others has) = absurd (has.started.started clean.clean)
@@ -280,7 +280,7 @@ found-sound shape found good e (ByNumber limit has none great) =
     let small = good.number in
     omega arith
 
--- so a log that was read and tested is not refused
+-- a log that was read and tested is not refused
 pub tested-sound : (honest : Type 0) (s t : DeviceState) (superblock : List ℕ) (fields : Super) (transactions : ℕ) → IsWellRead s.shape superblock fields →
     (honest → superblock ≡ reading s.disk Log 0) → Stays s t → (honest → IsTested fields t.shape.home_blocks (reading t.disk) transactions) →
     fields.s_sequence + transactions < greatest_number → honest → IsNotRefused s.shape (reading s.disk)
@@ -293,7 +293,7 @@ tested-sound honest s t superblock fields transactions well read stays tested sm
     (subst (λ (f : Super). f.s_sequence + transactions < greatest_number) same small) in
     subst (IsNotRefused s.shape) is.is.read (found-sound s.shape is.found is.is.good)
 
--- a log that was scanned is gathered, whatever its transactions
+-- a scanned log has a chain of as many transactions
 never-refused : (fields : Super) (count transactions : ℕ) (image : Image) → IsTested fields count image transactions → 0 < transactions →
     ((texts : List Text) → IsChainOf fields count image texts → transactions ≡ length texts → ⊥) → ⊥
 never-refused fields count transactions image tested some other =

@@ -1,4 +1,4 @@
--- Gathering, one piece after the other.
+-- Gathering, piece by piece.
 use Rattle.std.proofs.Common.{refl, sym, ◌∙◌, ap, ap₂, subst, arith, inl, inr}
 use Rattle.std.specs.Prelude.{◌≡◌, ◌⊎◌, ℕ, suc, ◌+◌, ◌<◌, List, [], ◌∷◌, ◌++◌, length}
 use Rattle.log_model.specs.declared.log.Piece.{Piece}
@@ -26,11 +26,11 @@ use Rattle.recovery.specs.Gather.{TablesValue, empty_tables, tables_of, tag_note
 use Rattle.recovery.proofs.Beginnings.{is-chain}
 use Rattle.recovery.proofs.UnfinishedTables.{copies-begun, copies-finished, copies-piece_count, places-begun, places-copies, places-finished, places-revokes, revokes-begun, revokes-copies, revokes-finished, revokes-revokes}
 
--- the texts that were passed, and the pieces of the next one as a text of their own
+-- the texts passed, and the next one's pieces as a text
 abbrev pub texts_so : List Text → List Piece → List Text
 texts_so texts pieces = texts ++ unfinished pieces ∷ []
 
--- what was gathered of what stands before the cursor
+-- the tables of what stands before the cursor
 pub record Gathers (s : Super) (limit : ℕ) (image : Image) (cursor : Cursor) (transactions copies : ℕ) (tables : TablesValue) : Type 0 where
   pub texts : List Text
   pub pieces : List Piece
@@ -39,7 +39,7 @@ pub record Gathers (s : Super) (limit : ℕ) (image : Image) (cursor : Cursor) (
   pub tables_are : tables ≡ tables_of s.s_sequence (texts_so texts pieces)
   pub count : copies ≡ length (copies_of (texts_so texts pieces))
 
--- nothing yet
+-- at first empty
 pub gathers-none : (s : Super) (limit : ℕ) (image : Image) (transactions : ℕ) → Gathers s limit image (record { position = 0; transactions = 0 }) transactions 0 empty_tables
 gathers-none s limit image transactions = record {
   texts = [];
@@ -50,7 +50,7 @@ gathers-none s limit image transactions = record {
   count = refl;
 }
 
--- tables with the same parts
+-- tables with equal parts are equal
 tables-join : (r : TablesValue) (first : ℕ) (texts : List Text) → r.revokes ≡ (tables_of first texts).revokes → r.copies ≡ (tables_of first texts).copies →
     r ≡ tables_of first texts
 tables-join r first texts revokes copies = ap₂ (λ x y. let t : TablesValue = record { revokes = x; copies = y } in t) revokes copies
@@ -73,11 +73,11 @@ count-tagged (t ∷ tags) block [] same = absurd (omega arith)
 count-tagged (t ∷ tags) block (c ∷ copies) same = let rest : length copies ≡ length tags = omega arith in ap suc (count-tagged tags block copies rest)
 
 module _ (s : Super) (limit : ℕ) (image : Image) (old new : Cursor) (transactions copies : ℕ) (tables : TablesValue) (so : Gathers s limit image old transactions copies tables) where
-  -- the texts that were passed are as many as the cursor says
+  -- the cursor counts the texts passed
   counted : old.transactions ≡ length so.texts
   counted = passed-count s limit image so.texts so.pieces old so.passed
 
-  -- one more revoke block
+  -- after one more revoke block
   pub gathers-revokes : (numbers : List ℕ) (tid : ℕ) → tid ≡ s.s_sequence + old.transactions → old.transactions < transactions → new.transactions ≡ old.transactions →
       RevokesPassed s limit image so.texts so.pieces numbers new → Gathers s limit image new transactions copies (with_revokes tables tid numbers)
   gathers-revokes numbers tid number below stays passed = record {
@@ -94,7 +94,7 @@ module _ (s : Super) (limit : ℕ) (image : Image) (old new : Cursor) (transacti
     count = so.count ∙ (let more = copies-piece_count so.texts so.pieces (Revokes passed.block numbers) in omega arith);
   }
 
-  -- one more descriptor with its copies
+  -- after one more descriptor with its copies
   pub gathers-copies : (tags : List Tag) (n : ℕ) → n ≡ length tags → old.transactions < transactions → new.transactions ≡ old.transactions →
       CopiesPassed s limit image so.texts so.pieces tags old.position n new → Gathers s limit image new transactions (copies + n) (with_copies tables copies tags)
   gathers-copies tags n size below stays passed =
@@ -118,7 +118,7 @@ module _ (s : Super) (limit : ℕ) (image : Image) (old new : Cursor) (transacti
             omega arith;
       }
 
-  -- the end of a transaction
+  -- after a commit block
   pub gathers-commit : CommitPassed s limit image so.texts so.pieces new → Gathers s limit image new transactions copies tables
   gathers-commit passed =
       let done : Text = record { pieces = so.pieces; commit = passed.commit } in
@@ -136,7 +136,7 @@ module _ (s : Super) (limit : ℕ) (image : Image) (old new : Cursor) (transacti
       }
 
   module _ (chain : List Text) (are : IsChainOf s limit image chain) (all : transactions ≡ length chain) where
-    -- all are gathered
+    -- at the end all are gathered
     pub gathers-all : old.transactions ≡ transactions → tables ≡ tables_of s.s_sequence chain
     gathers-all end =
         let texts : chain ≡ so.texts =
@@ -156,7 +156,7 @@ module _ (s : Super) (limit : ℕ) (image : Image) (old new : Cursor) (transacti
         let count = counted in
         omega arith
 
--- where a step leads, on a device that stays
+-- where a step leads on a device that stays
 pub led-on : (s : Super) (limit : ℕ) (old mid : DeviceState) (f : FinderValue) (from to : Cursor) (found : Found) → Stays old mid → (texts : List Text) (pieces : List Piece) →
     IsPassed s limit (reading old.disk) texts pieces from →
     ((ts : List Text) (ps : List Piece) → IsPassed s limit (reading mid.disk) ts ps from → LeadsTo s limit (reading mid.disk) ts ps f from to found) →
@@ -165,7 +165,7 @@ led-on s limit old mid f from to found stays texts pieces passed step =
     subst (λ (d : Disk). (ts : List Text) (ps : List Piece) → IsPassed s limit (reading d) ts ps from → LeadsTo s limit (reading d) ts ps f from to found) stays.disk step
     texts pieces passed
 
--- the chain goes on where a step found neither a piece nor a commit block, so an honest device can't have led there
+-- before its end, a step on correct reads finds a piece or a commit block
 pub led-nowhere : (s : Super) (limit : ℕ) (image : Image) (f : FinderValue) (old new : Cursor) (found : Found) (transactions copies : ℕ) (tables : TablesValue)
     (so : Gathers s limit image old transactions copies tables) → (found ≡ Malformed) ⊎ (found ≡ Nothing) → LeadsTo s limit image so.texts so.pieces f old new found →
     (chain : List Text) → IsChainOf s limit image chain → transactions ≡ length chain → old.transactions < transactions → ⊥

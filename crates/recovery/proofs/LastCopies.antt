@@ -1,4 +1,4 @@
--- The last copies among changes: where they stand, and that a block that is changed has one or is revoked.
+-- The last copies among changes: where they stand; a changed block has one or is revoked.
 use Rattle.std.proofs.Common.{refl, sym, ◌∙◌, ap, subst, arith, inl, inr, zero, true≢false}
 use Rattle.std.specs.Prelude.{◌≡◌, ◌⊎◌, ℕ, suc, ◌≤◌, ◌==◌, ◌||◌, Bool, true, false, if◌then◌else◌, List, [], ◌∷◌, ◌++◌, map, Some, Contains, slice_get}
 use Rattle.std.specs.List.{list_any}
@@ -22,7 +22,7 @@ copied c = Copied c.0 c.1
 pub contains-at : {X : Type 0} (xs : List X) (k : ℕ) (x : X) → slice_get xs k ≡ Some x → Contains xs x
 contains-at xs k x there = (k, slice_get_within xs k x there, get_or_from_slice_get xs k x x there)
 
--- what a function makes of an element is an element
+-- a function's value at an element is an element of the map
 pub mapped-has : {X Y : Type 0} (f : X → Y) (xs : List X) (x : X) → Contains xs x → Contains (map f xs) (f x)
 mapped-has f [] x among = absurd (contains-none x among)
 mapped-has f (y ∷ xs) x among =
@@ -31,7 +31,7 @@ mapped-has f (y ∷ xs) x among =
       | inr behind ↦ contains-behind (f y) (map f xs) (f x) (mapped-has f xs x behind)
     ]
 
--- and comes from one
+-- and each element of the map comes from one
 pub mapped-from : {X Y : Type 0} (f : X → Y) (xs : List X) (y : Y) → Contains (map f xs) y → (x : X) × Contains xs x × (f x ≡ y)
 mapped-from f [] y among = absurd (contains-none y among)
 mapped-from f (x ∷ xs) y among =
@@ -44,7 +44,7 @@ mapped-from f (x ∷ xs) y among =
 pub any-has : (b : ℕ) (changes : List Change) (c : Change) → Contains changes c → is_of b c ≡ true → list_any (is_of b) changes ≡ true
 any-has b changes c (k, within, there) is = list_any_at (is_of b) changes k c within (ap (is_of b) there ∙ is)
 
--- a block is its own
+-- a block is equal to itself
 own-block : (b : ℕ) → (b == b) ≡ true
 own-block b = grind (arith, nat_tests)
 
@@ -52,37 +52,37 @@ own-block b = grind (arith, nat_tests)
 pub has-copied : (b : ℕ) (v : List ℕ) (changes : List Change) → Contains changes (Copied b v) → list_any (is_of b) changes ≡ true
 has-copied b v changes among = any-has b changes (Copied b v) among (own-block b)
 
--- and so is a revoke
+-- a revoke is found
 pub has-revoked : (b : ℕ) (changes : List Change) → Contains changes (Revoked b) → list_any (is_of b) changes ≡ true
 has-revoked b changes among = any-has b changes (Revoked b) among (own-block b)
 
--- so where none is of a block there is no copy of it
+-- if no change is of a block, no copy is
 pub none-copied : (b : ℕ) (v : List ℕ) (changes : List Change) → list_any (is_of b) changes ≡ false → Contains changes (Copied b v) → ⊥
 none-copied b v changes none among = true≢false (sym (has-copied b v changes among) ∙ none)
 
--- and no revoke
+-- nor any revoke
 pub none-revoked : (b : ℕ) (changes : List Change) → list_any (is_of b) changes ≡ false → Contains changes (Revoked b) → ⊥
 none-revoked b changes none among = true≢false (sym (has-revoked b changes among) ∙ none)
 
--- neither of two tests passes
+-- if a disjunction fails, both tests fail
 or-false : (p q : Bool) → (p || q) ≡ false → (p ≡ false) × (q ≡ false)
 or-false true q is = absurd (true≢false is)
 or-false false q is = (refl, is)
 
--- the first of two passes, where the second doesn't
+-- if it holds and the second fails, the first holds
 or-first : (p q : Bool) → (p || q) ≡ true → q ≡ false → p ≡ true
 or-first true q is none = refl
 or-first false q is none = absurd (true≢false (sym is ∙ none))
 
--- what is among neither of two lists
+-- what is in no joined list is in neither part
 none-both : (b : ℕ) (xs ys : List Change) → list_any (is_of b) (xs ++ ys) ≡ false → (list_any (is_of b) xs ≡ false) × (list_any (is_of b) ys ≡ false)
 none-both b xs ys none = or-false (list_any (is_of b) xs) (list_any (is_of b) ys) (sym (list_any-append (is_of b) xs ys) ∙ none)
 
--- a copy with no change of its block behind it is last
+-- a copy with no later change of its block is last
 pub last-first : (b : ℕ) (v : List ℕ) (xs : List Change) → list_any (is_of b) xs ≡ false → Contains (last_copies (Copied b v ∷ xs)) (b, v)
 last-first b v xs none = rw none (contains-first (b, v) (last_copies xs) (b, v) refl)
 
--- the last copies behind a change are last with it too
+-- the last copies after a change are last with it too
 pub last-behind : (x : Change) (xs : List Change) (p : ℕ × List ℕ) → Contains (last_copies xs) p → Contains (last_copies (x ∷ xs)) p
 last-behind (Copied b v) xs p among =
     elim (list_any (is_of b) xs) as (λ any. Contains (if any then last_copies xs else (b, v) ∷ last_copies xs) p) [
@@ -91,12 +91,12 @@ last-behind (Copied b v) xs p among =
     ]
 last-behind (Revoked b) xs p among = among
 
--- and behind many
+-- and after many changes
 pub last-append : (xs ys : List Change) (p : ℕ × List ℕ) → Contains (last_copies ys) p → Contains (last_copies (xs ++ ys)) p
 last-append [] ys p among = among
 last-append (x ∷ xs) ys p among = last-behind x (xs ++ ys) p (last-append xs ys p among)
 
--- a last copy is the first change, where no change of its block is behind it, or is last of those behind
+-- a last copy is the first change, if no later change is of its block, or is last among the later ones
 last-cases : (c : ℕ) (w : List ℕ) (xs : List Change) (p : ℕ × List ℕ) → Contains (last_copies (Copied c w ∷ xs)) p →
     ((list_any (is_of c) xs ≡ false) × ((c, w) ≡ p)) ⊎ Contains (last_copies xs) p
 last-cases c w xs p among =
@@ -109,7 +109,7 @@ last-cases c w xs p among =
           ]
     ]
 
--- a last copy of joined changes is one of the second, or of the first where the second has no change of its block
+-- a last copy of joined changes is one of the second part, or of the first if the second has no change of its block
 pub last-split : (xs ys : List Change) (b : ℕ) (v : List ℕ) → Contains (last_copies (xs ++ ys)) (b, v) →
     Contains (last_copies ys) (b, v) ⊎ (Contains (last_copies xs) (b, v) × (list_any (is_of b) ys ≡ false))
 last-split [] ys b v among = inl among
@@ -130,12 +130,12 @@ last-split (Copied c w ∷ xs) ys b v among =
     ]
 last-split (Revoked c ∷ xs) ys b v among = last-split xs ys b v among
 
--- copy k of these is of block b, and the last of them
+-- copy k of these is block b's last
 pub record IsLastAt (b : ℕ) (copies : BlockCopies) (v : List ℕ) (k : ℕ) : Type 0 where
   pub stands : slice_get copies k ≡ Some (b, v)
   pub last : (m : ℕ) (other : List ℕ) → slice_get copies m ≡ Some (b, other) → m ≤ k
 
--- the first copy, where none of its block is behind it
+-- the first copy is the last of its block, if no later one is
 last-here : (c : ℕ × List ℕ) (cs : BlockCopies) (b : ℕ) (v : List ℕ) → c ≡ (b, v) → list_any (is_of b) (map copied cs) ≡ false → IsLastAt b (c ∷ cs) v 0
 last-here c cs b v same none = record { stands = ap Some same; last = last }
   where
@@ -143,7 +143,7 @@ last-here c cs b v same none = record { stands = ap Some same; last = last }
     last zero other there = omega arith
     last (suc m) other there = absurd (none-copied b other (map copied cs) none (mapped-has copied cs (b, other) (contains-at cs m (b, other) there)))
 
--- the last one behind the first
+-- a last copy after the first
 last-there : (c : ℕ × List ℕ) (cs : BlockCopies) (b : ℕ) (v : List ℕ) (k : ℕ) → IsLastAt b cs v k → IsLastAt b (c ∷ cs) v (suc k)
 last-there c cs b v k is = record { stands = is.stands; last = last }
   where
@@ -151,7 +151,7 @@ last-there c cs b v k is = record { stands = is.stands; last = last }
     last zero other there = omega arith
     last (suc m) other there = let before = is.last m other there in omega arith
 
--- a last copy of copies alone is the last of its block
+-- a last copy among copies alone is its block's last
 pub copied-last : (cs : BlockCopies) (b : ℕ) (v : List ℕ) → Contains (last_copies (map copied cs)) (b, v) → (k : ℕ) × IsLastAt b cs v k
 copied-last [] b v among = absurd (contains-none (b, v) among)
 copied-last (c ∷ cs) b v among =
@@ -162,17 +162,17 @@ copied-last (c ∷ cs) b v among =
       | inr behind ↦ let rest = copied-last cs b v behind in (suc rest.0, last-there c cs b v rest.0 rest.1)
     ]
 
--- revokes alone have none
+-- revokes alone have no last copy
 pub revoked-none : (rs : List ℕ) (p : ℕ × List ℕ) → Contains (last_copies (map Revoked rs)) p → ⊥
 revoked-none [] p among = contains-none p among
 revoked-none (r ∷ rs) p among = revoked-none rs p among
 
--- and in front of others they take none away
+-- revokes in front take none away
 pub revoked-last : (rs : List ℕ) (changes : List Change) → last_copies (map Revoked rs ++ changes) ≡ last_copies changes
 revoked-last [] changes = refl
 revoked-last (r ∷ rs) changes = revoked-last rs changes
 
--- the first change is of a block, and none behind it
+-- the first change, if it is the last of its block, is a last copy or a revoke
 changed-first : (b : ℕ) (x : Change) (xs : List Change) → is_of b x ≡ true → list_any (is_of b) xs ≡ false →
     ((v : List ℕ) × Contains (last_copies (x ∷ xs)) (b, v)) ⊎ Contains (x ∷ xs) (Revoked b)
 changed-first b (Copied c v) xs is none =
@@ -180,7 +180,7 @@ changed-first b (Copied c v) xs is none =
     inl (v, subst (λ (n : ℕ). Contains (last_copies (Copied n v ∷ xs)) (b, v)) (sym same) (last-first b v xs none))
 changed-first b (Revoked c) xs is none = inr (contains-first (Revoked c) xs (Revoked b) (ap Revoked (eqb-true c b is)))
 
--- a block that is changed has a last copy, or is revoked
+-- a changed block has a last copy or is revoked
 pub changed-last : (b : ℕ) (changes : List Change) → list_any (is_of b) changes ≡ true →
     ((v : List ℕ) × Contains (last_copies changes) (b, v)) ⊎ Contains changes (Revoked b)
 changed-last b [] found = absurd (true≢false (sym found))

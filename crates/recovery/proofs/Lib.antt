@@ -1,4 +1,4 @@
--- The lemmas of this crate that crates above it cite.
+-- Lemmas that crates above cite.
 pub mod CopiesReplayed
 pub mod Examining
 pub mod LastCopies
@@ -7,7 +7,7 @@ pub mod NewestHome
 pub mod OpeningMoments
 pub mod Plans
 pub mod Recovering
--- The others.
+-- Lemmas that only this crate cites.
 mod Beginnings
 mod ChainChanges
 mod ChoiceSteps

@@ -1,4 +1,4 @@
--- Calls of an opening that are made one after the other, and what is made where one of them fails.
+-- Calls made in order, and what is made if one of them fails.
 use Rattle.std.proofs.Common.{refl, sym, ◌∙◌, ap, append_assoc}
 use Rattle.std.specs.Prelude.{◌≡◌, ℕ, List, [], ◌∷◌, ◌++◌}
 use Rattle.std.proofs.lemmas.List.{append-nil}
@@ -12,7 +12,7 @@ use Rattle.journal_world.specs.Call.IsAfterFault.{HandedOver, Whole}
 use Rattle.recovery.specs.Calls.{HasBegun, HasMade, IsInterrupted, disk_after, past_after}
 use Rattle.recovery.specs.Calls.IsInterrupted.{Before, Within}
 
--- the disk behind joined calls
+-- the disk after joined calls
 pub disk_after-append : (xs ys : List Call) (disk : Disk) → disk_after (xs ++ ys) disk ≡ disk_after ys (disk_after xs disk)
 disk_after-append [] ys disk = refl
 disk_after-append (x ∷ xs) ys disk = disk_after-append xs ys (after_success x disk)
@@ -23,7 +23,7 @@ pub past_after-append : (xs ys : List Call) (disk : Disk) (past : List Disk) →
 past_after-append [] ys disk past = refl
 past_after-append (x ∷ xs) ys disk past = past_after-append xs ys (after_success x disk) (disk ∷ past)
 
--- no call is made where nothing changes
+-- if nothing changes, no call is made
 pub made-none : (s t : DeviceState) → Stays s t → HasMade [] s t
 made-none s t stays = record { shape = stays.shape; disk = stays.disk; past = stays.past }
 
@@ -31,7 +31,7 @@ made-none s t stays = record { shape = stays.shape; disk = stays.disk; past = st
 pub made-one : (call : Call) (s t : DeviceState) → Moves s t (after_success call s.disk) → HasMade (call ∷ []) s t
 made-one call s t moves = record { shape = moves.shape; disk = moves.now; past = moves.past }
 
--- some calls, and then others
+-- some calls, then others
 pub made-joins : (xs ys : List Call) (s t u : DeviceState) → HasMade xs s t → HasMade ys t u → HasMade (xs ++ ys) s u
 made-joins xs ys s t u first second = record {
   shape = second.shape ∙ first.shape;
@@ -43,19 +43,19 @@ made-joins xs ys s t u first second = record {
       ∙ sym (past_after-append xs ys s.disk s.past);
 }
 
--- some calls, and then one more
+-- some calls, then one more
 pub made-more : (calls : List Call) (call : Call) (s t u : DeviceState) → HasMade calls s t → Moves t u (after_success call t.disk) → HasMade (calls ++ call ∷ []) s u
 made-more calls call s t u made moves = made-joins calls (call ∷ []) s t u made (made-one call t u moves)
 
--- some calls, where nothing changed before them
+-- some calls after no change
 pub stays-made : (calls : List Call) (s t u : DeviceState) → Stays s t → HasMade calls t u → HasMade calls s u
 stays-made calls s t u stays made = made-joins [] calls s t u (made-none s t stays) made
 
--- or behind them
+-- some calls, then no change
 pub made-stays : (calls : List Call) (s t u : DeviceState) → HasMade calls s t → Stays t u → HasMade calls s u
 made-stays calls s t u made stays = record { shape = stays.shape ∙ made.shape; disk = stays.disk ∙ made.disk; past = stays.past ∙ made.past }
 
--- a write that is due failed, or wasn't tried
+-- a due write failed, or was not tried
 pub write-interrupted : (area : Area) (n : ℕ) (bytes : List ℕ) (calls : List Call) (s t : DeviceState) → Writes s t area n bytes →
     IsInterrupted (Write area n bytes ∷ calls) s t
 write-interrupted area n bytes calls s t (WriteUndone stays) = Before (Write area n bytes ∷ calls) s t stays
@@ -64,12 +64,12 @@ write-interrupted area n bytes calls s t (WriteWhole moves) =
 write-interrupted area n bytes calls s t (WriteHandedOver moves) =
     Within (Write area n bytes) calls s t (handed_over s.disk area n bytes) (HandedOver area n bytes s.disk (handed_over s.disk area n bytes) refl) moves
 
--- what is left to be made after a failure may be more
+-- more calls may be left after a failure
 interrupted-front : (xs ys : List Call) (s t : DeviceState) → IsInterrupted xs s t → IsInterrupted (xs ++ ys) s t
 interrupted-front xs ys s t (Before calls x y stays) = Before (calls ++ ys) s t stays
 interrupted-front xs ys s t (Within call calls x y disk fault moves) = Within call (calls ++ ys) s t disk fault moves
 
--- nothing of the calls was made
+-- no call was made
 pub begun-stays : (calls : List Call) (s t : DeviceState) → Stays s t → HasBegun calls s t
 begun-stays calls s t stays = record {
   done = [];
@@ -80,7 +80,7 @@ begun-stays calls s t stays = record {
   interrupted = Before calls s t stays;
 }
 
--- the first of them may have failed
+-- the first call may have failed
 pub begun-interrupted : (calls : List Call) (s t : DeviceState) → IsInterrupted calls s t → HasBegun calls s t
 begun-interrupted calls s t interrupted = record {
   done = [];
@@ -102,7 +102,7 @@ made-begun xs ys s t u made begun = record {
   interrupted = begun.interrupted;
 }
 
--- where the first of some calls were begun, all of them were
+-- if the first calls were begun, all were
 pub begun-front : (xs ys : List Call) (s t : DeviceState) → HasBegun xs s t → HasBegun (xs ++ ys) s t
 begun-front xs ys s t begun = record {
   done = begun.done;
@@ -113,7 +113,7 @@ begun-front xs ys s t begun = record {
   interrupted = interrupted-front begun.due ys begun.between t begun.interrupted;
 }
 
--- and where all of them succeeded and then something else failed
+-- if all succeeded, they were begun too
 pub begun-made : (calls : List Call) (s t : DeviceState) → HasMade calls s t → HasBegun calls s t
 begun-made calls s t made = record {
   done = calls;

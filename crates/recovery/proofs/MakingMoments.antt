@@ -1,4 +1,4 @@
--- Each moment of a log that is made: zeros are written, then they are made durable, then the superblock is written.
+-- Each moment while a log is made: zeros are written, then made durable, then the superblock is written.
 use Rattle.std.proofs.Common.{refl, sym, ◌∙◌, ap, subst, arith, inl, inr, ⊎_elim, false, true}
 use Rattle.std.specs.Prelude.{◌≡◌, ◌⊎◌, ℕ, ◌<◌, ◌==◌, Bool, List, ◌∷◌, replicate}
 use Rattle.std.proofs.lemmas.Bool.{cases_eq}
@@ -20,14 +20,14 @@ own-cell disk n cell = let same : (n == n) ≡ true = grind (arith, nat_tests) i
 other-cell : (disk : Disk) (n m : ℕ) (cell : Cell) → (m ≡ n → ⊥) → with_cell disk Log n cell Log m ≡ disk Log m
 other-cell disk n m cell other = let apart : (m == n) ≡ false = grind (arith, nat_tests) in rw apart refl
 
--- what a write leaves of its block, and one that failed
+-- what a write leaves of its block, failed or not
 written-holds : (bytes : List ℕ) (old : Cell) → HoldsOrOld bytes old (record { reads = bytes; others = held old })
 written-holds bytes old = λ v one. ⊎_elim (λ e. inr e) (λ later. inl later) one
 
 given-holds : (bytes : List ℕ) (old : Cell) → HoldsOrOld bytes old (record { reads = old.reads; others = bytes ∷ old.others })
 given-holds bytes old = λ v one. ⊎_elim (λ e. inl (inl e)) (λ more. ⊎_elim (λ e. inr e) (λ later. inl (inr later)) more) one
 
--- what holds before a write and of all that it may leave holds at each moment
+-- what holds before a write, and for all that it may leave, holds at each moment
 each-write : (P : Disk → Type 0) (old new : DeviceState) (n : ℕ) (bytes : List ℕ) → Writes old new Log n bytes → P old.disk →
     ((cell : Cell) → HoldsOrOld bytes (old.disk Log n) cell → P (with_cell old.disk Log n cell)) → EachMoment P old new
 each-write P old new n bytes (Undone stays) before after = each-stays P old new stays before
@@ -38,7 +38,7 @@ each-write P old new n bytes (HandedOver moves) before after =
     each-moves P old new (handed_over old.disk Log n bytes) moves before
     (after (record { reads = (old.disk Log n).reads; others = bytes ∷ (old.disk Log n).others }) (given-holds bytes (old.disk Log n)))
 
--- moments that are told otherwise
+-- moments with a weaker property
 each-as : (P Q : Disk → Type 0) (old new : DeviceState) → ((disk : Disk) → P disk → Q disk) → EachMoment P old new → EachMoment Q old new
 each-as P Q old new weaker each = record {
   since = each.since;
@@ -47,7 +47,7 @@ each-as P Q old new weaker each = record {
   now = weaker new.disk each.now;
 }
 
--- a call that changed nothing behind them
+-- moments, then a call that changed nothing
 pub behind-stays : (P : Disk → Type 0) (a b c : DeviceState) → EachMoment P a b → Stays b c → EachMoment P a c
 behind-stays P a b c each stays = each-joins P a b c each (each-stays P b c stays each.now)
 
@@ -63,7 +63,7 @@ making-none shape maxlen uuid is_wide old new stays =
     each-stays (IsMakingMoment shape maxlen uuid is_wide old.disk) old new stays
     (record { home = λ b. refl; behind = λ n from. inl refl; zeros = λ n above below v one. inl one; superblock = λ v one. inl one })
 
--- one block of the log is zeros, or may be
+-- one block becomes zeros, or may
 zeroing-cell : (zeros : List ℕ) (maxlen n : ℕ) (old disk : Disk) (cell : Cell) → 0 < n → n < maxlen → IsZeroingMoment zeros maxlen old disk →
     HoldsOrOld zeros (disk Log n) cell → IsZeroingMoment zeros maxlen old (with_cell disk Log n cell)
 zeroing-cell zeros maxlen n old disk cell above below is holds = record {
@@ -86,7 +86,7 @@ zeroing-write zeros maxlen n old s t above below each writes =
     (each-write (IsZeroingMoment zeros maxlen old.disk) s t n zeros writes each.now
     (λ cell holds. zeroing-cell zeros maxlen n old.disk s.disk cell above below each.now holds))
 
--- so far it is a moment of a log that is made
+-- a moment of the zeros is one of the making
 zeroing-making : (shape : Shape) (maxlen : ℕ) (uuid : List ℕ) (is_wide : Bool) (old disk : Disk) → IsZeroingMoment (replicate shape.block_size 0) maxlen old disk →
     IsMakingMoment shape maxlen uuid is_wide old disk
 zeroing-making shape maxlen uuid is_wide old disk is = record {
@@ -102,7 +102,7 @@ making-zeroed shape maxlen uuid is_wide s t each =
     each-as (IsZeroingMoment (replicate shape.block_size 0) maxlen s.disk) (IsMakingMoment shape maxlen uuid is_wide s.disk) s t
     (zeroing-making shape maxlen uuid is_wide s.disk) each
 
--- a flush leaves one too
+-- a flush keeps it one
 flush-making : (shape : Shape) (maxlen : ℕ) (uuid : List ℕ) (is_wide : Bool) (old disk : Disk) → IsMakingMoment shape maxlen uuid is_wide old disk →
     IsMakingMoment shape maxlen uuid is_wide old (flushed disk Log)
 flush-making shape maxlen uuid is_wide old disk is = record {
@@ -123,7 +123,7 @@ making-flush shape maxlen uuid is_wide old s t each moves =
     let P : Disk → Type 0 = IsMakingMoment shape maxlen uuid is_wide old.disk in
     each-joins P old s t each (each-moves P s t (flushed s.disk Log) moves each.now (flush-making shape maxlen uuid is_wide old.disk s.disk each.now))
 
--- the superblock behind durable zeros
+-- so does the superblock's write after durable zeros
 naming-making : (shape : Shape) (maxlen : ℕ) (uuid : List ℕ) (is_wide : Bool) (old disk : Disk) (cell : Cell) → 0 < maxlen →
     ((n : ℕ) → 0 < n → n < maxlen → disk Log n ≡ durable_cell (replicate shape.block_size 0)) → IsMakingMoment shape maxlen uuid is_wide old disk →
     HoldsOrOld (formatted_super shape.block_size maxlen uuid is_wide) (disk Log 0) cell → IsMakingMoment shape maxlen uuid is_wide old (with_cell disk Log 0 cell)

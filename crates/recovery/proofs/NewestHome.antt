@@ -1,4 +1,4 @@
--- The copies of a chain that go home are the newest live ones, and a block of which none goes home has no live copy.
+-- A chain's copies that go home are the newest live ones; a block of which none goes home has no live copy.
 use Rattle.std.proofs.Common.{refl, sym, ◌∙◌, ap, subst, arith, inl, inr, zero}
 use Rattle.std.specs.Prelude.{◌≡◌, ◌≢◌, ◌⊎◌, ℕ, suc, ◌<◌, ◌≤◌, Bool, true, false, if◌then◌else◌, List, [], ◌∷◌, map, Some, Contains, get_or, slice_get}
 use Rattle.std.specs.List.{AllPairs, list_any}
@@ -22,7 +22,7 @@ copy-changes texts j m b v text stands copy =
     chain-has texts j text (Copied b v) stands
     (changes-copied (text_copies text) (text_revokes text) b v (contains-at (text_copies text) m (b, v) copy))
 
--- a live copy behind the first text is live without it
+-- a live copy after the first text is live without that text
 live-tail : (t : Text) (ts : List Text) (b i k : ℕ) (v : List ℕ) → IsLive (t ∷ ts) b (suc i) k v → IsLive ts b i k v
 live-tail t ts b i k v live = record {
   text = live.text;
@@ -31,7 +31,7 @@ live-tail t ts b i k v live = record {
   uncovered = λ covered. live.uncovered (covered-more t ts i b covered);
 }
 
--- and with one more in front
+-- and with one more text in front
 live-more : (t : Text) (ts : List Text) (b i k : ℕ) (v : List ℕ) → IsLive ts b i k v → IsLive (t ∷ ts) b (suc i) k v
 live-more t ts b i k v live = record {
   text = live.text;
@@ -40,7 +40,7 @@ live-more t ts b i k v live = record {
   uncovered = λ covered. live.uncovered (covered-tail t ts i b covered);
 }
 
--- so a newest copy stays the newest with one more text in front
+-- a newest copy stays the newest with one more text in front
 newest-more : (t : Text) (ts : List Text) (b : ℕ) (v : List ℕ) → IsNewest ts b v → IsNewest (t ∷ ts) b v
 newest-more t ts b v is = record { i = suc is.i; k = is.k; live = live-more t ts b is.i is.k v is.live; newest = newest }
   where
@@ -52,7 +52,7 @@ newest-more t ts b v is = record { i = suc is.i; k = is.k; live = live-more t ts
           | inr (same, low) ↦ inr (omega arith, low)
         ]
 
--- nothing covers a copy of the first text whose block nothing behind it changes
+-- nothing covers a first text's copy if no later change is of its block
 uncovered-first : (t : Text) (ts : List Text) (b : ℕ) → list_any (is_of b) (map Revoked (text_revokes t)) ≡ false →
     list_any (is_of b) (chain_changes ts) ≡ false → IsCovered (t ∷ ts) 0 b → ⊥
 uncovered-first t ts b here behind covered = at covered.revoker covered.stands
@@ -65,7 +65,7 @@ uncovered-first t ts b here behind covered = at covered.revoker covered.stands
         none-revoked b (chain_changes ts) behind
         (chain-has ts r covered.text (Revoked b) stands (changes-revoked (text_copies covered.text) (text_revokes covered.text) b covered.revokes))
 
--- the last copy of the first text is the newest, where nothing behind it changes its block
+-- the first text's last copy is the newest, if no later change is of its block
 newest-at : (t : Text) (ts : List Text) (b k : ℕ) (v : List ℕ) → IsLastAt b (text_copies t) v k → list_any (is_of b) (map Revoked (text_revokes t)) ≡ false →
     list_any (is_of b) (chain_changes ts) ≡ false → IsNewest (t ∷ ts) b v
 newest-at t ts b k v last here behind = record {
@@ -81,7 +81,7 @@ newest-at t ts b k v last here behind = record {
         inr (refl, last.last m other copy)
     newest (suc j) m other live = absurd (none-copied b other (chain_changes ts) behind (copy-changes ts j m b other live.text live.stands live.copy))
 
--- a last copy of the first text
+-- so is a last copy of the first text's changes
 newest-first : (t : Text) (ts : List Text) (b : ℕ) (v : List ℕ) → Contains (last_copies (text_changes t)) (b, v) →
     list_any (is_of b) (chain_changes ts) ≡ false → IsNewest (t ∷ ts) b v
 newest-first t ts b v among behind =
@@ -92,7 +92,7 @@ newest-first t ts b v among behind =
           newest-at t ts b last.0 v last.1 here behind
     ]
 
--- each copy that goes home is the newest live one of its block
+-- each copy that goes home is its block's newest live one
 pub home-copies-newest : (texts : List Text) (b : ℕ) (v : List ℕ) → Contains (home_copies texts) (b, v) → IsNewest texts b v
 home-copies-newest [] b v among = absurd (contains-none (b, v) among)
 home-copies-newest (t ∷ ts) b v among =
@@ -101,7 +101,7 @@ home-copies-newest (t ∷ ts) b v among =
       | inr (here, behind) ↦ newest-first t ts b v here behind
     ]
 
--- of a block with a live copy one goes home
+-- a block with a live copy has one that goes home
 pub live-home : (texts : List Text) (b i k : ℕ) (v : List ℕ) → IsLive texts b i k v → (w : List ℕ) × Contains (home_copies texts) (b, w)
 live-home [] b i k v live = absurd (none-some live.text live.stands)
 live-home (t ∷ ts) b zero k v live =
@@ -114,11 +114,11 @@ live-home (t ∷ ts) b (suc i) k v live =
     let rest = live-home ts b i k v (live-tail t ts b i k v live) in
     (rest.0, last-append (text_changes t) (chain_changes ts) (b, rest.0) rest.1)
 
--- so a block of which none goes home has no live copy
+-- a block of which none goes home has no live copy
 pub home-copies-all : (texts : List Text) (b : ℕ) → ((v : List ℕ) → Contains (home_copies texts) (b, v) → ⊥) → HasNoLive texts b
 home-copies-all texts b none i k v live = let home = live-home texts b i k v live in none home.0 home.1
 
--- the newest live copy of a block goes home
+-- a block's newest live copy goes home
 pub newest-home : (texts : List Text) (b : ℕ) (v : List ℕ) → IsNewest texts b v → Contains (home_copies texts) (b, v)
 newest-home texts b v newest =
     let home = live-home texts b newest.i newest.k v newest.live in
@@ -143,6 +143,6 @@ last-once (Copied b v ∷ changes) = by (list_any (is_of b) changes) refl (last-
         rest
 last-once (Revoked b ∷ changes) = last-once changes
 
--- so are those of a chain that go home
+-- so are a chain's copies that go home
 pub home-once : (texts : List Text) → AllPairs (λ x y. x.0 ≢ y.0) (home_copies texts)
 home-once texts = last-once (chain_changes texts)

@@ -1,5 +1,4 @@
--- Each moment of an opening's calls is one of the machine's, whether they succeed or one of them fails; and all of them are a
--- whole opening.
+-- Each moment of an opening's calls is the machine's, even if one fails; all of them are a whole opening.
 use Rattle.std.proofs.Common.{refl, sym, ◌∙◌, subst, append_assoc}
 use Rattle.std.specs.Prelude.{◌≡◌, List, [], ◌∷◌, ◌++◌, ⊤}
 use Rattle.std.specs.List.{AllByRecursion}
@@ -25,18 +24,18 @@ abbrev pub BeforeEach : (Disk → Type 0) → List Call → Disk → Type 0
 BeforeEach P [] disk = ⊤
 BeforeEach P (call ∷ calls) disk = P disk × BeforeEach P calls (after_success call disk)
 
--- what holds of the disks of two lists holds of both joined
+-- what holds of two lists of disks holds of both joined
 both-have : (P : Disk → Type 0) (xs ys : List Disk) → AllByRecursion P xs → AllByRecursion P ys → AllByRecursion P (xs ++ ys)
 both-have P [] ys all more = more
 both-have P (x ∷ xs) ys all more = (all.0, both-have P xs ys all.1 more)
 
--- the disks that the calls add to the past, each of which has P
+-- the calls add disks to the past, each with P
 pub record HasPast (P : Disk → Type 0) (calls : List Call) (disk : Disk) (past : List Disk) : Type 0 where
   pub since : List Disk
   pub past_is : past_after calls disk past ≡ since ++ past
   pub each : AllByRecursion P since
 
--- they are those before the calls
+-- those are the disks before the calls
 pub past-each : (P : Disk → Type 0) (calls : List Call) (disk : Disk) (past : List Disk) → BeforeEach P calls disk → HasPast P calls disk past
 past-each P [] disk past each = record { since = []; past_is = refl; each = tt }
 past-each P (call ∷ calls) disk past each =
@@ -57,7 +56,7 @@ path-moments shape found old (call ∷ done) due disk stage is reached path = (
       (Called stage path.0 call disk (after_success call disk) reached path.1 refl) path.2,
 )
 
--- each moment of some calls of an opening that succeeded is one of the machine's
+-- the moments of an opening's first calls are the machine's
 pub made-moments : (shape : Shape) (found : Found) (done due : List Call) (old new : DeviceState) → IsFoundOn shape found old.disk →
     opening_calls found ≡ done ++ due → HasMade done old new → EachMoment (IsMoment shape old.disk) old new
 made-moments shape found done due old new is split made =
@@ -72,12 +71,12 @@ made-moments shape found done due old new is split made =
       now = At found reached.0 is (subst (Reached shape found old.disk reached.0) (sym made.disk) reached.1);
     }
 
--- of all its calls
+-- so are those of all its calls
 pub whole-moments : (shape : Shape) (found : Found) (old new : DeviceState) → IsFoundOn shape found old.disk → HasMade (opening_calls found) old new →
     EachMoment (IsMoment shape old.disk) old new
 whole-moments shape found old new is made = made-moments shape found (opening_calls found) [] old new is (sym (append-nil (opening_calls found))) made
 
--- of a failure, where these calls were still to be made
+-- so are those of a failure before these calls
 interrupted-moments : (shape : Shape) (found : Found) (old : Disk) (stage : OpeningStage) (due : List Call) (mid new : DeviceState) → IsInterrupted due mid new →
     IsFoundOn shape found old → Reached shape found old stage mid.disk → IsDue shape found mid.disk stage due → EachMoment (IsMoment shape old) mid new
 interrupted-moments shape found old stage due mid new (Before calls x y stays) is reached next =
@@ -86,7 +85,7 @@ interrupted-moments shape found old stage due mid new (Within call calls x y dis
     each-moves (IsMoment shape old) mid new disk moves (At found stage is reached)
     (Fault found is (record { stage = stage; next = next.0; call = call; disk = mid.disk; reached = reached; due = next.1; fault = fault }))
 
--- and of an opening that failed
+-- so are those of an opening that failed
 pub begun-moments : (shape : Shape) (found : Found) (old new : DeviceState) → IsFoundOn shape found old.disk → HasBegun (opening_calls found) old new →
     EachMoment (IsMoment shape old.disk) old new
 begun-moments shape found old new is begun =
@@ -105,7 +104,7 @@ made-done shape found old new is made =
     subst (Reached shape found old.disk Done) (sym made.disk)
     (subst (λ (s : OpeningStage). Reached shape found old.disk s (disk_after (opening_calls found) old.disk)) reached.2 reached.1)
 
--- so they are a whole opening
+-- they are a whole opening
 pub made-opening : (shape : Shape) (found : Found) (old new : DeviceState) → IsFoundOn shape found old.disk → HasMade (opening_calls found) old new →
     IsOpening shape old.disk new.disk (cleaned (found.image Log 0) (next_of found)) (next_of found)
 made-opening shape found old new is made = reached-opening shape found old.disk new.disk is (made-done shape found old new is made)

@@ -1,4 +1,4 @@
--- The calls of an opening are those of the machine: each one is due where the ones before it succeeded.
+-- The calls of an opening are the machine's: each is due after those before it.
 use Rattle.std.proofs.Common.{refl, sym, subst, arith, inl, inr}
 use Rattle.std.specs.Prelude.{◌≡◌, ◌≢◌, ℕ, ◌==◌, true, false, List, [], ◌∷◌, ◌++◌, Contains}
 use Rattle.std.proofs.lemmas.Bool.{cases_eq}
@@ -28,7 +28,7 @@ abbrev pub IsDue : Shape → Found → Disk → OpeningStage → List Call → T
 IsDue shape found disk stage [] = stage ≡ Done
 IsDue shape found disk stage (call ∷ calls) = (next : OpeningStage) × OpeningCall shape found disk stage call next
 
--- from this disk and stage on each of these calls is due where those before it succeeded, and the last one ends the opening
+-- from this disk and stage on each call is due after those before it, and the last ends the opening
 abbrev pub IsPath : Shape → Found → Disk → OpeningStage → List Call → Type 0
 IsPath shape found disk stage [] = stage ≡ Done
 IsPath shape found disk stage (call ∷ calls) =
@@ -39,7 +39,7 @@ path-due : (shape : Shape) (found : Found) (disk : Disk) (stage : OpeningStage) 
 path-due shape found disk stage [] path = path
 path-due shape found disk stage (call ∷ calls) path = (path.0, path.1)
 
--- some calls of a path lead on, to a path of those that are left
+-- some calls of a path lead on, to a path of the others
 pub path-reached : (shape : Shape) (found : Found) (old : Disk) (done due : List Call) (disk : Disk) (stage : OpeningStage) → Reached shape found old stage disk →
     IsPath shape found disk stage (done ++ due) →
     (next : OpeningStage) × Reached shape found old next (disk_after done disk) × IsPath shape found (disk_after done disk) next due
@@ -48,7 +48,7 @@ path-reached shape found old (call ∷ done) due disk stage reached path =
     path-reached shape found old done due (after_success call disk) path.0
     (Called stage path.0 call disk (after_success call disk) reached path.1 refl) path.2
 
--- what was found is of a clean image, or of one with a chain
+-- a log whose start is 0 is a clean image
 found-clean : (shape : Shape) (image : Image) (texts : List Text) (limit : ℕ) → HasTexts shape image texts limit → (super_of image).s_start ≡ 0 → IsClean shape image
 found-clean shape image texts limit (NoTexts clean) start = clean
 found-clean shape image texts limit (Texts ts has) start = absurd (has.started.started start)
@@ -57,15 +57,15 @@ found-chain : (shape : Shape) (image : Image) (texts : List Text) (limit : ℕ) 
 found-chain shape image texts limit (NoTexts clean) started = absurd (started clean.clean)
 found-chain shape image texts limit (Texts ts has) started = has
 
--- the calls behind the copies
+-- the calls after the copies
 abbrev pub ending_calls : Found → List Call
 ending_calls found = Flush Home ∷ Write Log 0 (clean_superblock found) ∷ Flush Log ∷ []
 
--- the calls of an opening where the log is clean
+-- the calls of an opening of a clean log
 pub calls-clean : (found : Found) → (super_of found.image).s_start ≡ 0 → opening_calls found ≡ Flush Log ∷ []
 calls-clean found clean = let test : ((super_of found.image).s_start == 0) ≡ true = grind (arith, nat_tests) in rw test refl
 
--- and where it is not
+-- and of any other
 pub calls-started : (found : Found) → (super_of found.image).s_start ≢ 0 →
     opening_calls found ≡ Flush Log ∷ writes_home (home_copies found.texts) ++ ending_calls found
 calls-started found started = let test : ((super_of found.image).s_start == 0) ≡ false = grind (arith, nat_tests) in rw test refl
@@ -81,19 +81,19 @@ copies-path shape found (c ∷ cs) calls disk newest path = (
   copies-path shape found cs calls (written disk Home c.0 c.1) (λ b v among. newest b v (contains-behind c cs (b, v) among)) path,
 )
 
--- where home reads as replay makes it, it is flushed, and the log is made clean
+-- once home is replayed, it is flushed, and the log is made clean
 ending-path : (shape : Shape) (found : Found) (disk : Disk) → IsReplayed shape.home_blocks found.texts (found.image Home) (reading disk Home) →
     IsPath shape found disk Copies (ending_calls found)
 ending-path shape found disk replayed = (SuperblockWrite, FlushHome replayed, (SuperblockFlush, WriteSuperblock, (Done, FlushSuperblock, refl)))
 
--- home reads so once the copies are written there
+-- home is replayed once the copies are written
 written-replayed : (shape : Shape) (found : Found) (old : Disk) → found.image ≡ reading old →
     IsReplayed shape.home_blocks found.texts (found.image Home) (reading (disk_after (writes_home (home_copies found.texts)) (flushed old Log)) Home)
 written-replayed shape found old read =
     subst (λ (i : Image). IsReplayed shape.home_blocks found.texts (i Home) (reading (disk_after (writes_home (home_copies found.texts)) (flushed old Log)) Home))
     (sym read) (copies-replayed shape.home_blocks found.texts (flushed old Log))
 
--- the calls of an opening lead to its end where the log is not clean
+-- the calls of an opening of a log that is not clean lead to its end
 started-path : (shape : Shape) (found : Found) (old : Disk) → IsFoundOn shape found old → (super_of found.image).s_start ≢ 0 →
     IsPath shape found old LogFlush (Flush Log ∷ writes_home (home_copies found.texts) ++ ending_calls found)
 started-path shape found old is started = (
@@ -103,7 +103,7 @@ started-path shape found old is started = (
       (ending-path shape found (disk_after (writes_home (home_copies found.texts)) (flushed old Log)) (written-replayed shape found old is.read)),
 )
 
--- and in any log
+-- so do those of any log
 pub opening-path : (shape : Shape) (found : Found) (old : Disk) → IsFoundOn shape found old → IsPath shape found old LogFlush (opening_calls found)
 opening-path shape found old is =
     elim (cases_eq (super_of found.image).s_start 0) [
@@ -113,13 +113,13 @@ opening-path shape found old is =
       | inr started ↦ subst (IsPath shape found old LogFlush) (sym (calls-started found started)) (started-path shape found old is started)
     ]
 
--- the calls that are left where some of an opening succeeded
+-- the calls left after some of an opening's
 pub opening-left : (shape : Shape) (found : Found) (old : Disk) (done due : List Call) → IsFoundOn shape found old → opening_calls found ≡ done ++ due →
     (stage : OpeningStage) × Reached shape found old stage (disk_after done old) × IsPath shape found (disk_after done old) stage due
 opening-left shape found old done due is split =
     path-reached shape found old done due old LogFlush Tested (subst (IsPath shape found old LogFlush) split (opening-path shape found old is))
 
--- they lead to a stage, and there the next call is due, or the opening is done
+-- some calls lead to a stage in which the next is due, or the opening is done
 pub calls-reached : (shape : Shape) (found : Found) (old : Disk) (done due : List Call) → IsFoundOn shape found old → opening_calls found ≡ done ++ due →
     (stage : OpeningStage) × Reached shape found old stage (disk_after done old) × IsDue shape found (disk_after done old) stage due
 calls-reached shape found old done due is split =

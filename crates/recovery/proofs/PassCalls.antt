@@ -8,7 +8,7 @@ use Rattle.log_scan.specs.declared.finding.Found.TheVariants.{CommitBlock, Revok
 use Rattle.log_scan.specs.Finding.{MakesCalls, reads_of}
 use Rattle.log_scan.specs.Passing.{cursor_behind}
 
--- some calls, and then others
+-- some calls, then others
 pub calls-join : (a b : ℕ) (s t u : DeviceState) → MakesCalls a s t → MakesCalls b t u → MakesCalls (a + b) s u
 calls-join a b s t u first second = omega arith
 
@@ -16,11 +16,11 @@ calls-join a b s t u first second = omega arith
 pub calls-fewer : (a b : ℕ) (s t : DeviceState) → a ≤ b → MakesCalls b s t → MakesCalls a s t
 calls-fewer a b s t fewer made = omega arith
 
--- none
+-- no calls
 pub calls-none : (s : DeviceState) → MakesCalls 0 s s
 calls-none s = omega arith
 
--- a transaction that is passed takes a read
+-- a transaction passed takes a read
 pub passed-reads : (from to : Cursor) (found : Found) → ((n : ℕ) × (found ≡ RevokeBlock n)) ⊎ (found ≡ CommitBlock) → to ≡ cursor_behind from found →
     to.transactions ≤ from.transactions + reads_of found
 passed-reads from to found (inl (n, is)) moved = let same = ap (λ (c : Cursor). c.transactions) (rw is at moved) in rw is (omega arith)

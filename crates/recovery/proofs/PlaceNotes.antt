@@ -1,4 +1,4 @@
--- What is noted of the places of copies, and what covers a copy of a chain by its table of revokes.
+-- The places noted of copies, and the revokes of a chain that its table holds.
 use Rattle.std.proofs.Common.{refl, sym, ◌∙◌, ap, arith, inl, inr}
 use Rattle.std.specs.Prelude.{◌≡◌, ◌⊎◌, ◌↔◌, ℕ, suc, ◌+◌, ◌-◌, ◌≤◌, List, [], ◌∷◌, ◌++◌, length, Some, Contains}
 use Rattle.std.proofs.lemmas.Bool.{cases_eq}
@@ -27,12 +27,12 @@ copy_notes-append p (x ∷ xs) ys =
     let place : suc p + length xs ≡ p + suc (length xs) = omega arith in
     ap (λ (ns : List (ℕ × ℕ)). (x.0, p) ∷ ns) (rest ∙ ap (λ (q : ℕ). copy_notes (suc p) xs ++ copy_notes q ys) place)
 
--- and noted one after the other
+-- joined notes are noted in order
 pub placed-append : (table : BlockTable) (ms ns : List (ℕ × ℕ)) → placed_all table (ms ++ ns) ≡ placed_all (placed_all table ms) ns
 placed-append table [] ns = refl
 placed-append table (m ∷ ms) ns = placed-append (insert table m.0 m.1) ms ns
 
--- what is noted of a block behind copies: what was there where they have none of it, else the place of one of them
+-- what is noted of a block after copies: as before if none is of it, else the place of one of them
 record IsNotedBehind (table : BlockTable) (p : ℕ) (copies : BlockCopies) (b : ℕ) : Type 0 where
   noted :
       (HasNoCopy b copies × (get (placed_all table (copy_notes p copies)) b ≡ get table b))
@@ -71,7 +71,7 @@ pub joined-notes : (table : BlockTable) (p : ℕ) (xs ys : BlockCopies) →
 joined-notes table p xs ys =
     ap (placed_all table) (copy_notes-append p xs ys) ∙ placed-append table (copy_notes p xs) (copy_notes (p + length xs) ys)
 
--- the place that is noted of a block is that of its copy where no other copy of it stands behind
+-- the place noted of a block is that of its copy with no later copy
 pub place-newest : (xs ys : BlockCopies) (c : ℕ × List ℕ) → (get (placed_all empty (copy_notes 0 (xs ++ c ∷ ys))) c.0 ≡ Some (length xs)) ↔ HasNoCopy c.0 ys
 place-newest xs ys c =
     let before : BlockTable = placed_all empty (copy_notes 0 xs) in
@@ -87,7 +87,7 @@ place-newest xs ys c =
       )
     ]
 
--- what covers a copy of a chain from a text on is a text from there on
+-- what covers a block from a text on is a text from there on
 covered-suffix : (before suffix : List Text) (b : ℕ) → IsCovered (before ++ suffix) (length before) b → IsCovered suffix 0 b
 covered-suffix before suffix b covered =
     let low = covered.not_before in
@@ -100,7 +100,7 @@ covered-suffix before suffix b covered =
       revokes = covered.revokes;
     }
 
--- and the other way round
+-- and each such text covers it
 suffix-covered : (before suffix : List Text) (b : ℕ) → IsCovered suffix 0 b → IsCovered (before ++ suffix) (length before) b
 suffix-covered before suffix b covered = record {
   revoker = length before + covered.revoker;
@@ -110,7 +110,7 @@ suffix-covered before suffix b covered = record {
   revokes = covered.revokes;
 }
 
--- so the table covers a block from a text on where a change from there on revokes it
+-- so the table covers a block from a text on if a change from there on revokes it
 pub covers-revoked : (first : ℕ) (before suffix : List Text) (b : ℕ) →
     Covers (revokes_of first (before ++ suffix)) b (first + length before) ↔ Contains (chain_changes suffix) (Revoked b)
 covers-revoked first before suffix b =

@@ -1,4 +1,4 @@
--- What a plan of an opening says is what the opening does.
+-- A plan says what the opening does.
 use Rattle.std.proofs.Common.{refl, sym, ◌∙◌, arith, inl, inr}
 use Rattle.std.specs.Prelude.{◌≡◌, ◌≢◌, ℕ, ◌+◌, ◌<◌, ◌==◌, Bool, List, [], ◌∷◌, length}
 use Rattle.std.proofs.lemmas.Bool.{cases_eq}
@@ -18,12 +18,12 @@ use Rattle.recovery.specs.Planned.{IsPlanned}
 use Rattle.recovery.proofs.Examining.{content-refused, failure-refused, later-failure, on-stays, ring-content, ring-device, ring-memory}
 use Rattle.recovery.proofs.Recovering.{examined-next, examined-tells}
 
--- where there are no texts, no copy goes home
+-- without texts no copy goes home
 no-texts : (texts : List Text) → length texts ≡ 0 → length (home_copies texts) ≡ 0
 no-texts [] none = refl
 no-texts (t ∷ ts) none = absurd (omega arith)
 
--- the copies that are counted are those that go home, in a clean log none
+-- the copies counted are those that go home; in a clean log none
 pub planned-blocks : (s : DeviceState) (t : DeviceState) (fields : Super) (transactions blocks : ℕ) (tables : TablesValue) (texts : List Text) → Stays s t →
     (fields.s_start ≢ 0 → IsChainOf fields s.shape.home_blocks (reading s.disk) texts) → transactions ≡ length texts →
     (fields.s_start ≢ 0 → tables ≡ tables_of fields.s_sequence texts) → (fields.s_start ≡ 0 → transactions ≡ 0) →
@@ -37,7 +37,7 @@ planned-blocks s t fields transactions blocks tables texts stays chain number ar
           s t stays counted texts (chain started) number (are started)
     ]
 
--- the plan of an opening
+-- what was examined and counted is the plan of an opening
 pub is-planned : (s t : DeviceState) (superblock : List ℕ) (fields : Super) (transactions : ℕ) (tables : TablesValue) (found : Found) →
     IsExaminedOn s.shape s.disk superblock fields transactions tables found → Stays s t → (fields.s_start ≡ 0 → transactions ≡ 0) → (clean : Bool) (ends_at blocks next : ℕ) →
     clean ≡ (fields.s_start == 0) → ends_at ≡ fields.s_sequence + transactions → next ≡ fields.s_sequence + transactions + 1 →
@@ -51,7 +51,7 @@ is-planned s t superblock fields transactions tables found on stays empty clean 
   next_is = examined-next s superblock fields transactions tables found on next number;
 }
 
--- the log is not clean where it has transactions
+-- a log with transactions is not clean
 has-started : (fields : Super) (transactions : ℕ) → (fields.s_start ≡ 0 → transactions ≡ 0) → 0 < transactions → fields.s_start ≢ 0
 has-started fields transactions clean some start = let none = clean start in omega arith
 

@@ -1,4 +1,4 @@
--- A whole opening by its calls: a log that was examined is flushed, and where it is not clean, replayed.
+-- A whole opening by its calls: an examined log is flushed, and replayed if it is not clean.
 use Rattle.std.proofs.Common.{refl, sym, ◌∙◌, ap, ap₂, subst, arith, inl, inr}
 use Rattle.std.specs.Prelude.{◌≡◌, ◌≢◌, ℕ, ◌+◌, ◌==◌, Bool, true, false, List, [], ◌∷◌, ◌++◌, length}
 use Rattle.std.proofs.lemmas.Bool.{eqb-true}
@@ -30,12 +30,12 @@ use Rattle.recovery.proofs.Examining.{ring-content}
 use Rattle.recovery.proofs.MadeCalls.{begun-front, made-begun, made-joins, made-one, stays-made}
 use Rattle.recovery.proofs.OpeningPaths.{calls-clean, calls-started}
 
--- a flush of the log leaves what its blocks read
+-- a flush of the log leaves what it reads
 lap-flushed : (r : Ring) (disk : Disk) (place : ℕ) → lap r (reading (flushed disk Log)) place ≡ lap r (reading disk) place
 unfolding lap
 lap-flushed r disk place = refl
 
--- so the texts of a log are the same behind the flush
+-- so the log's texts are the same after the flush
 pub texts-flushed : (s t u : DeviceState) (fields : Super) (texts : List Text) → Stays s t → Moves t u (flushed t.disk Log) →
     IsChainOf fields s.shape.home_blocks (reading s.disk) texts → IsChainOf fields u.shape.home_blocks (reading u.disk) texts
 texts-flushed s t u fields texts stays moves are =
@@ -47,13 +47,13 @@ texts-flushed s t u fields texts stays moves are =
     subst (λ (n : ℕ). IsChain (layout_of fields) n fields.s_sequence (lap r (reading u.disk) fields.s_start) texts) (sym home)
     (subst (λ (blocks : List (List ℕ)). IsChain (layout_of fields) s.shape.home_blocks fields.s_sequence blocks texts) (sym read) are)
 
--- the limit of what was found
+-- the limit follows from what was found
 found-limit : (shape : Shape) (image : Image) (texts : List Text) (limit : ℕ) → HasTexts shape image texts limit →
     limit ≡ (super_of image).s_sequence + length texts
 found-limit shape image texts limit (NoTexts clean) = omega arith
 found-limit shape image texts limit (Texts ts has) = refl
 
--- what it tells
+-- and so does the report
 tells-found : (shape : Shape) (image : Image) (texts : List Text) (limit : ℕ) (clean : Bool) → HasTexts shape image texts limit →
     clean ≡ ((super_of image).s_start == 0) → Tells shape image clean limit (length texts)
 tells-found shape image texts limit clean (NoTexts is) reported =
@@ -65,7 +65,7 @@ tells-found shape image texts limit clean (Texts ts has) reported =
     let test : ((super_of image).s_start == 0) ≡ false = grind (arith, nat_tests) in
     subst (λ (b : Bool). Tells shape image b ((super_of image).s_sequence + length ts) (length ts)) (sym (reported ∙ test)) (OfChain ts has)
 
--- a failure of the device is a refusal, where calls that did not fail came before
+-- a device failure after calls that did not fail is a refusal
 pub device-refused : (honest : Type 0) (s t u : DeviceState) (e : JournalError) → t.faults ≡ s.faults → IsDeviceFailure t u e → OpeningRefused honest s u e
 device-refused honest s t u e same (is, counted) = record {
   device = λ device. counted ∙ ap one_more_fault same;
@@ -74,18 +74,18 @@ device-refused honest s t u e same (is, counted) = record {
   content = λ other more. absurd (other is);
 }
 
--- whether a log is clean is what its start tells
+-- a clean log has start 0
 pub clean-start : (fields : Super) (clean : Bool) → clean ≡ (fields.s_start == 0) → clean ≡ true → fields.s_start ≡ 0
 clean-start fields clean reported is = eqb-true fields.s_start 0 (sym reported ∙ is)
 
 pub other-start : (fields : Super) (clean : Bool) → clean ≡ (fields.s_start == 0) → clean ≡ false → fields.s_start ≢ 0
 other-start fields clean reported is zero = let test : (fields.s_start == 0) ≡ true = grind (arith, nat_tests) in cc
 
--- the calls that flush the log
+-- the call that flushes the log
 log-flushed : (s t u : DeviceState) → Stays s t → Moves t u (flushed t.disk Log) → HasMade (Flush Log ∷ []) s u
 log-flushed s t u stays moves = stays-made (Flush Log ∷ []) s t u stays (made-one (Flush Log) t u moves)
 
--- the superblock of a clean log names the next transaction
+-- a clean log's superblock names the next transaction
 pub clean-named : (shape : Shape) (superblock : List ℕ) (fields : Super) (transactions next : ℕ) → IsExamined shape superblock fields transactions →
     fields.s_start ≡ 0 → next ≡ fields.s_sequence + transactions + 1 → IsNextNamed shape superblock next
 clean-named shape superblock fields transactions next is start number =
@@ -104,7 +104,7 @@ clean-named shape superblock fields transactions next is start number =
       number = omega arith;
     }
 
--- so does the one that replay leaves
+-- so does the superblock that replay leaves
 pub tail-named : (shape : Shape) (superblock : List ℕ) (fields : Super) (transactions next : ℕ) → IsExamined shape superblock fields transactions →
     next ≡ fields.s_sequence + transactions + 1 → IsNextNamed shape (with_tail superblock next 0) next
 tail-named shape superblock fields transactions next is number =
@@ -137,11 +137,11 @@ module _ (s : DeviceState) (superblock : List ℕ) (fields : Super) (transaction
   pub examined-next : (next : ℕ) → next ≡ fields.s_sequence + transactions + 1 → next ≡ next_of found
   examined-next next number = let limit = examined-limit in omega arith
 
-  -- where it begins
+  -- its start
   examined-start : fields.s_start ≡ (super_of found.image).s_start
   examined-start = ap (λ (f : Super). f.s_start) on.fields_are
 
-  -- what an opening tells of it
+  -- the report of an opening
   pub examined-tells : (clean : Bool) (ends_at : ℕ) → clean ≡ (fields.s_start == 0) → ends_at ≡ fields.s_sequence + transactions →
       Tells s.shape (reading s.disk) clean ends_at transactions
   examined-tells clean ends_at reported ends =
@@ -150,14 +150,14 @@ module _ (s : DeviceState) (superblock : List ℕ) (fields : Super) (transaction
       (subst (λ (n : ℕ). Tells s.shape found.image clean found.limit n) (sym on.count)
       (tells-found s.shape found.image found.texts found.limit clean on.is.good.has (reported ∙ ap (λ (n : ℕ). n == 0) examined-start))))
 
-  -- what is made of its texts behind the flush is made of what was found
+  -- what holds of its texts after the flush holds of what was found
   pub of-found : (P : List Text → Type 0) (t u : DeviceState) → fields.s_start ≢ 0 → Stays s t → Moves t u (flushed t.disk Log) →
       ((texts : List Text) → IsChainOf fields u.shape.home_blocks (reading u.disk) texts → transactions ≡ length texts → tables ≡ tables_of fields.s_sequence texts → P texts) →
       P found.texts
   of-found P t u started stays moves made =
       made found.texts (texts-flushed s t u fields found.texts stays moves (on.texts started)) on.count (on.tables_are started)
 
-  -- a clean log is opened by the flush
+  -- the flush opens a clean log
   pub clean-done : (t u : DeviceState) (next : ℕ) → fields.s_start ≡ 0 → next ≡ fields.s_sequence + transactions + 1 → Stays s t → Moves t u (flushed t.disk Log) →
       IsDoneWith s u superblock next
   clean-done t u next clean number stays moves =
@@ -172,7 +172,7 @@ module _ (s : DeviceState) (superblock : List ℕ) (fields : Super) (transaction
         next_is = examined-next next number;
       }
 
-  -- the calls of its opening, where it is not clean
+  -- the calls of its opening, if it is not clean
   started-calls : (next : ℕ) → fields.s_start ≢ 0 → next ≡ fields.s_sequence + transactions + 1 →
       opening_calls found ≡ (Flush Log ∷ []) ++ (writes_home (home_copies found.texts) ++ cleaning_calls (with_tail superblock next 0))
   started-calls next started number =
@@ -181,13 +181,13 @@ module _ (s : DeviceState) (superblock : List ℕ) (fields : Super) (transaction
       calls-started found (λ start. started (examined-start ∙ start))
       ∙ ap (λ (block : List ℕ). Flush Log ∷ writes_home (home_copies found.texts) ++ cleaning_calls block) (sym tail)
 
-  -- the device failed where some of them were made
+  -- the device failed after some of them
   begun-broken : (next : ℕ) (new : DeviceState) → fields.s_start ≢ 0 → next ≡ fields.s_sequence + transactions + 1 →
       HasBegun ((Flush Log ∷ []) ++ (writes_home (home_copies found.texts) ++ cleaning_calls (with_tail superblock next 0))) s new → IsBroken s new
   begun-broken next new started number begun =
       Writing found on.is (subst (λ (calls : List Call). HasBegun calls s new) (sym (started-calls next started number)) begun)
 
-  -- copies went home, and then the device failed
+  -- the device failed during the copies
   pub copies-broken : (t u w : DeviceState) (next : ℕ) → fields.s_start ≢ 0 → next ≡ fields.s_sequence + transactions + 1 → Stays s t →
       Moves t u (flushed t.disk Log) → HasBegun (writes_home (home_copies found.texts)) u w → IsBroken s w
   copies-broken t u w next started number stays moves begun =
@@ -196,7 +196,7 @@ module _ (s : DeviceState) (superblock : List ℕ) (fields : Super) (transaction
       begun-broken next w started number
       (made-begun (Flush Log ∷ []) (copies ++ cleaning) s u w (log-flushed s t u stays moves) (begun-front copies cleaning u w begun))
 
-  -- all of them did, and the device failed before the log was clean
+  -- it failed after the copies, before the log was clean
   pub cleaning-broken : (t u w x : DeviceState) (next : ℕ) → fields.s_start ≢ 0 → next ≡ fields.s_sequence + transactions + 1 → Stays s t →
       Moves t u (flushed t.disk Log) → HasMade (writes_home (home_copies found.texts)) u w →
       HasBegun (cleaning_calls (with_tail superblock next 0)) w x → IsBroken s x
@@ -227,7 +227,7 @@ module _ (s : DeviceState) (superblock : List ℕ) (fields : Super) (transaction
         next_is = examined-next next number;
       }
 
--- why a replay is, behind the flush of a log that was examined
+-- why a replay is refused, after the flush of an examined log
 pub replay-refused : (honest : Type 0) (s t u w : DeviceState) (superblock : List ℕ) (fields : Super) (transactions : ℕ) (tables : TablesValue) (e : JournalError) →
     IsWellRead s.shape superblock fields → Stays s t → Moves t u (flushed t.disk Log) → u.faults ≡ s.faults → w.disk Log ≡ u.disk Log →
     (honest → (found : Found) × IsExaminedOn s.shape s.disk superblock fields transactions tables found) → fields.s_start ≢ 0 →

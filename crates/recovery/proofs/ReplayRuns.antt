@@ -1,4 +1,4 @@
--- Replay, one piece after the other.
+-- Replay, piece by piece.
 use Rattle.std.proofs.Common.{refl, sym, ◌∙◌, ap, ap₂, subst, arith, append_assoc, append-nil, inl, inr}
 use Rattle.std.specs.Prelude.{◌≡◌, ◌⊎◌, ℕ, suc, ◌+◌, ◌<◌, ◌≤◌, List, [], ◌∷◌, ◌++◌, length, take}
 use Rattle.std.specs.List.{flat_map}
@@ -40,12 +40,12 @@ use Rattle.recovery.proofs.UnfinishedTables.{copies-begun, copies-finished, copi
 abbrev pub chosen_so : TablesValue → ℕ → List Text → List Piece → List (ℕ × List ℕ)
 chosen_so tables first texts pieces = chosen_all tables.revokes tables.copies first 0 (texts_so texts pieces)
 
--- so many copies stand in these texts and pieces
+-- how many copies these texts and pieces have
 abbrev count_so : List Text → List Piece → ℕ
 count_so texts pieces = length (copies_of (texts_so texts pieces))
 
 module _ (tables : TablesValue) (first : ℕ) where
-  -- the copies of texts, and those of pieces behind them
+  -- the texts' copies, then the pieces'
   so-split : (texts : List Text) (pieces : List Piece) →
       chosen_so tables first texts pieces
       ≡ chosen_all tables.revokes tables.copies first 0 texts
@@ -76,7 +76,7 @@ module _ (tables : TablesValue) (first : ℕ) where
       so-split (texts ++ done ∷ []) [] ∙ append-nil (chosen_all tables.revokes tables.copies first 0 (texts ++ done ∷ []))
       ∙ chosen_all-push tables.revokes tables.copies first 0 texts done ∙ sym (so-split texts pieces)
 
-  -- without pieces
+  -- no pieces
   pub so-whole : (texts : List Text) → chosen_so tables first texts [] ≡ chosen_all tables.revokes tables.copies first 0 texts
   so-whole texts = so-split texts [] ∙ append-nil (chosen_all tables.revokes tables.copies first 0 texts)
 
@@ -102,12 +102,12 @@ module _ (tables : TablesValue) (first : ℕ) where
             ∙ ap (λ (cs : List (ℕ × List ℕ)). cs ++ (more ++ others)) (sym (so-split texts pieces)),
       )
 
--- by the tables of a chain go home the copies that are to
+-- a chain's tables choose the copies that go home
 pub chain-chosen : (tables : TablesValue) (first : ℕ) (chain : List Text) → tables ≡ tables_of first chain →
     chosen_all tables.revokes tables.copies first 0 chain ≡ home_copies chain
 chain-chosen tables first chain is = ap (λ (t : TablesValue). chosen_all t.revokes t.copies first 0 chain) is ∙ home-chosen first chain
 
--- what has begun of a beginning of them has begun of all
+-- if writes of the first of them were begun, so were writes of all
 chain-begun : (tables : TablesValue) (s : Super) (chain : List Text) → tables ≡ tables_of s.s_sequence chain → (front rest : List (ℕ × List ℕ)) →
     chosen_all tables.revokes tables.copies s.s_sequence 0 chain ≡ front ++ rest → (old new : DeviceState) → HasBegun (writes_home front) old new →
     HasBegun (writes_home (home_copies chain)) old new
@@ -125,7 +125,7 @@ pub record Replays (s : Super) (limit : ℕ) (image : Image) (cursor : Cursor) (
   pub count : place ≡ length (copies_of (texts_so texts pieces))
   pub made : HasMade (writes_home (chosen_so tables s.s_sequence texts pieces)) old new
 
--- nothing yet
+-- at first nothing
 pub replays-none : (s : Super) (limit : ℕ) (image : Image) (transactions : ℕ) (tables : TablesValue) (old : DeviceState) →
     Replays s limit image (record { position = 0; transactions = 0 }) transactions 0 tables old old
 replays-none s limit image transactions tables old = record {
@@ -141,11 +141,11 @@ module _
     (s : Super) (limit : ℕ) (image : Image) (from to : Cursor) (transactions place : ℕ) (tables : TablesValue) (old mid : DeviceState)
     (so : Replays s limit image from transactions place tables old mid)
   where
-    -- the texts that were passed are as many as the cursor says
+    -- the cursor counts the texts passed
     counted : from.transactions ≡ length so.texts
     counted = passed-count s limit image so.texts so.pieces from so.passed
 
-    -- one more revoke block
+    -- after one more revoke block
     pub replays-revokes : (numbers : List ℕ) → from.transactions < transactions → to.transactions ≡ from.transactions → (new : DeviceState) → Stays mid new →
         RevokesPassed s limit image so.texts so.pieces numbers to → Replays s limit image to transactions place tables old new
     replays-revokes numbers below same new stays passed = record {
@@ -160,7 +160,7 @@ module _
           (made-stays (writes_home (chosen_so tables s.s_sequence so.texts so.pieces)) old mid new so.made stays);
     }
 
-    -- the end of a transaction
+    -- after a commit block
     pub replays-commit : (new : DeviceState) → Stays mid new → CommitPassed s limit image so.texts so.pieces to → Replays s limit image to transactions place tables old new
     replays-commit new stays passed =
         let done : Text = record { pieces = so.pieces; commit = passed.commit } in
@@ -176,7 +176,7 @@ module _
         }
 
     module _ (tags : List Tag) (n tid : ℕ) (size : n ≡ length tags) (number : tid ≡ s.s_sequence + from.transactions) (passed : CopiesPassed s limit image so.texts so.pieces tags from.position n to) where
-      -- the copies behind a descriptor
+      -- after a descriptor and its copies
       more-chosen : chosen_so tables s.s_sequence so.texts (so.pieces ++ Copies passed.block tags passed.copies ∷ [])
           ≡ chosen_so tables s.s_sequence so.texts so.pieces ++ chosen_behind tables tid place tags passed.copies
       more-chosen =
@@ -206,7 +206,7 @@ module _
             (made-stays (writes_home (chosen_so tables s.s_sequence so.texts so.pieces)) old mid next so.made stays) made);
       }
 
-      -- or a failure among them
+      -- or a failure among these copies
       pub replays-begun : (chain : List Text) → IsChainOf s limit image chain → transactions ≡ length chain → tables ≡ tables_of s.s_sequence chain →
           from.transactions < transactions → to.transactions ≡ from.transactions → (next new : DeviceState) → Stays mid next →
           HasBegun (writes_home (chosen_behind tables tid place tags passed.copies)) next new → HasBegun (writes_home (home_copies chain)) old new
@@ -229,7 +229,7 @@ module _
         omega arith
 
     module _ (chain : List Text) (are : IsChainOf s limit image chain) (all : transactions ≡ length chain) (tables_are : tables ≡ tables_of s.s_sequence chain) where
-      -- a read failed
+      -- or a read failed
       pub replays-unread : from.transactions < transactions → (new : DeviceState) → Stays mid new → HasBegun (writes_home (home_copies chain)) old new
       replays-unread below new stays =
           let is = begins-chain (layout_of s) limit s.s_sequence (omega arith) (lap (ring_of s) image s.s_start) so.texts so.pieces from.transactions from.position so.passed
@@ -239,7 +239,7 @@ module _
           (begun-made (writes_home (chosen_so tables s.s_sequence so.texts so.pieces)) old new
           (made-stays (writes_home (chosen_so tables s.s_sequence so.texts so.pieces)) old mid new so.made stays))
 
-      -- all are home
+      -- at the end all are home
       pub replays-all : from.transactions ≡ transactions → HasMade (writes_home (home_copies chain)) old mid
       replays-all end =
           let texts : chain ≡ so.texts =
@@ -249,7 +249,7 @@ module _
           (ap (chosen_so tables s.s_sequence so.texts) (so.whole end) ∙ so-whole tables s.s_sequence so.texts
           ∙ ap (chosen_all tables.revokes tables.copies s.s_sequence 0) (sym texts) ∙ chain-chosen tables s.s_sequence chain tables_are) so.made
 
--- where a step leads behind writes home, told of the log before them
+-- where a step leads after writes home, by the log before them
 pub replay-led : (s : Super) (limit : ℕ) (from to : Cursor) (f : FinderValue) (found : Found) (transactions place : ℕ) (tables : TablesValue) (old mid : DeviceState)
     (so : Replays s limit (reading old.disk) from transactions place tables old mid) →
     ((ts : List Text) (ps : List Piece) → IsPassed s limit (reading mid.disk) ts ps from → LeadsTo s limit (reading mid.disk) ts ps f from to found) →
@@ -259,7 +259,7 @@ replay-led s limit from to f found transactions place tables old mid so step =
     leads-same s limit (reading old.disk) (reading mid.disk) same so.texts so.pieces f from to found
     (step so.texts so.pieces (passed-same s limit (reading mid.disk) (reading old.disk) (sym same) so.texts so.pieces from so.passed))
 
--- the copies behind a descriptor stand where they stood
+-- a descriptor's copies stand where they stood
 pub replay-stand : (s : Super) (limit : ℕ) (from : Cursor) (transactions place : ℕ) (tables : TablesValue) (old mid next : DeviceState) (position n : ℕ) (copies : List (List ℕ)) →
     (so : Replays s limit (reading old.disk) from transactions place tables old mid) → Stays mid next → StandAt s (reading old.disk) position n copies →
     StandAt s (reading next.disk) position n copies
@@ -271,7 +271,7 @@ replay-stand s limit from transactions place tables old mid next position n copi
 module _ (s : Super) (limit : ℕ) (image : Image) (from to : Cursor) (f : FinderValue) (found : Found) (transactions place : ℕ) (tables : TablesValue) (old mid : DeviceState)
     (so : Replays s limit image from transactions place tables old mid) (leads : LeadsTo s limit image so.texts so.pieces f from to found)
   where
-    -- behind a revoke block or a commit block
+    -- after a revoke block or a commit block
     pub replays-on : ((n : ℕ) × (found ≡ RevokeBlock n)) ⊎ (found ≡ CommitBlock) → to ≡ cursor_behind from found → from.transactions < transactions → (new : DeviceState) → Stays mid new →
         Replays s limit image to transactions place tables old new
     replays-on (inl (n, is)) moved below new stays =
@@ -289,12 +289,12 @@ module _ (s : Super) (limit : ℕ) (image : Image) (from to : Cursor) (f : Finde
     replays-nowhere chain are all below (inr is) =
         ends-later s limit image from to transactions place tables old mid so chain are all below (subst (LeadsTo s limit image so.texts so.pieces f from to) is leads).chain
 
--- the cursor is farther on
+-- the cursor moves on
 pub on-farther : (from to : Cursor) (found : Found) → ((n : ℕ) × (found ≡ RevokeBlock n)) ⊎ (found ≡ CommitBlock) → to ≡ cursor_behind from found → from.position < to.position
 on-farther from to found (inl (n, is)) moved = let at = ap (λ (c : Cursor). c.position) (rw is at moved) in omega arith
 on-farther from to found (inr is) moved = let at = ap (λ (c : Cursor). c.position) (rw is at moved) in omega arith
 
--- and no transaction is counted beyond those that there are
+-- and counts no more transactions than there are
 pub on-below : (from to : Cursor) (found : Found) (transactions : ℕ) → ((n : ℕ) × (found ≡ RevokeBlock n)) ⊎ (found ≡ CommitBlock) → to ≡ cursor_behind from found →
     from.transactions < transactions → to.transactions ≤ transactions
 on-below from to found transactions (inl (n, is)) moved below = let same = ap (λ (c : Cursor). c.transactions) (rw is at moved) in omega arith

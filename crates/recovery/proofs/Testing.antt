@@ -13,18 +13,18 @@ use Rattle.recovery.specs.Opening.{HasTransactions, IsLowestAhead, IsTestRefused
 use Rattle.recovery.specs.Opening.IsRingRefusal.{NamesAhead, NamesDamaged, NoNumber}
 use Rattle.recovery.specs.Opening.IsRefusedLog.{ForAhead, ForDamage, ForNumber}
 
--- a log is started where its start is not 0
+-- a log whose start is not 0 is not clean
 started : (s : Super) → (s.s_start == 0) ≡ false → s.s_start ≢ 0
 started s other zero = let test : (s.s_start == 0) ≡ true = grind (arith, nat_tests) in cc
 
--- a refused scan is a refused test
+-- a refused scan refuses the log
 pub scan-refused : (honest : Type 0) (s : Super) (home : ℕ) (old new : DeviceState) (e : JournalError) → (s.s_start == 0) ≡ false →
     home ≡ old.shape.home_blocks → IsScanRefused honest s home old new e → IsTestRefused honest s old new e
 scan-refused honest s home old new e other same (inl failure) = inl failure
 scan-refused honest s home old new e other same (inr (names, faults, damage)) =
     inr (NamesDamaged e names, faults, λ h. ForDamage e (started s other) (subst (λ (n : ℕ). IsDamageOf s n (reading old.disk) e) same (damage h)))
 
--- a block that is ahead
+-- so does a block that is ahead
 pub ahead-refused : (honest : Type 0) (s : Super) (old mid new : DeviceState) (transactions limit place : ℕ) → s.s_first ≤ place → place < s.s_maxlen →
     limit ≡ s.s_sequence + transactions →
     Stays old mid → new.faults ≡ old.faults → (honest → HasTransactions s old.shape.home_blocks (reading old.disk) transactions) →
@@ -37,13 +37,13 @@ ahead-refused honest s old mid new transactions limit place from below is stays 
           (subst (λ (n : ℕ). IsLowestAhead s (reading old.disk) n place) is (subst (λ (d : Disk). IsLowestAhead s (reading d) limit place) stays.disk (lowest h))),
     )
 
--- no block is
+-- no block is ahead
 pub none-there : (s : Super) (old mid : DeviceState) (transactions limit : ℕ) → limit ≡ s.s_sequence + transactions → Stays old mid → NoneAhead s (reading mid.disk) limit →
     NoneAhead s (reading old.disk) (s.s_sequence + transactions)
 none-there s old mid transactions limit is stays none =
     subst (λ (n : ℕ). NoneAhead s (reading old.disk) n) is (subst (λ (d : Disk). NoneAhead s (reading d) limit) stays.disk none)
 
--- no number is left
+-- so does a log without a next number
 pub number-refused : (honest : Type 0) (s : Super) (old mid new : DeviceState) (transactions limit : ℕ) → limit ≡ s.s_sequence + transactions → greatest_number ≤ limit →
     Stays old mid → new.faults ≡ old.faults → (honest → HasTransactions s old.shape.home_blocks (reading old.disk) transactions) →
     (honest → NoneAhead s (reading mid.disk) limit) → IsTestRefused honest s old new SequenceEnd

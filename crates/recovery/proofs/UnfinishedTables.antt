@@ -1,4 +1,4 @@
--- What the tables of a chain become once one more piece of its last, unfinished text is noted.
+-- A chain's tables after one more piece of its last, unfinished text.
 use Rattle.std.proofs.Common.{refl, sym, ◌∙◌, ap, arith, append_assoc, get_or}
 use Rattle.std.specs.Prelude.{◌≡◌, ℕ, suc, ◌+◌, ◌<◌, List, [], ◌∷◌, ◌++◌, length, take}
 use Rattle.std.specs.FinMap.{empty, insert}
@@ -29,12 +29,12 @@ revoke_notes-append first (t ∷ xs) ys =
     (revoke_notes-append (suc first) xs ys ∙ ap (λ (n : ℕ). revoke_notes (suc first) xs ++ revoke_notes n ys) number)
     ∙ sym (append_assoc own (revoke_notes (suc first) xs) (revoke_notes (first + suc (length xs)) ys))
 
--- are noted one after the other
+-- joined notes are noted in order
 pub noted-append : (table : BlockTable) (ms ns : List (ℕ × ℕ)) → noted_all table (ms ++ ns) ≡ noted_all (noted_all table ms) ns
 noted-append table [] ns = refl
 noted-append table (m ∷ ms) ns = noted-append (noted table m.0 m.1) ms ns
 
--- the table of revokes with one more text
+-- the table of revokes after one more text
 pub revokes-push : (first : ℕ) (texts : List Text) (t : Text) →
     revokes_of first (texts ++ t ∷ []) ≡ noted_all (revokes_of first texts) (notes_of (first + length texts) (text_revokes t))
 revokes-push first texts t =
@@ -43,17 +43,17 @@ revokes-push first texts t =
     ∙ noted-append empty (revoke_notes first texts) (own ++ [])
     ∙ ap (noted_all (revokes_of first texts)) (append-nil own)
 
--- the table of places with more copies
+-- the table of places after more copies
 places-joined : (xs ys : BlockCopies) → placed_all empty (copy_notes 0 (xs ++ ys)) ≡ placed_all (placed_all empty (copy_notes 0 xs)) (copy_notes (length xs) ys)
 places-joined xs ys =
     joined-notes empty 0 xs ys
     ∙ ap (λ (p : ℕ). placed_all (placed_all empty (copy_notes 0 xs)) (copy_notes p ys)) {x = 0 + length xs} {y = length xs} (omega arith)
 
--- with one more text
+-- and after one more text
 pub places-push : (texts : List Text) (t : Text) → places_of (texts ++ t ∷ []) ≡ placed_all (places_of texts) (copy_notes (length (copies_of texts)) (text_copies t))
 places-push texts t = ap (λ (x : BlockCopies). placed_all empty (copy_notes 0 x)) (copies-more texts t) ∙ places-joined (copies_of texts) (text_copies t)
 
--- the revokes of pieces with one more behind them
+-- the revokes of pieces and one more
 revokes-pieces : (pieces : List Piece) (piece : Piece) → flat_map piece_revokes (pieces ++ piece ∷ []) ≡ flat_map piece_revokes pieces ++ piece_revokes piece
 revokes-pieces pieces piece =
     flat_map-append piece_revokes pieces (piece ∷ []) ∙ ap (λ (x : List ℕ). flat_map piece_revokes pieces ++ x) (append-nil (piece_revokes piece))
@@ -95,7 +95,7 @@ places-piece texts pieces piece =
     ap (λ (x : BlockCopies). placed_all empty (copy_notes 0 x)) (copies-piece texts pieces piece)
     ∙ places-joined (copies_of (texts ++ unfinished pieces ∷ [])) (piece_copies piece)
 
--- so a revoke block notes its numbers
+-- a revoke block notes its numbers
 pub revokes-revokes : (first : ℕ) (texts : List Text) (pieces : List Piece) (block numbers : List ℕ) →
     revokes_of first (texts ++ unfinished (pieces ++ Revokes block numbers ∷ []) ∷ [])
     ≡ noted_all (revokes_of first (texts ++ unfinished pieces ∷ [])) (notes_of (first + length texts) numbers)
@@ -111,7 +111,7 @@ pub revokes-copies : (first : ℕ) (texts : List Text) (pieces : List Piece) (bl
     revokes_of first (texts ++ unfinished (pieces ++ Copies block tags copies ∷ []) ∷ []) ≡ revokes_of first (texts ++ unfinished pieces ∷ [])
 revokes-copies first texts pieces block tags copies = revokes-piece first texts pieces (Copies block tags copies)
 
--- and the places of its copies
+-- and its copies' places
 pub places-copies : (texts : List Text) (pieces : List Piece) (block : List ℕ) (tags : List Tag) (copies : List (List ℕ)) →
     places_of (texts ++ unfinished (pieces ++ Copies block tags copies ∷ []) ∷ [])
     ≡ placed_all (places_of (texts ++ unfinished pieces ∷ []))
@@ -130,7 +130,7 @@ copies-begun texts = copies-more texts (unfinished []) ∙ append-nil (copies_of
 pub places-begun : (texts : List Text) → places_of (texts ++ unfinished [] ∷ []) ≡ places_of texts
 places-begun texts = places-push texts (unfinished [])
 
--- a text that is finished has the revokes of its pieces
+-- a finished text has its pieces' revokes
 pub revokes-finished : (first : ℕ) (texts : List Text) (t : Text) → revokes_of first (texts ++ t ∷ []) ≡ revokes_of first (texts ++ unfinished t.pieces ∷ [])
 revokes-finished first texts t = revokes-push first texts t ∙ sym (revokes-push first texts (unfinished t.pieces))
 
@@ -138,7 +138,7 @@ revokes-finished first texts t = revokes-push first texts t ∙ sym (revokes-pus
 pub copies-finished : (texts : List Text) (t : Text) → copies_of (texts ++ t ∷ []) ≡ copies_of (texts ++ unfinished t.pieces ∷ [])
 copies-finished texts t = copies-more texts t ∙ sym (copies-more texts (unfinished t.pieces))
 
--- and the places of these
+-- and their copies' places
 pub places-finished : (texts : List Text) (t : Text) → places_of (texts ++ t ∷ []) ≡ places_of (texts ++ unfinished t.pieces ∷ [])
 places-finished texts t = places-push texts t ∙ sym (places-push texts (unfinished t.pieces))
 

@@ -1,4 +1,4 @@
--- Each moment of an upgrade's calls is one of the machine's, whether they succeed or one of them fails.
+-- Each moment of an upgrade's calls is the machine's, even if one of them fails.
 use Rattle.std.proofs.Common.{refl, subst, sym, ap, ◌∙◌}
 use Rattle.std.specs.Prelude.{◌≡◌, ℕ, List, [], ◌∷◌, ◌++◌, Option, ⊤}
 use Rattle.std.proofs.lemmas.List.{append-nil}
@@ -24,16 +24,16 @@ use Rattle.recovery.specs.Upgrade.{LeadsThroughUpgrade, upgrade_calls}
 use Rattle.recovery.proofs.MadeCalls.{made-begun, made-none}
 use Rattle.recovery.proofs.OpeningMoments.{BeforeEach, past-each}
 
--- from this stage on each of these calls is due behind those before it
+-- from this stage on each call is due after those before it
 abbrev IsUpgradePath : List ℕ → UpgradeStage → List Call → Type 0
 IsUpgradePath block stage [] = ⊤
 IsUpgradePath block stage (call ∷ calls) = (next : UpgradeStage) × UpgradeCall block stage call next × IsUpgradePath block next calls
 
--- so are those of an upgrade from its first on
+-- so are an upgrade's calls
 upgrade-path : (block : List ℕ) → IsUpgradePath block LogFlush (upgrade_calls block)
 upgrade-path block = (SuperblockWrite, FlushLog, (SuperblockFlush, WriteSuperblock, (Done, FlushSuperblock, tt)))
 
--- some calls of a path lead to a stage, from which on the others are due
+-- some calls of a path lead to a stage, from which the others are due
 path-reached : (block : List ℕ) (old : Disk) (done due : List Call) (disk : Disk) (stage : UpgradeStage) → UpgradeReached block old stage disk →
     IsUpgradePath block stage (done ++ due) →
     (next : UpgradeStage) × UpgradeReached block old next (disk_after done disk) × IsUpgradePath block next due
@@ -52,7 +52,7 @@ path-moments shape block old (call ∷ done) due disk stage on reached path = (
       (Called stage path.0 call disk (after_success call disk) reached path.1 refl) path.2,
 )
 
--- each moment of some calls of an upgrade that succeeded is one of the machine's
+-- the moments of an upgrade's first calls are the machine's
 some-moments : (shape : Shape) (block : List ℕ) (done due : List Call) (old new : DeviceState) → IsUpgradableOn shape block old.disk →
     upgrade_calls block ≡ done ++ due → HasMade done old new → EachMoment (IsUpgradeMoment shape old.disk) old new
 some-moments shape block done due old new on split made =
@@ -67,12 +67,12 @@ some-moments shape block done due old new on split made =
       now = At block reached.0 on (subst (UpgradeReached block old.disk reached.0) (sym made.disk) reached.1);
     }
 
--- of all its calls
+-- so are those of all its calls
 pub made-upgrade-moments : (shape : Shape) (block : List ℕ) (old new : DeviceState) → IsUpgradableOn shape block old.disk →
     HasMade (upgrade_calls block) old new → EachMoment (IsUpgradeMoment shape old.disk) old new
 made-upgrade-moments shape block old new on made = some-moments shape block (upgrade_calls block) [] old new on (sym (append-nil (upgrade_calls block))) made
 
--- of a failure, where these calls were still to be made
+-- so are those of a failure before these calls
 interrupted-moments : (shape : Shape) (block : List ℕ) (old : Disk) (stage : UpgradeStage) (due : List Call) (mid new : DeviceState) → IsInterrupted due mid new →
     IsUpgradableOn shape block old → UpgradeReached block old stage mid.disk → IsUpgradePath block stage due → EachMoment (IsUpgradeMoment shape old) mid new
 interrupted-moments shape block old stage due mid new (Before calls x y stays) on reached path =
@@ -81,7 +81,7 @@ interrupted-moments shape block old stage due mid new (Within call calls x y dis
     each-moves (IsUpgradeMoment shape old) mid new disk moves (At block stage on reached)
     (Fault block on (record { stage = stage; next = path.0; call = call; disk = mid.disk; reached = reached; due = path.1; fault = fault }))
 
--- and of an upgrade that failed
+-- so are those of an upgrade that failed
 pub begun-upgrade-moments : (shape : Shape) (block : List ℕ) (old new : DeviceState) → IsUpgradableOn shape block old.disk →
     HasBegun (upgrade_calls block) old new → EachMoment (IsUpgradeMoment shape old.disk) old new
 begun-upgrade-moments shape block old new on begun =
@@ -91,7 +91,7 @@ begun-upgrade-moments shape block old new on begun =
     (interrupted-moments shape block old.disk reached.0 begun.due begun.between new begun.interrupted on
     (subst (UpgradeReached block old.disk reached.0) (sym begun.made.disk) reached.1) reached.2)
 
--- calls that were begun, where nothing changed before them
+-- calls that were begun after no change
 pub begun-behind : (calls : List Call) (s t u : DeviceState) → Stays s t → HasBegun calls t u → HasBegun calls s u
 begun-behind calls s t u stays begun = made-begun [] calls s t u (made-none s t stays) begun
 

@@ -1,4 +1,4 @@
--- Why an upgrade is refused, and what is known of a log that is upgraded.
+-- Why an upgrade is refused, and what is known of an upgraded log.
 use Rattle.std.proofs.Common.{◌∙◌, ap, arith, inl, inr, refl, subst, sym}
 use Rattle.std.specs.Prelude.{◌≡◌, ◌≢◌, ℕ, ◌==◌, Bool, List, ◌∷◌, None, false, true}
 use Rattle.std.proofs.lemmas.Bool.Decides.{nat_tests}
@@ -17,7 +17,7 @@ use Rattle.recovery.specs.Upgrade.{IsKeptNarrow, IsNotUpgraded, UpgradeRefused}
 use Rattle.recovery.specs.Upgrade.IsKeptNarrow.{ForContent, ForWide}
 use Rattle.recovery.specs.Upgrade.IsNotUpgraded.{ByFields, BySuperblock}
 
--- a failure of the device is a refusal
+-- a device failure is a refusal
 pub failure-refused : (honest : Type 0) (s t : DeviceState) (e : JournalError) → IsDeviceFailure s t e → UpgradeRefused honest s t e
 failure-refused honest s t e (is, counted) = record {
   device = λ same. counted;
@@ -26,7 +26,7 @@ failure-refused honest s t e (is, counted) = record {
   content = λ other more. absurd (other is);
 }
 
--- so is what was read
+-- so is the content that was read
 content-refused : (honest : Type 0) (s t : DeviceState) (e : JournalError) → Stays s t → t.faults ≡ s.faults → e ≢ Device → e ≢ Memory →
     IsOneOf (AlreadyWide ∷ NotEmpty ∷ super_refusals) e → (honest → IsNotUpgraded s.shape (s.disk Log 0).reads e) → UpgradeRefused honest s t e
 content-refused honest s t e stays same other more listed why = record {
@@ -36,7 +36,7 @@ content-refused honest s t e stays same other more listed why = record {
   content = λ is not. (stays, listed, why);
 }
 
--- a superblock that could not be read, or is refused
+-- so is a superblock that could not be read, or is refused
 pub reading-refused : (honest : Type 0) (s t : DeviceState) (e : JournalError) → Stays s t → IsReadingRefused honest s t e → UpgradeRefused honest s t e
 reading-refused honest s t e stays (inl failure) = failure-refused honest s t e failure
 reading-refused honest s t e stays (inr (inl (memory, same, large))) = record {
@@ -48,14 +48,14 @@ reading-refused honest s t e stays (inr (inl (memory, same, large))) = record {
 reading-refused honest s t e stays (inr (inr (listed, same, refused))) =
     content-refused honest s t e stays same (super-device e listed) (super-memory e listed) (inr (inr listed)) (λ trust. BySuperblock e (refused trust))
 
--- that the log area has no block
+-- so is a log area without a block
 pub no-log-refused : (honest : Type 0) (s : DeviceState) → s.shape.log_blocks ≡ 0 → UpgradeRefused honest s s BadLength
 no-log-refused honest s none =
     content-refused honest s s BadLength (record { shape = refl; disk = refl; past = refl }) refl (λ e. cc) (λ e. cc)
     (inr (inr (inr (inr (inr (inl refl))))))
     (λ trust. BySuperblock BadLength (let test : (s.shape.log_blocks == 0) ≡ true = grind (arith, nat_tests) in rw test refl))
 
--- a log that is wide or not clean
+-- so is a log that is wide or not clean
 pub fields-refused : (honest : Type 0) (s t : DeviceState) (block : List ℕ) (fields : Super) (e : JournalError) → IsWellRead s.shape block fields →
     (honest → block ≡ reading s.disk Log 0) → Stays s t → t.faults ≡ s.faults → IsKeptNarrow fields e → UpgradeRefused honest s t e
 fields-refused honest s t block fields e well read stays same kept =
@@ -69,7 +69,7 @@ fields-refused honest s t block fields e well read stays same kept =
     kept-listed f x (ForWide wide) = ((λ e. cc), (λ e. cc), inl refl)
     kept-listed f x (ForContent narrow started) = ((λ e. cc), (λ e. cc), inr (inl refl))
 
--- features that are not those of a wide log
+-- features that are not a wide log's
 pub other-features : (s : Super) (is_wide : Bool) → is_wide ≡ (s.s_feature_incompat == wide_features) → is_wide ≡ false → s.s_feature_incompat ≢ wide_features
 other-features s is_wide tested other same = let test : (s.s_feature_incompat == wide_features) ≡ true = grind (arith, nat_tests) in cc
 

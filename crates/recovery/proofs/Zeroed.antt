@@ -1,4 +1,4 @@
--- The blocks of a log that is made: zeros, one after another, and then the superblock.
+-- The blocks of a log that is made: zeros, one after another, then the superblock.
 use Rattle.std.proofs.Common.{refl, sym, ◌∙◌, ap, subst, arith, inl, inr}
 use Rattle.std.specs.Prelude.{◌≡◌, ℕ, ◌+◌, ◌==◌, ◌<◌, ◌≤◌, Bool, true, false, List, replicate}
 use Rattle.std.proofs.lemmas.Bool.{cases_eq}
@@ -14,7 +14,7 @@ use Rattle.recovery.specs.Opening.{HasZeros, IsFormatted}
 own-reads : (disk : Disk) (n : ℕ) (v : List ℕ) → (written disk Log n v Log n).reads ≡ v
 own-reads disk n v = let same : (n == n) ≡ true = grind (arith, nat_tests) in rw same refl
 
--- the others stay as they are
+-- other blocks stay
 other-cell : (disk : Disk) (n m : ℕ) (v : List ℕ) → (m ≡ n → ⊥) → written disk Log n v Log m ≡ disk Log m
 other-cell disk n m v other = let apart : (m == n) ≡ false = grind (arith, nat_tests) in rw apart refl
 
@@ -38,7 +38,7 @@ zeros-more zeros n old disk new has is = subst (HasZeros zeros (n + 1) old) (sym
   home = has.home;
 })
 
--- what the log leaves once it is flushed: the superblock, the zeros and what lies behind them
+-- after the last flush the log is formatted
 pub formatted : (shape : Shape) (maxlen : ℕ) (uuid block : List ℕ) (is_wide : Bool) (old zeroed first second new : Disk) → IsBlockSize shape.block_size →
     least_length ≤ maxlen → maxlen ≤ greatest_length → maxlen ≤ shape.log_blocks → block ≡ formatted_super shape.block_size maxlen uuid is_wide →
     HasZeros (replicate shape.block_size 0) maxlen old zeroed → first ≡ flushed zeroed Log → second ≡ written first Log 0 block →

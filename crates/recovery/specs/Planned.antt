@@ -1,4 +1,4 @@
--- What an opening would do to a disk, found out without doing it.
+-- The plan of an opening, found without opening.
 use Rattle.std.specs.Prelude.{◌≡◌, ℕ, Bool, length}
 use Rattle.journal_model.specs.Disk.{Disk, Shape, reading}
 use Rattle.log_epochs.specs.OpeningRun.{IsFoundOn}
@@ -6,7 +6,7 @@ use Rattle.log_epochs.specs.OpeningSteps.{Found, next_of}
 use Rattle.recovery.specs.HomeCopies.{home_copies}
 use Rattle.recovery.specs.Opening.{Tells}
 
--- an opening finds this on the disk, and so tells this, writes so many blocks home, and gives this number to the next transaction
+-- an opening of this disk would report this, write so many blocks home, and give the next transaction this number
 pub record IsPlanned (shape : Shape) (disk : Disk) (clean : Bool) (ends_at transactions blocks next : ℕ) : Type 0 where
   pub found : Found
   pub is : IsFoundOn shape found disk

@@ -18,42 +18,42 @@ use Rattle.log_epochs.specs.Epoch.{pinning}
 use Rattle.log_epochs.specs.UpgradeSteps.{IsUpgradableOn}
 use Rattle.recovery.specs.Calls.{HasBegun, HasMade}
 
--- the calls of an upgrade of a log with this superblock, in their order
+-- the calls of an upgrade of a log with this superblock, in order
 abbrev pub upgrade_calls : List ℕ → List Call
 upgrade_calls block = Flush Log ∷ Write Log 0 (widened block) ∷ Flush Log ∷ []
 
--- an upgrade that ended: what it read may be upgraded, it made the calls that are due for that, and this is the log's sequence
+-- an upgrade that ended: the log may be upgraded, the calls were made, and this is its sequence
 pub record IsUpgraded (old new : DeviceState) (sequence : ℕ) : Type 0 where
   pub block : List ℕ
   pub on : IsUpgradableOn old.shape block old.disk
   pub made : HasMade (upgrade_calls block) old new
   pub sequence_is : sequence ≡ (super_in block).s_sequence
 
--- an upgrade that did not: it came no farther than to read, or some of the calls were made
+-- an upgrade that failed: it had only read, or it had made some of the calls
 pub data IsUpgradeBroken (old new : DeviceState) : Type 0 where
   Reading : Stays old new → IsUpgradeBroken old new
   Writing : (block : List ℕ) → IsUpgradableOn old.shape block old.disk → HasBegun (upgrade_calls block) old new → IsUpgradeBroken old new
 
--- why a superblock is not upgraded, by its fields: those of a wide log, or of a log that is not clean
+-- why a superblock is not upgraded: the log is wide already, or not clean
 pub data IsKeptNarrow (s : Super) : JournalError → Type 0 where
   ForWide : s.s_feature_incompat ≡ wide_features → IsKeptNarrow s AlreadyWide
   ForContent : s.s_feature_incompat ≢ wide_features → s.s_start ≢ 0 → IsKeptNarrow s NotEmpty
 
--- why it is refused: the superblock's tests, or where they pass its fields
+-- why it is refused: the superblock's tests, or else its fields
 pub data IsNotUpgraded (shape : Shape) (block : List ℕ) : JournalError → Type 0 where
   BySuperblock : (e : JournalError) → super_refusal shape block ≡ Some e → IsNotUpgraded shape block e
   ByFields : (e : JournalError) → super_refusal shape block ≡ None → IsKeptNarrow (super_in block) e → IsNotUpgraded shape block e
 
--- Why an upgrade is refused: the device failed; memory ran out for a block that is larger than any log's, or what was read is not
--- upgraded, and then nothing was written.
+-- Why an upgrade is refused: the device failed; memory ran out for a block larger than any log's, or what was read is not upgraded, and
+-- then nothing was written.
 pub record UpgradeRefused (honest : Type 0) (old new : DeviceState) (e : JournalError) : Type 0 where
   pub device : e ≡ Device → new.faults ≡ one_more_fault old.faults
   pub no_fault : e ≢ Device → new.faults ≡ old.faults
   pub memory : e ≡ Memory → Stays old new × (most_bytes < old.shape.block_size)
   pub content : e ≢ Device → e ≢ Memory → Stays old new × IsOneOf (AlreadyWide ∷ NotEmpty ∷ super_refusals) e × (honest → IsNotUpgraded old.shape (old.disk Log 0).reads e)
 
--- Whatever came before: where nobody works on the old disk, an upgrade may begin, make its calls and hand the device out, and then
--- the disk is the new one.
+-- Whatever came before: if nobody works on the old disk, an upgrade may begin, make its calls and hand the device out, which leaves the
+-- new disk.
 abbrev pub LeadsThroughUpgrade : Shape → List ℕ → Disk → Disk → Type 0
 LeadsThroughUpgrade shape block old new =
     (w : World) → w.shape ≡ shape → w.disk ≡ old → w.phase ≡ Shut →

@@ -1,4 +1,4 @@
-//! Making an empty log.
+//! Making an empty log: zeros first, then the superblock.
 ghost use Rattle.std.specs.Prelude.{◌≡◌, ◌≢◌, ◌+◌, ◌<◌, ◌≤◌, length, OnOk, IfErr, MatchResult};
 ghost use Rattle.journal_model.specs.declared.number.Area.TheVariants.{Log};
 ghost use Rattle.journal_model.specs.declared.refusal.JournalError.TheVariants.{Device as DeviceFailed};
@@ -57,7 +57,7 @@ pub fn format<D: Device>(
     write_log(device, &mut buffer[..size], maxlen, uuid, wide)
 }
 
-/// Writes an empty log by way of a buffer of one block: first zeros behind the superblock, and then that.
+/// Writes an empty log from a buffer of one block: zeros after the superblock's place, then the superblock.
 fn write_log<D: Device>(
     device: &mut D,
     block: &mut [u8],
@@ -86,7 +86,7 @@ fn write_log<D: Device>(
     Ok(())
 }
 
-/// Writes zeros to the blocks of the log behind the superblock.
+/// Writes zeros to the log's blocks after the superblock.
 fn write_zeros<D: Device>(device: &mut D, zeros: &[u8], maxlen: u64) -> Result<(), JournalError>
     requires block { length zeros.now ≡ (D.state device.old).shape.block_size }
     requires some { 0 < maxlen }

@@ -1,4 +1,4 @@
-//! Reading a log, and testing all that stands in it before anything is written.
+//! Reading a log, and testing everything in it before anything is written.
 ghost use Rattle.std.specs.Prelude.{◌≡◌, ◌↔◌, ◌+◌, ◌<◌, ◌≤◌, IsTrue, length, IfOk, IfErr, OnOk, MatchOption, MatchResult};
 ghost use Rattle.journal_model.specs.declared.number.Area.TheVariants.{Log as LogArea};
 ghost use Rattle.journal_model.specs.Disk.{reading};
@@ -19,8 +19,8 @@ use log_format::Super;
 use log_scan::{BlockBuffer, Finder, Log, scan};
 use std::alloc::Global;
 
-/// A log that was read and is not refused: block 0, the fields of its superblock, how many complete transactions it has, and
-/// what replay goes by.
+/// A log that was read and not refused: block 0, the superblock's fields, the number of complete transactions, and the tables for
+/// replay.
 #[derive(Drop)]
 pub(crate) struct Examined {
     pub(crate) superblock: Vec<u8>,
@@ -30,8 +30,8 @@ pub(crate) struct Examined {
     pub(crate) finder: Finder,
 }
 
-/// Reads the log and tests all that stands in it, which takes no memory where blocks have at most 4096 bytes. Then it gathers
-/// what replay goes by. Nothing is written, and all memory that an opening needs is taken.
+/// Reads and tests the log, then gathers the tables for replay. Nothing is written, and all memory that an opening needs is taken here.
+/// The tests take no memory unless blocks exceed 4096 bytes.
 pub(crate) fn examine<D: Device>(alloc: Global, device: &mut D) -> Result<Examined, JournalError>
     requires some { 0 < (D.state device.old).shape.log_blocks }
     ensures examined { IfOk result (λ e. IsExamined (D.state device.old).shape e.superblock.items e.log e.transactions) }
@@ -55,13 +55,13 @@ pub(crate) fn examine<D: Device>(alloc: Global, device: &mut D) -> Result<Examin
     })
 }
 
-/// Reads block 0 of a log area that has one, and tests it. The answer is the block, and the fields of its superblock. Memory is taken
-/// only where the device's blocks are larger than 4096 bytes, which no log's are. Nothing is written.
+/// Reads block 0 of the log area and tests it; the area must have a block. It answers the block and the superblock's fields. It takes
+/// memory only if the device's blocks exceed 4096 bytes, which no log's do. Nothing is written.
 /// Source: fs/jbd2/journal.c by behaviour; the tests are those of `Super::read`.
 ///
 /// # Errors
 ///
-/// `BadMagic` to `ErrnoSet`: the superblock; `Device` where the read failed; `Memory` where memory ran out for such a large block.
+/// `BadMagic` to `ErrnoSet`: the superblock. `Device`: the read failed. `Memory`: none for such a large block.
 pub fn read_super<D: Device>(
     alloc: Global,
     device: &mut D,
@@ -82,7 +82,7 @@ pub fn read_super<D: Device>(
     Ok((block, Log::new(fields)))
 }
 
-/// Why a log is refused whose blocks are larger than any log's. Block 0 is read in memory.
+/// Why a log is refused whose blocks exceed any log's. It reads block 0 into allocated memory.
 fn refusal_of_large<D: Device>(alloc: Global, device: &mut D) -> JournalError
     requires some { 0 < (D.state device.old).shape.log_blocks }
     requires large { most_bytes < (D.state device.old).shape.block_size }
@@ -95,13 +95,13 @@ fn refusal_of_large<D: Device>(alloc: Global, device: &mut D) -> JournalError
         Err(e) => return e,
     };
     match Super::read(block.bytes(), device.blocks(Area::Log)) {
-        // Not met: no log has such blocks.
+        // Unreachable: no log has such blocks.
         Ok(_) => JournalError::BadBlockSize,
         Err(e) => e,
     }
 }
 
-/// Block 0, in memory, by one call.
+/// Reads block 0 into allocated memory, by one call.
 ///
 /// # Errors
 ///
@@ -119,7 +119,7 @@ fn read_large<D: Device>(alloc: Global, device: &mut D) -> Result<Block, Journal
     Ok(Block::new(bytes)?)
 }
 
-/// How many complete transactions a log has, where nothing that stands in its ring is refused. It takes no memory.
+/// Counts the log's complete transactions, and refuses what its ring must not hold. It takes no memory.
 fn test_log<D: Device>(device: &mut D, log: &Log, finder: &mut Finder) -> Result<u64, JournalError>
     requires layout { finder.old.layout ≡ layout_of log.now }
     requires accepted { IsAccepted (D.state device.old).shape.block_size (D.state device.old).shape.log_blocks log.now }
@@ -142,7 +142,7 @@ fn test_log<D: Device>(device: &mut D, log: &Log, finder: &mut Finder) -> Result
     Ok(transactions)
 }
 
-/// How many complete transactions the log has: none where it is clean.
+/// Counts the log's complete transactions: none if it is clean.
 fn count_transactions<D: Device>(
     device: &mut D,
     log: &Log,
@@ -165,13 +165,13 @@ fn count_transactions<D: Device>(
     scan(device, log, Some(home_blocks), finder)
 }
 
-/// The lowest place of a ring block that begins with the magic and has a sequence above the limit, or none. The limit is the number
-/// behind the last transaction of the chain. One block is read at a time, no memory is taken, and nothing is written.
+/// The lowest place of a ring block that has the magic and a sequence above `limit`, or none. The limit is the number after the chain's
+/// last transaction. It reads one block at a time, takes no memory and writes nothing.
 /// Source: this project's own.
 ///
 /// # Errors
 ///
-/// `Device` where a read failed.
+/// `Device`: a read failed.
 pub fn lowest_ahead<D: Device>(
     device: &mut D,
     log: &Log,
@@ -196,7 +196,7 @@ pub fn lowest_ahead<D: Device>(
     Ok(None)
 }
 
-/// Whether a block with this sequence in its header, if it begins with the magic, is ahead of the limit.
+/// Whether a block header's sequence, if it has one, is above the limit.
 fn is_ahead(sequence: Option<u32>, limit: u64) -> bool
     ensures ahead { IsTrue result ↔ MatchOption sequence ⊥ (λ n. limit < n) }
 {

@@ -1,4 +1,4 @@
-//! Gathering: what replay goes by, noted in one pass over the chain.
+//! Gathering the tables for replay in one pass over the chain.
 ghost use Rattle.std.specs.Prelude.{◌≡◌, ◌≢◌, ◌⊎◌, ◌+◌, ◌<◌, ◌≤◌, ◌^◌, List, length, IfOk, IfErr, OnOk};
 ghost use Rattle.log_model.specs.declared.log.Text.{Text};
 ghost use Rattle.journal_model.specs.declared.refusal.JournalError.TheVariants.{Memory};
@@ -20,8 +20,8 @@ use log_scan::{Cursor, Finder, Found, Log};
 use std::alloc::Global;
 use std::marker::Model;
 
-/// What replay goes by: the greatest transaction that revokes each block, and the place of the newest copy of each block
-/// among all copies of the chain.
+/// The tables for replay: the greatest transaction that revokes each block, and the place of each block's newest copy among the chain's
+/// copies.
 #[derive(Drop)]
 pub struct Tables {
     revokes: RevokeTable,
@@ -39,7 +39,7 @@ impl Model for Tables {
 }
 
 impl Tables {
-    /// Tables without revokes and copies. They take no memory.
+    /// Empty tables, which take no memory.
     pub fn new(alloc: Global) -> Self
         ensures { result ≡ empty_tables }
     {
@@ -49,15 +49,15 @@ impl Tables {
         }
     }
 
-    /// Whether the copy of a block goes home that stands in this transaction, at this place among all copies of the chain: it
-    /// is the newest one of its block, and neither its own transaction nor a later one revokes the block.
+    /// Whether a copy goes home that has this transaction and this place among the chain's copies: it is its block's newest, and
+    /// neither its own transaction nor a later one revokes the block.
     pub fn goes_home(&self, block: BlockNo, tid: Tid, place: u64) -> bool
         ensures { result ≡ goes_by self.now.revokes self.now.copies tid place block }
     {
         self.copies.newest(block) == Some(place) && !self.revokes.covers(block, tid)
     }
 
-    /// Notes that a transaction revokes these blocks.
+    /// Adds the revokes of a transaction.
     fn note_revokes(&mut self, numbers: &[BlockNo], tid: Tid) -> Result<(), JournalError>
         ensures ok { OnOk result (self.new ≡ with_revokes self.old tid numbers.now) }
         ensures refused { IfErr result (λ e. e ≡ Memory) }
@@ -68,7 +68,7 @@ impl Tables {
         Ok(())
     }
 
-    /// Notes the copies behind a descriptor with these tags, of which the first has this place.
+    /// Adds the copies of a descriptor with these tags; `place` is the first one's.
     fn note_copies(&mut self, tags: &[Tag], place: u64) -> Result<(), JournalError>
         requires { place + length tags.now < 2 ^ 64 }
         ensures ok { OnOk result (self.new ≡ with_copies self.old place tags.now) }
@@ -81,7 +81,7 @@ impl Tables {
     }
 }
 
-/// The number of the transaction of a log before which so many are complete.
+/// The number of the transaction that follows so many complete ones.
 pub(crate) fn number_of(log: &Log, transactions: u64) -> Tid
     requires { log.now.s_sequence + transactions ≤ greatest_number }
     ensures { result ≡ log.now.s_sequence + transactions }
@@ -89,15 +89,14 @@ pub(crate) fn number_of(log: &Log, transactions: u64) -> Tid
     Tid((log.first_number() + transactions) as u32)
 }
 
-/// Goes over the complete transactions of a log that is not clean, and notes their revokes and copies. One block is read at a
-/// time, and no copy is. `transactions` is what `scan` answered. Numbers do not begin again behind the greatest one: an opening
-/// that finds none left for the next transaction refuses the log before it gathers, so the numbers of all that are gone over fit.
+/// Gathers the revokes and copies of the complete transactions, in a log that is not clean. `transactions` is what `scan` answered. It
+/// reads one block at a time, and no copy. Numbers do not wrap: an opening refuses a log without a next number before it gathers.
 /// Source: fs/jbd2/recovery.c by behaviour; the table of copies is this project's own.
 ///
 /// # Errors
 ///
-/// `Memory` where memory ran out, `Device` where a read failed: nothing was written. `Damage` where the log reads otherwise
-/// than it did to `scan`, at the place where that shows.
+/// Nothing is written. `Memory`. `Device`: a read failed. `Damage`: the log reads otherwise than it did to `scan`; it names the place
+/// where that shows.
 pub fn gather<D: Device>(
     alloc: Global,
     device: &mut D,

@@ -1,12 +1,9 @@
-//! Makes a log on a device, and opens one: the log is tested, the transactions that a stop left in it go home, and it is
-//! left clean.
+//! Makes a log, and opens one: it tests the log, replays the transactions that a crash left, and leaves it clean.
 //!
-//! `examine` reads the superblock and goes over the ring, block by block, and tests both. `gathering` goes over the chain of
-//! complete transactions, for what they revoke and for the newest copy of each block; `replaying` goes over it once more, writes
-//! these copies home and then marks the log clean. `opening` puts them together and makes an `Opened`, and `empty_log` formats.
-//! `planning` says what an opening would do. `upgrading` gives an empty log block numbers of 64 bits.
-//! Which calls an opening makes is said by `specs/Calls.antt`, and what it answers by `specs/Opening.antt`; `laws` joins the
-//! lists of these calls to the definitions of replay.
+//! `examine` reads and tests superblock and ring. `gathering` collects the revokes and newest copies of the complete transactions;
+//! `replaying` writes these copies home and marks the log clean. `opening` joins them to make an `Opened`. `planning` says what an
+//! opening would do, `empty_log` formats, and `upgrading` gives an empty log 64-bit block numbers. `specs/Calls.antt` lists the calls
+//! of an opening, `specs/Opening.antt` its answers, and `laws` ties those calls to the definition of replay.
 #![tactic(auto)]
 
 mod empty_log;

@@ -1,4 +1,4 @@
-//! Opening a log: what a stop left is replayed to home, and the log is left clean.
+//! Opening a log: it replays what a crash left, and leaves the log clean.
 ghost use Rattle.std.specs.Prelude.{◌<◌, ◌≡◌, ◌+◌, OnOk, IfOk, IfErr, MatchResult};
 ghost use Rattle.journal_model.specs.declared.refusal.JournalError.TheVariants.{BadLength};
 ghost use Rattle.journal_model.specs.Disk.{reading};
@@ -23,16 +23,15 @@ use std::marker::Model;
 /// What an opening found in a log.
 #[derive(Clone, Copy, Debug, PartialEq, Eq)]
 pub struct Report {
-    /// The log was clean: there was nothing to replay.
+    /// The log was clean, with nothing to replay.
     pub clean: bool,
-    /// The number behind the last complete transaction of the log. In a clean log, its s_sequence.
+    /// The number after the log's last complete transaction; in a clean log, its s_sequence.
     pub ends_at: u64,
     /// How many complete transactions the log had.
     pub transactions: u64,
 }
 
-/// A device whose log was opened: it is clean, and what its chain held is home. Make a journal of it, or take the device
-/// back.
+/// A device whose log was opened: the log is clean, and its copies are home. Make a journal of it, or take the device back.
 #[derive(Drop)]
 pub struct Opened<D: Device> {
     pub(crate) device: D,
@@ -60,28 +59,29 @@ impl<D: Device> Model for Opened<D> {
         × (D.honest o.device → IsOpenedLog (D.state o.device).shape (D.state o.device).disk o.superblock.items o.next) };
 }
 
-/// Opens the log of a device: tests it, replays the transactions that it holds to home, and leaves it clean. Before
-/// anything else is relied on, the log area is flushed, so that no later stop takes back what was read.
+/// Opens the log of a device: it tests the log, replays its transactions and leaves it clean. The log area is flushed first, so that no
+/// later crash takes back what was read.
 ///
-/// The calls that it makes are those of `opening_calls` (`specs/Calls.antt`), one after the other: a flush of the log, and where
-/// that is not clean, one write of each home block that has a live copy, in the order of the chain, a flush of home, the write
-/// of the superblock, and a flush of the log. It holds a block, and room for the tags and numbers of one, without taking memory.
-/// Memory is taken only once all tests have passed: for block 0, and in proportion to the blocks that the chain names. (Where the
-/// device's blocks are larger than 4096 bytes, which no log's are, block 0 is read in memory.)
+/// `opening_calls` (`specs/Calls.antt`) lists the calls: a flush of the log; if it is not clean, one write of each home block that has
+/// a live copy, in the chain's order, a flush of home, the write of the superblock and a flush of the log. Memory is taken only once
+/// all tests have passed: for block 0, and in proportion to the blocks that the chain names. (If blocks exceed 4096 bytes, as no log's
+/// do, block 0 is read into allocated memory.)
 ///
 /// # Errors
 ///
-/// The device comes back with the refusal. `BadMagic` to `ErrnoSet`: the superblock; `Damage` and `Ahead`: a ring block;
-/// `SequenceEnd`: no number is left for a transaction; `Memory` where memory ran out, and nothing that stands in the log is
-/// refused: nothing is written. `BadLength` where the log area has no block: no call is made. `Device` where the device failed:
-/// home and the superblock may have been written. Once the flush of the log has succeeded, what a stop then leaves opens to the
-/// same transactions. `Damage`, also, where the log reads otherwise, while its copies go home, than it did to the tests, which only
-/// a device does whose reads are not honest: some copies may be home, and the log is left as it was, not clean.
-/// Source: fs/jbd2/recovery.c by behaviour; the flush, the tests of ring blocks, and that each home block is written once are
-/// this project's own.
+/// The device comes back with the error.
+/// - Nothing is written: `BadMagic` to `ErrnoSet` for the superblock, `Damage` and `Ahead` for a ring block, `SequenceEnd` if no
+///   transaction number is left, `Memory` if nothing in the log is refused, `BadLength` if the log area has no block (no call is made).
+/// - `Device`: home and the superblock may have been written. Once the log's flush has succeeded, each crash image opens to the same
+///   transactions.
+/// - `Damage` also if the log reads otherwise during replay than in the tests, which needs incorrect reads: some copies may be home,
+///   and the log is as it was, not clean.
+///
+/// Source: fs/jbd2/recovery.c by behaviour; the flush, the tests of ring blocks, and that each home block is written once are this
+/// project's own.
 pub fn open<D: Device>(alloc: Global, device: D) -> Result<Opened<D>, (D, JournalError)>
     ensures opened { IfOk result (λ o. D.honest o.device → IsOpening (D.state device).shape (D.state device).disk (D.state o.device).disk o.superblock o.next) }
-    // In a machine of any past that nobody works in, it is a run of moves, from its begin to the answer.
+    // It is a run of the machine, from begin to answer, whatever came before on a device that nobody uses.
     ensures run { IfOk result (λ o. D.honest o.device → LeadsToEngine (D.state device).shape (D.state device).disk (D.state o.device).disk o.superblock o.next) }
     ensures report { IfOk result (λ o. D.honest o.device → Tells (D.state device).shape (reading (D.state device).disk) o.clean o.ends_at o.transactions) }
     ensures calls { MatchResult result
@@ -114,8 +114,8 @@ pub fn open<D: Device>(alloc: Global, device: D) -> Result<Opened<D>, (D, Journa
 }
 
 impl<D: Device> Opened<D> {
-    /// An opened log of these parts: those that `into_parts` gave of one, and its report. So its device may stand over another one
-    /// that has the same blocks: a device, as `FailOnce`, that counts its calls from behind the opening on.
+    /// An opened log of the parts that `into_parts` gave, and its report. The device may be another one with the same blocks, such as a
+    /// `FailOnce` that counts calls from the opening on.
     pub fn from_parts(device: D, superblock: Vec<u8>, next: Tid, report: Report) -> Self
         requires named { IsNextNamed (D.state device).shape superblock.items next }
         requires log { D.honest device → IsOpenedLog (D.state device).shape (D.state device).disk superblock.items next }
@@ -143,7 +143,7 @@ impl<D: Device> Opened<D> {
         self.report
     }
 
-    /// The number that the next transaction will have.
+    /// The next transaction's number.
     pub fn next(&self) -> Tid
         ensures next { result ≡ self.now.next }
         ensures some { 0 < result }
@@ -151,7 +151,7 @@ impl<D: Device> Opened<D> {
         self.next
     }
 
-    /// The layout of its log.
+    /// Its log's layout.
     pub fn layout(&self) -> LogLayout
         ensures layout { result ≡ layout_of (super_in self.now.superblock) }
         ensures taken { IsLayout result }
@@ -160,14 +160,14 @@ impl<D: Device> Opened<D> {
         Super::fields(&self.superblock).layout()
     }
 
-    /// How many bytes a block of the device has.
+    /// Bytes per block of the device.
     pub fn block_size(&self) -> usize
         ensures { result ≡ (D.state self.now.device).shape.block_size }
     {
         self.device.block_size()
     }
 
-    /// Block 0 of its log, in the bytes of one block: the superblock of a clean log.
+    /// Block 0 of its log: the superblock of a clean log.
     pub fn superblock(&self) -> &[u8]
         ensures block { result.now ≡ self.now.superblock }
         ensures named { IsNextNamed (D.state self.now.device).shape self.now.superblock self.now.next }
@@ -175,7 +175,7 @@ impl<D: Device> Opened<D> {
         &self.superblock
     }
 
-    /// The device that it stands over, lent: of it only what changes nothing can be asked.
+    /// Its device, for calls that change nothing.
     pub fn device(&self) -> &D
         ensures { result.now ≡ self.now.device }
     {
@@ -195,10 +195,9 @@ impl<D: Device> Opened<D> {
         device
     }
 
-    /// What a journal is made of: the device, block 0 of its log in the bytes of one block, and the number of the next
-    /// transaction, from 1 on. Block 0 is the superblock of a clean log, and says the number before the next one or that
-    /// number itself. Where the device's reads were honest, that block is durable, and no block of the ring can be taken
-    /// for a part of the next transaction or of a later one.
+    /// The parts of a journal: the device, block 0 of its log, and the next transaction's number, at least 1. Block 0 is a clean log's
+    /// superblock, which names that number or the one before. If reads were correct, it is durable, and no ring block can pass for part
+    /// of the next or a later transaction.
     pub fn into_parts(self) -> (D, Vec<u8>, Tid)
         ensures device { result.0 ≡ self.device }
         ensures superblock { result.1.items ≡ self.superblock }
@@ -216,8 +215,7 @@ impl<D: Device> Opened<D> {
     }
 }
 
-/// The number of the next transaction, where this is the greatest number in use: in a log that `open` takes, the one behind its last
-/// complete transaction.
+/// The next transaction's number, after this greatest number in use.
 pub fn number_from(limit: u64) -> u32
     requires { limit < greatest_number }
     ensures { result ≡ limit + 1 }
@@ -225,8 +223,7 @@ pub fn number_from(limit: u64) -> u32
     (limit + 1) as u32
 }
 
-/// Reads the log, replays it and leaves it clean. The answer is block 0, the number of the next transaction and what was
-/// found.
+/// Reads the log, replays it and leaves it clean. It answers block 0, the next transaction's number and the report.
 fn recover<D: Device>(alloc: Global, device: &mut D) -> Result<(Vec<u8>, u32, Report), JournalError>
     requires some { 0 < (D.state device.old).shape.log_blocks }
     ensures named { IfOk result (λ r. IsNextNamed (D.state device.new).shape r.0.items r.1) }

@@ -1,4 +1,4 @@
-//! What an opening would do, found out without doing it.
+//! Planning: what an opening would do, found without doing it.
 ghost use Rattle.std.specs.Prelude.{◌≡◌, ◌+◌, ◌<◌, ◌≤◌, ◌==◌, ◌^◌, List, length, IfErr, IfOk, OnOk};
 ghost use Rattle.journal_model.specs.Disk.{reading};
 ghost use Rattle.log_model.specs.declared.log.Text.{Text};
@@ -23,16 +23,16 @@ use std::alloc::Global;
 /// What an opening would do to a log.
 #[derive(Clone, Copy, Debug, PartialEq, Eq)]
 pub struct Plan {
-    /// What it would tell.
+    /// What it would report.
     pub report: Report,
     /// How many home blocks it would write.
     pub blocks: u64,
-    /// The number that the next transaction would have.
+    /// The next transaction's number.
     pub next: Tid,
 }
 
-/// What `open` would do to the log of this device, with nothing written and nothing flushed: it reads the log as an opening does, and
-/// the descriptors of its chain once more. A later opening does just that where nobody writes the log in between.
+/// What `open` would do to this device's log. It reads as an opening does, and the chain's descriptors once more; it writes and flushes
+/// nothing. A later opening does just that if nobody writes the log meanwhile.
 ///
 /// # Errors
 ///
@@ -56,7 +56,7 @@ pub fn plan_opening<D: Device>(alloc: Global, device: &mut D) -> Result<Plan, Jo
     })
 }
 
-/// What an opening tells of a log that was read.
+/// The report of an opening of this log.
 fn report_of(examined: &Examined) -> Report
     requires { examined.now.log.s_sequence + examined.now.transactions < 2 ^ 64 }
     ensures clean { result.clean ≡ (examined.now.log.s_start == 0) }
@@ -70,7 +70,7 @@ fn report_of(examined: &Examined) -> Report
     }
 }
 
-/// How many copies of a log that was read go home.
+/// How many copies of this log go home.
 fn count_home<D: Device>(device: &mut D, examined: Examined) -> Result<u64, JournalError>
     requires layout { examined.finder.layout ≡ layout_of examined.log }
     requires accepted { IsAccepted (D.state device.old).shape.block_size (D.state device.old).shape.log_blocks examined.log }
@@ -93,14 +93,12 @@ fn count_home<D: Device>(device: &mut D, examined: Examined) -> Result<u64, Jour
     count_copies(device, &log, transactions, &tables, &mut finder)
 }
 
-/// How many copies of a log that is not clean go home by its tables: those that `replay` writes. `transactions` is what `scan`
-/// answered, and `tables` what `gather` did. One block is read at a time, and no copy is; no memory is taken, and nothing is
-/// written. Their numbers fit, as `gather` says.
+/// How many copies go home by the tables, in a log that is not clean: those that `replay` writes. `transactions` is what `scan`
+/// answered, and `tables` what `gather` did. It reads one block at a time, and no copy; it takes no memory and writes nothing.
 ///
 /// # Errors
 ///
-/// Those of `replay`: `Device` where a read failed, and `Damage` where the log reads otherwise than it did to `scan`, at the place
-/// where that shows.
+/// Those of `replay`; nothing is written.
 pub fn count_copies<D: Device>(
     device: &mut D,
     log: &Log,
@@ -138,7 +136,7 @@ pub fn count_copies<D: Device>(
     Ok(count)
 }
 
-/// How many of the copies with these tags go home, in this transaction, where the first one has this place.
+/// How many copies with these tags go home, in this transaction; `place` is the first one's.
 fn count_tagged(tables: &Tables, tid: Tid, place: u64, tags: &[Tag]) -> u64
     requires { place + length tags.now < 2 ^ 64 }
     ensures count { result ≡ count_chosen tables.now tid place tags.now }

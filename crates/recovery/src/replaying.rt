@@ -1,4 +1,4 @@
-//! Replay: the newest copies go home, and then the log is left clean.
+//! Replay: writes the newest copies home, then marks the log clean.
 ghost use Rattle.std.specs.Prelude.{◌≡◌, ℕ, ◌+◌, ◌<◌, ◌≤◌, ◌^◌, [], ◌∷◌, List, All, length, take, IfErr, OnOk, OnErr, MatchResult};
 ghost use Rattle.log_model.specs.declared.log.Text.{Text};
 ghost use Rattle.journal_model.specs.declared.number.Area.TheVariants.{Log as LogArea};
@@ -22,31 +22,29 @@ use log_format::Super;
 use log_model::Tag;
 use log_scan::{Cursor, Finder, Found, Log};
 
-/// Copies behind a descriptor of the log.
+/// The copies of one descriptor.
 #[derive(Clone, Copy)]
 struct Copies {
-    /// The transaction that they stand in.
+    /// Their transaction.
     tid: Tid,
-    /// How many copies of the chain stand before them.
+    /// How many copies of the chain come before them.
     place: u64,
-    /// The position in the ring of the first one.
+    /// The first one's position in the ring.
     position: u64,
-    /// How many they are.
+    /// How many there are.
     count: usize,
 }
 
-/// Writes home the copies of a log that is not clean, in the order of its chain: of each block the newest one, unescaped, where
-/// neither its own transaction nor a later one revokes the block. `transactions` is what `scan` answered, and `tables` what
-/// `gather` did. One block is read and written at a time, no memory is taken, and no block is written twice. Nothing is written to
-/// the log. Ok comes only once each of the transactions was passed, which takes a read for each at least. Their numbers fit, as
-/// `gather` says.
+/// Writes home the copies of a log that is not clean, in the chain's order: each block's newest, unescaped, unless its own or a later
+/// transaction revokes the block. `transactions` is what `scan` answered, and `tables` what `gather` did. It reads and writes one block
+/// at a time, writes no block twice, takes no memory, and writes nothing to the log. It answers Ok only after it has passed every
+/// transaction.
 /// Source: fs/jbd2/recovery.c by behaviour; that a block is written once is this project's own.
 ///
 /// # Errors
 ///
-/// `Device` where the device failed: some of the copies are home. `Damage` where the log reads otherwise than it did to `scan`, at
-/// the place where that shows: what was read and written home before it may be wrong, and the log is not to be marked clean. Of a
-/// device whose reads are honest it never comes.
+/// `Device`: the device failed, with some of the copies home. `Damage`: the log reads otherwise than it did to `scan`, at the place
+/// named. The copies already home may be wrong, so do not mark the log clean. With correct reads it never happens.
 pub fn replay<D: Device>(
     device: &mut D,
     log: &Log,
@@ -95,7 +93,7 @@ pub fn replay<D: Device>(
     Ok(())
 }
 
-/// Writes home those copies behind the descriptor that was found last which the tables choose.
+/// Writes home those copies of the last descriptor found that the tables choose.
 fn write_copies<D: Device>(
     device: &mut D,
     log: &Log,
@@ -155,14 +153,13 @@ fn copy_home<D: Device>(
     Ok(())
 }
 
-/// Makes home durable, and then says in the superblock that the log is clean: a flush of home, the write of block 0, and a flush of
-/// the log. `superblock` is block 0 as it was read, in the bytes of one block, and becomes what is written; `next` is the number of
-/// the next transaction.
+/// Makes home durable, then marks the log clean: a flush of home, the write of block 0, a flush of the log. `superblock` is block 0 as
+/// it was read, and becomes what is written; `next` is the next transaction's number.
 /// Source: fs/jbd2/recovery.c by behaviour.
 ///
 /// # Errors
 ///
-/// `Device` where the device failed: the superblock may have been written, and then home is durable.
+/// `Device`: the superblock may have been written, and then home is durable.
 pub fn clean_log<D: Device>(
     device: &mut D,
     superblock: &mut [u8],

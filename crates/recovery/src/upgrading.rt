@@ -1,4 +1,4 @@
-//! Upgrading an empty log: its block numbers get 64 bits.
+//! Upgrading an empty log to 64-bit block numbers.
 ghost use Rattle.std.specs.Prelude.{◌≡◌, ◌≢◌, ◌+◌, ◌<◌, ◌≤◌, ℕ, List, length, IfErr, IfOk, MatchResult, OnErr, OnOk};
 ghost use Rattle.journal_model.specs.declared.refusal.JournalError.TheVariants.{BadLength, Device as DeviceFailed};
 ghost use Rattle.log_model.specs.Superblock.{super_in, wide_features, widened};
@@ -54,7 +54,7 @@ pub fn upgrade<D: Device>(alloc: Global, device: &mut D) -> Result<u32, JournalE
     Ok(sequence)
 }
 
-/// Whether a log with this superblock, which is accepted, may be upgraded.
+/// Whether a log with this accepted superblock may be upgraded.
 fn may_be_upgraded(fields: &Super) -> Result<(), JournalError>
     ensures ok { OnOk result ((fields.now.s_feature_incompat ≢ wide_features) × (fields.now.s_start ≡ 0)) }
     ensures err { IfErr result (IsKeptNarrow fields.now) }
@@ -68,7 +68,7 @@ fn may_be_upgraded(fields: &Super) -> Result<(), JournalError>
     Ok(())
 }
 
-/// Makes the log durable as it was read, and then writes its superblock with the features of a wide log, durably.
+/// Makes the log durable as it was read, then writes its superblock with a wide log's features, durably.
 fn write_widened<D: Device>(
     device: &mut D,
     superblock: &mut BlockBuffer,

@@ -12,11 +12,9 @@ use Rattle.group_commit.proofs.TurnMoments.{each-rounds, each-sealed, each-still
 use Rattle.group_commit.proofs.close.finish.Goals as goal
 use Rattle.group_commit.proofs.close.finish.Goals.{then-has_joined+in_ok-seal_last, else-has_joined+in_ok-finish_commit}
 
--- the device failed before
 pub returns-then-is_aborted-clause-err : goal.returns-then-is_aborted-clause-err
 returns-then-is_aborted-clause-err g c = CloseRefused.CloseAborted (sym c.is_aborted.ensures ∙ c.if-is_aborted.true) refl refl refl
 
--- it failed in the commit that was under way
 pub returns-in_err-finish_commit-clause-err : goal.returns-in_err-finish_commit-clause-err
 returns-in_err-finish_commit-clause-err g c =
     let running = sym c.is_aborted.ensures ∙ c.if-is_aborted.false in
@@ -30,7 +28,6 @@ returns-in_err-seal_last-clause-err g c =
     let p = err_from_is_err_and c.from_residual.result c.from_residual.ensures.1 in
     rw (p.1, p.2) (last-refused g.D.Device.state _ _ _ running (c.has_joined.ensures.0 c.if-has_joined.true) c.in_err-seal_last.ensures.err)
 
--- the device failed in the last round
 pub returns-clause-err : goal.returns-clause-err
 returns-clause-err g c =
     let old = c.args.journal.now in
@@ -44,15 +41,12 @@ returns-clause-err g c =
     ] in
     sealed-refused g.D.Device.state c.release_all.result _ _ _ running has c.release_all.ensures.err
 
--- the moves: none
 pub returns-then-is_aborted-clause-path : goal.returns-then-is_aborted-clause-path
 returns-then-is_aborted-clause-path g c = comes-nowhere _ _
 
--- up to where the device failed in the commit that was under way
 pub returns-in_err-finish_commit-clause-path : goal.returns-in_err-finish_commit-clause-path
 returns-in_err-finish_commit-clause-path g c = c.in_err-finish_commit.ensures.err.1.on.path
 
--- and to the last round
 pub returns-clause-path : goal.returns-clause-path
 returns-clause-path g c =
     let old = c.args.journal.now in
@@ -65,14 +59,12 @@ returns-clause-path g c =
     ] in
     way-on g.D.Device.state c.release_all.result _ _ _ has.path c.release_all.ensures.ok c.release_all.ensures.err
 
--- the calls: none where the device had failed
 pub returns-then-is_aborted-clause-calls : goal.returns-then-is_aborted-clause-calls
 returns-then-is_aborted-clause-calls g c = same-calls g.D.Device.state _ _ refl
 
 pub returns-then-is_aborted-clause-moments : goal.returns-then-is_aborted-clause-moments
 returns-then-is_aborted-clause-moments g c = λ honest. each-still g.D.Device.state _ (c.recall_invariant.ensures.opens honest)
 
--- else those of both steps
 pub returns-clause-calls : goal.returns-clause-calls
 returns-clause-calls g c =
     let old = c.args.journal.now in
@@ -83,7 +75,6 @@ returns-clause-calls g c =
     ] in
     calls-after g.D.Device.state _ _ _ calls c.release_all.ensures.calls
 
--- and their moments
 pub returns-clause-moments : goal.returns-clause-moments
 returns-clause-moments g c = λ honest.
     let old = c.args.journal.now in

@@ -8,7 +8,6 @@ use Rattle.group_commit.proofs.OwnCalls.{calls-after, refused-calls, same-calls,
 use Rattle.group_commit.proofs.TurnMoments.{each-commit, each-still, each-went}
 use Rattle.group_commit.proofs.close.finish_commit.Goals as goal
 
--- before the first step
 pub loop-journal-init : goal.loop-journal-init
 loop-journal-init g c = record {
   went = went-nowhere g.D.Device.state _ c.requires;
@@ -26,7 +25,6 @@ returns-in_err-commit_step-clause-err g c =
     let p = err_from_is_err_and c.from_residual.result c.from_residual.ensures.1 in
     rw (p.1, p.2) (wrong.0, went-wrong g.D.Device.state _ _ _ c.loop-journal.invariant.went wrong.1)
 
--- with one call more
 pub returns-in_err-commit_step-clause-calls : goal.returns-in_err-commit_step-clause-calls
 returns-in_err-commit_step-clause-calls g c =
     let before = c.loop-journal.invariant in
@@ -34,7 +32,6 @@ returns-in_err-commit_step-clause-calls g c =
     calls-after g.D.Device.state _ _ _ before.calls
     (refused-calls g.D.Device.state _ _ _ before.went.running busy c.in_err-commit_step.ensures.err c.commit_step.ensures.device.calls)
 
--- and what holds at its moments
 pub returns-in_err-commit_step-clause-moments : goal.returns-in_err-commit_step-clause-moments
 returns-in_err-commit_step-clause-moments g c = λ honest.
     let before = c.loop-journal.invariant in
@@ -43,7 +40,6 @@ returns-in_err-commit_step-clause-moments g c = λ honest.
     let was = c.commit_step.ensures.device.honest honest in
     each-went g.D.Device.state _ _ _ before.went.on (before.each was) (each-commit g.D.Device.state _ _ wrong.1.on.committed (c.commit_step.ensures.device.moments was))
 
--- a step that was made keeps it
 pub loop-journal-preserved : goal.loop-journal-preserved
 loop-journal-preserved g c =
     let before = c.loop-journal.invariant in

@@ -5,7 +5,7 @@ use Rattle.group_commit.specs.During.{HoldsDuringTurns}
 use Rattle.group_commit.specs.Rounds.{MakesNoRound}
 use Rattle.group_commit.proofs.close.finish_commit.Given as goal
 
--- steps of the commit were made, and none of a round, and none has failed
+-- commit steps were made, no checkpoint step, and none failed
 abbrev pub invariant-loop-journal : goal.invariant-loop-journal
 invariant-loop-journal g l = record {
   went : Went g.D.Device.state l.fn.journal l.journal;
@@ -15,6 +15,5 @@ invariant-loop-journal g l = record {
   honest : g.D.Device.honest l.journal.device → g.D.Device.honest l.fn.journal.device;
 }
 
--- the calls that are left
 abbrev pub decreases-loop-journal : goal.decreases-loop-journal
 decreases-loop-journal g l = commit_calls l.journal.journal.engine

@@ -7,7 +7,6 @@ use Rattle.group_commit.proofs.OwnCalls.{calls-after}
 use Rattle.group_commit.proofs.TurnMoments.{each-rounds, each-went}
 use Rattle.group_commit.proofs.close.make_room.Goals as goal
 
--- the device failed in the commit that was under way
 pub returns-in_err-finish_commit-clause-err : goal.returns-in_err-finish_commit-clause-err
 returns-in_err-finish_commit-clause-err g c =
     let p = err_from_is_err_and c.from_residual.result c.from_residual.ensures.1 in
@@ -18,30 +17,26 @@ pub returns-clause-room : goal.returns-clause-room
 returns-clause-room g c =
     room-made g.D.Device.state c.release_all.result _ _ c.recall_invariant.ensures.quarter c.release_all.ensures.ok c.release_all.ensures.free
 
--- the rounds come behind the commit
 pub returns-clause-ok : goal.returns-clause-ok
 returns-clause-ok g c = went-on g.D.Device.state c.release_all.result _ _ _ c.in_ok-finish_commit.ensures.ok c.release_all.ensures.ok
 
--- and fail behind it
 pub returns-clause-err : goal.returns-clause-err
 returns-clause-err g c = wrong-on g.D.Device.state c.release_all.result _ _ _ c.in_ok-finish_commit.ensures.ok c.release_all.ensures.err
 
--- no round where there is room
+-- if there is room, there is no round
 pub returns-then-has_room-clause-rounds : goal.returns-then-has_room-clause-rounds
 returns-then-has_room-clause-rounds g c =
     room-there g.D.Device.state _ _ c.in_ok-finish_commit.ensures.ok c.in_ok-finish_commit.ensures.idle c.in_ok-finish_commit.ensures.rounds
 
--- and rounds where there is none
+-- else the rounds are for lack of room
 pub returns-clause-rounds : goal.returns-clause-rounds
 returns-clause-rounds g c =
     room-wanted g.D.Device.state c.release_all.result _ _ _ c.in_ok-finish_commit.ensures.ok c.in_ok-finish_commit.ensures.idle
     c.in_ok-finish_commit.ensures.rounds (λ has. true≢false (sym (c.has_room.ensures.1 has) ∙ c.if-has_room.false))
 
--- the calls are those of both
 pub returns-clause-calls : goal.returns-clause-calls
 returns-clause-calls g c = calls-after g.D.Device.state _ _ _ c.finish_commit.ensures.calls c.release_all.ensures.calls
 
--- and so are the moments
 pub returns-clause-moments : goal.returns-clause-moments
 returns-clause-moments g c = λ honest.
     each-went g.D.Device.state _ _ _ c.in_ok-finish_commit.ensures.ok.on (c.finish_commit.ensures.moments (c.release_all.ensures.honest honest))

@@ -5,7 +5,6 @@ use Rattle.group_commit.proofs.OwnCalls.{calls-after, check-calls, refused_check
 use Rattle.group_commit.proofs.TurnMoments.{rounds-on, rounds-still}
 use Rattle.group_commit.proofs.close.release_all.Goals as goal
 
--- before the first step
 pub loop-journal-init : goal.loop-journal-init
 loop-journal-init g c = record {
   went = went-nowhere g.D.Device.state _ c.requires;
@@ -24,26 +23,22 @@ returns-in_err-checkpoint_turn-clause-err g c =
     let p = err_from_is_err_and c.from_residual.result c.from_residual.ensures.1 in
     rw (p.1, p.2) (wrong.0, went-wrong g.D.Device.state _ _ _ c.loop-journal.invariant.went wrong.1)
 
--- and has left the commit
 pub returns-in_err-checkpoint_turn-clause-stage : goal.returns-in_err-checkpoint_turn-clause-stage
 returns-in_err-checkpoint_turn-clause-stage g c =
     let wrong = check-wrong g.D.Device.state _ _ _ c.loop-journal.invariant.went.running c.in_err-checkpoint_turn.ensures.err c.checkpoint_turn.ensures.device.shape in
     wrong.2 ∙ c.loop-journal.invariant.stage
 
--- and has committed nothing
 pub returns-in_err-checkpoint_turn-clause-committed : goal.returns-in_err-checkpoint_turn-clause-committed
 returns-in_err-checkpoint_turn-clause-committed g c =
     let wrong = check-wrong g.D.Device.state _ _ _ c.loop-journal.invariant.went.running c.in_err-checkpoint_turn.ensures.err c.checkpoint_turn.ensures.device.shape in
     wrong.3 ∙ c.loop-journal.invariant.committed
 
--- with one call more
 pub returns-in_err-checkpoint_turn-clause-calls : goal.returns-in_err-checkpoint_turn-clause-calls
 returns-in_err-checkpoint_turn-clause-calls g c =
     let before = c.loop-journal.invariant in
     calls-after g.D.Device.state _ _ _ before.calls
     (refused_check-calls g.D.Device.state _ _ _ before.went.running c.in_err-checkpoint_turn.ensures.err c.checkpoint_turn.ensures.device.calls)
 
--- and what holds at its moments
 pub returns-in_err-checkpoint_turn-clause-moments : goal.returns-in_err-checkpoint_turn-clause-moments
 returns-in_err-checkpoint_turn-clause-moments g c = λ honest.
     let before = c.loop-journal.invariant in
@@ -51,7 +46,6 @@ returns-in_err-checkpoint_turn-clause-moments g c = λ honest.
     rounds-on g.D.Device.state _ _ _ before.went.on before.front before.committed c.recall_invariant-in-loop-journal.ensures.agrees (before.each was)
     (c.checkpoint_turn.ensures.device.moments was)
 
--- a step that was made keeps it
 pub loop-journal-preserved : goal.loop-journal-preserved
 loop-journal-preserved g c =
     let before = c.loop-journal.invariant in

@@ -5,7 +5,7 @@ use Rattle.group_commit.specs.Close.{Went}
 use Rattle.group_commit.specs.During.{HoldsDuringRounds}
 use Rattle.group_commit.proofs.close.release_all.Given as goal
 
--- steps of rounds were made, and none has failed; they leave the commit and the front
+-- checkpoint steps were made and none failed; they leave the commit and the front
 abbrev pub invariant-loop-journal : goal.invariant-loop-journal
 invariant-loop-journal g l = record {
   went : Went g.D.Device.state l.fn.journal l.journal;
@@ -17,6 +17,5 @@ invariant-loop-journal g l = record {
   honest : g.D.Device.honest l.journal.device → g.D.Device.honest l.fn.journal.device;
 }
 
--- the calls that are left
 abbrev pub decreases-loop-journal : goal.decreases-loop-journal
 decreases-loop-journal g l = round_calls l.journal.journal.engine

@@ -28,7 +28,7 @@ returns-in_err-make_room-clause-err g c =
     let wrong = subst (λ (v : JournalValue g.row.D.Denot). WentWrong g.D.Device.state v c.make_room.new.journal) c.ready_batch.ensures.same c.in_err-make_room.ensures.err.1 in
     rw (p.1, p.2) (last-failed g.D.Device.state _ _ _ (c.in_err-make_room.ensures.err.0, wrong))
 
--- the entries are still those of the running transaction
+-- the entries are still the running transaction's
 pub seal_running-requires-clause-batch : goal.seal_running-requires-clause-batch
 seal_running-requires-clause-batch g c =
     let went = went-from g.D.Device.state c.args.journal.now _ _ c.ready_batch.ensures.same c.in_ok-make_room.ensures.ok in
@@ -42,7 +42,6 @@ returns-in_err-seal_running-clause-err g c =
     let p = err_from_is_err_and c.from_residual-in_err-seal_running.result c.from_residual-in_err-seal_running.ensures.1 in
     rw (p.1, p.2) (seal-refused g.D.Device.state _ _ _ _ went c.in_ok-make_room.ensures.room c.seal_running.ensures.all refused.0 refused.1)
 
--- the device failed behind it
 pub returns-clause-err : goal.returns-clause-err
 returns-clause-err g c =
     let went = went-from g.D.Device.state c.args.journal.now _ _ c.ready_batch.ensures.same c.in_ok-make_room.ensures.ok in
@@ -50,26 +49,22 @@ returns-clause-err g c =
     let has = seal-done g.D.Device.state _ _ _ went c.seal_running.ensures.told joined c.in_ok-seal_running.ensures.ok c.seal_running.ensures.device in
     last-uncommitted g.D.Device.state c.finish_commit.result _ _ _ has c.finish_commit.ensures.err
 
--- the moves: none where memory ran out
 pub returns-in_err-batch-clause-path : goal.returns-in_err-batch-clause-path
 returns-in_err-batch-clause-path g c =
     comes-same _ _ _ _ (ap (λ (v : JournalValue g.row.D.Denot). v.journal) c.ready_batch.ensures.same)
     (ap (λ (v : JournalValue g.row.D.Denot). (g.D.Device.state v.device).disk) c.ready_batch.ensures.same)
 
--- up to where the device failed
 pub returns-in_err-make_room-clause-path : goal.returns-in_err-make_room-clause-path
 returns-in_err-make_room-clause-path g c =
     let on = subst (λ (v : JournalValue g.row.D.Denot). GoesOn g.D.Device.state v c.make_room.new.journal) c.ready_batch.ensures.same c.in_err-make_room.ensures.err.1.on in
     on.path
 
--- up to the seal that was refused
 pub returns-in_err-seal_running-clause-path : goal.returns-in_err-seal_running-clause-path
 returns-in_err-seal_running-clause-path g c =
     let went = went-from g.D.Device.state c.args.journal.now _ _ c.ready_batch.ensures.same c.in_ok-make_room.ensures.ok in
     let joined = subst (λ (t : Transaction). 0 < length t.handles) (sym (same-running g.D.Device.state _ _ went.on)) c.requires.joined in
     way-locked g.D.Device.state _ _ _ went c.seal_running.ensures.told joined c.in_err-seal_running.ensures.err.1
 
--- and behind it
 pub returns-clause-path : goal.returns-clause-path
 returns-clause-path g c =
     let went = went-from g.D.Device.state c.args.journal.now _ _ c.ready_batch.ensures.same c.in_ok-make_room.ensures.ok in
@@ -77,7 +72,7 @@ returns-clause-path g c =
     let has = seal-done g.D.Device.state _ _ _ went c.seal_running.ensures.told joined c.in_ok-seal_running.ensures.ok c.seal_running.ensures.device in
     way-on g.D.Device.state c.finish_commit.result _ _ _ has.path c.finish_commit.ensures.ok c.finish_commit.ensures.err
 
--- all is sealed
+-- everything is sealed
 pub returns-clause-ok : goal.returns-clause-ok
 returns-clause-ok g c =
     let went = went-from g.D.Device.state c.args.journal.now _ _ c.ready_batch.ensures.same c.in_ok-make_room.ensures.ok in
@@ -91,23 +86,19 @@ returns-clause-rounds g c =
     let room = subst (λ (v : JournalValue g.row.D.Denot). MakesRoomAlone g.D.Device.state v c.make_room.new.journal) c.ready_batch.ensures.same c.in_ok-make_room.ensures.rounds in
     sealed-rounds g.D.Device.state c.finish_commit.result _ c.make_room.new.journal c.seal_running.new.self _ room (seal-rounds g.D.Device.state c.make_room.new.journal c.seal_running.new.self c.in_ok-seal_running.ensures.ok) c.finish_commit.ensures.rounds
 
--- the calls: none where memory ran out
 pub returns-in_err-batch-clause-calls : goal.returns-in_err-batch-clause-calls
 returns-in_err-batch-clause-calls g c = same-calls g.D.Device.state _ _ c.ready_batch.ensures.same
 
--- those that make room
 pub returns-in_err-make_room-clause-calls : goal.returns-in_err-make_room-clause-calls
 returns-in_err-make_room-clause-calls g c =
     subst (λ (v : JournalValue g.row.D.Denot). CallsForTurns g.D.Device.state v c.make_room.new.journal) c.ready_batch.ensures.same c.make_room.ensures.calls
 
--- the seal that was refused makes none
 pub returns-in_err-seal_running-clause-calls : goal.returns-in_err-seal_running-clause-calls
 returns-in_err-seal_running-clause-calls g c =
     calls-after g.D.Device.state _ _ _
     (subst (λ (v : JournalValue g.row.D.Denot). CallsForTurns g.D.Device.state v c.make_room.new.journal) c.ready_batch.ensures.same c.make_room.ensures.calls)
     (no-calls g.D.Device.state _ _ (ap (λ (v : JournalValue g.row.D.Denot). v.journal.engine) c.in_err-seal_running.ensures.err.1) c.seal_running.ensures.device)
 
--- and after the seal those of its commit
 pub returns-clause-calls : goal.returns-clause-calls
 returns-clause-calls g c =
     calls-after g.D.Device.state _ _ _
@@ -116,7 +107,6 @@ returns-clause-calls g c =
     (seal-calls g.D.Device.state _ _ c.in_ok-seal_running.ensures.ok c.seal_running.ensures.device))
     c.finish_commit.ensures.calls
 
--- so it is with the moments
 pub returns-in_err-batch-clause-moments : goal.returns-in_err-batch-clause-moments
 returns-in_err-batch-clause-moments g c = λ honest.
     let same = c.ready_batch.ensures.same in

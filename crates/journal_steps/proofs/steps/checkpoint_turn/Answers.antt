@@ -6,16 +6,14 @@ use Rattle.journal_steps.proofs.Rounding.{agrees-round, agrees-round_refused, do
 use Rattle.journal_steps.proofs.Turning.{each-check}
 use Rattle.journal_steps.proofs.steps.checkpoint_turn.Goals as goal
 
--- where the device failed, front and engine agree once the front is told
+-- once the front is told of the failure, they agree
 pub returns-in-Err-clause-agrees : goal.returns-in-Err-clause-agrees
 returns-in-Err-clause-agrees g c = agrees-round_refused _ _ _ _ _ _ _ c.requires.agrees c.abort.ensures c.in-Err.ensures.err
 
--- the device failed
 pub returns-in-Err-clause-err : goal.returns-in-Err-clause-err
 returns-in-Err-clause-err g c =
     (refused-check g.D.Device.state _ _ _ _ _ _ _ c.requires.agrees c.abort.ensures c.in-Err.ensures.err)
 
--- front and engine agree after a step
 pub returns-in-Idle-clause-agrees : goal.returns-in-Idle-clause-agrees
 returns-in-Idle-clause-agrees g c = agrees-round _ _ _ _ _ _ c.requires.agrees c.in-Ok.ensures.ok
 
@@ -25,7 +23,6 @@ returns-in-Step-clause-agrees g c = agrees-round _ _ _ _ _ _ c.requires.agrees c
 pub returns-in-Done-clause-agrees : goal.returns-in-Done-clause-agrees
 returns-in-Done-clause-agrees g c = agrees-round _ _ _ _ _ _ c.requires.agrees c.in-Ok.ensures.ok
 
--- each of its moments is one of the turn
 pub returns-in-Err-clause-device : goal.returns-in-Err-clause-device
 returns-in-Err-clause-device g c = call-as (each-check _ _ _ c.requires.agrees) c.checkpoint_step.ensures.device
 
@@ -38,7 +35,6 @@ returns-in-Step-clause-device g c = call-as (each-check _ _ _ c.requires.agrees)
 pub returns-in-Done-clause-device : goal.returns-in-Done-clause-device
 returns-in-Done-clause-device g c = call-as (each-check _ _ _ c.requires.agrees) c.checkpoint_step.ensures.device
 
--- the turn did what the step did
 pub returns-in-Idle-clause-ok : goal.returns-in-Idle-clause-ok
 returns-in-Idle-clause-ok g c =
     let old = c.args.engine.now in
@@ -60,6 +56,5 @@ returns-in-Done-clause-ok g c =
     let told = λ (p : Progress). RoundDid p old.engine (g.D.Device.state old.device).disk new.engine (g.D.Device.state new.device).disk in
     (done-check g.D.Device.state c.args.front.now _ _ _ _ _ (subst told c.in-Done.is c.in-Ok.ensures.ok))
 
--- where nothing is due the device is not called
 pub returns-in-Idle-clause-idle : goal.returns-in-Idle-clause-idle
 returns-in-Idle-clause-idle g c = λ is. c.in-Ok.ensures.idle c.in-Idle.is

@@ -6,25 +6,22 @@ use Rattle.journal_steps.proofs.Sealing.{agrees-last, agrees-refused, finishes-c
 use Rattle.journal_steps.proofs.Turning.{each-turn}
 use Rattle.journal_steps.proofs.steps.commit_step.Goals as goal
 
--- where the device failed, front and engine agree once the front is told
+-- once the front is told of the failure, they agree
 pub returns-in-Err-clause-agrees : goal.returns-in-Err-clause-agrees
 returns-in-Err-clause-agrees g c = agrees-refused _ _ _ _ _ _ _ c.requires.agrees c.abort.ensures c.in-Err.ensures.err
 
--- the device failed
 pub returns-in-Err-clause-err : goal.returns-in-Err-clause-err
 returns-in-Err-clause-err g c =
     let running = c.requires.running in
     (refused-turn g.D.Device.state _ _ _ _ _ _ _ running c.abort.ensures c.in-Err.ensures.err)
 
--- each of its moments is one of the turn
 pub returns-in-Err-clause-device : goal.returns-in-Err-clause-device
 returns-in-Err-clause-device g c = call-as (each-turn _ _ _ c.requires.agrees) c.commit_step.ensures.device
 
--- so it is of a step that is not the last
 pub returns-in-Step-clause-device : goal.returns-in-Step-clause-device
 returns-in-Step-clause-device g c = call-as (each-turn _ _ _ c.requires.agrees) c.commit_step.ensures.device
 
--- what is finished may be told
+-- what is finished may be acknowledged
 pub raise-requires : goal.raise-requires
 raise-requires g c =
     let old = c.args.engine.now in
@@ -33,7 +30,6 @@ raise-requires g c =
     c.in-Done.is c.in-Ok.ensures.ok in
     may-raise _ _ _ _ c.requires.agrees did.2 c.finish.ensures
 
--- after the last step front and engine agree, for the front knows it and tells of it
 pub returns-in-Done-clause-agrees : goal.returns-in-Done-clause-agrees
 returns-in-Done-clause-agrees g c =
     let old = c.args.engine.now in
@@ -42,7 +38,6 @@ returns-in-Done-clause-agrees g c =
     c.in-Done.is c.in-Ok.ensures.ok in
     agrees-last _ _ _ _ _ _ _ _ c.requires.agrees did.0 did.1 did.2 c.finish.ensures c.raise.ensures.after
 
--- the last step commits the transaction, and the front knows it and tells of it
 pub returns-in-Done-clause-ok : goal.returns-in-Done-clause-ok
 returns-in-Done-clause-ok g c =
     let old = c.args.engine.now in
@@ -51,6 +46,5 @@ returns-in-Done-clause-ok g c =
     c.in-Done.is c.in-Ok.ensures.ok in
     (finishes-commit g.D.Device.state _ _ _ _ _ _ _ _ c.requires.agrees did.0 did.1 did.2 c.finish.ensures c.raise.ensures)
 
--- each of its moments is one of the turn
 pub returns-in-Done-clause-device : goal.returns-in-Done-clause-device
 returns-in-Done-clause-device g c = call-as (each-turn _ _ _ c.requires.agrees) c.commit_step.ensures.device

@@ -4,12 +4,11 @@ use Rattle.journal_steps.specs.Journal.{TurnRefused}
 use Rattle.journal_steps.proofs.Turning.{during-stay, opens-now}
 use Rattle.journal_steps.proofs.steps.commit_turn.Goals as goal
 
--- an aborted journal refuses
 pub returns-then-is_aborted-clause-err : goal.returns-then-is_aborted-clause-err
 returns-then-is_aborted-clause-err g c =
     (TurnRefused.WasAborted (sym c.is_aborted.ensures ∙ c.if-is_aborted.true) refl)
 
--- where the device does nothing, what holds now holds at the one moment
+-- what holds now holds at the one moment
 pub returns-then-is_aborted-clause-device : goal.returns-then-is_aborted-clause-device
 returns-then-is_aborted-clause-device g c =
     no-call (λ honest. during-stay _ _ (opens-now _ _ c.requires.agrees (c.recall_invariant.ensures.opens honest)))
@@ -23,13 +22,11 @@ pub returns-then-has_open_handles-clause-device :
 returns-then-has_open_handles-clause-device g c =
     no-call (λ honest. during-stay _ _ (opens-now _ _ c.requires.agrees (c.recall_invariant.ensures.opens honest)))
 
--- a seal makes no device call
 pub returns-clause-device : goal.returns-clause-device
 returns-clause-device g c =
     same-device c.seal.ensures.device
     (λ honest. during-stay _ _ (opens-now _ _ c.requires.agrees (c.recall_invariant.ensures.opens honest)))
 
--- nothing is due
 pub returns-then-not-is_locked-clause-ok : goal.returns-then-not-is_locked-clause-ok
 returns-then-not-is_locked-clause-ok g c = (
   record {
@@ -40,7 +37,6 @@ returns-then-not-is_locked-clause-ok g c = (
   refl,
 )
 
--- a stop is awaited
 pub returns-then-has_open_handles-clause-ok : goal.returns-then-has_open_handles-clause-ok
 returns-then-has_open_handles-clause-ok g c = (
   record {
@@ -52,7 +48,6 @@ returns-then-has_open_handles-clause-ok g c = (
   refl,
 )
 
--- a seal is due: the transaction is locked, and no handle of it is open
 pub seal-requires-clause-due : goal.seal-requires-clause-due
 seal-requires-clause-due g c =
     (record {

@@ -22,13 +22,11 @@ use Rattle.journal_steps.proofs.steps.read.Goals as goal
 apart : (v : List ℕ) → Some (Copy v) ≡ Some Revoke → ⊥
 apart v is = cc
 
--- the handle may not make a step on the block
 pub returns-in_err-admit-clause-err : goal.returns-in_err-admit-clause-err
 returns-in_err-admit-clause-err g c =
     let p = err_from_is_err_and c.from_residual.result c.from_residual.ensures.1 in
     rw (p.1, p.2) (ReadRefused.ReadKeptOut c.in_err-admit.ensures.err refl)
 
--- the front has no copy to hand out
 pub returns-in_err-copy-clause-err : goal.returns-in_err-copy-clause-err
 returns-in_err-copy-clause-err g c =
     let p = err_from_is_err_and c.from_residual-in_err-copy.result c.from_residual-in_err-copy.ensures.1 in
@@ -42,7 +40,6 @@ note-requires-clause-length g c =
     c.requires.length ∙ ap (λ (s : Shape). s.block_size) (sym c.recall_invariant.ensures.shape)
     ∙ sym (kept-whole j c.args.block c.in-Some.copy c.requires.agrees c.recall_invariant.ensures.plain last)
 
--- front and engine agree once it is noted
 pub returns-in-Some-clause-agrees : goal.returns-in-Some-clause-agrees
 returns-in-Some-clause-agrees g c =
     let j : Journal = record { front = c.args.front.now; engine = c.args.engine.now.engine } in
@@ -51,7 +48,6 @@ returns-in-Some-clause-agrees g c =
     c.note.new.into c.args.into.now c.note.result c.in_ok-admit.ensures.ok c.requires.agrees
     (kept-whole j c.args.block c.in-Some.copy c.requires.agrees c.recall_invariant.ensures.plain last) refl c.note.ensures.ok c.note.ensures.err c.note.ensures.open
 
--- it is the machine's read
 pub returns-in-Some-clause-ok : goal.returns-in-Some-clause-ok
 returns-in-Some-clause-ok g c =
     let j : Journal = record { front = c.args.front.now; engine = c.args.engine.now.engine } in
@@ -63,7 +59,6 @@ returns-in-Some-clause-ok g c =
     (λ honest. seen-kept j c.requires.agrees plain (g.D.Device.state c.args.engine.now.device).disk c.args.block c.in-Some.copy last)
     (record { shape = refl; disk = refl; past = refl })
 
--- of these bytes
 pub returns-in-Some-clause-noted : goal.returns-in-Some-clause-noted
 returns-in-Some-clause-noted g c =
     let j : Journal = record { front = c.args.front.now; engine = c.args.engine.now.engine } in
@@ -72,7 +67,6 @@ returns-in-Some-clause-noted g c =
     c.note.new.into c.args.into.now c.note.result c.in_ok-admit.ensures.ok c.requires.agrees
     (kept-whole j c.args.block c.in-Some.copy c.requires.agrees c.recall_invariant.ensures.plain last) refl c.note.ensures.ok c.note.ensures.err (λ kept. refl)
 
--- or memory ran out for it
 pub returns-in-Some-clause-err : goal.returns-in-Some-clause-err
 returns-in-Some-clause-err g c =
     let j : Journal = record { front = c.args.front.now; engine = c.args.engine.now.engine } in
@@ -82,7 +76,7 @@ returns-in-Some-clause-err g c =
     (kept-whole j c.args.block c.in-Some.copy c.requires.agrees c.recall_invariant.ensures.plain last) refl c.note.ensures.ok c.note.ensures.err
     (λ revoked. apart c.in-Some.copy (sym last ∙ revoked)) refl
 
--- where no call is made, what a stop leaves opens as before
+-- if no call is made, each crash image opens as before
 pub returns-in_err-copy-clause-opens : goal.returns-in_err-copy-clause-opens
 returns-in_err-copy-clause-opens g c = λ honest. opens-now _ _ c.requires.agrees (c.recall_invariant.ensures.opens honest)
 
@@ -101,7 +95,7 @@ returns-in_err-new-clause-opens g c = λ honest.
     (ap (λ (f : Front). f.sealed) c.room_for_read.ensures.same) c.in_default-read.ensures.ok.1 c.read.ensures.device.stays.disk
     (opens-now _ _ c.requires.agrees (c.recall_invariant.ensures.opens honest))
 
--- after a read that failed front and engine agree, once the front is told
+-- once the front is told of the failed read, they agree
 pub returns-in-Err-clause-agrees : goal.returns-in-Err-clause-agrees
 returns-in-Err-clause-agrees g c =
     let may = c.in_ok-admit.ensures.ok in
@@ -110,7 +104,6 @@ returns-in-Err-clause-agrees g c =
     let told = c.abort.ensures ∙ ap (λ (f : Front). aborting f) c.room_for_read.ensures.same in
     agrees-read_refused g.D.Device.state c.args.front.now _ c.args.engine.now c.read.new.self _ _ c.requires.agrees running allowed told c.in-Err.ensures.err
 
--- the device failed
 pub returns-in-Err-clause-err : goal.returns-in-Err-clause-err
 returns-in-Err-clause-err g c =
     let told = c.abort.ensures ∙ ap (λ (f : Front). aborting f) c.room_for_read.ensures.same in
@@ -118,14 +111,12 @@ returns-in-Err-clause-err g c =
     refused-read g.D.Device.state c.args.front.now c.abort.new.self c.args.engine.now c.read.new.self c.args.handle.now c.args.block c.in-Err.e c.requires.agrees c.in_ok-admit.ensures.ok none
     c.read.ensures.device.stays told c.in-Err.ensures.err
 
--- what a stop leaves opens as before
 pub returns-in-Err-clause-opens : goal.returns-in-Err-clause-opens
 returns-in-Err-clause-opens g c =
     let told = c.abort.ensures ∙ ap (λ (f : Front). aborting f) c.room_for_read.ensures.same in
     λ honest. opens-unread g.D.Device.state c.args.front.now c.abort.new.self c.args.engine.now c.read.new.self c.args.block c.in-Err.e
     (opens-now _ _ c.requires.agrees (c.recall_invariant.ensures.opens honest)) told c.read.ensures.device.stays c.in-Err.ensures.err
 
--- front and engine agree once what the engine read is noted
 pub returns-clause-agrees : goal.returns-clause-agrees
 returns-clause-agrees g c =
     let j : Journal = record { front = c.args.front.now; engine = c.args.engine.now.engine } in
@@ -140,7 +131,6 @@ returns-clause-agrees g c =
     c.note-2.new.into c.args.into.now c.note-2.result c.in_ok-admit.ensures.ok c.requires.agrees whole c.in_default-read.ensures.ok.1 noted unnoted
     (rw c.room_for_read.ensures.same at c.note-2.ensures.open)
 
--- it is the machine's read
 pub returns-clause-ok : goal.returns-clause-ok
 returns-clause-ok g c =
     let j : Journal = record { front = c.args.front.now; engine = c.args.engine.now.engine } in
@@ -158,7 +148,7 @@ returns-clause-ok g c =
     is_open (λ honest. seen-read j c.requires.agrees plain (g.D.Device.state c.args.engine.now.device).disk c.args.block seen none (c.in_default-read.ensures.ok.0 honest))
     c.read.ensures.device.stays
 
--- of these bytes; a pending copy is read without a device call
+-- a pending copy is read without a device call
 pub returns-clause-noted : goal.returns-clause-noted
 returns-clause-noted g c =
     let j : Journal = record { front = c.args.front.now; engine = c.args.engine.now.engine } in
@@ -174,7 +164,6 @@ returns-clause-noted g c =
     c.note-2.new.into c.args.into.now c.note-2.result c.in_ok-admit.ensures.ok c.requires.agrees whole c.in_default-read.ensures.ok.1 noted unnoted
     (λ kept. kept-pending j c.args.block _ none (λ i v is. ap (λ (x : EngineValue g.row.D.Denot). x.device) (c.in_default-read.ensures.pending i v is).1) kept)
 
--- what a stop leaves opens as before
 pub returns-clause-opens : goal.returns-clause-opens
 returns-clause-opens g c =
     let j : Journal = record { front = c.args.front.now; engine = c.args.engine.now.engine } in
@@ -190,7 +179,6 @@ returns-clause-opens g c =
     λ honest. opens-read c.args.front.now c.note-2.new.front c.args.engine.now.engine c.read.new.self.engine _ _ sealed c.in_default-read.ensures.ok.1 c.read.ensures.device.stays.disk
     (opens-now _ _ c.requires.agrees (c.recall_invariant.ensures.opens honest))
 
--- a record that was legal stays so
 pub returns-in-Some-clause-legal : goal.returns-in-Some-clause-legal
 returns-in-Some-clause-legal g c = λ legal.
     noted-legal g.D.Device.state g.D.Device.honest (together c.args.front.now c.args.engine.now) (together c.note.new.front c.args.engine.now) (λ honest. honest)

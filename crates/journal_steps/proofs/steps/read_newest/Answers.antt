@@ -24,7 +24,7 @@ returns-then-branch-clause-ok g c =
     hands-copy g.D.Device.state g.D.Device.honest c.args.front.now c.args.engine.now c.args.block c.requires.agrees c.recall_invariant.ensures.plain running may
     c.hand_out.new.into last
 
--- after a read that failed front and engine agree, once the front is told
+-- once the front is told of the failed read, they agree
 pub returns-in-Err-clause-agrees : goal.returns-in-Err-clause-agrees
 returns-in-Err-clause-agrees g c =
     let running = sym c.requires.agrees.aborted ∙ sym c.is_aborted.ensures ∙ c.if-is_aborted.false in
@@ -33,7 +33,6 @@ returns-in-Err-clause-agrees g c =
     agrees-read_refused g.D.Device.state c.args.front.now c.abort.new.self c.args.engine.now c.read.new.self c.args.block c.in-Err.e c.requires.agrees running allowed
     c.abort.ensures c.in-Err.ensures.err
 
--- the device failed
 pub returns-in-Err-clause-err : goal.returns-in-Err-clause-err
 returns-in-Err-clause-err g c =
     let held = rw c.if-branch.false at c.in_ok-hand_out.ensures.ok in
@@ -42,13 +41,11 @@ returns-in-Err-clause-err g c =
     refused-newest g.D.Device.state g.D.Device.honest c.args.front.now c.args.engine.now c.args.block c.requires.agrees c.recall_invariant.ensures.plain running may
     c.abort.new.self c.read.new.self c.in-Err.e held.0 c.read.ensures.device.stays c.abort.ensures c.in-Err.ensures.err
 
--- what a stop leaves opens as before
 pub returns-in-Err-clause-opens : goal.returns-in-Err-clause-opens
 returns-in-Err-clause-opens g c = λ honest.
     opens-unread g.D.Device.state c.args.front.now c.abort.new.self c.args.engine.now c.read.new.self c.args.block c.in-Err.e
     (opens-now _ _ c.requires.agrees (c.recall_invariant.ensures.opens honest)) c.abort.ensures c.read.ensures.device.stays c.in-Err.ensures.err
 
--- the engine has read what is to be seen
 pub returns-clause-ok : goal.returns-clause-ok
 returns-clause-ok g c =
     let held = rw c.if-branch.false at c.in_ok-hand_out.ensures.ok in

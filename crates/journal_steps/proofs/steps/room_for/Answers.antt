@@ -4,7 +4,6 @@ use Rattle.log_model.specs.Room.{need}
 use Rattle.journal_model.specs.Transaction.{entries, revoked}
 use Rattle.journal_steps.proofs.steps.room_for.Goals as goal
 
--- the engine is asked for as many copies and revokes as the front has
 pub returns-clause-blocks : goal.returns-clause-blocks
 returns-clause-blocks g c =
     let e = c.args.engine.now.engine in

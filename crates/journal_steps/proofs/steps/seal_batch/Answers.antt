@@ -11,25 +11,22 @@ use Rattle.journal_steps.specs.Journal.{Agrees, HasRoomFor, TurnRefused}
 use Rattle.journal_steps.proofs.Sealing.{agrees-sealed, all-told, may-hand_over, quarter, refused-seal, room-good}
 use Rattle.journal_steps.proofs.steps.seal_batch.Goals as goal
 
--- an answer of some number says that there is one
+-- an answer with a number is some answer
 there : (r : Option ℕ) (n : ℕ) → r ≡ Some n → IsTrue (is_some r)
 there r n is = ap is_some is
 
--- the ring is too short
 pub returns-in_default-clause-err : goal.returns-in_default-clause-err
 returns-in_default-clause-err g c =
     let short : HasRoomFor (record { front = c.args.front.now; engine = c.args.engine.now.engine }) → ⊥ =
     λ room. true≢false (sym (c.room_for.ensures.room.1 room) ∙ ap is_some c.in_default.is) in
     TurnRefused.RingIsShort c.requires.due short refl
 
--- the engine may take it
 pub accept-requires-clause-may : goal.accept-requires-clause-may
 accept-requires-clause-may g c =
     let e = c.args.engine.now.engine in
     let plain = c.recall_invariant.ensures.plain in
     subst (MayHandOver e) (sym c.requires.batch) (may-hand_over c.args.front.now e c.requires.agrees plain c.requires.due)
 
--- the ring has room for it
 pub accept-requires-clause-room : goal.accept-requires-clause-room
 accept-requires-clause-room g c =
     let e = c.args.engine.now.engine in
@@ -37,14 +34,12 @@ accept-requires-clause-room g c =
     let room = c.room_for.ensures.room.0 (there c.room_for.result _ c.in-Some.is) in
     subst (HasRoom e) (sym c.requires.batch) (room-good e c.args.front.now.running plain room)
 
--- in as many blocks
 pub accept-requires-clause-blocks : goal.accept-requires-clause-blocks
 accept-requires-clause-blocks g c =
     let e = c.args.engine.now.engine in
     subst (λ (b : Batch). c.in-Some.blocks ≡ need e.layout (length (copied b.entries)) (length (revoked b.entries))) (sym c.requires.batch)
     c.in-Some.ensures.blocks
 
--- memory ran out for the engine
 pub returns-in-Err-clause-err : goal.returns-in-Err-clause-err
 returns-in-Err-clause-err g c =
     let due = c.requires.due in
@@ -55,7 +50,7 @@ returns-in-Err-clause-err g c =
     let same = ap (λ (v : EngineValue g.row.D.Denot). record { device = v.device; journal = record { front = f; engine = v.engine } }) refused.2 in
     (refused-seal g.D.Device.state f c.args.engine.now.device e _ c.in-Err.refused.1 due room refused.1 same)
 
--- the transaction is sealed, and fits a quarter of the ring
+-- it is sealed, and fits a quarter of the ring
 pub returns-clause-ok : goal.returns-clause-ok
 returns-clause-ok g c =
     let f = c.args.front.now in
@@ -66,7 +61,6 @@ returns-clause-ok g c =
     let may : MaySeal f = record { locked = due.locked; stopped = due.stopped; finished = all-told f e c.requires.agrees plain due.idle } in
     (record { may = may; front = c.seal.ensures; engine = taken; disk_is = ap (λ d. (g.D.Device.state d).disk) c.accept.ensures.device }, c.tid-tid.ensures, quarter f e c.requires.agrees plain)
 
--- front and engine agree
 pub returns-clause-agrees : goal.returns-clause-agrees
 returns-clause-agrees g c =
     let taken = subst (λ (b : Batch). Accepts c.args.engine.now.engine b c.accept.new.self.engine) c.requires.batch c.in_default-accept.ensures.ok in

@@ -2,22 +2,19 @@ use Rattle.block_device.proofs.OneCall.{call-as}
 use Rattle.journal_steps.proofs.Directs.{agrees-direct, agrees-unsynced, each-sync, refused-sync}
 use Rattle.journal_steps.proofs.steps.sync_direct.Goals as goal
 
--- front and engine agree behind the flush
 pub returns-in-Ok-clause-agrees : goal.returns-in-Ok-clause-agrees
 returns-in-Ok-clause-agrees g c = agrees-direct _ _ _ _ _ _ c.requires.agrees c.in-Ok.ensures.ok
 
--- and where it was refused, once the front is told
+-- once the front is told, they agree
 pub returns-in-Err-clause-agrees : goal.returns-in-Err-clause-agrees
 returns-in-Err-clause-agrees g c = agrees-unsynced g.D.Device.state _ _ _ _ _ c.requires.agrees c.abort.ensures c.in-Err.ensures.err
 
--- each moment of the engine's flush is one of the journal's
 pub returns-in-Ok-clause-device : goal.returns-in-Ok-clause-device
 returns-in-Ok-clause-device g c = call-as (each-sync _ _ _ c.requires.agrees) c.sync_direct.ensures.device
 
 pub returns-in-Err-clause-device : goal.returns-in-Err-clause-device
 returns-in-Err-clause-device g c = call-as (each-sync _ _ _ c.requires.agrees) c.sync_direct.ensures.device
 
--- why the engine refuses it is why the journal does
 pub returns-in-Err-clause-err : goal.returns-in-Err-clause-err
 returns-in-Err-clause-err g c =
     (refused-sync g.D.Device.state _ _ _ _ _ c.requires.agrees c.abort.ensures c.in-Err.ensures.err)

@@ -8,12 +8,11 @@ use Rattle.journal_steps.proofs.Directs.{agrees-direct, agrees-unwritten, during
 use Rattle.journal_steps.proofs.Turning.{opens-now}
 use Rattle.journal_steps.proofs.steps.write_direct.Goals as goal
 
--- an aborted journal refuses
 pub returns-then-is_aborted-clause-err : goal.returns-then-is_aborted-clause-err
 returns-then-is_aborted-clause-err g c =
     (DirectWriteRefused.WriteAborted (sym c.is_aborted.ensures ∙ c.if-is_aborted.true) refl)
 
--- where no call is made, what holds now holds at the one moment
+-- if no call is made, what holds now holds at the one moment
 pub returns-then-is_aborted-clause-device : goal.returns-then-is_aborted-clause-device
 returns-then-is_aborted-clause-device g c =
     no-call (λ honest. during-unwritten _ _ _ _ (opens-now _ _ c.requires.agrees (c.recall_invariant.ensures.opens honest)))
@@ -26,14 +25,13 @@ pub returns-then-not-is_untouched-clause-device : goal.returns-then-not-is_untou
 returns-then-not-is_untouched-clause-device g c =
     no-call (λ honest. during-unwritten _ _ _ _ (opens-now _ _ c.requires.agrees (c.recall_invariant.ensures.opens honest)))
 
--- home has no such block
 pub returns-then-not-may_touch-clause-err : goal.returns-then-not-may_touch-clause-err
 returns-then-not-may_touch-clause-err g c =
     let running = sym c.is_aborted.ensures ∙ c.if-is_aborted.false in
     let no = λ (may : MayTouch c.args.front.now c.args.block). true≢false (sym (c.may_touch.ensures.1 may) ∙ c.if-not-may_touch.true) in
     (DirectWriteRefused.WriteOutside running no refl)
 
--- a transaction that is not finished has an entry of the block
+-- an unfinished transaction has an entry of the block
 pub returns-then-not-is_untouched-clause-err : goal.returns-then-not-is_untouched-clause-err
 returns-then-not-is_untouched-clause-err g c =
     let j : Journal = record { front = c.args.front.now; engine = c.args.engine.now.engine } in
@@ -43,31 +41,27 @@ returns-then-not-is_untouched-clause-err g c =
     true≢false (sym (c.is_untouched.ensures.1 (right-gives j c.requires.agrees c.recall_invariant.ensures.plain c.args.block right).0) ∙ c.if-not-is_untouched.true) in
     (DirectWriteRefused.WriteNotDirect running may no refl)
 
--- front and engine agree behind the write
 pub returns-in-Ok-clause-agrees : goal.returns-in-Ok-clause-agrees
 returns-in-Ok-clause-agrees g c = agrees-direct _ _ _ _ _ _ c.requires.agrees c.in-Ok.ensures.ok
 
--- and where the engine refused it, once the front is told what the engine knows
+-- once the front is told what the engine knows, they agree
 pub returns-in-Err-clause-agrees : goal.returns-in-Err-clause-agrees
 returns-in-Err-clause-agrees g c =
     let f = c.args.front.now in
     let told = c.learn.ensures ∙ ap (λ (aborted : Bool). record f { aborted = aborted }) c.is_aborted-in-Err.ensures in
     agrees-unwritten g.D.Device.state f _ _ _ _ _ _ c.requires.agrees told c.in-Err.ensures.err
 
--- the block has the right to be written directly
 pub returns-in-Ok-clause-right : goal.returns-in-Ok-clause-right
 returns-in-Ok-clause-right g c =
     let j : Journal = record { front = c.args.front.now; engine = c.args.engine.now.engine } in
     (right-from j c.requires.agrees c.recall_invariant.ensures.plain c.args.block (c.is_untouched.ensures.0 c.if-not-is_untouched.false) c.in-Ok.ensures.may.2)
 
--- each moment of the engine's write is one of the journal's
 pub returns-in-Ok-clause-device : goal.returns-in-Ok-clause-device
 returns-in-Ok-clause-device g c = call-as (each-direct _ _ _ _ _ c.requires.agrees) c.write_direct.ensures.device
 
 pub returns-in-Err-clause-device : goal.returns-in-Err-clause-device
 returns-in-Err-clause-device g c = call-as (each-direct _ _ _ _ _ c.requires.agrees) c.write_direct.ensures.device
 
--- the engine refused it
 pub returns-in-Err-clause-err : goal.returns-in-Err-clause-err
 returns-in-Err-clause-err g c =
     let f = c.args.front.now in

@@ -16,7 +16,6 @@ use Rattle.log_dump.proofs.dumping.dump.Given.{Over}
 use Rattle.log_dump.proofs.dumping.dump.Goals as goal
 use Rattle.log_dump.proofs.dumping.dump.Goals.{After-write_log, After-from_residual-in_err-write_clean}
 
--- the superblock can't be read, or is refused
 pub returns-in_err-log-clause-refused : goal.returns-in_err-log-clause-refused
 returns-in_err-log-clause-refused g c =
     let p = err_from_is_err_and c.from_residual.result c.from_residual.ensures.1 in
@@ -33,7 +32,6 @@ has-clean g c h = (
       c.in_ok-log.log (c.in_ok-log.ensures.read h) (test-clean c.in_ok-log.log.s_start c.if-is_clean.ensures),
 )
 
--- it can't be written
 pub returns-in_err-write_clean-clause-refused : goal.returns-in_err-write_clean-clause-refused
 returns-in_err-write_clean-clause-refused g c =
     let p = err_from_is_err_and c.from_residual-in_err-write_clean.result c.from_residual-in_err-write_clean.ensures.1 in
@@ -42,7 +40,6 @@ returns-in_err-write_clean-clause-refused g c =
 pub returns-in_err-write_clean-clause-tested : goal.returns-in_err-write_clean-clause-tested
 returns-in_err-write_clean-clause-tested g c = on-err c.from_residual-in_err-write_clean.result (inr (λ h. has-clean g c h))
 
--- it is printed
 pub returns-then-is_clean-clause-printed : goal.returns-then-is_clean-clause-printed
 returns-then-is_clean-clause-printed g c = λ h.
     let clean = test-clean c.in_ok-log.log.s_start c.if-is_clean.ensures in record {
@@ -55,7 +52,6 @@ returns-then-is_clean-clause-printed g c = λ h.
           (c.in_ok-write_clean.ensures (ap (λ (s : Super). s.s_start) c.fields.ensures ∙ clean));
     }
 
--- a block is damaged, or the device failed
 pub returns-in_err-transactions-clause-refused : goal.returns-in_err-transactions-clause-refused
 returns-in_err-transactions-clause-refused g c =
     let p = err_from_is_err_and c.from_residual-in_err-transactions.result c.from_residual-in_err-transactions.ensures.1 in
@@ -65,30 +61,29 @@ returns-in_err-transactions-clause-refused g c =
     c.in_err-transactions.field-0.0 refl (test-started c.in_ok-log.log.s_start c.if-is_clean.ensures) c.in_ok-log.ensures.faults c.read_log.ensures.device.stays.disk
     c.in_ok-log.ensures.accepted (λ h. c.in_ok-log.ensures.read (c.scan.ensures.device.honest h)) c.in_err-transactions.ensures.refused)
 
--- the texts that were counted
+-- the texts counted, with correct reads
 counted : (g : Over) (c : After-write_log g) → g.D.Device.honest c.write_log.new.device →
     IsScanned c.in_ok-log.log (every_block c.in_ok-log.log) (reading (g.D.Device.state c.args.device.now).disk) c.in_ok-transactions.transactions
 counted g c h =
     subst (λ (d : Disk). IsScanned c.in_ok-log.log (every_block c.in_ok-log.log) (reading d) c.in_ok-transactions.transactions) c.read_log.ensures.device.stays.disk
     (c.in_ok-transactions.ensures.scanned (c.write_log.ensures.device.honest h))
 
--- the superblock that was read
+-- the superblock read, with correct reads
 read : (g : Over) (c : After-write_log g) → g.D.Device.honest c.write_log.new.device →
     IsReadLog (shape_of (g.D.Device.state c.args.device.now)) (reading (g.D.Device.state c.args.device.now).disk) c.in_ok-log.log
 read g c h = c.in_ok-log.ensures.read (c.scan.ensures.device.honest (c.write_log.ensures.device.honest h))
 
--- the log has a dump
+-- such a log has a dump
 has-chain : (g : Over) (c : After-write_log g) → g.D.Device.honest c.write_log.new.device →
     HasDump (shape_of (g.D.Device.state c.args.device.now)) (reading (g.D.Device.state c.args.device.now).disk)
 has-chain g c h =
     counted-dump (g.D.Device.state c.args.device.now).shape.block_size (g.D.Device.state c.args.device.now).shape.log_blocks (reading (g.D.Device.state c.args.device.now).disk)
     c.in_ok-log.log c.in_ok-transactions.transactions (read g c h) (test-started c.in_ok-log.log.s_start c.if-is_clean.ensures) (counted g c h)
 
--- the disk is as it was when the printing begins
+-- the disk is unchanged when the printing begins
 same : (g : Over) (c : After-write_log g) → (g.D.Device.state c.args.device.now).disk ≡ (g.D.Device.state c.scan.new.device).disk
 same g c = sym (c.scan.ensures.device.stays.disk ∙ c.read_log.ensures.device.stays.disk)
 
--- all is printed
 pub returns-clause-printed : goal.returns-clause-printed
 returns-clause-printed g c =
     let started = test-started c.in_ok-log.log.s_start c.if-is_clean.ensures in
@@ -103,7 +98,7 @@ returns-clause-printed g c =
     })
     c.write_log.ensures.printed
 
--- the device failed; what was counted can be printed
+-- what was counted can be printed, so only the device can have failed
 pub returns-clause-refused : goal.returns-clause-refused
 returns-clause-refused g c =
     IfErr-weaker c.write_log.result _ _
@@ -118,7 +113,7 @@ returns-clause-refused g c =
 pub returns-clause-tested : goal.returns-clause-tested
 returns-clause-tested g c = on-err c.write_log.result (inr (λ h. has-chain g c h))
 
--- the device stays, so that the log is accepted on it
+-- the device's shape stays, so the log is accepted there
 pub scan-requires-clause-accepted : goal.scan-requires-clause-accepted
 scan-requires-clause-accepted g c =
     accepted-stays c.in_ok-log.log (g.D.Device.state c.args.device.now) (g.D.Device.state c.read_log.new.device) c.read_log.ensures.device.stays c.in_ok-log.ensures.accepted
@@ -138,7 +133,6 @@ write_log-requires-clause-layout g c = c.in_ok-transactions.ensures.layout ∙ c
 pub write_log-requires-clause-few : goal.write_log-requires-clause-few
 write_log-requires-clause-few g c = c.in_ok-transactions.ensures.few
 
--- and nothing that a crash or a read could tell has changed at the end
 pub returns-clause-device : goal.returns-clause-device
 returns-clause-device g c = reads-on c.read_log.ensures.device (reads-on c.scan.ensures.device c.write_log.ensures.device)
 

@@ -14,7 +14,6 @@ use Rattle.log_format.proofs.Layouts.{accepted-taken}
 use Rattle.log_dump.proofs.Dumps.{chain-dump, clean-dump, test-clean, test-started}
 use Rattle.log_dump.proofs.dumping.dump_up_to_damage.Goals as goal
 
--- a clean log is printed
 pub returns-then-is_clean-clause-printed : goal.returns-then-is_clean-clause-printed
 returns-then-is_clean-clause-printed g c = λ h.
     let clean = test-clean c.in_ok-log.log.s_start c.if-is_clean.ensures in record {
@@ -28,7 +27,6 @@ returns-then-is_clean-clause-printed g c = λ h.
       chain = λ started. absurd (started clean);
     }
 
--- the chain of another one is
 pub returns-clause-printed : goal.returns-clause-printed
 returns-clause-printed g c = λ h.
     let started = test-started c.in_ok-log.log.s_start c.if-is_clean.ensures in
@@ -53,7 +51,6 @@ returns-clause-printed g c = λ h.
       );
     }
 
--- where none is damaged, that is the whole dump
 pub returns-then-is_clean-clause-whole : goal.returns-then-is_clean-clause-whole
 returns-then-is_clean-clause-whole g c = λ none h.
     let clean = test-clean c.in_ok-log.log.s_start c.if-is_clean.ensures in
@@ -75,7 +72,7 @@ returns-clause-whole g c = λ none h.
           (subst (λ (d : Disk). AreTextsOf log (every_block log) (reading d) ends.texts) c.read_log.ensures.device.stays.disk are),
     )
 
--- the device stays, so that the log is accepted on it
+-- the device's shape stays, so the log is accepted there
 pub find_end-requires-clause-accepted : goal.find_end-requires-clause-accepted
 find_end-requires-clause-accepted g c =
     accepted-stays c.in_ok-log.log (g.D.Device.state c.args.device.now) (g.D.Device.state c.read_log.new.device) c.read_log.ensures.device.stays c.in_ok-log.ensures.accepted

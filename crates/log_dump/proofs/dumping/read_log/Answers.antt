@@ -9,7 +9,6 @@ use Rattle.log_scan.proofs.Listed.{refused-listed}
 use Rattle.log_dump.proofs.Dumps.{accepted-for, tested-for}
 use Rattle.log_dump.proofs.dumping.read_log.Goals as goal
 
--- the superblock is refused
 pub returns-in_err-fields-clause-faults : goal.returns-in_err-fields-clause-faults
 returns-in_err-fields-clause-faults g c =
     let shape : Shape = (g.D.Device.state c.args.device.now).shape in
@@ -25,7 +24,6 @@ returns-in_err-fields-clause-faults g c =
           (c.bytes.ensures ∙ c.in_ok-read.ensures.bytes h) (c.in_err-fields.ensures.tests (every_block fields)),
     )))
 
--- it is accepted
 pub returns-clause-read : goal.returns-clause-read
 returns-clause-read g c = λ h.
     let shape : Shape = (g.D.Device.state c.args.device.now).shape in

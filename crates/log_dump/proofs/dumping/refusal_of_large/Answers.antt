@@ -8,7 +8,6 @@ use Rattle.log_scan.proofs.Listed.{refused-listed}
 use Rattle.log_dump.proofs.Dumps.{tested-for}
 use Rattle.log_dump.proofs.dumping.refusal_of_large.Goals as goal
 
--- the superblock is refused
 pub returns-clause-refused : goal.returns-clause-refused
 returns-clause-refused g c =
     let shape : Shape = (g.D.Device.state c.args.device.now).shape in

@@ -8,7 +8,6 @@ use Rattle.std.proofs.lemmas.Result.{on_ok_weaker}
 use Rattle.log_dump.proofs.Dumps.{written-clean}
 use Rattle.log_dump.proofs.dumping.write_clean.Goals as goal
 
--- both lines are written
 pub returns : goal.returns
 returns g c =
     on_ok_weaker c.write_empty.result

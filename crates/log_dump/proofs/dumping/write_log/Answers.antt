@@ -6,7 +6,6 @@ use Rattle.log_dump.specs.Lines.{ended}
 use Rattle.log_dump.proofs.Dumps.{written-chain}
 use Rattle.log_dump.proofs.dumping.write_log.Goals as goal
 
--- all lines are written
 pub returns-clause-printed : goal.returns-clause-printed
 returns-clause-printed g c = λ h texts started are all.
     written-chain c.args.log.now texts c.first_number.result c.args.transactions

@@ -1,6 +1,5 @@
 use Rattle.std.proofs.Common.{append_assoc}
 use Rattle.log_dump.proofs.lines.write_end.Goals as goal
 
--- the parts of the line in a row
 pub returns : goal.returns
 returns g c = simp append_assoc c.writeln.ensures.bytes

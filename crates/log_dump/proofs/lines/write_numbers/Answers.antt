@@ -3,7 +3,6 @@ use Rattle.log_dump.proofs.Placed.{numbers-more}
 use Rattle.log_dump.proofs.Written.{appends-joins, appends-same}
 use Rattle.log_dump.proofs.lines.write_numbers.Goals as goal
 
--- one more number
 pub loop-i-preserved : goal.loop-i-preserved
 loop-i-preserved g c =
     appends-same _ _ _ _ (sym (numbers-more c.args.numbers.now c.loop-i.i c.index-numbers-i.result c.loop-i-test.true c.index-numbers-i.is))

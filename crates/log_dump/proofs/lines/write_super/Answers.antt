@@ -6,7 +6,6 @@ use Rattle.log_model.specs.Superblock.{Super}
 use Rattle.log_dump.specs.Lines.{ended}
 use Rattle.log_dump.proofs.lines.write_super.Goals as goal
 
--- the parts of the line in a row
 pub returns : goal.returns
 returns g c =
     subst (λ (s : Super). OnOk c.writeln.result (Appends (g.W.Write.contents c.args.out.now) (g.W.Write.contents c.writeln.new.self) (ended (super_line s))))

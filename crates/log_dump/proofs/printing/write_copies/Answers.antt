@@ -8,7 +8,6 @@ use Rattle.log_dump.proofs.Placed.{copies-more, placed-one}
 use Rattle.log_dump.proofs.Written.{appends-joins, appends-same}
 use Rattle.log_dump.proofs.printing.write_copies.Goals as goal
 
--- the descriptor is printed
 pub loop-i-init : goal.loop-i-init
 loop-i-init g c =
     let caption : List ℕ = codes "descriptor " ++ decimal c.args.sequence ++ codes " tags=" ++ decimal (length c.args.tags.now) in
@@ -16,14 +15,12 @@ loop-i-init g c =
     (ap (λ (p : ℕ). ended (placed_line p caption)) c.place.ensures.place ∙ sym (placed-one c.args.log.now c.args.position caption))
     c.in_ok-write_descriptor.ensures
 
--- one more copy
 pub loop-i-preserved : goal.loop-i-preserved
 loop-i-preserved g c =
     appends-same (g.W.Write.contents c.args.out.now) (g.W.Write.contents c.write_copy.new.out) _ _
     (sym (copies-more c.args.log.now c.args.position c.args.sequence (length c.args.tags.now) c.loop-i.i c.args.tags.now c.index-tags-i.result c.place-in-loop-i.result c.loop-i-test.true c.index-tags-i.is c.place-in-loop-i.ensures.place))
     (appends-joins (g.W.Write.contents c.args.out.now) (g.W.Write.contents c.loop-i.out) (g.W.Write.contents c.write_copy.new.out) _ _ c.loop-i.invariant c.in_ok-write_copy.ensures)
 
--- all are printed
 pub returns : goal.returns
 returns g c =
     let all : take c.loop-i.i c.args.tags.now ≡ c.args.tags.now = take_all c.loop-i.i c.args.tags.now (omega arith) in

@@ -3,7 +3,6 @@ use Rattle.std.specs.Io.KnownBytes.{Appends}
 use Rattle.log_dump.specs.Lines.{copies_captions, placed_lines}
 use Rattle.log_dump.proofs.printing.write_copies.Given as goal
 
--- the descriptor and the copies so far are printed
 abbrev pub invariant-loop-i : goal.invariant-loop-i
 invariant-loop-i g l =
     Appends (g.W.Write.contents l.fn.out) (g.W.Write.contents l.out)

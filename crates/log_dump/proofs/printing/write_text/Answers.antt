@@ -16,7 +16,6 @@ use Rattle.log_scan.proofs.ScanSteps.{accepted-stays, found-there}
 use Rattle.log_dump.proofs.PrintingSteps.{line-placed, printed-none, printed-piece, printed-text, unprinted-malformed, unprinted-nothing}
 use Rattle.log_dump.proofs.printing.write_text.Goals as goal
 
--- nothing is printed yet
 pub loop-numbers-init : goal.loop-numbers-init
 loop-numbers-init g c = record {
   low = omega arith;
@@ -27,7 +26,6 @@ loop-numbers-init g c = record {
   printed = λ h. printed-none c.args.log.now (reading (g.D.Device.state c.args.device.now).disk) c.args.sequence (g.W.Write.contents c.args.out.now) c.args.start;
 }
 
--- a revoke block
 pub loop-numbers-preserved-in-RevokeBlock : goal.loop-numbers-preserved-in-RevokeBlock
 loop-numbers-preserved-in-RevokeBlock g c =
     let before = c.loop-numbers.invariant in
@@ -50,7 +48,6 @@ loop-numbers-preserved-in-RevokeBlock g c =
           c.args.start c.loop-numbers.position (before.printed (c.look.ensures.device.honest h)) (g.W.Write.contents c.write_revokes.new.out) _ 1 (c.loop-numbers.position + 1) refl is.begins line;
     }
 
--- a descriptor and its copies
 pub loop-numbers-preserved : goal.loop-numbers-preserved
 loop-numbers-preserved g c =
     let before = c.loop-numbers.invariant in
@@ -71,7 +68,6 @@ loop-numbers-preserved g c =
           (c.loop-numbers.position + (1 + c.in-Descriptor.tags)) refl is.begins line;
     }
 
--- the commit block
 pub returns-in-CommitBlock-clause-printed : goal.returns-in-CommitBlock-clause-printed
 returns-in-CommitBlock-clause-printed g c = λ h.
     let before = c.loop-numbers.invariant in
@@ -103,12 +99,12 @@ returns-in-Malformed-clause-refused g c =
       ],
     )
 
--- the device stays, so that the log is accepted on it
+-- the device's shape stays, so the log is accepted there
 pub look-requires-clause-accepted : goal.look-requires-clause-accepted
 look-requires-clause-accepted g c =
     accepted-stays c.args.log.now (g.D.Device.state c.args.device.now) (g.D.Device.state c.loop-numbers.device) c.loop-numbers.invariant.device.stays c.requires.accepted
 
--- each step stands within the ring
+-- each step stays within the ring
 pub loop-numbers-smaller : goal.loop-numbers-smaller
 loop-numbers-smaller g c = let fits = rw c.in-Descriptor.is at c.in_ok-numbers.ensures.fits in let low = fits.1 in omega arith
 
@@ -135,7 +131,6 @@ pub returns-in-CommitBlock-clause-within : goal.returns-in-CommitBlock-clause-wi
 returns-in-CommitBlock-clause-within g c =
     let fits = rw c.in-CommitBlock.is at c.in_ok-numbers.ensures.fits in let low = c.loop-numbers.invariant.low in (omega arith, fits)
 
--- the device stays, however the printing ends
 pub returns-in_err-numbers-clause-device : goal.returns-in_err-numbers-clause-device
 returns-in_err-numbers-clause-device g c = reads-on c.loop-numbers.invariant.device c.look.ensures.device
 
@@ -154,7 +149,6 @@ returns-in-CommitBlock-clause-device g c = reads-on c.loop-numbers.invariant.dev
 pub returns-in-Malformed-clause-device : goal.returns-in-Malformed-clause-device
 returns-in-Malformed-clause-device g c = reads-on c.loop-numbers.invariant.device c.look.ensures.device
 
--- the finder keeps its size
 pub returns-in_err-numbers-clause-layout : goal.returns-in_err-numbers-clause-layout
 returns-in_err-numbers-clause-layout g c = c.look.ensures.layout ∙ c.loop-numbers.invariant.layout
 
@@ -173,6 +167,5 @@ returns-in-CommitBlock-clause-layout g c = c.look.ensures.layout ∙ c.loop-numb
 pub returns-in-Malformed-clause-layout : goal.returns-in-Malformed-clause-layout
 returns-in-Malformed-clause-layout g c = c.look.ensures.layout ∙ c.loop-numbers.invariant.layout
 
--- it has not failed
 pub returns-in-CommitBlock-clause-faults : goal.returns-in-CommitBlock-clause-faults
 returns-in-CommitBlock-clause-faults g c = c.in_ok-numbers.ensures.faults ∙ c.loop-numbers.invariant.faults

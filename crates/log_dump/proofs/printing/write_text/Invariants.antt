@@ -16,6 +16,5 @@ invariant-loop-numbers g l = record {
   printed : g.D.Device.honest l.device → PrintedPieces l.log (reading (g.D.Device.state l.fn.device).disk) l.sequence (g.W.Write.contents l.fn.out) (g.W.Write.contents l.out) l.start l.position;
 }
 
--- the blocks that are left
 abbrev pub decreases-loop-numbers : goal.decreases-loop-numbers
 decreases-loop-numbers g l = (ring_of l.log).blocks - l.position

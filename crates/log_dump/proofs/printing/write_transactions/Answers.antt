@@ -10,7 +10,6 @@ use Rattle.log_scan.proofs.ScanSteps.{accepted-stays}
 use Rattle.log_dump.proofs.PrintingSteps.{refused-through, texts-all, texts-no-more, texts-printed, texts-unprinted}
 use Rattle.log_dump.proofs.printing.write_transactions.Goals as goal
 
--- nothing is printed yet
 pub loop-k-init : goal.loop-k-init
 loop-k-init g c = record {
   within = omega arith;
@@ -20,7 +19,6 @@ loop-k-init g c = record {
   printed = λ h. texts-unprinted c.args.log.now (reading (g.D.Device.state c.args.device.now).disk) (g.W.Write.contents c.args.out.now);
 }
 
--- one more text
 pub loop-k-preserved : goal.loop-k-preserved
 loop-k-preserved g c =
     let before = c.loop-k.invariant in record {
@@ -36,13 +34,11 @@ loop-k-preserved g c =
           before.device.stays.disk (c.in_ok-position.ensures.printed h));
     }
 
--- all are printed
 pub returns-clause-printed : goal.returns-clause-printed
 returns-clause-printed g c = λ h texts are all.
     texts-all c.args.log.now (reading (g.D.Device.state c.args.device.now).disk) (g.W.Write.contents c.args.out.now) (g.W.Write.contents c.loop-k.out)
     c.loop-k.k c.loop-k.position (c.loop-k.invariant.printed h) texts (omega arith) are
 
--- a text is not there, or the device or the output failed
 pub returns-in_err-position-clause-refused : goal.returns-in_err-position-clause-refused
 returns-in_err-position-clause-refused g c =
     let before = c.loop-k.invariant in
@@ -57,7 +53,7 @@ returns-in_err-position-clause-refused g c =
     (subst (λ (d : Disk). NoTextBegins (layout_of c.args.log.now) (every_block c.args.log.now) (c.first_number.result + c.loop-k.k) (blocks_from c.args.log.now (reading d) c.loop-k.position)) before.device.stays.disk none) are)
     before.faults c.in_err-position.ensures.refused)
 
--- the device stays, so that the log is accepted on it
+-- the device's shape stays, so the log is accepted there
 pub write_text-requires-clause-accepted : goal.write_text-requires-clause-accepted
 write_text-requires-clause-accepted g c =
     accepted-stays c.args.log.now (g.D.Device.state c.args.device.now) (g.D.Device.state c.loop-k.device) c.loop-k.invariant.device.stays c.requires.accepted

@@ -13,7 +13,6 @@ use Rattle.log_scan.specs.Passing.{cursor_behind}
 use Rattle.log_scan.proofs.ScanSteps.{GoesOn, HasLed, goes-on, led-there, passed-none}
 use Rattle.log_views.proofs.copies.find_copy.Goals as goal
 
--- nothing is read yet
 pub loop-cursor-init : goal.loop-cursor-init
 loop-cursor-init g c = rw c.new-cursor.ensures (record {
   within = omega arith;
@@ -32,7 +31,6 @@ either : (found : Found) → ((n : ℕ) × (found ≡ RevokeBlock n)) ⊎ (found
 either found (inl is) = inl is
 either found (inr is) = inr (inr is)
 
--- it was passed
 pub loop-cursor-preserved-in-RevokeBlock : goal.loop-cursor-preserved-in-RevokeBlock
 loop-cursor-preserved-in-RevokeBlock g c = let before = c.loop-cursor.invariant in record {
   within = c.advance.ensures.within;
@@ -46,7 +44,6 @@ loop-cursor-preserved-in-RevokeBlock g c = let before = c.loop-cursor.invariant 
       c.advance.new.self c.in_ok-advance.field-0 before.device.stays (before.passed (c.advance.ensures.device.honest h)) (c.in_ok-advance.ensures.leads h));
 }
 
--- copies were passed
 pub loop-cursor-preserved : goal.loop-cursor-preserved
 loop-cursor-preserved g c = let before = c.loop-cursor.invariant in record {
   within = c.advance.ensures.within;
@@ -60,7 +57,6 @@ loop-cursor-preserved g c = let before = c.loop-cursor.invariant in record {
       c.advance.new.self c.in_ok-advance.field-0 before.device.stays (before.passed (c.advance.ensures.device.honest h)) (c.in_ok-advance.ensures.leads h));
 }
 
--- the copy stands there
 pub returns-in-Some-clause-found : goal.returns-in-Some-clause-found
 returns-in-Some-clause-found g c = λ it h ends.
     let before = c.loop-cursor.invariant in

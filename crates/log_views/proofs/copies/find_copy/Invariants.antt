@@ -6,7 +6,7 @@ use Rattle.log_scan.specs.Finding.{every_block}
 use Rattle.log_scan.proofs.ScanSteps.{HasPassed}
 use Rattle.log_views.proofs.copies.find_copy.Given as goal
 
--- what stands before the cursor
+-- what was passed before the cursor
 abbrev pub invariant-loop-cursor : goal.invariant-loop-cursor
 invariant-loop-cursor g l = record {
   within : l.cursor.position ≤ (ring_of l.log).blocks;
@@ -16,6 +16,5 @@ invariant-loop-cursor g l = record {
   passed : g.D.Device.honest l.device → HasPassed l.log (every_block l.log) (reading (g.D.Device.state l.fn.device).disk) l.cursor;
 }
 
--- the blocks that are left
 abbrev pub decreases-loop-cursor : goal.decreases-loop-cursor
 decreases-loop-cursor g l = (ring_of l.log).blocks - l.cursor.position

@@ -6,7 +6,6 @@ use Rattle.log_views.specs.Leaving.{HasCopied}
 use Rattle.log_views.proofs.Copying.{home-copied}
 use Rattle.log_views.proofs.leaving.copied.Goals as goal
 
--- the log is copied, and the block was before
 pub returns-clause-copied : goal.returns-clause-copied
 returns-clause-copied g c = λ h.
     let stays = c.copy_block.ensures.device.stays in

@@ -6,7 +6,6 @@ use Rattle.block_device.proofs.OneCall.{reads-on}
 use Rattle.log_views.proofs.Copying.{home-stays, one-more}
 use Rattle.log_views.proofs.leaving.copy_log.Goals as goal
 
--- one more block is copied, and home stays
 pub loop-n-preserved : goal.loop-n-preserved
 loop-n-preserved g c =
     let before = c.loop-n.invariant in

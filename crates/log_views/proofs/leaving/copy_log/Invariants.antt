@@ -5,7 +5,6 @@ use Rattle.block_device.specs.Memory.{state_of}
 use Rattle.log_views.specs.Leaving.{HasCopied}
 use Rattle.log_views.proofs.leaving.copy_log.Given as goal
 
--- the blocks so far are copied
 abbrev pub invariant-loop-n : goal.invariant-loop-n
 invariant-loop-n g l =
     (length l.block ≡ length l.fn.block)

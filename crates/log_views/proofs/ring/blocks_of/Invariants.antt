@@ -3,7 +3,6 @@ use Rattle.log_model.specs.Opening.{ring_of}
 use Rattle.block_device.specs.Call.{OnlyReads}
 use Rattle.log_views.proofs.ring.blocks_of.Given as goal
 
--- the cursor stays within the ring
 abbrev pub invariant-loop : goal.invariant-loop
 invariant-loop g l =
     (l.cursor.position ≤ (ring_of l.log).blocks)

@@ -10,7 +10,6 @@ use Rattle.recovery.proofs.MakingMoments.{behind-stays, making-flush, making-nam
 use Rattle.recovery.proofs.Zeroed.{formatted}
 use Rattle.recovery.proofs.empty_log.write_log.Goals as goal
 
--- an empty log was made
 pub returns-clause-ok : goal.returns-clause-ok
 returns-clause-ok g c =
     let shape : Shape = (g.D.Device.state c.args.device.now).shape in
@@ -32,7 +31,7 @@ returns-in_err-write_zeros-clause-moments g c =
     making-zeroed s.shape c.args.maxlen c.args.uuid.now c.args.wide s (g.D.Device.state c.write_zeros.new.device)
     (rw (← zeros, ← c.from.ensures) c.write_zeros.ensures.moments)
 
--- they may not be durable
+-- the zeros may not be durable
 pub returns-in_err-flush-clause-moments : goal.returns-in_err-flush-clause-moments
 returns-in_err-flush-clause-moments g c =
     let s : DeviceState = g.D.Device.state c.args.device.now in
@@ -56,7 +55,7 @@ returns-in_err-write-clause-moments g c =
     (making-zeroed s.shape c.args.maxlen c.args.uuid.now c.args.wide s zeroed (rw (← zeros, ← c.from.ensures) c.write_zeros.ensures.moments)) c.in_ok-flush.ensures.ok)
     c.write.ensures.writes
 
--- and it may not be durable
+-- the superblock may not be durable
 pub returns-in_err-flush-2-clause-moments : goal.returns-in_err-flush-2-clause-moments
 returns-in_err-flush-2-clause-moments g c =
     let s : DeviceState = g.D.Device.state c.args.device.now in
@@ -73,7 +72,6 @@ returns-in_err-flush-2-clause-moments g c =
     c.write.ensures.writes)
     c.in_err-flush-2.ensures.err
 
--- or it is
 pub returns-clause-moments : goal.returns-clause-moments
 returns-clause-moments g c =
     let s : DeviceState = g.D.Device.state c.args.device.now in
@@ -98,7 +96,6 @@ pub returns-clause-faults : goal.returns-clause-faults
 returns-clause-faults g c =
     c.in_ok-flush-2.ensures.faults ∙ c.in_ok-write.ensures.faults ∙ c.in_ok-flush.ensures.faults ∙ c.in_ok-write_zeros.ensures.faults
 
--- the buffer is a block
 pub write-requires-clause-block : goal.write-requires-clause-block
 write-requires-clause-block g c =
     c.format.auto.block ∙ c.fill.auto.self ∙ c.requires.block

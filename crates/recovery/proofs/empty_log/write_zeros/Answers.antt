@@ -6,7 +6,6 @@ use Rattle.recovery.proofs.MakingMoments.{zeroing-none, zeroing-write}
 use Rattle.recovery.proofs.Zeroed.{zeros-more, zeros-none}
 use Rattle.recovery.proofs.empty_log.write_zeros.Goals as goal
 
--- none is written yet
 pub loop-n-init : goal.loop-n-init
 loop-n-init g c = (
   zeros-none c.args.zeros.now (g.D.Device.state c.args.device.now).disk,
@@ -17,7 +16,6 @@ loop-n-init g c = (
   omega arith,
 )
 
--- one more block is zeros
 pub loop-n-preserved : goal.loop-n-preserved
 loop-n-preserved g c = (
   zeros-more c.args.zeros.now c.loop-n.n (g.D.Device.state c.args.device.now).disk (g.D.Device.state c.loop-n.device).disk
@@ -32,14 +30,13 @@ loop-n-preserved g c = (
       omega arith),
 )
 
--- all are
 pub returns-clause-ok : goal.returns-clause-ok
 returns-clause-ok g c =
     let all : c.loop-n.n ≡ c.args.maxlen = omega arith in
     subst (λ (end : ℕ). HasZeros c.args.zeros.now end (g.D.Device.state c.args.device.now).disk (g.D.Device.state c.loop-n.device).disk) all
     c.loop-n.invariant.0
 
--- a write that failed may have written
+-- a failed write may have written
 pub returns-in_err-write-clause-moments : goal.returns-in_err-write-clause-moments
 returns-in_err-write-clause-moments g c =
     zeroing-write c.args.zeros.now c.args.maxlen c.loop-n.n (g.D.Device.state c.args.device.now) (g.D.Device.state c.loop-n.device) (g.D.Device.state c.write.new.self)

@@ -4,7 +4,6 @@ use Rattle.recovery.specs.Making.{IsZeroingMoment}
 use Rattle.recovery.specs.Opening.{HasZeros}
 use Rattle.recovery.proofs.empty_log.write_zeros.Given as goal
 
--- the blocks so far are zeros
 abbrev pub invariant-loop-n : goal.invariant-loop-n
 invariant-loop-n g l =
     HasZeros l.zeros l.n (g.D.Device.state l.fn.device).disk (g.D.Device.state l.device).disk

@@ -5,7 +5,6 @@ use Rattle.std.specs.Prelude.{IfErr}
 use Rattle.recovery.proofs.Testing.{scan-refused}
 use Rattle.recovery.proofs.examine.count_transactions.Goals as goal
 
--- a block is damaged, or the device failed
 pub returns-clause-refused : goal.returns-clause-refused
 returns-clause-refused g c =
     elim c.scan.result as (λ r. IfErr r (λ e. IsScanRefused (g.D.Device.honest c.scan.new.device) c.args.log.now c.blocks-home_blocks.result (g.D.Device.state c.args.device.now) (g.D.Device.state c.scan.new.device) e) → IfErr r (IsTestRefused (g.D.Device.honest c.scan.new.device) c.args.log.now (g.D.Device.state c.args.device.now) (g.D.Device.state c.scan.new.device))) [

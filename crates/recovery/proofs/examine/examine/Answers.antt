@@ -11,7 +11,6 @@ use Rattle.recovery.specs.Opening.{IsTested, IsWellRead}
 use Rattle.recovery.proofs.Examining.{examined-on, gather-refused, memory-refused, on-stays, reading-refused, test-refused, tested-sound}
 use Rattle.recovery.proofs.examine.examine.Goals as goal
 
--- block 0 is refused, or could not be read
 pub returns-in_err-block-clause-refused : goal.returns-in_err-block-clause-refused
 returns-in_err-block-clause-refused g c =
     let p = err_from_is_err_and c.from_residual.result c.from_residual.ensures.1 in
@@ -19,7 +18,6 @@ returns-in_err-block-clause-refused g c =
     (reading-refused (g.D.Device.honest c.read_super.new.device) (g.D.Device.state c.args.device.now) (g.D.Device.state c.read_super.new.device)
     c.in_err-block.field-0.0 c.read_super.ensures.device.stays c.in_err-block.ensures.faults)
 
--- what stands in the ring is refused
 pub returns-in_err-transactions-clause-refused : goal.returns-in_err-transactions-clause-refused
 returns-in_err-transactions-clause-refused g c =
     let p = err_from_is_err_and c.from_residual-in_err-transactions.result c.from_residual-in_err-transactions.ensures.1 in
@@ -29,7 +27,6 @@ returns-in_err-transactions-clause-refused g c =
     c.in_ok-block.ensures.well (λ h. c.in_ok-block.ensures.read (c.test_log.ensures.device.honest h)) c.read_super.ensures.device.stays
     c.test_log.ensures.device.stays c.in_ok-block.ensures.faults c.in_err-transactions.ensures.refused)
 
--- nothing is, and memory ran out
 pub returns-in_err-superblock-clause-refused : goal.returns-in_err-superblock-clause-refused
 returns-in_err-superblock-clause-refused g c =
     let p = err_from_is_err_and c.from_residual-in_err-superblock.result c.from_residual-in_err-superblock.ensures.1 in
@@ -43,7 +40,6 @@ returns-in_err-superblock-clause-refused g c =
     c.in_ok-block.ensures.well (λ h. c.in_ok-block.ensures.read (c.test_log.ensures.device.honest h)) c.read_super.ensures.device.stays
     c.in_ok-transactions.ensures.tested c.in_ok-transactions.ensures.number trust))
 
--- what was tested could not be gathered
 pub returns-in_err-tables-clause-refused : goal.returns-in_err-tables-clause-refused
 returns-in_err-tables-clause-refused g c =
     let p = err_from_is_err_and c.from_residual-in_err-tables.result c.from_residual-in_err-tables.ensures.1 in
@@ -59,7 +55,6 @@ returns-in_err-tables-clause-refused g c =
     (λ h. c.in_ok-transactions.ensures.tested (c.gather.ensures.device.honest h)) c.in_ok-transactions.ensures.number)
     c.in_err-tables.ensures.refused)
 
--- nothing is
 pub returns-clause-examined : goal.returns-clause-examined
 returns-clause-examined g c =
     let copied = c.in_ok-superblock.ensures.items_if_clones_equal (λ x y same. same) ∙ c.bytes.ensures in
@@ -69,7 +64,6 @@ returns-clause-examined g c =
       clean = c.in_ok-transactions.ensures.clean;
     }
 
--- and what was read stands on the disk
 pub returns-clause-on : goal.returns-clause-on
 returns-clause-on g c = λ honest.
     let s : DeviceState = g.D.Device.state c.args.device.now in

@@ -5,7 +5,6 @@ use Rattle.log_model.specs.Opening.{ring_of}
 use Rattle.block_device.specs.Call.{OnlyReads}
 use Rattle.recovery.proofs.examine.lowest_ahead.Given as goal
 
--- none of the blocks before the place is ahead
 abbrev pub invariant-loop-place : goal.invariant-loop-place
 invariant-loop-place g l = record {
   layout : l.finder.layout ≡ l.fn.finder.layout;

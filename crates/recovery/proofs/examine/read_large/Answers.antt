@@ -2,7 +2,6 @@ use Rattle.std.proofs.Common.{◌∙◌, ap, arith, length, drop}
 use Rattle.journal_model.proofs.Buffers.{as-long, whole-buffer}
 use Rattle.recovery.proofs.examine.read_large.Goals as goal
 
--- the buffer is a block
 pub returns-clause-size : goal.returns-clause-size
 returns-clause-size g c =
     let new = c.read.auto.into in
@@ -13,7 +12,6 @@ returns-clause-size g c =
     ∙ as-long c.in_ok-bytes.bytes.len (g.D.Device.state c.args.device.now).shape.block_size c.read.new.into
     (drop (length c.read.new.into) c.in_ok-bytes.bytes.items) (omega arith) (omega arith)
 
--- it is what was read
 pub returns-clause-bytes : goal.returns-clause-bytes
 returns-clause-bytes g c = λ honest.
     let new = c.read.auto.into in

@@ -8,7 +8,6 @@ use Rattle.log_scan.proofs.Listed.{refused-listed}
 use Rattle.recovery.proofs.Reading.{tested-for, well-read}
 use Rattle.recovery.proofs.examine.read_super.Goals as goal
 
--- block 0 is refused
 pub returns-in_err-fields-clause-faults : goal.returns-in_err-fields-clause-faults
 returns-in_err-fields-clause-faults g c =
     let shape : Shape = (g.D.Device.state c.args.device.now).shape in
@@ -24,7 +23,6 @@ returns-in_err-fields-clause-faults g c =
       λ honest. rw (c.bytes.ensures ∙ c.in_ok-read.ensures.bytes honest) at refused,
     )))
 
--- it is accepted
 pub returns-clause-well : goal.returns-clause-well
 returns-clause-well g c =
     let shape : Shape = (g.D.Device.state c.args.device.now).shape in

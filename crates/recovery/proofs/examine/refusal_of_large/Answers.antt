@@ -5,7 +5,6 @@ use Rattle.log_scan.proofs.Listed.{refused-listed}
 use Rattle.recovery.proofs.Reading.{tested-for}
 use Rattle.recovery.proofs.examine.refusal_of_large.Goals as goal
 
--- the superblock is refused
 pub returns-clause-refused : goal.returns-clause-refused
 returns-clause-refused g c =
     let shape : Shape = (g.D.Device.state c.args.device.now).shape in

@@ -2,7 +2,6 @@ use Rattle.std.proofs.Common.{◌∙◌, ap, ◌+◌, ℕ, arith}
 use Rattle.recovery.proofs.Testing.{ahead-refused, number-refused}
 use Rattle.recovery.proofs.examine.test_log.Goals as goal
 
--- a block is ahead
 pub returns-in-Some-clause-refused : goal.returns-in-Some-clause-refused
 returns-in-Some-clause-refused g c =
     ahead-refused (g.D.Device.honest c.lowest_ahead.new.device) c.args.log.now (g.D.Device.state c.args.device.now) (g.D.Device.state c.count_transactions.new.device)
@@ -12,7 +11,6 @@ returns-in-Some-clause-refused g c =
     (c.in_ok-place.ensures.faults ∙ c.in_ok-transactions.ensures.faults)
     (λ h. c.in_ok-transactions.ensures.has (c.lowest_ahead.ensures.device.honest h)) (rw c.in-Some.is at c.in_ok-place.ensures.ahead)
 
--- no number is left
 pub returns-then-limit-from-clause-refused : goal.returns-then-limit-from-clause-refused
 returns-then-limit-from-clause-refused g c =
     number-refused (g.D.Device.honest c.lowest_ahead.new.device) c.args.log.now (g.D.Device.state c.args.device.now) (g.D.Device.state c.count_transactions.new.device)

@@ -13,7 +13,6 @@ use Rattle.recovery.specs.Gather.{TablesValue, with_copies, with_revokes}
 use Rattle.recovery.proofs.GatherRuns.{Gathers, gathers-all, gathers-commit, gathers-copies, gathers-none, gathers-revokes, led-nowhere, led-on}
 use Rattle.recovery.proofs.gathering.gather.Goals as goal
 
--- nothing is read yet
 pub loop-cursor-init : goal.loop-cursor-init
 loop-cursor-init g c = rw (c.new-cursor.ensures, c.new-tables.ensures) (record {
   within = omega arith;
@@ -110,7 +109,7 @@ loop-cursor-preserved g c =
           (subst (LeadsTo s c.blocks-2.result (reading old.disk) so.texts so.pieces c.advance.new.finder c.loop-cursor.cursor c.advance.new.self) c.in-CommitBlock.is leads);
     }
 
--- an honest device leads on
+-- with correct reads the chain leads on
 pub returns-in-Malformed-clause-refused : goal.returns-in-Malformed-clause-refused
 returns-in-Malformed-clause-refused g c =
     let s : Super = c.args.log.now in
@@ -129,7 +128,6 @@ returns-in-Malformed-clause-refused g c =
           texts (subst (λ (n : ℕ). IsChainOf s n (reading old.disk) texts) (sym c.blocks-2.ensures) are) all c.loop-cursor-test.true;
     })
 
--- all are gathered
 pub returns-clause-tables : goal.returns-clause-tables
 returns-clause-tables g c = λ h texts are all.
     let s : Super = c.args.log.now in

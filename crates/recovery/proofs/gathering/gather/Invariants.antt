@@ -6,7 +6,6 @@ use Rattle.log_scan.specs.Finding.{limit_of}
 use Rattle.recovery.proofs.GatherRuns.{Gathers}
 use Rattle.recovery.proofs.gathering.gather.Given as goal
 
--- what stands before the cursor is gathered
 abbrev pub invariant-loop-cursor : goal.invariant-loop-cursor
 invariant-loop-cursor g l = record {
   within : l.cursor.position ≤ (ring_of l.log).blocks;
@@ -20,6 +19,5 @@ invariant-loop-cursor g l = record {
       Gathers l.log (limit_of l.log l.home_blocks) (reading (g.D.Device.state l.fn.device).disk) l.cursor l.transactions l.copies l.tables;
 }
 
--- the blocks that are left
 abbrev pub decreases-loop-cursor : goal.decreases-loop-cursor
 decreases-loop-cursor g l = (ring_of l.log).blocks - l.cursor.position

@@ -13,7 +13,6 @@ use Rattle.recovery.specs.Values.{IsNextNamed}
 use Rattle.recovery.proofs.Recovering.{clean-done, clean-named, clean-start, cleaning-broken, copies-broken, device-refused, examined-tells, of-found, other-start, replay-refused, started-done, tail-named}
 use Rattle.recovery.proofs.opening.recover.Goals as goal
 
--- a clean log is opened
 pub returns-then-report-clause-done : goal.returns-then-report-clause-done
 returns-then-report-clause-done g c = λ honest.
     let log : Super = c.in_ok-superblock.field-0.log in
@@ -24,7 +23,6 @@ returns-then-report-clause-done g c = λ honest.
     (c.number_from-next.ensures ∙ ap (λ (n : ℕ). n + c.in_ok-superblock.field-0.transactions + 1) c.first_number.ensures.value) c.examine.ensures.device.stays
     c.in_ok-flush.ensures.ok
 
--- its superblock names the next transaction
 pub returns-then-report-clause-named : goal.returns-then-report-clause-named
 returns-then-report-clause-named g c =
     let s : DeviceState = g.D.Device.state c.args.device.now in
@@ -37,7 +35,6 @@ returns-then-report-clause-named g c =
     (clean-start c.in_ok-superblock.field-0.log c.is_clean.result c.is_clean.ensures c.if-report.true)
     (c.number_from-next.ensures ∙ ap (λ (n : ℕ). n + c.in_ok-superblock.field-0.transactions + 1) c.first_number.ensures.value))
 
--- what that tells
 pub returns-then-report-clause-report : goal.returns-then-report-clause-report
 returns-then-report-clause-report g c = λ honest.
     let on = c.in_ok-superblock.ensures.on (c.flush.ensures.honest honest) in
@@ -46,7 +43,6 @@ returns-then-report-clause-report g c = λ honest.
     (c.first_number.result + c.in_ok-superblock.field-0.transactions) c.is_clean.ensures
     (ap (λ (n : ℕ). n + c.in_ok-superblock.field-0.transactions) c.first_number.ensures.value)
 
--- the device failed in replay, or the log read otherwise
 pub returns-in_err-replay-clause-refused : goal.returns-in_err-replay-clause-refused
 returns-in_err-replay-clause-refused g c =
     let p = err_from_is_err_and c.from_residual-in_err-replay.result c.from_residual-in_err-replay.ensures.1 in
@@ -80,7 +76,6 @@ returns-in_err-replay-clause-broken g c =
     (of-found s block log count tables on.0 on.1 (λ (texts : List Text). HasBegun (writes_home (home_copies texts)) u w) t u started
     c.examine.ensures.device.stays c.in_ok-flush.ensures.ok (c.in_err-replay.ensures.begun honest)))
 
--- it failed where the log was to be marked clean
 pub returns-in_err-clean_log-clause-refused : goal.returns-in_err-clean_log-clause-refused
 returns-in_err-clean_log-clause-refused g c =
     let p = err_from_is_err_and c.from_residual-in_err-clean_log.result c.from_residual-in_err-clean_log.ensures.1 in
@@ -115,7 +110,6 @@ returns-in_err-clean_log-clause-broken g c =
     c.examine.ensures.device.stays c.in_ok-flush.ensures.ok (c.in_ok-replay.ensures.made replayed))
     (subst (λ (b : List ℕ). HasBegun (cleaning_calls (with_tail b next 0)) w x) c.deref_mut.ensures.value c.in_err-clean_log.ensures.begun))
 
--- the superblock names the next transaction
 pub returns-clause-named : goal.returns-clause-named
 returns-clause-named g c =
     let s : DeviceState = g.D.Device.state c.args.device.now in
@@ -135,7 +129,6 @@ returns-clause-named g c =
     (tail-named s.shape items c.in_ok-superblock.field-0.log c.in_ok-superblock.field-0.transactions next c.in_ok-superblock.ensures.examined
     (c.number_from-next.ensures ∙ ap (λ (n : ℕ). n + c.in_ok-superblock.field-0.transactions + 1) c.first_number.ensures.value)))
 
--- the log is replayed and clean
 pub returns-clause-done : goal.returns-clause-done
 returns-clause-done g c = λ honest.
     let s : DeviceState = g.D.Device.state c.args.device.now in
@@ -165,7 +158,6 @@ returns-clause-done g c = λ honest.
     c.examine.ensures.device.stays c.in_ok-flush.ensures.ok (c.in_ok-replay.ensures.made replayed))
     (subst (λ (b : List ℕ). HasMade (cleaning_calls (with_tail b next 0)) w x) c.deref_mut.ensures.value c.in_ok-clean_log.ensures.made))
 
--- what that tells
 pub returns-clause-report : goal.returns-clause-report
 returns-clause-report g c = λ honest.
     let on = c.in_ok-superblock.ensures.on (c.flush.ensures.honest (c.replay.ensures.honest (c.clean_log.ensures.honest honest))) in

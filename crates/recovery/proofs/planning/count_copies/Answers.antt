@@ -15,7 +15,6 @@ use Rattle.recovery.proofs.GatherRuns.{led-on}
 use Rattle.recovery.proofs.ReplayRuns.{on-below, on-farther}
 use Rattle.recovery.proofs.planning.count_copies.Goals as goal
 
--- nothing is read yet
 pub loop-cursor-init : goal.loop-cursor-init
 loop-cursor-init g c = rw c.new-cursor.ensures (record {
   within = omega arith;
@@ -87,7 +86,7 @@ loop-cursor-preserved g c =
           (c.count_tagged-count.ensures.count ∙ ap (λ (tags : List Tag). count_chosen c.args.tables.now c.number_of-tid.result c.loop-cursor.place tags) c.tags.ensures);
     }
 
--- the log reads otherwise, which an honest device's never does
+-- with correct reads this can't happen
 pub returns-in-Malformed-clause-refused : goal.returns-in-Malformed-clause-refused
 returns-in-Malformed-clause-refused g c =
     let s : Super = c.args.log.now in
@@ -106,7 +105,6 @@ returns-in-Malformed-clause-refused g c =
           so.texts so.pieces so.passed (c.in_ok-advance.ensures.leads h));
     })
 
--- all are counted
 pub returns-clause-count : goal.returns-clause-count
 returns-clause-count g c = λ h texts are all tables_are.
     let s : Super = c.args.log.now in

@@ -6,7 +6,6 @@ use Rattle.log_scan.specs.Finding.{limit_of}
 use Rattle.recovery.proofs.CountRuns.{Counts}
 use Rattle.recovery.proofs.planning.count_copies.Given as goal
 
--- what stands before the cursor and goes home is counted
 abbrev pub invariant-loop-cursor : goal.invariant-loop-cursor
 invariant-loop-cursor g l = record {
   within : l.cursor.position ≤ (ring_of l.log).blocks;
@@ -22,6 +21,5 @@ invariant-loop-cursor g l = record {
       Counts l.log (limit_of l.log l.home_blocks) (reading (g.D.Device.state l.fn.device).disk) l.cursor l.transactions l.place l.count l.tables;
 }
 
--- the blocks that are left
 abbrev pub decreases-loop-cursor : goal.decreases-loop-cursor
 decreases-loop-cursor g l = (ring_of l.log).blocks - l.cursor.position

@@ -3,7 +3,6 @@ use Rattle.recovery.proofs.CountRuns.{count-more}
 use Rattle.recovery.proofs.planning.count_tagged.Goals as goal
 use Rattle.recovery.proofs.planning.count_tagged.Goals.{then-goes_home, else-goes_home}
 
--- one more tag is looked at
 pub loop-k-preserved : goal.loop-k-preserved
 loop-k-preserved c =
     let before = c.loop-k.invariant in

@@ -2,7 +2,6 @@ use Rattle.std.proofs.Common.{◌≡◌, ◌≤◌, take}
 use Rattle.recovery.specs.Gather.{count_chosen}
 use Rattle.recovery.proofs.planning.count_tagged.Given as goal
 
--- those of the tags so far are counted
 abbrev pub invariant-loop-k : goal.invariant-loop-k
 invariant-loop-k l = record {
   few : l.count ≤ l.k;

@@ -5,12 +5,10 @@ use Rattle.recovery.proofs.Examining.{no-log-refused}
 use Rattle.recovery.proofs.Plans.{is-planned, plan-refused}
 use Rattle.recovery.proofs.planning.plan_opening.Goals as goal
 
--- a log area without a block is refused
 pub returns-then-blocks-eq0-clause-refused : goal.returns-then-blocks-eq0-clause-refused
 returns-then-blocks-eq0-clause-refused g c =
     no-log-refused (g.D.Device.honest c.args.device.now) (g.D.Device.state c.args.device.now) (sym c.blocks-2.ensures ∙ c.if-blocks-eq0.true)
 
--- the log read otherwise, or the device failed
 pub returns-in_err-blocks-clause-refused : goal.returns-in_err-blocks-clause-refused
 returns-in_err-blocks-clause-refused g c =
     let p = err_from_is_err_and c.from_residual-in_err-blocks.result c.from_residual-in_err-blocks.ensures.1 in
@@ -21,7 +19,6 @@ returns-in_err-blocks-clause-refused g c =
     c.in_ok-examined.ensures.faults (λ h. c.in_ok-examined.ensures.on (c.count_home.ensures.device.honest h)) c.in_ok-examined.ensures.examined.clean
     c.in_err-blocks.ensures.refused)
 
--- what an opening would do
 pub returns-clause-planned : goal.returns-clause-planned
 returns-clause-planned g c = λ honest.
     let on = c.in_ok-examined.ensures.on (c.count_home.ensures.device.honest honest) in

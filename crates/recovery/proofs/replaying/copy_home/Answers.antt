@@ -13,7 +13,6 @@ use Rattle.recovery.specs.Gather.{copy_calls}
 use Rattle.recovery.proofs.MadeCalls.{begun-interrupted, begun-stays, made-begun, made-none, write-interrupted}
 use Rattle.recovery.proofs.replaying.copy_home.Goals as goal
 
--- the read failed
 pub returns-in_err-read_copy-clause-begun : goal.returns-in_err-read_copy-clause-begun
 returns-in_err-read_copy-clause-begun g c =
     let p = err_from_is_err_and c.from_residual.result c.from_residual.ensures.1 in
@@ -21,7 +20,6 @@ returns-in_err-read_copy-clause-begun g c =
     (λ honest. begun-stays (copy_calls c.args.log.now (reading (g.D.Device.state c.args.device.now).disk) c.args.position c.args.tag)
     (g.D.Device.state c.args.device.now) (g.D.Device.state c.read_copy.new.device) c.read_copy.ensures.device.stays)
 
--- the write failed
 pub returns-in_err-write-clause-begun : goal.returns-in_err-write-clause-begun
 returns-in_err-write-clause-begun g c =
     let s : DeviceState = g.D.Device.state c.args.device.now in

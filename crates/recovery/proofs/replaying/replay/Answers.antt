@@ -14,7 +14,6 @@ use Rattle.recovery.proofs.PassCalls.{calls-fewer, calls-join, calls-none, passe
 use Rattle.recovery.proofs.ReplayRuns.{on-below, on-farther, replay-led, replay-stand, replays-all, replays-begun, replays-copies, replays-none, replays-nowhere, replays-on, replays-unread}
 use Rattle.recovery.proofs.replaying.replay.Goals as goal
 
--- nothing is read yet
 pub loop-cursor-init : goal.loop-cursor-init
 loop-cursor-init g c = rw c.new-cursor.ensures (record {
   within = omega arith;
@@ -105,7 +104,6 @@ loop-cursor-preserved g c =
           leads.copies so c.advance.ensures.device.stays leads.stand));
     }
 
--- a read of the log failed
 pub returns-in_err-advance-clause-begun : goal.returns-in_err-advance-clause-begun
 returns-in_err-advance-clause-begun g c =
     let s : Super = c.args.log.now in
@@ -119,7 +117,6 @@ returns-in_err-advance-clause-begun g c =
     (subst (λ (n : ℕ). IsChainOf s n (reading old.disk) texts) (sym c.blocks-2.ensures) are) all tables_are c.loop-cursor-test.true (g.D.Device.state c.advance.new.device)
     c.advance.ensures.device.stays)
 
--- a copy could not be read or written
 pub returns-in_err-write_copies-in-Descriptor-clause-begun : goal.returns-in_err-write_copies-in-Descriptor-clause-begun
 returns-in_err-write_copies-in-Descriptor-clause-begun g c =
     let s : Super = c.args.log.now in
@@ -146,7 +143,7 @@ returns-in_err-write_copies-in-Descriptor-clause-begun g c =
     (replay-stand s c.blocks-2.result c.loop-cursor.cursor c.args.transactions c.loop-cursor.place c.args.tables.now old mid next (c.loop-cursor.cursor.position + 1) c.in-Descriptor.count
     leads.copies so c.advance.ensures.device.stays leads.stand)))
 
--- the log reads otherwise, which an honest device's never does
+-- with correct reads this can't happen
 pub returns-in-Malformed-clause-refused : goal.returns-in-Malformed-clause-refused
 returns-in-Malformed-clause-refused g c =
     let s : Super = c.args.log.now in
@@ -179,7 +176,6 @@ returns-in-Malformed-clause-begun g c = λ h texts are all tables_are.
     texts (subst (λ (n : ℕ). IsChainOf s n (reading old.disk) texts) (sym c.blocks-2.ensures) are) all c.loop-cursor-test.true c.in-Malformed.is in
     absurd none
 
--- all are home
 pub returns-clause-made : goal.returns-clause-made
 returns-clause-made g c = λ h texts are all tables_are.
     let s : Super = c.args.log.now in
@@ -189,7 +185,6 @@ returns-clause-made g c = λ h texts are all tables_are.
     (g.D.Device.state c.loop-cursor.device) (before.replays h) texts (subst (λ (n : ℕ). IsChainOf s n (reading old.disk) texts) (sym c.blocks-2.ensures) are) all tables_are
     (let below = before.below in let end = c.loop-cursor-test.false in omega arith)
 
--- without transactions nothing is read
 pub returns-in_err-advance-clause-none : goal.returns-in_err-advance-clause-none
 returns-in_err-advance-clause-none g c = λ all. let some = c.loop-cursor-test.true in absurd (omega arith)
 

@@ -7,7 +7,7 @@ use Rattle.log_scan.specs.Finding.{MakesCalls, limit_of}
 use Rattle.recovery.proofs.ReplayRuns.{Replays}
 use Rattle.recovery.proofs.replaying.replay.Given as goal
 
--- what stands before the cursor and goes home is written
+-- what goes home of the texts before the cursor is written
 abbrev pub invariant-loop-cursor : goal.invariant-loop-cursor
 invariant-loop-cursor g l = record {
   within : l.cursor.position ≤ (ring_of l.log).blocks;
@@ -26,6 +26,5 @@ invariant-loop-cursor g l = record {
       (g.D.Device.state l.device);
 }
 
--- the blocks that are left
 abbrev pub decreases-loop-cursor : goal.decreases-loop-cursor
 decreases-loop-cursor g l = (ring_of l.log).blocks - l.cursor.position

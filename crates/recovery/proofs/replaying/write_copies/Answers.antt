@@ -7,7 +7,6 @@ use Rattle.recovery.proofs.PassCalls.{calls-join}
 use Rattle.recovery.proofs.replaying.write_copies.Goals as goal
 use Rattle.recovery.proofs.replaying.write_copies.Goals.{then-goes_home+in_ok-copy_home, else-goes_home}
 
--- one more copy is looked at
 pub loop-k-preserved : goal.loop-k-preserved
 loop-k-preserved g c =
     let before = c.loop-k.invariant in
@@ -46,7 +45,6 @@ loop-k-preserved g c =
           })
     ]
 
--- the device failed at a copy
 pub returns-in_err-copy_home-clause-begun : goal.returns-in_err-copy_home-clause-begun
 returns-in_err-copy_home-clause-begun g c =
     let before = c.loop-k.invariant in

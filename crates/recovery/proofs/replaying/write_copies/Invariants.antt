@@ -7,7 +7,6 @@ use Rattle.recovery.specs.Calls.{HasMade, writes_home}
 use Rattle.recovery.proofs.CopyRuns.{chosen_first}
 use Rattle.recovery.proofs.replaying.write_copies.Given as goal
 
--- those of the copies so far that go home are written
 abbrev pub invariant-loop-k : goal.invariant-loop-k
 invariant-loop-k g l = record {
   layout : l.finder.layout ≡ l.fn.finder.layout;

@@ -9,12 +9,10 @@ use Rattle.recovery.specs.Upgrade.{upgrade_calls}
 use Rattle.recovery.specs.Upgrade.IsUpgradeBroken.{Writing}
 use Rattle.recovery.proofs.upgrading.upgrade.Goals as goal
 
--- a log area without a block is refused
 pub returns-then-blocks-eq0-clause-refused : goal.returns-then-blocks-eq0-clause-refused
 returns-then-blocks-eq0-clause-refused g c =
     no-log-refused (g.D.Device.honest c.args.device.now) (g.D.Device.state c.args.device.now) (sym c.blocks-2.ensures ∙ c.if-blocks-eq0.true)
 
--- block 0 is refused, or could not be read
 pub returns-in_err-block-clause-refused : goal.returns-in_err-block-clause-refused
 returns-in_err-block-clause-refused g c =
     let p = err_from_is_err_and c.from_residual.result c.from_residual.ensures.1 in
@@ -22,7 +20,6 @@ returns-in_err-block-clause-refused g c =
     (reading-refused (g.D.Device.honest c.read_super.new.device) (g.D.Device.state c.args.device.now) (g.D.Device.state c.read_super.new.device)
     c.in_err-block.field-0.0 c.read_super.ensures.device.stays c.in_err-block.ensures.faults)
 
--- its fields are
 pub returns-in_err-may_be_upgraded-clause-refused : goal.returns-in_err-may_be_upgraded-clause-refused
 returns-in_err-may_be_upgraded-clause-refused g c =
     let p = err_from_is_err_and c.from_residual-in_err-may_be_upgraded.result c.from_residual-in_err-may_be_upgraded.ensures.1 in
@@ -31,7 +28,6 @@ returns-in_err-may_be_upgraded-clause-refused g c =
     c.in_ok-block.block c.in_ok-block.log c.in_err-may_be_upgraded.field-0.0 c.in_ok-block.ensures.well c.in_ok-block.ensures.read
     c.read_super.ensures.device.stays c.in_ok-block.ensures.faults (rw c.fields.ensures at c.in_err-may_be_upgraded.ensures.err))
 
--- one of the calls failed
 pub returns-in_err-write_widened-clause-broken : goal.returns-in_err-write_widened-clause-broken
 returns-in_err-write_widened-clause-broken g c =
     let s : DeviceState = g.D.Device.state c.args.device.now in
@@ -53,7 +49,6 @@ returns-in_err-write_widened-clause-moments g c = λ honest.
     (begun-behind (upgrade_calls c.in_ok-block.block) s (g.D.Device.state c.read_super.new.device) (g.D.Device.state c.write_widened.new.device)
     c.read_super.ensures.device.stays c.in_err-write_widened.ensures.begun)
 
--- all of them succeeded
 pub returns-clause-upgraded : goal.returns-clause-upgraded
 returns-clause-upgraded g c = λ honest.
     let s : DeviceState = g.D.Device.state c.args.device.now in
@@ -67,7 +62,6 @@ returns-clause-upgraded g c = λ honest.
       sequence_is = ap (λ (f : Super). f.s_sequence) (c.behind-log.view_is ∙ c.fields-2.ensures ∙ c.in_ok-block.ensures.well.fields_are);
     }
 
--- they are a run of the machine
 pub returns-clause-run : goal.returns-clause-run
 returns-clause-run g c = λ honest.
     let s : DeviceState = g.D.Device.state c.args.device.now in
@@ -81,7 +75,6 @@ returns-clause-run g c = λ honest.
           made.disk,
     )
 
--- and each moment between them is one of the machine's
 pub returns-clause-moments : goal.returns-clause-moments
 returns-clause-moments g c = λ honest.
     let s : DeviceState = g.D.Device.state c.args.device.now in

@@ -8,14 +8,12 @@ use Rattle.recovery.specs.Upgrade.{upgrade_calls}
 use Rattle.recovery.proofs.MadeCalls.{begun-interrupted, begun-stays, made-begun, made-joins, made-one, write-interrupted}
 use Rattle.recovery.proofs.upgrading.write_widened.Goals as goal
 
--- the first flush failed
 pub returns-in_err-flush-clause-begun : goal.returns-in_err-flush-clause-begun
 returns-in_err-flush-clause-begun g c =
     let p = err_from_is_err_and c.from_residual.result c.from_residual.ensures.1 in
     rw p.1
     (begun-stays (upgrade_calls c.args.superblock.now) (g.D.Device.state c.args.device.now) (g.D.Device.state c.flush.new.self) c.in_err-flush.ensures.err)
 
--- the write of the superblock
 pub returns-in_err-write-clause-begun : goal.returns-in_err-write-clause-begun
 returns-in_err-write-clause-begun g c =
     let new : List ℕ = widened c.args.superblock.now in
@@ -27,7 +25,6 @@ returns-in_err-write-clause-begun g c =
     (made-begun (Flush Log ∷ []) (Write Log 0 new ∷ Flush Log ∷ []) s t u (made-one (Flush Log) s t c.in_ok-flush.ensures.ok)
     (begun-interrupted (Write Log 0 new ∷ Flush Log ∷ []) t u (write-interrupted Log 0 new (Flush Log ∷ []) t u (rw (c.bytes.ensures ∙ c.widen.ensures.bytes) at c.write.ensures.writes))))
 
--- or the flush behind it
 pub returns-in_err-flush-2-clause-begun : goal.returns-in_err-flush-2-clause-begun
 returns-in_err-flush-2-clause-begun g c =
     let new : List ℕ = widened c.args.superblock.now in

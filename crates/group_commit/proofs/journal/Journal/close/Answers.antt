@@ -13,14 +13,14 @@ use Rattle.group_commit.proofs.OwnCalls.{calls-closed}
 use Rattle.group_commit.proofs.TurnMoments.{each-closed}
 use Rattle.group_commit.proofs.journal.Journal.close.Goals as goal
 
--- the log is clean, and opens to all
+-- the log is clean and opens to everything
 pub returns-in-Ok-clause-closed : goal.returns-in-Ok-clause-closed
 returns-in-Ok-clause-closed g c =
     subst
     (λ (s : Shape). IfOk c.close_log.result (λ parts. g.D.Device.honest parts.device → (image : Image) → Leaves (g.D.Device.state parts.device).disk image →
     IsClosed s (g.R.Record.transactions parts.sealed) image)) c.finish.ensures.measures c.close_log.ensures.closed
 
--- or the device failed in its close
+-- the engine's close fails only with the device
 pub returns-in-Ok-clause-err : goal.returns-in-Ok-clause-err
 returns-in-Ok-clause-err g c =
     let mid = c.finish.new.journal in
@@ -31,7 +31,7 @@ returns-in-Ok-clause-err g c =
     (λ e p. log-refused g.D.Device.state c.args.self mid e.0.device (g.R.Record.transactions e.0.sealed) e.0.committed e.1 c.in-Ok.ensures.ok p.0 p.1 p.2 p.3)
     c.close_log.ensures.err
 
--- each image opens with the count of what its log has
+-- each image opens to the count that its log holds
 pub returns-in-Ok-clause-opens : goal.returns-in-Ok-clause-opens
 returns-in-Ok-clause-opens g c =
     subst
@@ -40,7 +40,7 @@ returns-in-Ok-clause-opens g c =
     (λ e. g.D.Device.honest e.0.device →
     OpensOver s (g.R.Record.transactions e.0.sealed) e.0.committed (length (g.R.Record.transactions e.0.sealed)) (g.D.Device.state e.0.device).disk)) c.finish.ensures.measures c.close_log.ensures.opens
 
--- the moves that close the log come behind those that come before
+-- the moves that close the log follow the earlier ones
 pub returns-in-Ok-clause-moves : goal.returns-in-Ok-clause-moves
 returns-in-Ok-clause-moves g c =
     let state = g.D.Device.state in
@@ -54,13 +54,11 @@ returns-in-Ok-clause-moves g c =
     (λ parts did. did-behind state old mid (g.R.Record.transactions parts.sealed) parts.committed (state parts.device).disk c.finish.ensures.path did)
     (λ e ends. ends-behind state old mid (g.R.Record.transactions e.0.sealed) e.0.committed (state e.0.device).disk Shut c.finish.ensures.path ends) c.close_log.ensures.moves
 
--- or the journal is handed out as it is then
 pub returns-in-Err-clause-moves : goal.returns-in-Err-clause-moves
 returns-in-Err-clause-moves g c =
     parts-end g.D.Device.state c.args.self c.finish.new.journal _ _ _ c.finish.ensures.path c.into_parts.ensures.device
     c.into_parts.ensures.sealed c.into_parts.ensures.committed
 
--- what was sealed is legal
 pub returns-in-Err-clause-legal : goal.returns-in-Err-clause-legal
 returns-in-Err-clause-legal g c = λ honest. c.into_parts.ensures.legal (subst g.D.Device.honest c.into_parts.ensures.device honest)
 
@@ -84,7 +82,6 @@ returns-in-Err-clause-calls g c =
       closing = NoCloseCall c.into_parts.ensures.device;
     }
 
--- and the moments of both
 pub returns-in-Ok-clause-moments : goal.returns-in-Ok-clause-moments
 returns-in-Ok-clause-moments g c =
     let state = g.D.Device.state in
@@ -101,7 +98,7 @@ returns-in-Err-clause-moments g c = λ honest.
     subst (λ (d : g.row.D.Denot). EachMoment (IsDuringTurns old.journal (state old.device).disk) (state old.device) (state d)) (sym c.into_parts.ensures.device)
     (c.finish.ensures.moments (subst g.D.Device.honest c.into_parts.ensures.device honest)).each
 
--- where reads are honest at the end they were so at first
+-- if reads are correct at the end, they were at first
 pub returns-in-Ok-clause-honest : goal.returns-in-Ok-clause-honest
 returns-in-Ok-clause-honest g c =
     let honest = g.D.Device.honest in

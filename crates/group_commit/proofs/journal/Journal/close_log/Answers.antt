@@ -11,7 +11,7 @@ use Rattle.journal_steps.proofs.LegalSteps.{legal-sealed}
 use Rattle.group_commit.proofs.TurnMoments.{each-closing}
 use Rattle.group_commit.proofs.journal.Journal.close_log.Goals as goal
 
--- the log is clean, and opens to all that was sealed
+-- the log is clean and opens to everything sealed
 pub returns-in-Ok-clause-closed : goal.returns-in-Ok-clause-closed
 returns-in-Ok-clause-closed g c =
     let f = c.self.inside.front in
@@ -21,7 +21,7 @@ returns-in-Ok-clause-closed g c =
     rw (← c.self.view_is) (λ honest image leaves.
     subst (λ (ts : History). IsClosed e.shape ts image) (sym c.into_sealed-sealed.ensures) (closed-over f e _ c.self.invariant.0 (closed (back honest)) image leaves))
 
--- all that was sealed is committed
+-- everything sealed is committed
 pub returns-in-Ok-clause-ok : goal.returns-in-Ok-clause-ok
 returns-in-Ok-clause-ok g c =
     let f = c.self.inside.front in
@@ -32,7 +32,7 @@ returns-in-Ok-clause-ok g c =
     let size : length (g.R.Record.transactions c.into_sealed-sealed.result) ≡ length f.sealed = ap length c.into_sealed-sealed.ensures in
     rw (← c.self.view_is) (c.into_sealed-sealed.ensures, omega arith)
 
--- where the device fails, all is committed
+-- if the device fails, everything is committed
 pub returns-in-Err-clause-err : goal.returns-in-Err-clause-err
 returns-in-Err-clause-err g c =
     let f = c.self.inside.front in
@@ -44,7 +44,6 @@ returns-in-Err-clause-err g c =
     let wrong = close-wrong g.D.Device.state _ _ _ running c.in-Err.ensures.err in
     rw (← c.self.view_is) (wrong.0, c.into_sealed-sealed.ensures, omega arith, wrong.1)
 
--- and what a stop leaves opens to all
 pub returns-in-Err-clause-opens : goal.returns-in-Err-clause-opens
 returns-in-Err-clause-opens g c =
     let f = c.self.inside.front in
@@ -61,7 +60,7 @@ returns-in-Err-clause-opens g c =
     subst (λ (ts : History). OpensOver e.shape ts c.committed-committed.result (length ts) disk) (sym c.into_sealed-sealed.ensures)
     (subst (λ (n : ℕ). OpensOver e.shape f.sealed n (length f.sealed) disk) count (opens-closed f e disk c.self.invariant.0 (moments (back honest)).now.opens)))
 
--- behind a close too, each image with the count of what its log has
+-- after a close too, each image opens to the count that its log holds
 pub returns-in-Ok-clause-opens : goal.returns-in-Ok-clause-opens
 returns-in-Ok-clause-opens g c =
     let f = c.self.inside.front in
@@ -92,7 +91,6 @@ returns-in-Ok-clause-moves g c =
     (log-closed g.D.Device.state f c.self.inside.engine _ _ _ c.self.invariant.0 c.recall_invariant.ensures.plain all c.in-Ok.ensures.ok
     c.into_sealed-sealed.ensures count)
 
--- those of a failure too
 pub returns-in-Err-clause-moves : goal.returns-in-Err-clause-moves
 returns-in-Err-clause-moves g c =
     let f = c.self.inside.front in
@@ -105,24 +103,22 @@ returns-in-Err-clause-moves g c =
     rw (← c.self.view_is)
     (log-failed g.D.Device.state f c.self.inside.engine _ _ _ _ running c.in-Err.ensures.err c.into_sealed-sealed.ensures count)
 
--- what was sealed is legal
 pub returns-in-Ok-clause-legal : goal.returns-in-Ok-clause-legal
 returns-in-Ok-clause-legal g c = λ honest.
     subst IsLegal (sym c.into_sealed-sealed.ensures) (legal-sealed c.self.inside.front (c.self.invariant.1 (c.in-Ok.ensures.honest honest)))
 
--- what was sealed is legal
 pub returns-in-Err-clause-legal : goal.returns-in-Err-clause-legal
 returns-in-Err-clause-legal g c = λ honest.
     subst IsLegal (sym c.into_sealed-sealed.ensures) (legal-sealed c.self.inside.front (c.self.invariant.1 (c.in-Err.ensures.honest honest)))
 
--- front and engine agree before it, and the calls are the engine's
+-- front and engine agreed before it, and the calls are the engine's
 pub returns-in-Ok-clause-calls : goal.returns-in-Ok-clause-calls
 returns-in-Ok-clause-calls g c = rw (← c.self.view_is) (c.self.invariant.0, c.in-Ok.ensures.calls)
 
 pub returns-in-Err-clause-calls : goal.returns-in-Err-clause-calls
 returns-in-Err-clause-calls g c = rw (← c.self.view_is) (c.self.invariant.0, c.in-Err.ensures.calls)
 
--- and so are the moments
+-- the moments are the engine's too
 pub returns-in-Ok-clause-moments : goal.returns-in-Ok-clause-moments
 returns-in-Ok-clause-moments g c =
     let f = c.self.inside.front in

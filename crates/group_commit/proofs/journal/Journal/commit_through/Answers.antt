@@ -7,17 +7,15 @@ use Rattle.group_commit.proofs.OwnCalls.{asked-calls, calls-after, same-calls}
 use Rattle.group_commit.proofs.TurnMoments.{each-asked, each-same}
 use Rattle.group_commit.proofs.journal.Journal.commit_through.Goals as goal
 
--- the request and all turns were made
 pub returns-clause-turns : goal.returns-clause-turns
 returns-clause-turns g c = record { asked = _; requests = c.in_ok-request_commit.ensures.ok; commits = c.in_ok-mark.ensures.ok; idle = c.in_ok-mark.ensures.idle }
 
--- turns were refused behind the request
 pub returns-in_err-mark-clause-err : goal.returns-in_err-mark-clause-err
 returns-in_err-mark-clause-err g c =
     let p = err_from_is_err_and c.from_residual-in_err-mark.result c.from_residual-in_err-mark.ensures.1 in
     rw (p.1, p.2) (CommitRefused.Unfinished _ c.in_ok-request_commit.ensures.ok c.in_err-mark.ensures.err)
 
--- the moves: the lock, and those of the turns
+-- the moves: the lock, then those of the turns
 pub returns-in_err-mark-clause-path : goal.returns-in_err-mark-clause-path
 returns-in_err-mark-clause-path g c =
     ways g.D.Device.state _ _ _ (asked-way g.D.Device.state _ _ _ c.in_ok-request_commit.ensures.ok) c.commit_all.ensures.path
@@ -26,7 +24,6 @@ pub returns-clause-path : goal.returns-clause-path
 returns-clause-path g c =
     ways g.D.Device.state _ _ _ (asked-way g.D.Device.state _ _ _ c.in_ok-request_commit.ensures.ok) c.commit_all.ensures.path
 
--- all turns were taken, and it is not committed
 pub returns-then-mark-tid-clause-err : goal.returns-then-mark-tid-clause-err
 returns-then-mark-tid-clause-err g c =
     let below = c.if-mark-tid.true in
@@ -39,7 +36,6 @@ pub returns-then-mark-tid-clause-path : goal.returns-then-mark-tid-clause-path
 returns-then-mark-tid-clause-path g c =
     ways g.D.Device.state _ _ _ (asked-way g.D.Device.state _ _ _ c.in_ok-request_commit.ensures.ok) c.commit_all.ensures.path
 
--- the calls: none where the device had failed
 pub returns-in_err-request_commit-clause-calls : goal.returns-in_err-request_commit-clause-calls
 returns-in_err-request_commit-clause-calls g c = same-calls g.D.Device.state _ _ c.in_err-request_commit.ensures.err.2
 
@@ -47,7 +43,6 @@ pub returns-in_err-request_commit-clause-moments : goal.returns-in_err-request_c
 returns-in_err-request_commit-clause-moments g c = λ honest.
     each-same g.D.Device.state _ _ c.in_err-request_commit.ensures.err.2 (c.recall_invariant.ensures.opens (subst g.D.Device.honest c.request_commit.ensures.device honest))
 
--- else those of the turns
 pub returns-in_err-mark-clause-calls : goal.returns-in_err-mark-clause-calls
 returns-in_err-mark-clause-calls g c =
     calls-after g.D.Device.state _ _ _ (asked-calls g.D.Device.state _ _ _ c.in_ok-request_commit.ensures.ok c.request_commit.ensures.device) c.commit_all.ensures.calls
@@ -60,7 +55,6 @@ pub returns-clause-calls : goal.returns-clause-calls
 returns-clause-calls g c =
     calls-after g.D.Device.state _ _ _ (asked-calls g.D.Device.state _ _ _ c.in_ok-request_commit.ensures.ok c.request_commit.ensures.device) c.commit_all.ensures.calls
 
--- and their moments
 pub returns-in_err-mark-clause-moments : goal.returns-in_err-mark-clause-moments
 returns-in_err-mark-clause-moments g c = λ honest.
     let was = subst g.D.Device.honest c.request_commit.ensures.device (c.commit_all.ensures.honest honest) in

@@ -10,7 +10,6 @@ use Rattle.journal_steps.specs.Journal.{Does}
 use Rattle.group_commit.proofs.Extending.{on-ok, undone}
 use Rattle.group_commit.proofs.journal.Journal.extend.Goals as goal
 
--- the credits are granted, and the handle gets them
 pub returns-in-Ok-clause-ok : goal.returns-in-Ok-clause-ok
 returns-in-Ok-clause-ok g c =
     let granted = c.in-Ok.ensures.ok in
@@ -27,7 +26,7 @@ returns-in-Ok-clause-handle g c =
     on-ok c.give.result
     (λ gets. subst (λ (n : ℕ). c.give.new.handle ≡ record c.args.handle.now { left = c.args.handle.now.left + n }) c.in-Ok.ensures.ok.0 gets) c.give.ensures.handle
 
--- the handle can't have them, and they are given back
+-- the handle can't have the credits, and they are given back
 pub returns-in-Ok-clause-err : goal.returns-in-Ok-clause-err
 returns-in-Ok-clause-err g c =
     let state = g.D.Device.state in
@@ -45,6 +44,5 @@ returns-in-Ok-clause-err g c =
       refused.1,
     )) c.give.ensures.err
 
--- they are not granted
 pub returns-in-Err-clause-err : goal.returns-in-Err-clause-err
 returns-in-Err-clause-err g c = (NotGranted c.in-Err.ensures.err.0, c.in-Err.ensures.err.1, refl)

@@ -11,7 +11,7 @@ invariant_of-self g c = (
   λ honest. kept_legal-step c.self.inside.front c.give.new.self (c.self.invariant.1 honest) (ExtendHandle c.args.handle.now.number c.args.credits) c.in-Ok.ensures.ok,
 )
 
--- and after one that was refused, whose credits come back
+-- front and engine agree after a refused extension, which gives its credits back
 pub invariant_of-self-in-Err : goal.invariant_of-self-in-Err
 invariant_of-self-in-Err g c =
     let e = c.self.inside.engine.engine in (

@@ -4,18 +4,14 @@ use Rattle.journal_model.specs.Record.{IsLegal}
 use Rattle.journal_steps.proofs.LegalSteps.{legal-sealed}
 use Rattle.group_commit.proofs.journal.Journal.into_parts.Goals as goal
 
--- the count is the engine's
 pub returns-clause-committed : goal.returns-clause-committed
 returns-clause-committed g c = rw (← c.self.view_is) c.into_parts-device.ensures.committed
 
--- what a stop leaves of the device opens, over what was sealed
 pub returns-clause-opens : goal.returns-clause-opens
 returns-clause-opens g c = rw (← c.self.view_is) (λ honest. opens-now _ _ c.self.invariant.0 (c.into_parts-device.ensures.opens honest))
 
--- what was sealed is legal
 pub returns-clause-legal : goal.returns-clause-legal
 returns-clause-legal g c = rw (← c.self.view_is) (λ honest. subst IsLegal (sym c.into_sealed.ensures) (legal-sealed c.self.inside.front (c.self.invariant.1 honest)))
 
--- front and engine agree
 pub returns-clause-agrees : goal.returns-clause-agrees
 returns-clause-agrees g c = rw (← c.self.view_is) c.self.invariant.0

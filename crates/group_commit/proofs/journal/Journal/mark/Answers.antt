@@ -1,5 +1,4 @@
 use Rattle.group_commit.proofs.journal.Journal.mark.Goals as goal
 
--- the mark is the front's
 pub returns : goal.returns
 returns g c = rw (← c.self.view_is) cc

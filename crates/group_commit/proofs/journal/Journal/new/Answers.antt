@@ -12,7 +12,6 @@ use Rattle.journal_steps.proofs.Turning.{fresh-agrees, fresh-itself, fresh-journ
 use Rattle.journal_steps.proofs.LegalSteps.{legal-fresh}
 use Rattle.group_commit.proofs.journal.Journal.new.Goals as goal
 
--- front and engine agree
 pub invariant_of-result : goal.invariant_of-result
 invariant_of-result g c =
     let engine = c.in_ok-engine.ensures.ok.1 in
@@ -27,7 +26,6 @@ invariant_of-result g c =
       λ honest. legal-fresh c.new-front.result 0 (ap (λ (f : Front). f.sealed) c.new-front.ensures) (ap (λ (f : Front). f.running.steps) c.new-front.ensures),
     )
 
--- the journal is fresh
 pub returns-clause-fresh : goal.returns-clause-fresh
 returns-clause-fresh g c =
     let engine = c.in_ok-engine.ensures.ok.1 in
@@ -39,7 +37,7 @@ returns-clause-fresh g c =
     (subst (λ (l : Layout). IsCapacity l c.in_ok-engine.engine.engine.ring.blocks c.capacity-credits.result) c.layout-layout.ensures.layout
     (subst (λ (blocks : ℕ). IsCapacity c.layout-layout.result blocks c.capacity-credits.result) c.ring_blocks.ensures c.capacity-credits.ensures))
 
--- and where reads were honest a run begins there
+-- if reads were correct, a run begins there
 pub returns-clause-begins : goal.returns-clause-begins
 returns-clause-begins g c = λ honest.
     let device = c.in_ok-engine.ensures.ok.0 in

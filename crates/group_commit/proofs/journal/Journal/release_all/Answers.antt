@@ -5,19 +5,15 @@ use Rattle.group_commit.proofs.OwnCalls.{same-calls}
 use Rattle.group_commit.proofs.TurnMoments.{rounds-still}
 use Rattle.group_commit.proofs.journal.Journal.release_all.Goals as goal
 
--- the device failed before
 pub returns-then-is_aborted-clause-err : goal.returns-then-is_aborted-clause-err
 returns-then-is_aborted-clause-err g c = ReleaseRefused.ReleaseAborted (sym c.is_aborted.ensures ∙ c.if-is_aborted.true) refl
 
--- it failed in a round
 pub returns-clause-err : goal.returns-clause-err
 returns-clause-err g c =
     release-failed g.D.Device.state c.release_all.result _ _ (sym c.is_aborted.ensures ∙ c.if-is_aborted.false) c.release_all.ensures.err
 
--- then no call was made
 pub returns-then-is_aborted-clause-calls : goal.returns-then-is_aborted-clause-calls
 returns-then-is_aborted-clause-calls g c = same-calls g.D.Device.state _ _ refl
 
--- and what holds now holds at the one moment
 pub returns-then-is_aborted-clause-moments : goal.returns-then-is_aborted-clause-moments
 returns-then-is_aborted-clause-moments g c = λ honest. rounds-still g.D.Device.state _ (c.recall_invariant.ensures.opens honest)

@@ -5,7 +5,6 @@ use Rattle.journal_steps.proofs.Kept.{kept-reserve}
 use Rattle.journal_steps.proofs.LegalSteps.{kept_legal-reserve}
 use Rattle.group_commit.proofs.journal.Journal.reserve.Goals as goal
 
--- front and engine agree after a reserve, and after one that was refused
 pub invariant_of-self : goal.invariant_of-self
 invariant_of-self g c =
     let f = c.self.inside.front in (

@@ -18,7 +18,7 @@ returns-in-Ok-clause-ok g c =
       c.in-Ok.ensures.ok.1 ∙ ap₂ other stop.given stop.running,
     )
 
--- none joins, and it is stopped all the same
+-- no handle joins, and the old one is stopped all the same
 pub returns-in-Err-clause-err : goal.returns-in-Err-clause-err
 returns-in-Err-clause-err g c =
     let stop = c.stop-ticket.ensures in

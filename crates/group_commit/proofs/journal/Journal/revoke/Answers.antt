@@ -6,7 +6,6 @@ use Rattle.journal_steps.proofs.LegalSteps.{kept_legal-touch}
 use Rattle.journal_world.specs.Front.FrontEvent.{RevokeBlock}
 use Rattle.group_commit.proofs.journal.Journal.revoke.Goals as goal
 
--- front and engine agree after a revoke, and after one that was refused
 pub invariant_of-self : goal.invariant_of-self
 invariant_of-self g c =
     let f = c.self.inside.front in

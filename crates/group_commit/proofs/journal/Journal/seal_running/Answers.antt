@@ -9,14 +9,14 @@ use Rattle.journal_steps.proofs.Kept.{kept-lock}
 use Rattle.journal_steps.proofs.LegalSteps.{kept_legal-lock}
 use Rattle.group_commit.proofs.journal.Journal.seal_running.Goals as goal
 
--- the lock leaves its entries
+-- the lock leaves the entries
 pub seal-requires-clause-batch : goal.seal-requires-clause-batch
 seal-requires-clause-batch g c =
     let joined = subst (λ (v : JournalValue g.row.D.Denot). 0 < length v.journal.front.running.handles) (sym c.self.view_is) c.requires.joined in
     let batch = subst (λ (v : JournalValue g.row.D.Denot). c.args.batch ≡ batch_of v.journal.front.running) (sym c.self.view_is) c.requires.batch in
     batch ∙ sym (ap (λ (f : Front). batch_of f.running) (c.lock.ensures.joined joined).after)
 
--- the transaction stays as it was, but for the lock
+-- the transaction changes only by the lock
 pub returns-in_err-seal-clause-err : goal.returns-in_err-seal-clause-err
 returns-in_err-seal-clause-err g c =
     let device = c.self.inside.engine.device in
@@ -28,7 +28,7 @@ returns-in_err-seal-clause-err g c =
     let p = err_from_is_err_and c.from_residual.result c.from_residual.ensures.1 in
     rw (p.1, p.2, ← c.self.view_is) (seal-wrong g.D.Device.state _ _ _ _ locked running idle c.in_err-seal.ensures.err)
 
--- before it all that is sealed is committed
+-- before the seal, everything sealed is committed
 pub returns-in_err-seal-clause-all : goal.returns-in_err-seal-clause-all
 returns-in_err-seal-clause-all g c =
     let idle = subst (λ (v : JournalValue g.row.D.Denot). v.journal.engine.stage ≡ Idle) (sym c.self.view_is) c.requires.idle in
@@ -39,7 +39,7 @@ returns-clause-all g c =
     let idle = subst (λ (v : JournalValue g.row.D.Denot). v.journal.engine.stage ≡ Idle) (sym c.self.view_is) c.requires.idle in
     rw (← c.self.view_is) (all-sealed g.D.Device.state _ c.self.invariant.0 c.recall_invariant.ensures.plain idle)
 
--- front and engine agree behind the lock, and the record is as it was
+-- after the lock front and engine agree, and the record is as it was
 pub invariant_of-self : goal.invariant_of-self
 invariant_of-self g c = (
   kept-lock c.self.inside.front c.lock.new.self c.self.inside.engine.engine c.self.invariant.0 c.lock.ensures.joined c.lock.ensures.empty,

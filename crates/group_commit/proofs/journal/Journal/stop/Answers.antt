@@ -3,11 +3,9 @@ use Rattle.journal_steps.proofs.Kept.{kept-stop}
 use Rattle.journal_steps.proofs.LegalSteps.{kept_legal-stop}
 use Rattle.group_commit.proofs.journal.Journal.stop.Goals as goal
 
--- an open handle stops
 pub returns-clause-stops : goal.returns-clause-stops
 returns-clause-stops g c = rw (← c.self.view_is) (λ is. record { front = c.stop_handle.ensures.stops is; engine = refl; disk_is = refl })
 
--- front and engine agree once it has, and where it is none of the open ones
 pub invariant_of-self : goal.invariant_of-self
 invariant_of-self g c = (
   kept-stop c.self.inside.front c.stop_handle.new.self c.self.inside.engine.engine c.self.invariant.0 c.args.handle.number c.stop_handle.ensures.either,

@@ -2,11 +2,9 @@ use Rattle.journal_steps.specs.Values.{together}
 use Rattle.journal_steps.proofs.LegalSteps.{direct_sync-legal}
 use Rattle.group_commit.proofs.journal.Journal.sync_direct.Goals as goal
 
--- it calls the device as the step does
 pub returns-clause-device : goal.returns-clause-device
 returns-clause-device g c = rw (← c.self.view_is) c.sync_direct.ensures.device
 
--- front and engine agree behind it, and the record stays legal
 pub invariant_of-self : goal.invariant_of-self
 invariant_of-self g c =
     (c.sync_direct.ensures.agrees, direct_sync-legal g.D.Device.state g.D.Device.honest (together c.self.inside.front c.self.inside.engine) (together c.sync_direct.new.front c.sync_direct.new.engine) c.sync_direct.ensures.device.honest c.self.invariant.1 c.sync_direct.result c.sync_direct.ensures.ok c.sync_direct.ensures.err)

@@ -7,7 +7,6 @@ use Rattle.journal_steps.proofs.Kept.{kept-join_with}
 use Rattle.journal_steps.proofs.LegalSteps.{kept_legal-join_with}
 use Rattle.group_commit.proofs.journal.Journal.try_join.Goals as goal
 
--- front and engine agree after a handle joined, and after one that could not
 pub invariant_of-self : goal.invariant_of-self
 invariant_of-self g c =
     let f = c.self.inside.front in

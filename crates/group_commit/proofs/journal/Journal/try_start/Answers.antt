@@ -10,7 +10,6 @@ use Rattle.journal_steps.specs.Journal.{Does}
 use Rattle.group_commit.proofs.Extending.{undone}
 use Rattle.group_commit.proofs.journal.Journal.try_start.Goals as goal
 
--- the credits are granted, and a handle joins with them
 pub returns-in-Ok-clause-ok : goal.returns-in-Ok-clause-ok
 returns-in-Ok-clause-ok g c =
     let state = g.D.Device.state in
@@ -32,7 +31,7 @@ returns-in-Ok-clause-ok g c =
           (subst (λ (n : ℕ). handle ≡ record { number = next_handle mid.journal.front; tid = mid.journal.front.running.tid; left = n }) granted.0 did.1),
     )) c.join_or_return.ensures.ok
 
--- no handle may join, and they are given back
+-- no handle may join, and the credits are given back
 pub returns-in-Ok-clause-err : goal.returns-in-Ok-clause-err
 returns-in-Ok-clause-err g c =
     let state = g.D.Device.state in
@@ -49,6 +48,5 @@ returns-in-Ok-clause-err g c =
           c.join_or_return.ensures.device,
     )) c.join_or_return.ensures.err
 
--- they are not granted
 pub returns-in-Err-clause-err : goal.returns-in-Err-clause-err
 returns-in-Err-clause-err g c = (Ungranted c.in-Err.ensures.err.0, c.in-Err.ensures.err.1)

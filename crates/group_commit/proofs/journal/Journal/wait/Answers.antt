@@ -2,11 +2,10 @@ use Rattle.std.proofs.Common.{refl, sym, ap₂, ℕ, ◌∙◌, ◌≡◌}
 use Rattle.group_commit.specs.Values.{TicketValue}
 use Rattle.group_commit.proofs.journal.Journal.wait.Goals as goal
 
--- an aborted journal refuses
 pub returns-then-is_aborted-clause-err : goal.returns-then-is_aborted-clause-err
 returns-then-is_aborted-clause-err g c = rw (← c.self.view_is) (refl, refl, sym c.is_aborted.ensures ∙ c.if-is_aborted.true)
 
--- the receipt is of the ticket's handle and transaction
+-- the receipt has the ticket's handle and transaction
 pub returns-clause-ok : goal.returns-clause-ok
 returns-clause-ok g c =
     let made = λ (h t : ℕ). let receipt : TicketValue = record { handle = h; tid = t } in receipt in

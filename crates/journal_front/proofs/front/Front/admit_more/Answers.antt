@@ -3,23 +3,19 @@ use Rattle.std.proofs.lemmas.Bool.{true≢false}
 use Rattle.journal_front.specs.Front.ExtendRefused.{ExtendAborted, ExtendLocked, ExtendUngranted, ExtendUnopened}
 use Rattle.journal_front.proofs.front.Front.admit_more.Goals as goal
 
--- the device has failed
 pub returns-then-self-clause-err : goal.returns-then-self-clause-err
 returns-then-self-clause-err g c = rw (← c.self.view_is) (ExtendAborted c.if-self.true)
 
--- the transaction takes no further handles
 pub returns-then-is_locked-clause-err : goal.returns-then-is_locked-clause-err
 returns-then-is_locked-clause-err g c =
     let locked = rw (← c.self.view_is) at c.is_locked.ensures in
     rw (← c.self.view_is) (ExtendLocked c.if-self.false (sym locked ∙ c.if-is_locked.true))
 
--- these credits were not granted, or a handle was made of them
 pub returns-then-self-n-clause-err : goal.returns-then-self-n-clause-err
 returns-then-self-n-clause-err g c =
     let locked = rw (← c.self.view_is) at c.is_locked.ensures in
     rw (← c.self.view_is) (ExtendUngranted c.if-self.false (sym locked ∙ c.if-is_locked.false) c.if-self-n.true)
 
--- the handle is none of the open ones
 pub returns-else-is_open-clause-err : goal.returns-else-is_open-clause-err
 returns-else-is_open-clause-err g c =
     let locked = rw (← c.self.view_is) at c.is_locked.ensures in

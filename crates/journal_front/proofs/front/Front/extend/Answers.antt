@@ -10,7 +10,7 @@ use Rattle.journal_front.specs.Values.{HandleValue}
 use Rattle.journal_front.proofs.Holding.{extends, found-inserted, is-front, left-reserved}
 use Rattle.journal_front.proofs.front.Front.extend.Goals as goal
 
--- what it has is held, and so is small
+-- its credits are held, so they are few enough
 pub extend-requires : goal.extend-requires
 extend-requires g c =
     let may : MayExtend (front_of g.R.Record.transactions c.self.inside) c.args.handle.now c.args.n = rw c.self.view_is c.in_ok-admit_more.ensures.ok in
@@ -20,7 +20,6 @@ extend-requires g c =
     let granted = may.granted in
     omega arith
 
--- the handle has them
 pub returns-clause-ok : goal.returns-clause-ok
 returns-clause-ok g c =
     let f = front_of g.R.Record.transactions c.self.inside in
@@ -33,7 +32,6 @@ returns-clause-ok g c =
     (extends f c.args.handle.now.number c.args.handle.now.left c.args.n c.insert.new.self.entries may.running
     may.unlocked is.left may.granted told)
 
--- and is open still
 pub returns-clause-open : goal.returns-clause-open
 returns-clause-open g c =
     let f = front_of g.R.Record.transactions c.self.inside in
@@ -48,7 +46,7 @@ returns-clause-open g c =
     ap (λ (es : List (ℕ × ℕ)). lookup (nat_eq c.args.handle.now.number) es) told ∙ found-inserted f.open_handles c.args.handle.now.number n in
     subst (IsOpenHandle new) (sym c.extend.ensures) (record { left = found; transaction = is.transaction })
 
--- the credits held are as many as before
+-- the credits held stay the same
 pub invariant_of-self : goal.invariant_of-self
 invariant_of-self g c =
     let f = front_of g.R.Record.transactions c.self.inside in

@@ -5,14 +5,13 @@ use Rattle.std.proofs.lemmas.Option.{none-some, same_Some}
 use Rattle.std.specs.Map.{lookup}
 use Rattle.journal_front.proofs.front.Front.is_open.Goals as goal
 
--- no handle of its number is open
 pub returns-in-None : goal.returns-in-None
 returns-in-None g c =
     let here = ap (λ (n : ℕ). lookup (nat_eq n) c.self.inside.open_handles.entries) c.number.ensures in
     rw (← c.self.view_is)
     (λ is. absurd (true≢false (sym is)), λ handle. absurd (none-some c.args.handle.now.left (c.in-None.ensures.value ∙ here ∙ handle.left)))
 
--- the one that is open has other credits left
+-- the open handle has other credits left
 pub returns-else-left : goal.returns-else-left
 returns-else-left g c =
     let here = ap (λ (n : ℕ). lookup (nat_eq n) c.self.inside.open_handles.entries) c.number.ensures in

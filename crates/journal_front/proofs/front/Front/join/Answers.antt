@@ -17,23 +17,21 @@ use Rattle.journal_front.proofs.Holding.{found-inserted, is-front, joins, remade
 use Rattle.journal_front.proofs.front.Front.join.Goals as goal
 use Rattle.journal_front.proofs.front.Front.join.Goals.{then-tid-gt-GREATEST_NUMBER-via-then-tid-gt-GREATEST_NUMBER, then-tid-gt-GREATEST_NUMBER-via-else-tid-gt-GREATEST_NUMBER+then-self-2}
 
--- a handle may join where the transaction takes further ones, and numbers are left
+-- a handle may join if the transaction is not locked and numbers are left
 may-join : (f : Front) → f.locked ≡ false → f.running.tid ≤ greatest_number → next_handle f < 2 ^ 64 → MayJoin f
 may-join f unlocked number handle = record { unlocked = unlocked; number = number; handle = handle }
 
--- the front with these sealed transactions and open handles, and this transaction
+-- the front with these sealed transactions, open handles and this running transaction
 abbrev joined : Front → List Sealed → List (ℕ × ℕ) → OpenTransaction → Front
 joined f sealed hs t = record f { sealed = sealed; running = t.transaction; locked = t.locked; open_handles = hs }
 
--- the device has failed
 pub returns-then-self-clause-err : goal.returns-then-self-clause-err
 returns-then-self-clause-err g c = rw (← c.self.view_is) (IsAborted c.if-self.true, refl)
 
--- the transaction takes no further handles
 pub returns-then-is_locked-clause-err : goal.returns-then-is_locked-clause-err
 returns-then-is_locked-clause-err g c = rw (← c.self.view_is) (IsLocked c.if-self.false (sym c.is_locked.ensures ∙ c.if-is_locked.true), refl)
 
--- no further number of a transaction, or of a handle
+-- no number is left for a transaction, or for a handle
 pub returns-then-tid-gt-GREATEST_NUMBER-clause-err :
     goal.returns-then-tid-gt-GREATEST_NUMBER-clause-err
 returns-then-tid-gt-GREATEST_NUMBER-clause-err g c =
@@ -43,13 +41,11 @@ returns-then-tid-gt-GREATEST_NUMBER-clause-err g c =
       | then-tid-gt-GREATEST_NUMBER-via-else-tid-gt-GREATEST_NUMBER+then-self-2 w ↦ (NoHandle c.if-self.false (sym c.is_locked.ensures ∙ c.if-is_locked.false) (omega arith), refl)
     ])
 
--- these credits were not granted, or another handle was made of them
 pub returns-then-n-self-clause-err : goal.returns-then-n-self-clause-err
 returns-then-n-self-clause-err g c =
     let may = may-join (front_of g.R.Record.transactions c.self.inside) (sym c.is_locked.ensures ∙ c.if-is_locked.false) (omega arith) (omega arith) in
     rw (← c.self.view_is) (NotGranted c.if-self.false may c.if-n-self.true, refl)
 
--- memory ran out before there was room to seal the transaction
 pub returns-in_err-make_room-clause-err : goal.returns-in_err-make_room-clause-err
 returns-in_err-make_room-clause-err g c =
     let f = front_of g.R.Record.transactions c.self.inside in
@@ -58,7 +54,6 @@ returns-in_err-make_room-clause-err g c =
     let same = ap (λ (ts : List Sealed). remade f ts f.running.handles f.running.steps f.open_handles) c.make_room.ensures.same in
     rw (p.1, p.2, c.in_err-make_room.ensures.err) (subst (λ (x : Front). JoinRefused x c.args.n Memory) c.self.view_is (NoMemory c.if-self.false may c.if-n-self.false), same ∙ c.self.view_is)
 
--- or for one more open handle
 pub returns-in_err-reserve-clause-err : goal.returns-in_err-reserve-clause-err
 returns-in_err-reserve-clause-err g c =
     let f = front_of g.R.Record.transactions c.self.inside in
@@ -68,7 +63,6 @@ returns-in_err-reserve-clause-err g c =
     ap₂ (λ (ts : List Sealed) (hs : List (ℕ × ℕ)). remade f ts f.running.handles f.running.steps hs) c.make_room.ensures.same c.reserve.ensures.entries in
     rw (p.1, p.2) (subst (λ (x : Front). JoinRefused x c.args.n Memory) c.self.view_is (NoMemory c.if-self.false may c.if-n-self.false), same ∙ c.self.view_is)
 
--- or for its number
 pub returns-in_err-join-clause-err : goal.returns-in_err-join-clause-err
 returns-in_err-join-clause-err g c =
     let f = front_of g.R.Record.transactions c.self.inside in
@@ -80,7 +74,6 @@ returns-in_err-join-clause-err g c =
     rw (p.1, p.2, c.in_err-join.ensures.err.0)
     (subst (λ (x : Front). JoinRefused x c.args.n Memory) c.self.view_is (NoMemory c.if-self.false may c.if-n-self.false), same ∙ c.self.view_is)
 
--- the handle joins
 pub returns-clause-ok : goal.returns-clause-ok
 returns-clause-ok g c =
     let f = front_of g.R.Record.transactions c.self.inside in
@@ -94,7 +87,6 @@ returns-clause-ok g c =
       c.new.ensures ∙ ap (λ (n : ℕ). let made : HandleValue = record { number = next_handle f; tid = n; left = c.args.n } in made) c.tid-tid.ensures,
     )
 
--- and is open
 pub returns-clause-open : goal.returns-clause-open
 returns-clause-open g c =
     subst (IsOpenHandle _) (sym c.new.ensures)
@@ -105,7 +97,7 @@ returns-clause-open g c =
       transaction = c.tid-tid.ensures ∙ sym (ap (λ (t : OpenTransaction). t.transaction.tid) c.in_ok-join.ensures.ok);
     })
 
--- no more credits are held
+-- the credits held stay the same
 pub invariant_of-self-2 : goal.invariant_of-self-2
 invariant_of-self-2 g c =
     let f = front_of g.R.Record.transactions c.self.inside in
@@ -128,7 +120,7 @@ invariant_of-self-2 g c =
       room = λ joined. c.in_ok-make_room.ensures.room;
     }
 
--- where memory ran out, what was kept is
+-- if memory ran out, the invariant still holds
 pub invariant_of-self : goal.invariant_of-self
 invariant_of-self g c =
     let f = front_of g.R.Record.transactions c.self.inside in

@@ -7,14 +7,13 @@ use Rattle.journal_front.proofs.Holding.{open-at}
 use Rattle.journal_front.proofs.Noting.{keeps-read}
 use Rattle.journal_front.proofs.front.Front.note_read.Goals as goal
 
--- the handle is open, whether or not there was memory
 pub returns-in_err-reserve-clause-open : goal.returns-in_err-reserve-clause-open
 returns-in_err-reserve-clause-open g c = open-at c.args.self.now _ _ c.requires.open_handle.left
 
 pub returns-clause-open : goal.returns-clause-open
 returns-clause-open g c = open-at c.args.self.now _ _ c.requires.open_handle.left
 
--- nothing that is counted has changed
+-- nothing that is counted changes
 pub invariant_of-self-2 : goal.invariant_of-self-2
 invariant_of-self-2 g c =
     let f = c.self.inside in

@@ -6,16 +6,13 @@ use Rattle.journal_front.specs.FrontView.{front_of}
 use Rattle.journal_front.proofs.Holding.{is-front}
 use Rattle.journal_front.proofs.front.Front.reserve.Goals as goal
 
--- no transaction can have so many
 pub returns-then-n-self-clause-err : goal.returns-then-n-self-clause-err
 returns-then-n-self-clause-err g c = rw (← c.self.view_is) (BeyondCapacity c.if-n-self.true, refl)
 
--- the credits held leave fewer
 pub returns-then-n-saturating_sub-clause-err : goal.returns-then-n-saturating_sub-clause-err
 returns-then-n-saturating_sub-clause-err g c =
     let held_are = c.self.invariant.held_are in rw (← c.self.view_is) (BeyondFree c.if-n-self.false (omega arith), refl)
 
--- as many were free
 pub returns-clause-ok : goal.returns-clause-ok
 returns-clause-ok g c =
     let held_are = c.self.invariant.held_are in
@@ -24,7 +21,6 @@ returns-clause-ok g c =
     let few = c.if-n-saturating_sub.false in
     rw (← c.self.view_is) (c.new.ensures, record { free = omega arith; after = refl })
 
--- no more credits are held than a transaction may have
 pub invariant_of-self : goal.invariant_of-self
 invariant_of-self g c =
     let f = c.self.inside in

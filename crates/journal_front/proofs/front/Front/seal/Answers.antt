@@ -13,7 +13,7 @@ seal-requires-clause-finished g c =
     all-told (g.R.Record.transactions f.sealed) f.finished f.running.transaction.tid f.running.committing c.self.invariant.committing_are
     (rw (← c.self.view_is) at c.requires.finished)
 
--- the entries of the running transaction are those of the one that is being committed
+-- the running transaction's entries become those of the one being committed
 pub invariant_of-self : goal.invariant_of-self
 invariant_of-self g c =
     let f = c.self.inside in

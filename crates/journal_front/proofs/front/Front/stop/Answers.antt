@@ -4,13 +4,12 @@ use Rattle.journal_front.specs.FrontView.{front_of}
 use Rattle.journal_front.proofs.Holding.{is-front, left-held, stops, stops-held}
 use Rattle.journal_front.proofs.front.Front.stop.Goals as goal
 
--- the handle is open no longer
 pub returns : goal.returns
 returns g c =
     rw (← c.self.view_is)
     (stops (front_of g.R.Record.transactions c.self.inside) c.args.handle c.args.left _ (rw (← c.self.view_is) at c.requires) c.shift_remove.ensures.entries)
 
--- what it has left is held
+-- its unused credits are held
 pub overflow_sub-self : goal.overflow_sub-self
 overflow_sub-self g c =
     let found = rw (← c.self.view_is) at c.requires in
@@ -18,7 +17,7 @@ overflow_sub-self g c =
     let held_are = c.self.invariant.held_are in
     omega arith
 
--- and then no more
+-- after the stop they are not
 pub invariant_of-self : goal.invariant_of-self
 invariant_of-self g c =
     let f = front_of g.R.Record.transactions c.self.inside in

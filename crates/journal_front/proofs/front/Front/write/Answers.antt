@@ -10,7 +10,6 @@ use Rattle.journal_front.proofs.Holding.{is-front}
 use Rattle.journal_front.proofs.Touching.{open-still, same-handles, spends, wrote}
 use Rattle.journal_front.proofs.front.Front.write.Goals as goal
 
--- the handle wrote
 pub returns-clause-ok : goal.returns-clause-ok
 returns-clause-ok g c =
     let f = front_of g.R.Record.transactions c.self.inside in
@@ -20,7 +19,6 @@ returns-clause-ok g c =
     (wrote f c.self.inside.running c.touch_write.new.self c.args.handle.now c.pay.new.self c.number.result c.left.result c.args.block (Write c.args.bytes.now) c.in_ok-touch.touch
     c.insert.new.self.entries refl refl may c.number.ensures c.left.ensures c.in_ok-touch.ensures.ok c.pay.ensures told _ refl (rw (← c.self.view_is) at c.requires))
 
--- it was open and is so still
 pub returns-clause-open : goal.returns-clause-open
 returns-clause-open g c =
     let f = front_of g.R.Record.transactions c.self.inside in
@@ -30,7 +28,6 @@ returns-clause-open g c =
     (open-still f c.self.inside.running c.touch_write.new.self c.args.handle.now c.pay.new.self c.number.result c.left.result c.args.block (Write c.args.bytes.now) c.in_ok-touch.touch
     c.insert.new.self.entries refl refl may c.number.ensures c.left.ensures c.in_ok-touch.ensures.ok c.pay.ensures told)
 
--- a first touch takes a credit, which the handle has
 pub returns-clause-spends : goal.returns-clause-spends
 returns-clause-spends g c =
     let f = front_of g.R.Record.transactions c.self.inside in
@@ -40,7 +37,7 @@ returns-clause-spends g c =
     (spends f c.self.inside.running c.touch_write.new.self c.args.handle.now c.pay.new.self c.number.result c.left.result c.args.block (Write c.args.bytes.now) c.in_ok-touch.touch
     c.insert.new.self.entries refl refl may c.number.ensures c.left.ensures c.in_ok-touch.ensures.ok c.pay.ensures told)
 
--- the credits held are as many as before
+-- the credits held stay the same
 pub invariant_of-self-2 : goal.invariant_of-self-2
 invariant_of-self-2 g c =
     let f = front_of g.R.Record.transactions c.self.inside in

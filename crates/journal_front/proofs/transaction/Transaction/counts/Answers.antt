@@ -5,7 +5,6 @@ use Rattle.journal_front.specs.Transaction.{OpenTransaction}
 use Rattle.journal_front.proofs.Counting.{all-copies, counts-copy, counts-revoke, few-copies, none-yet, other-revokes}
 use Rattle.journal_front.proofs.transaction.Transaction.counts.Goals as goal
 
--- at first none is counted
 pub loop-entry-init : goal.loop-entry-init
 loop-entry-init g c =
     none-yet _ _
@@ -13,15 +12,13 @@ loop-entry-init g c =
     (c.into_iter-entry-iterator.ensures.into_iter_gives ∙ c.iter-entry-items.ensures.rest ∙ c.running-entries.ensures ∙ c.self.invariant.entries_are)
     ∙ ap (λ (t : OpenTransaction). length (copied (entries t.transaction.steps))) c.self.view_is)
 
--- a copy is
 pub loop-entry-preserved-in-Copy : goal.loop-entry-preserved-in-Copy
 loop-entry-preserved-in-Copy g c = counts-copy _ _ _ _ _ _ _ c.in-Some.ensures.steps c.in-Copy.is c.loop-entry.invariant
 
--- a revoke is not
 pub loop-entry-preserved : goal.loop-entry-preserved
 loop-entry-preserved g c = counts-revoke _ _ _ _ _ _ c.in-Some.ensures.steps c.in_default.is c.loop-entry.invariant
 
--- there are no more than entries
+-- no more are counted than there are entries
 pub overflow_add-copies : goal.overflow_add-copies
 overflow_add-copies g c =
     let es = entries c.args.self.now.transaction.steps in
@@ -40,11 +37,9 @@ overflow_sub-result g c =
     ap (λ (t : OpenTransaction). length (entries t.transaction.steps)) (sym c.self.view_is) ∙ ap length (sym (c.running-entries.ensures ∙ c.self.invariant.entries_are)) ∙ sym c.len-all.ensures.len in
     omega arith
 
--- at the end all are counted
 pub returns-clause-copies : goal.returns-clause-copies
 returns-clause-copies g c = all-copies _ _ _ c.in-None.ensures.steps.0 c.loop-entry.invariant
 
--- and all others are revokes
 pub returns-clause-revokes : goal.returns-clause-revokes
 returns-clause-revokes g c =
     let es = entries c.args.self.now.transaction.steps in

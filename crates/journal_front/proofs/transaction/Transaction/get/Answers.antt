@@ -3,7 +3,6 @@ use Rattle.std.specs.Map.{lookup}
 use Rattle.journal_front.proofs.EntriesOfSteps.{lookup-effect}
 use Rattle.journal_front.proofs.transaction.Transaction.get.Goals as goal
 
--- a look-up of a block finds the effect on it
 pub returns : goal.returns
 returns g c =
     rw (← c.self.view_is)

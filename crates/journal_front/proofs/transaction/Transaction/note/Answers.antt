@@ -4,7 +4,7 @@ use Rattle.journal_model.specs.Transaction.{Transaction, entries}
 use Rattle.journal_model.proofs.Effects.{entries-push_read}
 use Rattle.journal_front.proofs.transaction.Transaction.note.Goals as goal
 
--- a step that touches no block leaves the entries, and no room is promised
+-- the entries stay, and the reserved room is used up
 pub invariant_of-self : goal.invariant_of-self
 invariant_of-self g c =
     let t = c.self.inside in

@@ -6,7 +6,7 @@ use Rattle.journal_model.specs.Transaction.{Transaction, entries}
 use Rattle.journal_front.proofs.EntriesOfSteps.{entries-touch}
 use Rattle.journal_front.proofs.transaction.Transaction.note_touch.Goals as goal
 
--- the entries are those of one step more, and no room is promised
+-- the entries are those after one more step, and no room is reserved
 pub invariant_of-self-2 : goal.invariant_of-self-2
 invariant_of-self-2 g c =
     let t = c.self.inside in

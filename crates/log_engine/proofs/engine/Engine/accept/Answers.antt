@@ -20,11 +20,10 @@ use Rattle.log_engine.proofs.KeptClean.{taken-clean}
 use Rattle.log_engine.proofs.Plans.{idle-planned, taken-planned}
 use Rattle.log_engine.proofs.engine.Engine.accept.Goals as goal
 
--- after a failure it refuses
 pub returns-then-self-clause-err : goal.returns-then-self-clause-err
 returns-then-self-clause-err g c = rw (← c.self.view_is) (refl, AcceptRefused.AfterFailure c.if-self.true, refl)
 
--- where memory runs out for the plan the engine is as before
+-- if memory for the plan runs out, the engine is as before
 pub invariant_of-self : goal.invariant_of-self
 invariant_of-self g c =
     let shape = (g.D.Device.state c.self.inside.device).shape in
@@ -39,15 +38,12 @@ invariant_of-self g c =
       c.self.invariant.5,
     )
 
--- that is what the answer says
 pub returns-then-is_err-clause-err : goal.returns-then-is_err-clause-err
 returns-then-is_err-clause-err g c = rw (← c.self.view_is) (refl, AcceptRefused.MemoryIsShort c.if-self.false, refl)
 
--- or for its blocks in the table of effects
 pub returns-then-is_err-2-clause-err : goal.returns-then-is_err-2-clause-err
 returns-then-is_err-2-clause-err g c = rw (← c.self.view_is) (refl, AcceptRefused.MemoryIsShort c.if-self.false, refl)
 
--- there is room
 pub take-requires-clause-room : goal.take-requires-clause-room
 take-requires-clause-room g c =
     let shape = (g.D.Device.state c.self.inside.device).shape in
@@ -58,12 +54,11 @@ take-requires-clause-room g c =
     subst (λ (v : EngineValue g.row.D.Denot). HasRoom v.engine c.args.batch) (sym c.self.view_is) c.requires.room in
     (shape, c.self.invariant.0, may, room)
 
--- for so many blocks
 pub take-requires-clause-blocks : goal.take-requires-clause-blocks
 take-requires-clause-blocks g c =
     subst (λ (v : EngineValue g.row.D.Denot). c.args.blocks ≡ needed_by v.engine.layout c.args.batch) (sym c.self.view_is) c.requires.blocks
 
--- where memory runs out for the batch the engine is as before
+-- if memory for the batch runs out, the engine is as before
 pub invariant_of-self-in-Err : goal.invariant_of-self-in-Err
 invariant_of-self-in-Err g c =
     let state = g.D.Device.state c.self.inside.device in
@@ -81,7 +76,6 @@ invariant_of-self-in-Err g c =
           (roomy-noted e c.self.inside.effects c.reserve.new.self c.reserve.ensures.same c.self.invariant.5),
     )
 
--- that is what the answer says
 pub returns-in-Err-clause-err : goal.returns-in-Err-clause-err
 returns-in-Err-clause-err g c =
     let shape = (g.D.Device.state c.self.inside.device).shape in
@@ -93,7 +87,7 @@ returns-in-Err-clause-err g c =
       ap (λ (e : Engine). record { device = c.self.inside.device; engine = e }) (same.0 shape),
     )
 
--- the batch is then the one that is to be committed
+-- the batch is the one to be committed
 pub batch_due-requires-clause-due : goal.batch_due-requires-clause-due
 batch_due-requires-clause-due g c =
     let shape = (g.D.Device.state c.self.inside.device).shape in
@@ -107,7 +101,7 @@ batch_due-requires-clause-due g c =
     (ap (slice_get c.take.new.self.accepted.items) committed
     ∙ batch-there shape l c.args.batch c.take.new.self.accepted.items c.self.invariant.0 may accepted)
 
--- and is not released
+-- it is not released
 pub batch_due-requires-clause-unreleased : goal.batch_due-requires-clause-unreleased
 batch_due-requires-clause-unreleased g c =
     let shape = (g.D.Device.state c.self.inside.device).shape in
@@ -117,7 +111,7 @@ batch_due-requires-clause-unreleased g c =
     let between : l.released ≤ l.committed = omega arith in
     subst (λ (e : Engine). e.released ≤ e.committed) (sym (c.in_default.ensures.ok shape)) between
 
--- and the table has room for its blocks
+-- the table has room for its blocks
 pub note-requires : goal.note-requires
 note-requires g c =
     let shape = (g.D.Device.state c.self.inside.device).shape in
@@ -167,7 +161,6 @@ invariant_of-self-2 g c =
           (roomy-noted e c.self.inside.effects c.reserve.new.self c.reserve.ensures.same c.self.invariant.5),
     )
 
--- it has taken the batch
 pub returns-clause-ok : goal.returns-clause-ok
 returns-clause-ok g c =
     let shape = (g.D.Device.state c.self.inside.device).shape in

@@ -12,7 +12,7 @@ use Rattle.log_engine.proofs.KeptClean.{direct-clean, direct-fault-clean}
 use Rattle.log_engine.proofs.Rounding.{aborted-runs}
 use Rattle.log_engine.proofs.engine.Engine.call_directly.Goals as goal
 
--- where the device fails the engine is aborted, and can still be asked
+-- a failed call aborts the engine, which can still be asked
 pub invariant_of-self : goal.invariant_of-self
 invariant_of-self g c =
     let before = g.D.Device.state c.self.inside.device in
@@ -34,7 +34,6 @@ invariant_of-self g c =
       c.self.invariant.5,
     )
 
--- that is what the answer says
 pub returns-then-is_err-clause-err : goal.returns-then-is_err-clause-err
 returns-then-is_err-clause-err g c = λ other named.
     let before = g.D.Device.state c.self.inside.device in
@@ -52,11 +51,10 @@ returns-then-is_err-clause-err g c = λ other named.
     (subst (λ (x : Call). DirectFaults e before.disk x (engine_of after.shape (record l { aborted = true })) after.disk)
     (same_Some call other (sym c.requires.direct.1 ∙ named)) fault)
 
--- in one moment
 pub returns-then-is_err-clause-one : goal.returns-then-is_err-clause-one
 returns-then-is_err-clause-one g c = rw (← c.self.view_is) c.make_call.ensures.moment
 
--- where the call succeeds the engine stays as it is
+-- a successful call leaves the engine
 pub invariant_of-self-else-is_err : goal.invariant_of-self-else-is_err
 invariant_of-self-else-is_err g c =
     let before = g.D.Device.state c.self.inside.device in
@@ -78,7 +76,6 @@ invariant_of-self-else-is_err g c =
       c.self.invariant.5,
     )
 
--- that is what the answer says
 pub returns-clause-ok : goal.returns-clause-ok
 returns-clause-ok g c = λ other named.
     let before = g.D.Device.state c.self.inside.device in
@@ -95,6 +92,5 @@ returns-clause-ok g c = λ other named.
     rw (← c.self.view_is)
     (subst (λ (x : Call). DirectSteps e before.disk x (engine_of after.shape l) after.disk) (same_Some call other (sym c.requires.direct.1 ∙ named)) step)
 
--- in one moment
 pub returns-clause-one : goal.returns-clause-one
 returns-clause-one g c = rw (← c.self.view_is) c.make_call.ensures.moment

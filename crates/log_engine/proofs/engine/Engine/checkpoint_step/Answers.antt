@@ -17,20 +17,18 @@ use Rattle.log_engine.proofs.Plans.{round-fault-planned, round-planned}
 use Rattle.log_engine.proofs.Rounding.{aborted-runs, during-round, each-round, each-round-fault, round-did, round-faults, round-steps}
 use Rattle.log_engine.proofs.engine.Engine.checkpoint_step.Goals as goal
 
--- an aborted journal refuses, and nothing changes
 pub returns-then-self-clause-err : goal.returns-then-self-clause-err
 returns-then-self-clause-err g c =
     rw (← c.self.view_is) (RoundRefused.RoundAborted c.if-self.true refl (record { shape = refl; disk = refl; past = refl }) refl)
 
--- so what holds now holds at the one moment
+-- what holds now holds at the one moment
 pub returns-then-self-clause-device : goal.returns-then-self-clause-device
 returns-then-self-clause-device g c = rw (← c.self.view_is) (no-call (λ honest. during-round _ _ (c.self.invariant.2 honest)))
 
--- nor where nothing is to be released
 pub returns-then-not-begin_round-clause-device : goal.returns-then-not-begin_round-clause-device
 returns-then-not-begin_round-clause-device g c = rw (← c.self.view_is) (no-call (λ honest. during-round _ _ (c.self.invariant.2 honest)))
 
--- where the device fails the engine is aborted, and can still be asked
+-- a failed call aborts the engine, which can still be asked
 pub invariant_of-self-then-is_err : goal.invariant_of-self-then-is_err
 invariant_of-self-then-is_err g c =
     let before = g.D.Device.state c.self.inside.device in
@@ -53,7 +51,6 @@ invariant_of-self-then-is_err g c =
       round-fault-noted e _ before.disk after.disk c.self.inside.effects fault c.self.invariant.5,
     )
 
--- that is what the answer says
 pub returns-then-is_err : goal.returns-then-is_err
 returns-then-is_err g c =
     let before = g.D.Device.state c.self.inside.device in
@@ -83,7 +80,7 @@ returns-then-is_err g c =
       };
     })
 
--- where the call succeeds the round is one step further
+-- a successful call takes the round one step on
 pub invariant_of-self-2 : goal.invariant_of-self-2
 invariant_of-self-2 g c =
     let before = g.D.Device.state c.self.inside.device in
@@ -108,7 +105,6 @@ invariant_of-self-2 g c =
       round-noted e _ before.disk after.disk c.self.inside.effects steps c.self.invariant.5,
     )
 
--- that is what the answer says
 pub returns : goal.returns
 returns g c =
     let before = g.D.Device.state c.self.inside.device in

@@ -13,11 +13,10 @@ use Rattle.log_engine.specs.Engine.{EngineValue}
 use Rattle.log_engine.proofs.Closing.{close-fails, closes-by, each-closing, each-unclosed, is-closed, may-close, was-closed}
 use Rattle.log_engine.proofs.engine.Engine.close.Goals as goal
 
--- after a failure it refuses, and hands out the device as it was
 pub returns-then-ledger-clause-err : goal.returns-then-ledger-clause-err
 returns-then-ledger-clause-err g c = rw (← c.self.view_is) (CloseRefused.CloseAborted c.if-ledger.true refl)
 
--- so what holds now holds at the one moment
+-- what holds now holds at the one moment
 pub returns-then-ledger-clause-moments : goal.returns-then-ledger-clause-moments
 returns-then-ledger-clause-moments g c =
     let all = subst (λ (v : EngineValue g.row.D.Denot). IsAllReleased v.engine) (sym c.self.view_is) c.requires in
@@ -29,13 +28,11 @@ returns-then-not-ledger-clause-closed g c =
     let all = subst (λ (v : EngineValue g.row.D.Denot). IsAllReleased v.engine) (sym c.self.view_is) c.requires in
     rw (← c.self.view_is) (λ honest. was-closed _ _ (c.self.invariant.2 honest) (c.self.invariant.3 honest) c.if-not-ledger.true all.idle)
 
--- and nothing is done to it
 pub returns-then-not-ledger-clause-moments : goal.returns-then-not-ledger-clause-moments
 returns-then-not-ledger-clause-moments g c =
     let all = subst (λ (v : EngineValue g.row.D.Denot). IsAllReleased v.engine) (sym c.self.view_is) c.requires in
     rw (← c.self.view_is) (λ honest. each-unclosed _ _ (c.self.invariant.2 honest) all.idle)
 
--- the log has a block 0
 pub write_first-requires-clause-there : goal.write_first-requires-clause-there
 write_first-requires-clause-there g c = round-log _ c.self.invariant.0.plain
 
@@ -52,7 +49,6 @@ returns-in-Ok-clause-ok g c =
     c.in-Ok.ensures.ok ∙ ap (λ (block : List ℕ). flushed (written before.disk Log 0 block) Log) is in
     rw (← c.self.view_is) (CloseDid.Closes (closes-by e before.disk after.disk may done))
 
--- then the log is closed
 pub returns-in-Ok-clause-closed : goal.returns-in-Ok-clause-closed
 returns-in-Ok-clause-closed g c =
     let before = g.D.Device.state c.self.inside.device in
@@ -65,7 +61,6 @@ returns-in-Ok-clause-closed g c =
     c.in-Ok.ensures.ok ∙ ap (λ (block : List ℕ). flushed (written before.disk Log 0 block) Log) is in
     rw (← c.self.view_is) (λ honest. is-closed e before.disk after.disk (c.self.invariant.2 honest) may done)
 
--- each of its moments is one of the close
 pub returns-in-Ok-clause-moments : goal.returns-in-Ok-clause-moments
 returns-in-Ok-clause-moments g c =
     let before = g.D.Device.state c.self.inside.device in
@@ -77,7 +72,6 @@ returns-in-Ok-clause-moments g c =
     let each = subst (λ (block : List ℕ). EachMoment (IsWritingFirst block before.disk) before after) is c.write_first.ensures.moments in
     rw (← c.self.view_is) (λ honest. each-closing e before after (c.self.invariant.2 honest) may each)
 
--- where the device fails, it fails in a call of the machine's
 pub returns-clause-err : goal.returns-clause-err
 returns-clause-err g c =
     let before = g.D.Device.state c.self.inside.device in
@@ -89,7 +83,6 @@ returns-clause-err g c =
     let fault = subst (λ (block : List ℕ). IsAfterFault (Write Log 0 block) before.disk after.disk) is c.in-Err.ensures.err in
     rw (← c.self.view_is) (CloseRefused.CloseFailed (close-fails e before.disk after.disk may fault) c.in-Err.ensures.faults)
 
--- and each moment is one of the close
 pub returns-clause-moments : goal.returns-clause-moments
 returns-clause-moments g c =
     let before = g.D.Device.state c.self.inside.device in

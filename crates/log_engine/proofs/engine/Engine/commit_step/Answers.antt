@@ -18,27 +18,24 @@ use Rattle.log_engine.proofs.Plans.{step-planned}
 use Rattle.log_engine.proofs.Stepping.{busy, call-there, during-now, each-fault, each-step, faults-here, idle-at, step-did, steps-here}
 use Rattle.log_engine.proofs.engine.Engine.commit_step.Goals as goal
 
--- an aborted journal refuses, and nothing changes
 pub returns-then-self-clause-err : goal.returns-then-self-clause-err
 returns-then-self-clause-err g c =
     rw (← c.self.view_is) (StepRefused.WasAborted c.if-self.true refl (record { shape = refl; disk = refl; past = refl }) refl)
 
--- so what holds now holds at the one moment
+-- what holds now holds at the one moment
 pub returns-then-self-clause-device : goal.returns-then-self-clause-device
 returns-then-self-clause-device g c = rw (← c.self.view_is) (no-call (λ honest. during-now _ _ (c.self.invariant.2 honest)))
 
--- nor where no call is due
 pub returns-in-Nothing-clause-ok : goal.returns-in-Nothing-clause-ok
 returns-in-Nothing-clause-ok g c =
     let shape = (g.D.Device.state c.self.inside.device).shape in
     let none = sym (c.due-due.ensures.due shape (sym c.self.invariant.1)) ∙ ap (λ due. call_of due c.due-due.new.writer) c.in-Nothing.is in
     rw (← c.self.view_is) (idle-at (engine_of shape c.self.inside.ledger) c.self.inside.ledger.stage none, c.if-self.false, refl, refl)
 
--- then it holds at the one moment too
 pub returns-in-Nothing-clause-device : goal.returns-in-Nothing-clause-device
 returns-in-Nothing-clause-device g c = rw (← c.self.view_is) (no-call (λ honest. during-now _ _ (c.self.invariant.2 honest)))
 
--- where the device fails the engine is aborted, and can still be asked
+-- a failed call aborts the engine, which can still be asked
 pub invariant_of-self-then-is_err : goal.invariant_of-self-then-is_err
 invariant_of-self-then-is_err g c =
     let before = g.D.Device.state c.self.inside.device in
@@ -59,7 +56,6 @@ invariant_of-self-then-is_err g c =
       c.self.invariant.5,
     )
 
--- that is what the answer says
 pub returns-then-is_err : goal.returns-then-is_err
 returns-then-is_err g c =
     let before = g.D.Device.state c.self.inside.device in
@@ -86,7 +82,7 @@ returns-then-is_err g c =
       };
     })
 
--- where the call succeeds the engine is one step further
+-- a successful call takes the engine one step on
 pub invariant_of-self-2 : goal.invariant_of-self-2
 invariant_of-self-2 g c =
     let before = g.D.Device.state c.self.inside.device in
@@ -110,7 +106,6 @@ invariant_of-self-2 g c =
       step-noted e new before.disk after.disk c.self.inside.effects step c.self.invariant.5,
     )
 
--- that is what the answer says
 pub returns : goal.returns
 returns g c =
     let before = g.D.Device.state c.self.inside.device in

@@ -1,5 +1,4 @@
 use Rattle.log_engine.proofs.engine.Engine.layout.Goals as goal
 
--- it is one that is taken
 pub returns-clause-taken : goal.returns-clause-taken
 returns-clause-taken g c = c.self.invariant.0.plain.layout.0

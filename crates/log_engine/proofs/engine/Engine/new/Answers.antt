@@ -18,25 +18,20 @@ use Rattle.log_engine.proofs.Fresh.{HasFields, fresh-runs, named-fields}
 use Rattle.recovery.specs.Values.{IsNextNamed}
 use Rattle.log_engine.proofs.engine.Engine.new.Goals as goal
 
--- the superblock has all its fields
 pub ring_blocks-requires-clause-long : goal.ring_blocks-requires-clause-long
 ring_blocks-requires-clause-long g c = (subst HasFields (sym c.superblock.ensures.block) (named-fields _ _ _ c.superblock.ensures.named)).long
 
--- and says of a ring that it has blocks
 pub ring_blocks-requires-clause-order : goal.ring_blocks-requires-clause-order
 ring_blocks-requires-clause-order g c = (subst HasFields (sym c.superblock.ensures.block) (named-fields _ _ _ c.superblock.ensures.named)).order
 
--- behind the superblock
 pub new-requires-3-clause-some : goal.new-requires-3-clause-some
 new-requires-3-clause-some g c =
     (subst HasFields (sym c.into_parts-device.ensures.superblock) (named-fields _ _ _ c.into_parts-device.ensures.named)).some
 
--- and enough of them
 pub new-requires-3-clause-ring : goal.new-requires-3-clause-ring
 new-requires-3-clause-ring g c =
     (subst HasFields (sym c.into_parts-device.ensures.superblock) (named-fields _ _ _ c.into_parts-device.ensures.named)).ring
 
--- it still has all its fields
 pub new-requires-3-clause-long : goal.new-requires-3-clause-long
 new-requires-3-clause-long g c =
     (subst HasFields (sym c.into_parts-device.ensures.superblock) (named-fields _ _ _ c.into_parts-device.ensures.named)).long
@@ -80,7 +75,6 @@ invariant_of-result g c =
       none-noted (engine_of state.shape c.new-3.result) c.new-5.result (ap (λ (e : Engine). e.accepted) is) c.new-5.ensures,
     )
 
--- it is the machine's
 pub returns-clause-ok : goal.returns-clause-ok
 returns-clause-ok g c =
     let made = c.into_parts-device.ensures in
@@ -93,7 +87,6 @@ returns-clause-ok g c =
           ∙ ap₂ (fresh_engine (g.D.Device.state c.args.opened.device).shape) made.superblock made.next,
     )
 
--- and plain
 pub returns-clause-plain : goal.returns-clause-plain
 returns-clause-plain g c =
     let made = c.into_parts-device.ensures in
@@ -104,6 +97,5 @@ returns-clause-plain g c =
     ∙ ap₂ (fresh_engine (g.D.Device.state c.args.opened.device).shape) made.superblock made.next in
     subst IsPlain (sym is) (fresh-runs _ _ _ made.named)
 
--- of an opened log
 pub returns-clause-log : goal.returns-clause-log
 returns-clause-log g c = c.into_parts-device.ensures.log

@@ -12,18 +12,15 @@ use Rattle.log_engine.proofs.Reading.{aborted-sound, home-read, none-pending, pe
 use Rattle.log_engine.proofs.Rounding.{aborted-runs}
 use Rattle.log_engine.proofs.engine.Engine.read.Goals as goal
 
--- an aborted journal refuses, and nothing changes
 pub returns-then-self-clause-err : goal.returns-then-self-clause-err
 returns-then-self-clause-err g c = rw (← c.self.view_is) (ReadRefused.ReadAborted c.if-self.true refl)
 
 not-both : (b : Bool) → b ≡ true → b ≡ false → ⊥
 not-both b is not = cc
 
--- the layout is one that is taken
 pub is_allowed-requires : goal.is_allowed-requires
 is_allowed-requires g c = c.self.invariant.0.plain.layout.0
 
--- a block that may not be touched is refused
 pub returns-then-not-is_allowed-clause-err : goal.returns-then-not-is_allowed-clause-err
 returns-then-not-is_allowed-clause-err g c =
     let shape = (g.D.Device.state c.self.inside.device).shape in
@@ -33,18 +30,15 @@ returns-then-not-is_allowed-clause-err g c =
     c.if-not-is_allowed.true in
     rw (← c.self.view_is) (ReadRefused.ReadOutside c.if-self.false refused refl)
 
--- and the buffer is as before
 pub returns-then-not-is_allowed-clause-untouched : goal.returns-then-not-is_allowed-clause-untouched
 returns-then-not-is_allowed-clause-untouched g c = λ other. refl
 
--- a pending copy stands where the pending copies say
 pub copy-requires-clause-placed : goal.copy-requires-clause-placed
 copy-requires-clause-placed g c =
     let shape = (g.D.Device.state c.self.inside.device).shape in
     let one = c.self.invariant.0.pending.placed c.args.block c.in-Some.version (sym c.in-Some.ensures.newest) in
     (shape, one.0, c.args.block, one.1, one.2)
 
--- it is one block
 pub copy_from_slice-requires : goal.copy_from_slice-requires
 copy_from_slice-requires g c =
     let shape = (g.D.Device.state c.self.inside.device).shape in
@@ -55,7 +49,6 @@ copy_from_slice-requires g c =
     (sym c.self.view_is) c.requires in
     size ∙ sym (ap length (c.copy.ensures shape one.0 c.args.block one.1 one.2) ∙ placed-size e one.0 c.args.block c.in-Some.version.place runs.plain one.2)
 
--- the engine runs, and the block may be touched
 pub returns-in-Some-clause-may : goal.returns-in-Some-clause-may
 returns-in-Some-clause-may g c =
     let shape = (g.D.Device.state c.self.inside.device).shape in
@@ -63,7 +56,6 @@ returns-in-Some-clause-may g c =
     (c.is_allowed.ensures.0 c.if-not-is_allowed.false) in
     rw (← c.self.view_is) (c.if-self.false, may)
 
--- its bytes are what the block reads
 pub returns-in-Some-clause-ok : goal.returns-in-Some-clause-ok
 returns-in-Some-clause-ok g c =
     let state = g.D.Device.state c.self.inside.device in
@@ -73,7 +65,7 @@ returns-in-Some-clause-ok g c =
     let bytes = c.copy_from_slice.ensures.after ∙ c.copy.ensures state.shape one.0 c.args.block one.1 one.2 in
     rw (← c.self.view_is) (λ honest. pending-read e state.disk one.0 c.args.block c.in-Some.version.place _ runs.plain one.2 bytes, refl)
 
--- whether the device is honest or not
+-- correct reads are not needed
 pub returns-in-Some-clause-pending : goal.returns-in-Some-clause-pending
 returns-in-Some-clause-pending g c =
     let state = g.D.Device.state c.self.inside.device in
@@ -83,14 +75,13 @@ returns-in-Some-clause-pending g c =
     let bytes = c.copy_from_slice.ensures.after ∙ c.copy.ensures state.shape one.0 c.args.block one.1 one.2 in
     rw (← c.self.view_is) (λ i v pending. (pending-bytes e one.0 i c.args.block c.in-Some.version.place _ v runs.plain one.2 bytes pending, refl))
 
--- home has the block
 pub read-requires-clause-there : goal.read-requires-clause-there
 read-requires-clause-there g c =
     let shape = (g.D.Device.state c.self.inside.device).shape in
     let allowed = c.is_allowed.ensures.0 c.if-not-is_allowed.false in
     subst (λ (n : ℕ). n < shape.home_blocks) (sym c.block.view_is) (subst (λ (n : ℕ). c.args.block < n) c.blocks-2.ensures allowed.in_home)
 
--- where the device fails the engine is aborted
+-- a failed read aborts the engine
 pub invariant_of-self : goal.invariant_of-self
 invariant_of-self g c =
     let before = g.D.Device.state c.self.inside.device in
@@ -105,7 +96,6 @@ invariant_of-self g c =
       c.self.invariant.5,
     )
 
--- that is what the answer says
 pub returns-then-is_err-clause-err : goal.returns-then-is_err-clause-err
 returns-then-is_err-clause-err g c =
     let shape = (g.D.Device.state c.self.inside.device).shape in
@@ -119,7 +109,6 @@ returns-then-is_err-clause-err g c =
     rw (← c.self.view_is) (ReadRefused.ReadFailed c.if-self.false may unkept (ap (λ (s : Shape). engine_of s (record l { aborted = true })) c.read.ensures.stays.shape)
     (count-err _ _ c.read.result failed c.read.ensures.faults))
 
--- so they do where home is read
 pub returns-clause-may : goal.returns-clause-may
 returns-clause-may g c =
     let shape = (g.D.Device.state c.self.inside.device).shape in
@@ -127,7 +116,7 @@ returns-clause-may g c =
     (c.is_allowed.ensures.0 c.if-not-is_allowed.false) in
     rw (← c.self.view_is) (c.if-self.false, may)
 
--- where no copy is pending, what home reads is what the block reads
+-- if no copy is pending, the block reads as home does
 pub returns-clause-ok : goal.returns-clause-ok
 returns-clause-ok g c =
     let before = g.D.Device.state c.self.inside.device in
@@ -142,7 +131,7 @@ returns-clause-ok g c =
       ap (λ (s : Shape). engine_of s l) c.read.ensures.stays.shape,
     )
 
--- and none is
+-- no copy is pending
 pub returns-clause-pending : goal.returns-clause-pending
 returns-clause-pending g c =
     let before = g.D.Device.state c.self.inside.device in

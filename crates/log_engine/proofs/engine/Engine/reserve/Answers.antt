@@ -3,20 +3,18 @@ use Rattle.journal_world.specs.Engine.{Engine}
 use Rattle.log_engine.proofs.Rooms.{roomy-engine}
 use Rattle.log_engine.proofs.engine.Engine.reserve.Goals as goal
 
--- where memory runs out for the list of the batches the engine knows what it knew
+-- if memory for the list of batches runs out, the invariant still holds
 pub invariant_of-self-in_err-reserve-3 : goal.invariant_of-self-in_err-reserve-3
 invariant_of-self-in_err-reserve-3 g c =
     let more = c.reserve-3.ensures in
     roomy-engine _ _ (g.D.Device.state c.self.inside.device).shape _ c.self.inside.ledger _ c.self.inside.plan _ c.self.inside.effects c.reserve-2.new.self more.engine more.ring
     more.pending more.kept c.reserve.ensures.copies c.reserve.ensures.revokes c.reserve-2.ensures.same c.self.invariant
 
--- and is the same
 pub returns-in_err-reserve-3-clause-same : goal.returns-in_err-reserve-3-clause-same
 returns-in_err-reserve-3-clause-same g c =
     rw (← c.self.view_is)
     (ap (λ (e : Engine). record { device = c.self.inside.device; engine = e }) (c.reserve-3.ensures.engine (g.D.Device.state c.self.inside.device).shape))
 
--- so it is with room for all
 pub invariant_of-self-2 : goal.invariant_of-self-2
 invariant_of-self-2 g c =
     let more = c.reserve-3.ensures in

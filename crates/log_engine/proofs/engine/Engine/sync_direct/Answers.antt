@@ -8,25 +8,21 @@ use Rattle.block_device.proofs.OneCall.{no-call}
 use Rattle.log_engine.proofs.Directs.{during-sync, each-sync, sync-lost}
 use Rattle.log_engine.proofs.engine.Engine.sync_direct.Goals as goal
 
--- an aborted journal refuses, and nothing changes
 pub returns-then-self-clause-err : goal.returns-then-self-clause-err
 returns-then-self-clause-err g c = rw (← c.self.view_is) (DirectSyncRefused.SyncAborted c.if-self.true refl)
 
--- so what holds now holds at the one moment
+-- what holds now holds at the one moment
 pub returns-then-self-clause-device : goal.returns-then-self-clause-device
 returns-then-self-clause-device g c = rw (← c.self.view_is) (no-call (λ honest. during-sync _ _ (c.self.invariant.2 honest)))
 
--- the flush of home is a direct call
 pub call_directly-requires-clause-direct : goal.call_directly-requires-clause-direct
 call_directly-requires-clause-direct g c = (Flush Home, refl, SyncDirect)
 
--- one that fails aborts the journal
 pub returns-else-self-clause-err : goal.returns-else-self-clause-err
 returns-else-self-clause-err g c =
     let made = c.call_directly.ensures in
     sync-lost g.D.Device.state c.args.self.now c.call_directly.new.self c.call_directly.result (made.err (Flush Home) refl) made.failed made.faults
 
--- at each of its moments a stop opens
 pub returns-else-self-clause-device : goal.returns-else-self-clause-device
 returns-else-self-clause-device g c =
     let made = c.call_directly.ensures in

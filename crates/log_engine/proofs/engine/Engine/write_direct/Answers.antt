@@ -17,15 +17,13 @@ use Rattle.log_engine.proofs.engine.Engine.write_direct.Goals as goal
 not-both : (b : Bool) → b ≡ true → b ≡ false → ⊥
 not-both b is not = cc
 
--- an aborted journal refuses, and nothing changes
 pub returns-then-self-clause-err : goal.returns-then-self-clause-err
 returns-then-self-clause-err g c = rw (← c.self.view_is) (DirectWriteRefused.WriteAborted c.if-self.true refl)
 
--- so what holds now holds at the one moment
+-- what holds now holds at the one moment
 pub returns-then-self-clause-device : goal.returns-then-self-clause-device
 returns-then-self-clause-device g c = rw (← c.self.view_is) (no-call (λ honest. during-write _ _ _ _ (c.self.invariant.2 honest)))
 
--- a block that may not be touched is refused
 pub returns-then-not-is_allowed-clause-err : goal.returns-then-not-is_allowed-clause-err
 returns-then-not-is_allowed-clause-err g c =
     let shape = (g.D.Device.state c.self.inside.device).shape in
@@ -38,7 +36,6 @@ returns-then-not-is_allowed-clause-err g c =
 pub returns-then-not-is_allowed-clause-device : goal.returns-then-not-is_allowed-clause-device
 returns-then-not-is_allowed-clause-device g c = rw (← c.self.view_is) (no-call (λ honest. during-write _ _ _ _ (c.self.invariant.2 honest)))
 
--- so is one that is not left to home
 pub returns-then-not-is_left_to_home-clause-err : goal.returns-then-not-is_left_to_home-clause-err
 returns-then-not-is_left_to_home-clause-err g c =
     let shape = (g.D.Device.state c.self.inside.device).shape in
@@ -53,7 +50,6 @@ returns-then-not-is_left_to_home-clause-err g c =
 pub returns-then-not-is_left_to_home-clause-device : goal.returns-then-not-is_left_to_home-clause-device
 returns-then-not-is_left_to_home-clause-device g c = rw (← c.self.view_is) (no-call (λ honest. during-write _ _ _ _ (c.self.invariant.2 honest)))
 
--- the write of one that is left is a direct call
 pub call_directly-requires-clause-direct : goal.call_directly-requires-clause-direct
 call_directly-requires-clause-direct g c =
     let shape = (g.D.Device.state c.self.inside.device).shape in
@@ -68,7 +64,6 @@ call_directly-requires-clause-direct g c =
     subst (λ (n : ℕ). DirectCall e (Write Home n v)) (sym c.block.view_is) (WriteDirect c.args.block v left may size) in
     (Write Home c.block.inside.0 v, refl, subst (λ (x : EngineValue g.row.D.Denot). DirectCall x.engine (Write Home c.block.inside.0 v)) c.self.view_is call)
 
--- the engine runs, and the block is left to home
 pub returns-clause-may : goal.returns-clause-may
 returns-clause-may g c =
     let shape = (g.D.Device.state c.self.inside.device).shape in
@@ -79,7 +74,6 @@ returns-clause-may g c =
     let left = told.0 (c.is_left_to_home.ensures.0 c.if-not-is_left_to_home.false) in
     rw (← c.self.view_is) (on-ok c.call_directly.result (c.if-self.false, may, left))
 
--- a write that fails aborts the journal
 pub returns-clause-err : goal.returns-clause-err
 returns-clause-err g c =
     let made = c.call_directly.ensures in
@@ -87,7 +81,6 @@ returns-clause-err g c =
     write-lost g.D.Device.state c.args.self.now c.call_directly.new.self c.call_directly.result c.args.block v
     (made.err (Write Home c.args.block v) (ap (λ (n : ℕ). Some (Write Home n v)) c.block.view_is)) made.failed made.faults
 
--- at each of its moments a stop opens
 pub returns-clause-device : goal.returns-clause-device
 returns-clause-device g c =
     let made = c.call_directly.ensures in

@@ -8,12 +8,12 @@ use Rattle.recovery.specs.Gather.{TablesValue}
 use Rattle.recovery.proofs.Choosing.{covers-reaches}
 use Rattle.recovery.proofs.gathering.Tables.goes_home.Goals as goal
 
--- the place that is noted is this one
+-- the look-up is the test of the place
 placed : (o : Option ℕ) (place : ℕ) → option_eq (λ (a b : ℕ). a == b) o (Some place) ≡ is_place place o
 placed None place = refl
 placed (Some p) place = refl
 
--- what the table of revokes answers
+-- the look-up is the test of the revoke
 covered : (revokes : BlockTable) (b tid : ℕ) (answer : Bool) → (IsTrue answer ↔ Covers revokes b tid) → answer ≡ reaches tid (get revokes b)
 covered revokes b tid true same = sym ((covers-reaches revokes b tid).1 (same.0 refl))
 covered revokes b tid false same =

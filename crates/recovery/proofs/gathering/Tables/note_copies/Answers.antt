@@ -1,7 +1,6 @@
 use Rattle.recovery.proofs.Noting.{copies-more}
 use Rattle.recovery.proofs.gathering.Tables.note_copies.Goals as goal
 
--- one more is noted
 pub loop-k-preserved : goal.loop-k-preserved
 loop-k-preserved c = record {
   revokes = c.loop-k.invariant.revokes;

@@ -3,7 +3,6 @@ use Rattle.block_tables.specs.Copies.{placed_all}
 use Rattle.recovery.specs.Gather.{tag_notes}
 use Rattle.recovery.proofs.gathering.Tables.note_copies.Given as goal
 
--- the copies of the tags so far are noted
 abbrev pub invariant-loop-k : goal.invariant-loop-k
 invariant-loop-k l = record {
   revokes : l.self-inside.revokes ≡ l.fn.self.revokes;

@@ -1,7 +1,6 @@
 use Rattle.recovery.proofs.Noting.{revokes-more}
 use Rattle.recovery.proofs.gathering.Tables.note_revokes.Goals as goal
 
--- one more is noted
 pub loop-number-preserved : goal.loop-number-preserved
 loop-number-preserved c = record {
   revokes =

@@ -15,12 +15,10 @@ fields-requires g c =
     let same = ap length c.deref.ensures.value in
     omega (arith, named.size)
 
--- it says what the superblock says
 pub returns-clause-layout : goal.returns-clause-layout
 returns-clause-layout g c =
     c.layout.ensures ∙ ap layout_of c.fields.ensures ∙ ap (λ (block : List ℕ). layout_of (super_in block)) (c.deref.ensures.value ∙ ap (λ (o : OpenedValue g.row.D.Denot). o.superblock) c.self.view_is)
 
--- which was accepted
 pub returns-clause-taken : goal.returns-clause-taken
 returns-clause-taken g c =
     let accepted = accepted-layout (g.D.Device.state c.self.inside.device).shape c.self.inside.superblock.items c.self.invariant.0.named.is_superblock.accepted in
