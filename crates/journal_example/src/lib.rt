@@ -1,9 +1,8 @@
-//! An example: a journal over two files, and two blocks that change together. `docs/USING.md` says what is called when,
-//! `docs/COSTS.md` what each call costs, `docs/SAFETY.md` what is promised. In a program of your own the log is made once, and
-//! opened from then on.
+//! An example: a journal over two files, and two blocks that change together. `docs/USING.md` says what to call when, `docs/COSTS.md` what
+//! each call costs, `docs/SAFETY.md` what is promised. A program of your own makes the log once, and then opens it.
 //!
-//! `device` makes a device of two files, and `work` does all the rest over any device: a program calls `work(rt.alloc(),
-//! device(&rt)?)`, and a test a device in memory.
+//! `device` makes a device of two files, and `work` does the rest over any device. A program calls `work(rt.alloc(), device(&rt)?)`; a test
+//! uses a device in memory.
 #![tactic(auto)]
 
 use anyhow::{Result, bail};
@@ -15,31 +14,31 @@ use recovery::Opened;
 use std::alloc::Global;
 use std::fs::{File, OpenOptions};
 
-/// Bytes of a block: 1024, 2048 or 4096. It is the device's, and the log's superblock tells it.
+/// Bytes of a block: 1024, 2048 or 4096. The log's superblock records it.
 const BLOCK_SIZE: usize = 1024;
 
 /// Blocks of the log, at least 17. A transaction takes at most a quarter of them.
 const LOG_BLOCKS: u32 = 33;
 
-/// Blocks of the home area, which is the volume that the journal protects.
+/// Blocks of the home area, the volume that the journal protects.
 const HOME_BLOCKS: u64 = 64;
 
-/// What the example has done.
+/// What the example did.
 #[derive(Clone, Copy, Debug)]
 pub struct Done {
     /// The transaction of the two blocks.
     pub tid: Tid,
     /// The first byte of one of them.
     pub first: u8,
-    /// How many transactions were committed and written home.
+    /// Transactions committed and written home.
     pub home: u64,
 }
 
-/// Changes two blocks, commits them, reads one, and closes the journal. All that needs the journal works over any device.
+/// Changes two blocks, commits them, reads one, and closes the journal.
 ///
 /// # Errors
 ///
-/// The first refusal that a call gave. What was committed by then comes back at the next opening.
+/// The first refusal of a call. What was committed by then comes back at the next opening.
 pub fn work<D: Device + Drop>(alloc: Global, device: D) -> Result<Done> {
     let mut journal = new_journal(alloc, format_and_open(alloc, device)?)?;
     let ticket = change_two_blocks(alloc, &mut journal)?;
@@ -49,9 +48,8 @@ pub fn work<D: Device + Drop>(alloc: Global, device: D) -> Result<Done> {
     Ok(Done { tid, first, home })
 }
 
-/// Opens a file of so many bytes, makes it where there is none, takes its lock, so that no other program that asks for it has the file too,
-/// and makes its length durable: a device changes no length. A log that was there would be brought to its disk by
-/// `file_device::settle` next.
+/// Opens or creates a file of this length in bytes, and locks it against other programs that lock it. It makes the length durable, since a
+/// device never changes it. For an existing log, `file_device::settle` would follow.
 fn file_of(rt: &HostRuntime, path: &str, bytes: u64) -> Result<File> {
     let file = OpenOptions::new()
         .read(true)
@@ -64,24 +62,23 @@ fn file_of(rt: &HostRuntime, path: &str, bytes: u64) -> Result<File> {
     Ok(file)
 }
 
-/// A device over the files of the log and of the home area. The type parameter says what its files are supposed to hold: nothing.
+/// A device over the files of the log and the home area. The type parameter says that nothing is assumed of their contents.
 ///
 /// # Errors
 ///
-/// A file can't be opened, made, locked or measured, or memory ran out.
+/// A file can't be opened, created, locked or measured, or memory ran out.
 pub fn device(rt: &HostRuntime) -> Result<FileDevice<UnknownContents>> {
     let log = file_of(rt, "example_log", u64::from(LOG_BLOCKS) * BLOCK_SIZE as u64)?;
     let home = file_of(rt, "example_home", HOME_BLOCKS * BLOCK_SIZE as u64)?;
     device_over(rt.alloc(), log, home)
 }
 
-/// The device over these files.
 fn device_over(alloc: Global, log: File, home: File) -> Result<FileDevice<UnknownContents>> {
     Ok(FileDevice::new(alloc, UnknownContents, BLOCK_SIZE, log, Some(home))?)
 }
 
-/// Makes an empty log on a device, and opens it. Opening is where recovery happens: what complete transactions of the log copied goes
-/// home first. It writes nothing where the log is clean, or is refused for what stands in it.
+/// Creates an empty log on a device, and opens it. Opening recovers: it first writes home what complete transactions of the log copied. It
+/// writes nothing if the log is clean, or is refused for its contents.
 fn format_and_open<D: Device + Drop>(alloc: Global, device: D) -> Result<Opened<D>> {
     let mut device = device;
     recovery::format(&mut device, LOG_BLOCKS, &[0xaa; 16], false)?;
@@ -99,10 +96,10 @@ fn new_journal<D: Device + Drop>(alloc: Global, opened: Opened<D>) -> Result<Jou
     }
 }
 
-/// Changes blocks 9 and 10 through one handle: after any stop both changes are there, or neither is. Nothing is written to the
-/// device yet: both blocks lie in memory, as a part of the running transaction. A handle has a credit for each block that it will touch
-/// first. Where the journal has fewer left (`Full`), or its running transaction takes no further handles (`NotRunning`), commit first.
-/// The handle is stopped whatever its writes come to: the compiler lets nobody drop it.
+/// Changes blocks 9 and 10 through one handle: every crash image has both changes or neither. Both are in memory, in the running
+/// transaction; nothing is written to the device yet. A handle has a credit for each block that it will touch first. If the journal has too
+/// few left (`Full`) or its running transaction takes no handles (`NotRunning`), commit first. The handle is stopped in any case: the
+/// compiler lets nobody drop it.
 fn change_two_blocks<D: Device + Drop>(
     alloc: Global,
     journal: &mut Journal<D>,
@@ -126,8 +123,8 @@ fn write_two_blocks<D: Device + Drop>(
     journal.write(handle, BlockNo(10), &twos)
 }
 
-/// Commits a ticket's transaction: takes its commit turns, one device call each, and makes room in the log first where it is too full.
-/// Behind that it survives every stop; the receipt is what a caller who is told that its blocks are durable may rely on.
+/// Commits a ticket's transaction by commit turns, one device call each; first it makes room in the log if that is too full. The
+/// transaction then survives every crash. Whoever has the receipt may rely on that.
 fn commit<D: Device + Drop>(journal: &mut Journal<D>, ticket: Ticket) -> Result<Receipt> {
     match journal.commit(ticket) {
         Ok(receipt) => Ok(receipt),
@@ -135,8 +132,8 @@ fn commit<D: Device + Drop>(journal: &mut Journal<D>, ticket: Ticket) -> Result<
     }
 }
 
-/// The first byte of a block, as a handle would see it: the newest copy, which for block 9 is in memory still, and takes no device
-/// call. It takes no handle, so that who only reads makes no transaction.
+/// The first byte of a block, as a handle would see it: the newest copy, which for block 9 is still in memory and takes no device call. A
+/// read without a handle makes no transaction.
 fn read_first<D: Device + Drop>(
     alloc: Global,
     journal: &mut Journal<D>,
@@ -147,8 +144,8 @@ fn read_first<D: Device + Drop>(
     Ok(bytes.first().copied().unwrap_or(0))
 }
 
-/// Closes the journal: what is left is committed and written home, and the log is left clean. Here that is the one transaction, which is
-/// committed. Without a close nothing is lost: the next opening brings home what was committed.
+/// Commits what is left, writes it home, and leaves the log clean. Here that is the one committed transaction. Without a close nothing is
+/// lost: the next opening writes home what was committed.
 fn close<D: Device + Drop>(journal: Journal<D>) -> Result<u64> {
     if journal.has_open_handles() {
         bail!("a handle has not stopped");

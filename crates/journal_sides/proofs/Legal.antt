@@ -1,4 +1,4 @@
--- A record stays legal where both sides meet, and behind what is done there.
+-- A record stays legal when both sides are reconciled, and after the step that follows.
 use Rattle.std.proofs.Common.{sym, subst}
 use Rattle.std.specs.Prelude.{◌≡◌, Option, Some, None, Result, Ok, Err, IfErr, IfOk}
 use Rattle.journal_model.specs.declared.refusal.JournalError.{JournalError}
@@ -27,11 +27,11 @@ finishes-legal old disk new (NoneFinished same) legal = subst (λ (j : Journal).
 finishes-legal old disk new (OneFinished done finishes raises) legal =
     legal-happens done disk (FrontStep (Raise done.front.finished)) new disk raises (legal-happens old disk Finish done disk finishes legal)
 
--- the front catches up
+-- The front catches up.
 pub caught-legal : (old : Journal) (disk : Disk) (new : Journal) → CatchesUp old disk new → IsLegal (transactions old.front) → IsLegal (transactions new.front)
 caught-legal old disk new caught legal = finishes-legal caught.told disk new caught.finishes (tells-legal old disk caught.told caught.tells legal)
 
--- a seal, whatever it answers
+-- A seal, whatever it answers.
 pub seal-legal : {D : Type 0} (state : D → DeviceState) (honest : D → Type 0) (old new : JournalValue D) → (honest new.device → honest old.device) →
     KeepsLegal honest old → (r : Result (Option Turn) JournalError) → IfOk r (λ t. SealDid state t old new) → IfErr r (λ e. TurnRefused state old new e) →
     KeepsLegal honest new

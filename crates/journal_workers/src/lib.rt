@@ -1,7 +1,7 @@
-//! The two workers over a journal that threads share: one commits for all who wait, and one writes home.
+//! Decides when a shared journal commits and writes home: a commit worker for all who wait, and a checkpoint worker.
 //!
-//! `worker` says what wakes them and what they do then; `shared` is what they share with those whom they serve.
-//! `gate` lets a test hold a thread at a point, and `held` one that writes the log.
+//! `worker` says what wakes them and what they then do; `shared` is what they share with clients. `gate` lets a test hold a thread at a
+//! point, and `held` one that writes the log.
 #![tactic(auto)]
 
 mod gate;

@@ -1,4 +1,4 @@
-//! What all threads share beside the journal: who waits, what wakes whom.
+//! What all threads share with the journal: who waits, and who is woken for what.
 use block_device::Device;
 use event_counter::EventCounter;
 use journal_model::Tid;
@@ -8,44 +8,43 @@ use std::sync::atomic::{AtomicU64, Ordering};
 /// What all threads share.
 #[derive(Drop)]
 pub struct Shared<'s, J: JournalName, D: Device, R: Record, G> {
-    /// The journal.
     pub journal: &'s Journal<J, D, R>,
-    /// What threads tell one another.
+    /// How threads notify each other.
     pub signals: &'s Signals,
     /// Where a test holds threads.
     pub gate: &'s G,
 }
 
-/// Why the worker that commits is woken.
+/// Why the commit worker is woken.
 #[derive(Clone, Copy, Debug, Drop)]
 pub enum Kick {
-    /// Somebody waits until this transaction is committed.
+    /// A client waits for the commit of this transaction.
     Commit(Tid),
-    /// Somebody can't start: the running transaction is to make way.
+    /// A client can't start: the running transaction has to make way.
     Full,
-    /// The running transaction has entries for half of the credits: it is to be committed before anybody is refused.
+    /// The running transaction's entries hold half of the credits: commit before anybody is refused.
     HalfFull,
     /// A handle has stopped, and somebody waits.
     Stopped,
 }
 
-/// What threads tell one another.
+/// How threads notify each other.
 #[derive(Drop)]
 pub struct Signals {
-    /// Counts each time a handle has stopped, a transaction is sealed or committed, or the device has failed.
+    /// Counts stops of handles, seals, commits and device failures.
     pub moved: EventCounter,
-    /// Counts each time a round is over.
+    /// Counts finished checkpoint rounds.
     pub room: EventCounter,
-    /// 1 while a round is asked for that has not begun.
+    /// 1 while a requested round has not begun.
     round: AtomicU64,
-    /// 1 while a commit is asked for since half of the credits are used, and the worker has not begun to look.
+    /// 1 while a commit is requested because half of the credits are used, and the worker has not begun to look.
     half_full: AtomicU64,
     /// How many wait for a commit, for credits, or for a transaction that takes handles.
     waiting: AtomicU64,
 }
 
 impl Signals {
-    /// Nobody waits, and nothing is asked for.
+    /// Nobody waits, and nothing is requested.
     pub fn new() -> Signals {
         Signals {
             moved: EventCounter::new(),
@@ -56,13 +55,13 @@ impl Signals {
         }
     }
 
-    /// One more waits. Who waits says so before it kicks the worker: then each stop of a handle that the worker waits for finds that
-    /// somebody waits, and kicks it again.
+    /// Counts one more waiter. A waiter calls this before it kicks the worker. So each later stop of a handle that the worker waits for
+    /// finds a waiter, and kicks it again.
     pub fn begin_wait(&self) {
         self.waiting.fetch_add(1, Ordering::SeqCst);
     }
 
-    /// One of them waits no longer.
+    /// Counts one waiter less.
     pub fn end_wait(&self) {
         self.waiting.fetch_sub(1, Ordering::SeqCst);
     }
@@ -72,27 +71,27 @@ impl Signals {
         self.waiting.load(Ordering::SeqCst) != 0
     }
 
-    /// Notes that a commit is asked for since half of the credits are used. It answers whether the worker is to be kicked for that: not where
-    /// it was before, and has not begun to look.
+    /// Requests a commit because half of the credits are used. It returns whether to kick the worker: not if an earlier request is still
+    /// open.
     pub fn ask_for_half(&self) -> bool {
         self.half_full
             .compare_exchange(0, 1, Ordering::SeqCst, Ordering::SeqCst)
             .is_ok()
     }
 
-    /// The worker begins to look, or was not kicked.
+    /// The worker begins to look, or was not kicked: the request is no longer open.
     pub fn begin_half(&self) {
         self.half_full.store(0, Ordering::SeqCst);
     }
 
-    /// Notes that a round is asked for. It answers whether that is to be sent: not where one is asked for that has not begun.
+    /// Requests a round. It returns whether to send the request: not if an earlier one has not begun.
     pub(crate) fn ask_for_round(&self) -> bool {
         self.round
             .compare_exchange(0, 1, Ordering::SeqCst, Ordering::SeqCst)
             .is_ok()
     }
 
-    /// A round begins.
+    /// The requested round begins.
     pub(crate) fn begin_round(&self) {
         self.round.store(0, Ordering::SeqCst);
     }

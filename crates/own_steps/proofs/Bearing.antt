@@ -1,4 +1,4 @@
--- A record bears out a receipt: its handle stands there once, in a committed transaction, and no other has a step of it.
+-- A record confirms a receipt: the handle is recorded once, in a committed transaction, and no other has a step of it.
 use Rattle.std.proofs.Common.{refl, sym, ◌∙◌, ap, subst, arith, cond, eq-eqb, append-nil, length-append, ⊎_elim}
 use Rattle.std.specs.Prelude.{◌≡◌, ℕ, ◌+◌, ◌≤◌, nat_eq, Bool, true, false, List, [], ◌∷◌, ◌++◌, length, count_by, All, Contains}
 use Rattle.std.specs.List.{AllByRecursion, IsDistinct}
@@ -26,7 +26,7 @@ Owns t = All (λ s. Contains t.handles s.handle) t.steps
 abbrev counted : Bool → ℕ
 counted b = cond b 1 0
 
--- a number that all of these differ from is none of them
+-- A number that differs from all does not occur.
 counts-none : (n : ℕ) (hs : List ℕ) → AllByRecursion (λ h. nat_eq n h ≡ false) hs → count_by (nat_eq n) hs ≡ 0
 counts-none n [] all = refl
 counts-none n (h ∷ hs) all =
@@ -35,7 +35,7 @@ counts-none n (h ∷ hs) all =
     let rest : count_by (nat_eq n) hs ≡ 0 = counts-none n hs all.1 in
     omega (arith, sum, here, rest)
 
--- one of some different numbers stands there once
+-- A number among distinct ones occurs once.
 counts-one : (n : ℕ) (hs : List ℕ) → IsDistinct nat_eq hs → Contains hs n → count_by (nat_eq n) hs ≡ 1
 counts-one n [] once has = absurd (contains-none n has)
 counts-one n (h ∷ hs) once has =
@@ -54,7 +54,7 @@ counts-one n (h ∷ hs) once has =
     omega (arith, sum, here, one))
     (contains-cases h hs n has)
 
--- and not on both sides
+-- It is not on both sides.
 on-one-side : (n : ℕ) (xs ys : List ℕ) → IsDistinct nat_eq (xs ++ ys) → Contains xs n → Contains ys n → ⊥
 on-one-side n [] ys once left right = contains-none n left
 on-one-side n (x ∷ xs) ys once left right =
@@ -70,7 +70,7 @@ on-one-side n (x ∷ xs) ys once left right =
     true-not-false : true ≡ false → ⊥
     true-not-false e = absurd cc
 
--- a history none of whose handles it is has no step of it
+-- A history without the handle has no step of it.
 steps-nowhere : (n : ℕ) (ts : History) → AllByRecursion Owns ts → (Contains (handles_of ts) n → ⊥) → steps_by n (steps_of ts) ≡ []
 steps-nowhere n [] own outside = refl
 steps-nowhere n (t ∷ ts) own outside =
@@ -95,7 +95,7 @@ distinct-right : (xs ys : List ℕ) → IsDistinct nat_eq (xs ++ ys) → IsDisti
 distinct-right [] ys once = once
 distinct-right (x ∷ xs) ys once = distinct-right xs ys (IsDistinct-tail nat_eq x (xs ++ ys) once)
 
--- all steps of the record that are a handle's are those in its transaction
+-- All steps of a handle in the record are in its transaction.
 all-here : (ts before : History) (t : Transaction) (behind : History) (n : ℕ) → EachHandleOnce ts → ts ≡ before ++ t ∷ behind →
     Contains t.handles n →
     steps_by n (steps_of ts) ≡ steps_by n t.steps

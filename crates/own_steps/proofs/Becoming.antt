@@ -1,4 +1,4 @@
--- What the holder knows whose handle's step it is.
+-- What a step adds to its own holder's facts.
 use Rattle.std.proofs.Common.{refl, sym, ◌∙◌, ap, subst, arith}
 use Rattle.std.specs.Prelude.{◌≡◌, ◌≢◌, ℕ, ◌+◌, ◌-◌, ◌≤◌, nat_eq, if◌then◌else◌, is_some, List, [], ◌∷◌, ◌++◌, map, Option, Some, None, All, Contains}
 use Rattle.std.specs.List.{IsDistinct}
@@ -23,7 +23,7 @@ use Rattle.own_steps.proofs.Lists.{lookup-gone, lookup-here, steps-none, steps-o
 use Rattle.own_steps.proofs.Keeping.{in-record, next-other, same-read, same-step}
 use Rattle.own_steps.proofs.Standing.{InRunning, running-now, stands-running, still-own}
 
--- one more holder
+-- One more holder.
 pub may-add : (f g : Front) (own : OwnSteps) → IsOwn g own → AllStillKnow f g → ((x : OwnSteps) → IsOwn f x → own.number ≢ x.number) →
     MayAdd f g own
 may-add f g own is others far = record {
@@ -34,7 +34,7 @@ may-add f g own is others far = record {
       ((λ e. far x agrees (number ∙ e)), (λ e. far x agrees (number ∙ sym e)));
 }
 
--- one that was there
+-- A holder that was there.
 pub may-go : (f g : Front) (own next : OwnSteps) → own.number ≡ next.number → (IsOwn f own → IsOwn g next) →
     (IsOwn f own → OthersStillKnow own.number f g) → MayGo f own g next
 may-go f g own next number becomes others had is agreed =
@@ -47,16 +47,16 @@ may-go f g own next number becomes others had is agreed =
           ((λ e. far own is (mine ∙ e)), (λ e. far own is (mine ∙ sym e)));
     }
 
--- nothing changes
+-- Nothing changes.
 pub may-look : (f : Front) (own : OwnSteps) → MayGo f own f own
 may-look f own = may-go f f own own refl (λ is. is) (λ is x far agrees. agrees)
 
--- each step of the running transaction is of a handle of it
+-- Each step of the running transaction is of one of its handles.
 running-steps : (f : Front) → KeepsHandles f → All (λ s. Contains f.running.handles s.handle) f.running.steps
 running-steps f kept =
     All-contains (λ t. All (λ s. Contains t.handles s.handle) t.steps) (transactions f) f.running kept.each.own (Contains-push f.sealed f.running)
 
--- a handle that is still to join is none of it
+-- The next handle has not joined it.
 not-joined : (f : Front) → KeepsHandles f → Contains f.running.handles (next_handle f) → ⊥
 not-joined f kept joined =
     let low : next_handle f ≤ f.given =
@@ -76,7 +76,7 @@ join-own f n kept after = record {
   stage = refl;
 }
 
--- a handle joins
+-- A handle joins.
 pub joins : (f g : Front) (n : ℕ) → KeepsHandles f → FrontHappens f (Join n) g →
     MayAdd f g (open_own (record { number = next_handle f; tid = f.running.tid; left = n }) [])
 joins f g n kept step =
@@ -86,18 +86,18 @@ joins f g n kept step =
     (λ x agrees. still-own f g x (same-step f g (Join n) x.number (λ e. none-some x.number e) (next-other f x kept agrees.stands) step) agrees)
     (λ x agrees. next-other f x kept agrees.stands)
 
--- a look-up finds the credits that an open handle has
+-- A look-up finds an open handle's credits.
 pub found-open : (f : Front) (h : ℕ) (handle : IsOpen f h) → KeepsHandles f → lookup (nat_eq h) f.open_handles ≡ Some handle.left
 found-open f h handle kept =
     ap (λ (hs : List (ℕ × ℕ)). lookup (nat_eq h) hs) handle.stands
     ∙ lookup-here h handle.left handle.before handle.behind (subst (λ (hs : List (ℕ × ℕ)). IsDistinct nat_eq (map (λ o. o.0) hs)) handle.stands kept.once)
 
--- so these are those that its holder knows
+-- They are those that its holder knows.
 pub same-left : (f : Front) (h left : ℕ) (handle : IsOpen f h) → KeepsHandles f → lookup (nat_eq h) f.open_handles ≡ Some left →
     handle.left ≡ left
 same-left f h left handle kept found = same_Some handle.left left (sym (found-open f h handle kept) ∙ found)
 
--- the others know what they knew
+-- The others' facts are preserved.
 pub others-of : (f g : Front) (event : FrontEvent) (n : ℕ) → KeepsHandles f → ((x : ℕ) → n ≢ x → handle_of event ≢ Some x) →
     FrontHappens f event g → OthersStillKnow n f g
 others-of f g event n kept other step x far agrees =
@@ -106,7 +106,7 @@ others-of f g event n kept other step x far agrees =
 apart-some : (h x : ℕ) → h ≢ x → Some h ≢ Some x
 apart-some h x far = λ e. far (same_Some h x e)
 
--- it has further credits
+-- It has further credits.
 pub extend-own : (f : Front) (h : HandleValue) (n : ℕ) (steps : List Step) (handle : IsOpen f h.number) → KeepsHandles f →
     KeepsHandles (extending f h.number n handle) →
     IsOwn f (open_own h steps) → IsOwn (extending f h.number n handle) (open_own (record h { left = h.left + n }) steps)
@@ -120,7 +120,7 @@ extend-own f h n steps handle kept after is =
       stage = is.stage;
     }
 
--- it gets them
+-- It gets further credits.
 pub extends : (f g : Front) (h : HandleValue) (n : ℕ) (steps : List Step) → KeepsHandles f → FrontHappens f (ExtendHandle h.number n) g →
     MayGo f (open_own h steps) g (open_own (record h { left = h.left + n }) steps)
 extends f g h n steps kept step =
@@ -129,7 +129,7 @@ extends f g h n steps kept step =
     may-go f g (open_own h steps) next refl (λ is. subst (λ (x : Front). IsOwn x next) (sym step.after) (extend-own f h n steps step.handle kept after is))
     (λ is. others-of f g (ExtendHandle h.number n) h.number kept (λ x far. apart-some h.number x far) step)
 
--- what a touch leaves of the credits
+-- The credits that a touch leaves.
 spent : (f : Front) (b : ℕ) (old new : HandleValue) → Spends f b old new → new ≡ record old { left = left_after f b old.left }
 spent f b old new spends = by (effect b f.running.steps) refl
   where
@@ -157,7 +157,7 @@ touch-own f h b op steps handle kept after is =
       stage = is.stage;
     }
 
--- it writes a block
+-- It writes a block.
 pub writes : (f g : Front) (h next : HandleValue) (b : ℕ) (v : List ℕ) (steps : List Step) → KeepsHandles f →
     FrontHappens f (WriteBlock h.number b v) g → Spends f b h next →
     MayGo f (open_own h steps) g (open_own next (steps ++ write_step h.number b v ∷ []))
@@ -169,7 +169,7 @@ writes f g h next b v steps kept step spends =
     (λ is. subst (λ (x : Front). IsOwn x made) (sym step.after) (touch-own f h b (Write v) steps step.handle kept after is))
     (λ is. others-of f g (WriteBlock h.number b v) h.number kept (λ x far. apart-some h.number x far) step))
 
--- and revokes one
+-- It revokes a block.
 pub revokes : (f g : Front) (h next : HandleValue) (b : ℕ) (steps : List Step) → KeepsHandles f → FrontHappens f (RevokeBlock h.number b) g →
     Spends f b h next →
     MayGo f (open_own h steps) g (open_own next (steps ++ revoke_step h.number b ∷ []))
@@ -181,7 +181,7 @@ revokes f g h next b steps kept step spends =
     (λ is. subst (λ (x : Front). IsOwn x made) (sym step.after) (touch-own f h b Revoke steps step.handle kept after is))
     (λ is. others-of f g (RevokeBlock h.number b) h.number kept (λ x far. apart-some h.number x far) step))
 
--- it has read one
+-- It has read a block.
 pub read-own : (f : Front) (h : HandleValue) (b : ℕ) (v : List ℕ) (steps : List Step) → IsOwn f (open_own h steps) →
     IsOwn (reading_block f h.number b v) (open_own h (steps ++ read_step h.number b v ∷ []))
 read-own f h b v steps is =
@@ -197,14 +197,14 @@ read-own f h b v steps is =
       stage = is.stage;
     }
 
--- it reads one
+-- It reads a block.
 pub reads : (f : Front) (h : HandleValue) (b : ℕ) (v : List ℕ) (steps : List Step) →
     MayGo f (open_own h steps) (reading_block f h.number b v) (open_own h (steps ++ read_step h.number b v ∷ []))
 reads f h b v steps =
     may-go f (reading_block f h.number b v) (open_own h steps) (open_own h (steps ++ read_step h.number b v ∷ [])) refl (read-own f h b v steps)
     (λ is x far agrees. still-own f (reading_block f h.number b v) x (same-read f x.number h.number b v far) agrees)
 
--- an open handle is one of the front's
+-- An open handle is one of the front's.
 pub is_open : (f : Front) (h : HandleValue) (steps : List Step) → IsOwn f (open_own h steps) → IsOpenHandle f h
 is_open f h steps is = record { left = is.credits; transaction = is.stage }
 
@@ -219,7 +219,7 @@ stop-own f h steps handle kept is =
       stage = tt;
     }
 
--- it stops
+-- It stops.
 pub stops : (f g : Front) (h : HandleValue) (steps : List Step) → KeepsHandles f → (IsOpenHandle f h → FrontHappens f (StopHandle h.number) g) →
     MayGo f (open_own h steps) g (stopped_own h.number h.tid steps)
 stops f g h steps kept step =

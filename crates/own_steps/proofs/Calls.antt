@@ -1,4 +1,4 @@
--- What each call of a journal owes to the holders, from what its contract says.
+-- What each call of a journal must preserve for holders, from its contract.
 use Rattle.std.proofs.Common.{refl, sym, ◌∙◌, ap, subst, arith, ⊎_elim}
 use Rattle.std.specs.Prelude.{◌≡◌, ◌≢◌, ℕ, ◌+◌, ◌<◌, ◌≤◌, true, List, [], ◌∷◌, ◌++◌, length, Some, None}
 use Rattle.std.proofs.lemmas.Bool.{cases_eq}
@@ -35,21 +35,21 @@ use Rattle.own_steps.proofs.Becoming.{extends, joins, may-go, may-look, reads, r
 use Rattle.own_steps.proofs.Keeping.{others-know, same-beside, same-plain, seal-own}
 use Rattle.own_steps.proofs.Standing.{InRunning, running-now, still-own}
 
--- nothing changes
+-- Nothing changes.
 same-front : (f g : Front) → g ≡ f → AllStillKnow f g
 same-front f g is x own = subst (λ (h : Front). IsOwn h x) (sym is) own
 
--- of all that holders know nothing changes
+-- Nothing that holders know changes.
 beside : (f g : Front) → g.sealed ≡ f.sealed → g.running ≡ f.running → g.open_handles ≡ f.open_handles → g.locked ≡ f.locked → AllStillKnow f g
 beside f g sealed running open_handles locked x own = still-own f g x (same-plain f x.number g sealed running open_handles locked) own
 
--- nor where this is the front
+-- The same, for a front that equals such a one.
 made-beside : (f made g : Front) → g ≡ made → made.sealed ≡ f.sealed → made.running ≡ f.running → made.open_handles ≡ f.open_handles →
     made.locked ≡ f.locked → AllStillKnow f g
 made-beside f made g is sealed running open_handles locked x own =
     subst (λ (h : Front). IsOwn h x) (sym is) (beside f made sealed running open_handles locked x own)
 
--- what was reserved is nothing that a holder knows of
+-- Holders know nothing of reserved credits.
 reserved-back : (f : Front) (n : ℕ) (g : Front) (own next : OwnSteps) → MayGo (reserving f n) own g next → MayGo f own g next
 reserved-back f n g own next may had is agreed =
     let got = may had is (λ h same. beside f (reserving f n) refl refl refl refl h (agreed h same)) in
@@ -62,11 +62,11 @@ reserved-back f n g own next may had is agreed =
 reserved-kept : (f : Front) (n : ℕ) → KeepsHandles f → KeepsHandles (reserving f n)
 reserved-kept f n kept = record { each = kept.each; all = kept.all; joined = kept.joined; once = kept.once }
 
--- a transaction takes no further handles
+-- A transaction takes no further handles.
 locks-all : (f : Front) → AllStillKnow f (locking f)
 locks-all f x own = still-own f (locking f) x (same-beside f x.number (locking f) refl refl refl (λ is. refl)) own
 
--- whoever looks
+-- A holder's look.
 pub look : (f : Front) (own : OwnSteps) → MayGo f own f own
 look f own = may-look f own
 
@@ -77,20 +77,20 @@ module _ {D : Type 0} (state : D → DeviceState) (old new : JournalValue D) whe
   abbrev g : Front
   g = new.journal.front
 
-  -- each step, for all but the one whose handle's it is
+  -- A step preserves the facts of every holder but its own.
   pub others : (event : Event) (x : OwnSteps) → KeepsHandles f → actor event ≢ Some x.number → Does state old event new → IsOwn f x → IsOwn g x
   others event x kept other did own = others-know old.journal new.journal (state old.device).disk (state new.device).disk event x kept other did own
 
-  -- and for all where it is no handle's
+  -- A step of no handle preserves every holder's.
   pub nobody : (event : Event) → KeepsHandles f → actor event ≡ None → Does state old event new → AllStillKnow f g
   nobody event kept none did x own = others event x kept (λ e. none-some x.number (sym none ∙ e)) did own
 
-  -- a handle joins with credits that were granted before
+  -- A handle joins with credits granted before.
   pub try_join : (n : ℕ) → KeepsHandles f → Does state old (FrontStep (Join n)) new →
       MayAdd f g (open_own (record { number = next_handle f; tid = f.running.tid; left = n }) [])
   try_join n kept did = joins f g n kept did.front
 
-  -- or with ones that are granted for it
+  -- A handle joins with credits granted for it.
   pub join : (n : ℕ) → KeepsHandles f → Starts state n old new →
       MayAdd f g (open_own (record { number = next_handle f; tid = f.running.tid; left = n }) [])
   join n kept starts =
@@ -128,7 +128,7 @@ module _ {D : Type 0} (state : D → DeviceState) (old new : JournalValue D) whe
       MayGo f (open_own h steps) g (stopped_own h.number h.tid steps)
   stop h steps kept stopped = stops f g h steps kept (λ is. (stopped is).front)
 
-  -- a request, by whoever
+  -- A request by anyone.
   pub requested : (tid : ℕ) → Requests state tid old new → AllStillKnow f g
   requested tid asks =
       ⊎_elim
@@ -141,7 +141,7 @@ module _ {D : Type 0} (state : D → DeviceState) (old new : JournalValue D) whe
       (λ (other : tid ≢ f.running.tid). same-front f g (ap (λ (v : JournalValue D). v.journal.front) (asks.other other)))
       (cases_eq tid f.running.tid)
 
-  -- a request for a holder that has stopped
+  -- A request by the ticket of a stopped handle.
   pub ask : (own : OwnSteps) → credits_of own.stage ≡ None → Requests state own.tid old new →
       MayGo f own g (asked_own own.number own.tid own.steps)
   ask own stopped asks = may-go f g own (asked_own own.number own.tid own.steps) refl by (λ was x far. requested own.tid asks x)
@@ -149,7 +149,7 @@ module _ {D : Type 0} (state : D → DeviceState) (old new : JournalValue D) whe
       next : OwnSteps
       next = asked_own own.number own.tid own.steps
 
-      -- what stands is no matter of the stage
+      -- Where the handle is recorded does not depend on its stage.
       stands-next : (h : Front) → Stands h own → Stands h next
       stands-next h stands = record {
         before = stands.before;
@@ -176,7 +176,7 @@ module _ {D : Type 0} (state : D → DeviceState) (old new : JournalValue D) whe
           subst (λ (h : Front). IsOwn h next) (sym (ap (λ (v : JournalValue D). v.journal.front) (asks.other other))) (asked f was (λ now. absurd (other now))))
           (cases_eq own.tid f.running.tid)
 
-  -- the front is told of a failure
+  -- The front learns of a failure.
   told : (fault : Event) → FailsAndTells state fault old new → (mid : Front) → mid ≡ f → g ≡ aborting mid → AllStillKnow f g
   told fault fails mid is tells = made-beside f (aborting f) g (tells ∙ ap aborting is) refl refl refl refl
 
@@ -210,7 +210,7 @@ module _ {D : Type 0} (state : D → DeviceState) (old new : JournalValue D) whe
   refused_read h b e (ReadUnnoted may last same faults is) = same-front f g (ap (λ (j : Journal). j.front) same)
   refused_read h b e (ReadFailed may last none fails faults is) = made-beside f (aborting f) g fails.front refl refl refl refl
 
-  -- a read without a handle is nobody's step
+  -- A read without a handle is nobody's step.
   pub read_newest : (honest : D → Type 0) (b : ℕ) (v : List ℕ) → ReadsNewest state honest old b v new → AllStillKnow f g
   read_newest honest b v read = same-front f g (ap (λ (j : Journal). j.front) read.same)
 

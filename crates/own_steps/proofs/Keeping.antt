@@ -1,4 +1,4 @@
--- What the others know is so behind each step of a journal.
+-- Each step of a journal preserves the other holders' facts.
 use Rattle.std.proofs.Common.{refl, sym, ◌∙◌, ap, subst, arith}
 use Rattle.std.specs.Prelude.{◌≡◌, ◌≢◌, ℕ, ◌+◌, ◌≤◌, nat_eq, true, List, [], ◌∷◌, ◌++◌, Some, Contains}
 use Rattle.std.specs.Map.{lookup}
@@ -23,7 +23,7 @@ use Rattle.own_steps.specs.Own.{IsOwn, StageHolds, Stands, credits_of, steps_by}
 use Rattle.own_steps.proofs.Lists.{lookup-changed, lookup-push, lookup-without, steps-of_other}
 use Rattle.own_steps.proofs.Standing.{SameFor, stands-seal, still-own, tid-least}
 
--- the handle of a transaction of a record is one of the record's
+-- The handle of a recorded transaction is one of the record's.
 pub in-record : (ts before : History) (t : Transaction) (behind : History) (n : ℕ) → ts ≡ before ++ t ∷ behind → Contains t.handles n →
     Contains (handles_of ts) n
 in-record ts before t behind n is joined =
@@ -33,18 +33,18 @@ in-record ts before t behind n is joined =
     subst (λ (hs : List ℕ). Contains hs n) (sym parts)
     (Contains-append_right (handles_of before) (t.handles ++ handles_of behind) n (Contains-append_left t.handles (handles_of behind) n joined))
 
--- the handle of a holder was given out
+-- A holder's handle was given out.
 pub given-least : (f : Front) (x : OwnSteps) → KeepsHandles f → Stands f x → x.number ≤ f.given
 given-least f x kept stands =
     All-contains (λ n. n ≤ f.given) (handles_of (transactions f)) x.number (All-from_recursion (λ n. n ≤ f.given) (handles_of (transactions f)) (has-handles f kept).least)
     (in-record (transactions f) stands.before stands.transaction stands.behind x.number stands.among stands.joined)
 
--- so it is none that is still to be given
+-- So it is not the next one to be given.
 pub next-other : (f : Front) (x : OwnSteps) → KeepsHandles f → Stands f x → next_handle f ≢ x.number
 next-other f x kept stands = λ same. let low = given-least f x kept stands in absurd (omega arith)
 
 module _ (f : Front) (n : ℕ) where
-  -- where neither handles nor transactions change
+  -- The front's handles and transactions do not change.
   pub same-beside : (g : Front) → g.sealed ≡ f.sealed → g.running ≡ f.running → g.open_handles ≡ f.open_handles →
       (f.locked ≡ true → g.locked ≡ true) → SameFor n f g
   same-beside g sealed running open_handles locked = record {
@@ -113,7 +113,7 @@ module _ (f : Front) (n : ℕ) where
       SameFor n f g
   same-plain g sealed running open_handles locked = same-beside g sealed running open_handles (λ is. locked ∙ is)
 
--- a step of the front alone
+-- A step of the front alone.
 pub same-step : (f g : Front) (event : FrontEvent) (n : ℕ) → handle_of event ≢ Some n → next_handle f ≢ n → FrontHappens f event g →
     SameFor n f g
 same-step f g event n other fresh step = by event other step
@@ -139,7 +139,7 @@ same-step f g event n other fresh step = by event other step
     by Lock far step = on step.after (same-beside f n _ refl refl refl (λ is. refl))
     by (Raise t) far step = on step.after (same-plain f n _ refl refl refl refl)
 
--- a seal
+-- A seal.
 pub seal-own : (f : Front) (x : OwnSteps) → MaySeal f → IsOwn f x → IsOwn (sealing f) x
 seal-own f x may own = record { stands = stands-seal f x own.stands; credits = own.credits; stage = by x.stage own.credits own.stage }
   where
@@ -149,7 +149,7 @@ seal-own f x may own = record { stands = stands-seal f x own.stands; credits = o
     by Stopped found holds = tt
     by Asked found holds = λ now. let low = tid-least f x own.stands in absurd (omega arith)
 
--- each step of a journal
+-- Each step of a journal.
 pub others-know : (old new : Journal) (disk after : Disk) (event : Event) (x : OwnSteps) → KeepsHandles old.front →
     actor event ≢ Some x.number →
     Happens old disk event new after → IsOwn old.front x → IsOwn new.front x

@@ -1,4 +1,4 @@
--- The lemmas of this crate that crates above it cite.
+-- The lemmas that other crates cite.
 pub mod Bearing
 pub mod Becoming
 pub mod Calls

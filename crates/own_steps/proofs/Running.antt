@@ -1,4 +1,4 @@
--- Over a run of events a handle has just the steps of its own.
+-- Over a run of events a handle gains exactly its own steps.
 use Rattle.std.proofs.Common.{refl, sym, ◌∙◌, ap, subst, append_assoc, append-nil, cond, eq-eqb, ne_eqb, ⊎_elim}
 use Rattle.std.specs.Prelude.{◌≡◌, ◌≢◌, ℕ, ◌+◌, ◌≤◌, nat_eq, Bool, true, List, [], ◌∷◌, ◌++◌, Some, None}
 use Rattle.std.specs.List.{flat_map}
@@ -30,7 +30,7 @@ use Rattle.own_steps.proofs.Bearing.{bears_out}
 use Rattle.own_steps.proofs.Becoming.{extend-own, found-open, joins, read-own, same-left, stop-own, touch-own}
 use Rattle.own_steps.proofs.Keeping.{others-know}
 
--- each event keeps what a front keeps of its handles
+-- Each event preserves the front's invariant of its handles.
 handles-kept : (old new : Journal) (disk after : Disk) (event : Event) → Happens old disk event new after → KeepsHandles old.front →
     KeepsHandles new.front
 handles-kept old new disk after event step kept = by event step
@@ -54,7 +54,7 @@ handles-kept old new disk after event step kept = by event step
     by Finish step = same step.front (kept-beside old.front (old.front.finished + 1) old.front.mark old.front.aborted kept)
     by AbortMark step = same step.front (kept-beside old.front old.front.finished old.front.mark true kept)
 
--- a holder whose handle is open knows it so
+-- The holder of an open handle knows that it is open.
 as-open : (f : Front) (own : OwnSteps) (handle : IsOpen f own.number) → KeepsHandles f → IsOwn f own → own.stage ≡ Open handle.left
 as-open f own handle kept is = by own.stage is.credits
   where
@@ -63,7 +63,7 @@ as-open f own handle kept is = by own.stage is.credits
     by Stopped found = absurd (none-some handle.left (sym found ∙ found-open f own.number handle kept))
     by Asked found = absurd (none-some handle.left (sym found ∙ found-open f own.number handle kept))
 
--- a handle's value, as its holder knows it
+-- A handle's value, as its holder knows it.
 abbrev value : (own : OwnSteps) (left : ℕ) → HandleValue
 value own left = record { number = own.number; tid = own.tid; left = left }
 
@@ -71,15 +71,15 @@ opened : (f : Front) (own : OwnSteps) (handle : IsOpen f own.number) → KeepsHa
     IsOwn f (open_own (value own handle.left) own.steps)
 opened f own handle kept is = subst (λ (s : HandleStage). IsOwn f (record own { stage = s })) (as-open f own handle kept is) is
 
--- nothing was made
+-- No step was made.
 unmade : (g : Front) (own : OwnSteps) (stage : HandleStage) → IsOwn g (record own { stage = stage }) → HasMade g own []
 unmade g own stage is = (stage, subst (λ (l : List Step). IsOwn g (record own { steps = l; stage = stage })) (sym (append-nil own.steps)) is)
 
--- of the handle's own step just this
+-- A step of the handle itself is one of its steps.
 mine : (n h : ℕ) (s : Step) → s.handle ≡ h → n ≡ h → s ∷ [] ≡ steps_by n (s ∷ [])
 mine n h s of same = ap (λ (b : Bool). cond b (s ∷ []) []) (sym (eq-eqb n s.handle (same ∙ sym of)))
 
--- of another's nothing
+-- A step of another handle is none.
 others : (n h : ℕ) (s : Step) → s.handle ≡ h → n ≢ h → [] ≡ steps_by n (s ∷ [])
 others n h s of differs = ap (λ (b : Bool). cond b (s ∷ []) []) (sym (ne_eqb n s.handle (λ e. differs (e ∙ of))))
 
@@ -121,7 +121,7 @@ module _ (f : Front) (own : OwnSteps) (kept : KeepsHandles f) (is : IsOwn f own)
       (subst (λ (k : ℕ). IsOwn (stopping f h handle) (record { number = k; tid = own.tid; steps = own.steps; stage = Stopped })) (sym same)
       (stop-own f (value mine handle.left) own.steps handle kept (opened f mine handle kept was)))
 
--- one event
+-- One event.
 made-one : (old new : Journal) (disk after : Disk) (event : Event) (own : OwnSteps) → KeepsHandles old.front →
     Happens old disk event new after → IsOwn old.front own →
     HasMade new.front own (steps_by own.number (block_steps event))
@@ -201,7 +201,7 @@ made-one old new disk after event own kept step is = by event step
     by Finish step = none Finish refl step
     by AbortMark step = none AbortMark refl step
 
--- all of a run
+-- All events of a run.
 pub made-all : (old new : Journal) (disk after : Disk) (events : List Event) (own : OwnSteps) → KeepsHandles old.front →
     Runs old disk events new after → IsOwn old.front own →
     HasMade new.front own (steps_by own.number (flat_map block_steps events))
@@ -221,7 +221,7 @@ made-all old new disk after (event ∷ events) own kept runs is =
     append_assoc own.steps first rest ∙ ap (λ (l : List Step). own.steps ++ l) (sym whole) in
     (all.0, subst (λ (l : List Step). IsOwn new.front (record own { steps = l; stage = all.0 })) list all.1)
 
--- a receipt is borne out whatever stage its holder knows
+-- A receipt is confirmed at any stage that its holder knows.
 of-any-stage : (committed : ℕ) (ts : History) (own : OwnSteps) (stage : HandleStage) → BearsOut committed ts own →
     BearsOut committed ts (record own { stage = stage })
 of-any-stage committed ts own stage bears = record {
@@ -237,7 +237,7 @@ of-any-stage committed ts own stage bears = record {
   all = bears.all;
 }
 
--- from the join on
+-- From the join on.
 pub from-join : (old mid new : Journal) (disk between after : Disk) (n : ℕ) (events : List Event) → KeepsHandles old.front →
     Happens old disk (FrontStep (Join n)) mid between → Runs mid between events new after → Agrees new → old.front.running.tid ≤ new.front.mark →
     BearsOut new.engine.committed (transactions new.front)

@@ -1,4 +1,4 @@
--- Where a handle stands in a record: in the transaction that runs, or in one that is sealed.
+-- Where a handle is recorded: in the running transaction, or in a sealed one.
 use Rattle.std.proofs.Common.{refl, sym, ◌∙◌, ap, subst, arith, append_assoc, length-append}
 use Rattle.std.specs.Prelude.{◌≡◌, ℕ, suc, ◌+◌, ◌≤◌, nat_eq, true, [], ◌∷◌, ◌++◌, length, Contains}
 use Rattle.std.specs.Map.{lookup}
@@ -84,7 +84,7 @@ stands-sealed f own is =
       steps = is.steps;
     }
 
--- the handle of a holder that knows that its transaction is the running one stands there
+-- If its transaction is the running one, it is recorded there.
 pub running-now : (f : Front) (own : OwnSteps) → own.tid ≡ f.running.tid → Stands f own → InRunning f own
 running-now f own now stands = by (where_stands f own stands)
   where
@@ -92,7 +92,7 @@ running-now f own now stands = by (where_stands f own stands)
     by (Running is) = is
     by (Sealed is) = let place = is.place in absurd (omega arith)
 
--- For the holder of this number one front is as the other, but for how far the running transaction has come with others.
+-- For the holder of handle n the fronts differ only in what other handles have done in the running transaction.
 pub record SameFor (n : ℕ) (f g : Front) : Type 0 where
   pub sealed : g.sealed ≡ f.sealed
   pub tid : g.running.tid ≡ f.running.tid
@@ -107,7 +107,7 @@ stage-on f g tid (Open left) same locked holds = holds ∙ sym same
 stage-on f g tid Stopped same locked holds = tt
 stage-on f g tid Asked same locked holds = λ now. locked (holds (now ∙ same))
 
--- a sealed transaction stays where it is
+-- A sealed transaction stays where it is.
 pub sealed-on : (f g : Front) (own : OwnSteps) → g.sealed ≡ f.sealed → g.running.tid ≡ f.running.tid → InSealed f own → InSealed g own
 sealed-on f g own sealed tid is = record {
   before = is.before;
@@ -120,7 +120,7 @@ sealed-on f g own sealed tid is = record {
   steps = is.steps;
 }
 
--- so a holder knows what it knew
+-- So the holder's facts are preserved.
 pub still-own : (f g : Front) (x : OwnSteps) → SameFor x.number f g → IsOwn f x → IsOwn g x
 still-own f g x same own = record {
   stands = by (where_stands f x own.stands);
@@ -133,11 +133,11 @@ still-own f g x same own = record {
         stands-running g x (record { number = is.number ∙ sym same.tid; joined = same.handles is.joined; steps = same.steps ∙ is.steps })
     by (Sealed is) = stands-sealed g x (sealed-on f g x same.sealed same.tid is)
 
--- no transaction has a greater number than the running one
+-- No transaction has a greater number than the running one.
 pub tid-least : (f : Front) (own : OwnSteps) → Stands f own → own.tid ≤ f.running.tid
 tid-least f own stands = let place = stands.place in omega arith
 
--- once the running transaction is sealed a handle stands where it did
+-- A handle stays recorded where it was when the running transaction is sealed.
 pub stands-seal : (f : Front) (own : OwnSteps) → Stands f own → Stands (sealing f) own
 stands-seal f own stands =
     let next : Transaction = empty_transaction (suc f.running.tid) in

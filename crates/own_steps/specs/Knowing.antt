@@ -1,4 +1,4 @@
--- What holders still know behind the steps of a journal, and what the one knows whose step it is.
+-- Which facts of holders the steps of a journal preserve, and what a step adds for its own holder.
 use Rattle.std.specs.Prelude.{◌≡◌, ◌≢◌, ℕ, Option, Some, None}
 use Rattle.journal_world.specs.Front.{Front, FrontEvent}
 use Rattle.journal_world.specs.Front.FrontEvent.{Reserve, RefuseReserve, TakeBack, GiveBack, LoadCredits, LoadMark, Join, ExtendHandle, WriteBlock, RevokeBlock, StopHandle, Lock, Raise}
@@ -8,7 +8,7 @@ use Rattle.parts.specs.Parts.{MayBecome}
 use Rattle.own_steps.specs.declared.own.OwnSteps.{OwnSteps}
 use Rattle.own_steps.specs.Own.{AreApart, IsOwn}
 
--- the open handle whose step it is
+-- The open handle that makes the step.
 abbrev pub handle_of : FrontEvent → Option ℕ
 handle_of (Reserve n) = None
 handle_of (RefuseReserve n) = None
@@ -40,19 +40,19 @@ actor DirectSyncFault = None
 actor Finish = None
 actor AbortMark = None
 
--- each holder knows what it knew
+-- Every holder's facts are preserved.
 abbrev pub AllStillKnow : Front → Front → Type 0
 AllStillKnow old new = (x : OwnSteps) → IsOwn old x → IsOwn new x
 
--- each but the one with this handle does
+-- The facts of every holder but the one of handle n are preserved.
 abbrev pub OthersStillKnow : ℕ → Front → Front → Type 0
 OthersStillKnow n old new = (x : OwnSteps) → n ≢ x.number → IsOwn old x → IsOwn new x
 
--- one more holder knows this of the new record, and the others what they knew
+-- One more holder knows `own` of the new record, and the others' facts are preserved.
 abbrev pub MayAdd : Front → Front → OwnSteps → Type 0
 MayAdd old new own = MayBecome IsOwn AreApart old None new (Some own)
 
--- a holder who knew the one of the old record knows the other of the new one, and the others what they knew
+-- A holder who knew `own` of the old record knows `next` of the new one, and the others' facts are preserved.
 abbrev pub MayGo : Front → OwnSteps → Front → OwnSteps → Type 0
 MayGo old own new next =
     (had : Option OwnSteps) → had ≡ Some own → ((h : OwnSteps) → had ≡ Some h → IsOwn old h) → MayBecome IsOwn AreApart old had new (Some next)

@@ -1,4 +1,4 @@
--- A journal's run of events, and the steps of one handle among them.
+-- A journal's run of events, and one handle's steps in it.
 use Rattle.std.specs.Prelude.{◌≡◌, List, [], ◌∷◌, ◌++◌}
 use Rattle.journal_model.specs.declared.transaction.Step.{Step}
 use Rattle.journal_model.specs.Disk.{Disk}
@@ -10,13 +10,13 @@ use Rattle.own_steps.specs.declared.own.HandleStage.{HandleStage}
 use Rattle.own_steps.specs.declared.own.OwnSteps.{OwnSteps}
 use Rattle.own_steps.specs.Own.{IsOwn}
 
--- the journal goes on by these events, one after the other
+-- The journal runs through these events in order.
 abbrev pub Runs : Journal → Disk → List Event → Journal → Disk → Type 0
 Runs old disk [] new after = (new ≡ old) × (after ≡ disk)
 Runs old disk (event ∷ events) new after =
     (mid : Journal) × (between : Disk) × Happens old disk event mid between × Runs mid between events new after
 
--- the steps on blocks, each as a step of its handle
+-- The steps on blocks, each as a step of its handle.
 abbrev pub front_steps : FrontEvent → List Step
 front_steps (Reserve n) = []
 front_steps (RefuseReserve n) = []
@@ -48,6 +48,6 @@ block_steps DirectSyncFault = []
 block_steps Finish = []
 block_steps AbortMark = []
 
--- the handle of this holder, wherever it has come to, stands in the record with the steps that the holder knows and then with these
+-- The holder's handle, at some stage, is recorded with the steps that the holder knows, and then these.
 abbrev pub HasMade : Front → OwnSteps → List Step → Type 0
 HasMade f own made = (stage : HandleStage) × IsOwn f (record own { steps = own.steps ++ made; stage = stage })

@@ -1,5 +1,4 @@
-//! What becomes of what holders know by each step of a journal. Each function states a law of the words in `specs/`, and has no body to
-//! run.
+//! Laws: which of the holders' facts each step of a journal preserves or adds. The functions have no body to run.
 ghost use Rattle.std.specs.Prelude.{◌≡◌, ◌≢◌, ◌≤◌, ◌+◌, ◌++◌, [], ◌∷◌, List, None, Some, ℕ};
 ghost use Rattle.std.specs.List.{flat_map};
 ghost use Rattle.journal_model.specs.declared.transaction.Step.{Step};
@@ -17,19 +16,19 @@ ghost use Rattle.own_steps.specs.Knowing.{MayAdd, MayGo, actor};
 ghost use Rattle.own_steps.specs.Own.{BearsOut, IsOwn, open_own, steps_by, stopped_own};
 ghost use Rattle.own_steps.specs.Run.{HasMade, Runs, block_steps};
 
-/// Whatever step a journal makes, each holder knows what it knew, but the one whose handle it is a step of.
+/// Each step preserves the facts of every holder but the one whose handle makes it.
 pub fn a_step_leaves_the_others_what_they_know()
     ensures { (old new : Journal) (disk after : Disk) (event : Event) (x : OwnSteps) → KeepsHandles old.front → actor event ≢ Some x.number →
         Happens old disk event new after → IsOwn old.front x → IsOwn new.front x }
 {}
 
-/// Who joins knows that its handle has no steps.
+/// A handle that joins has no steps.
 pub fn a_handle_that_joins_has_no_steps()
     ensures { (old new : Front) (n : ℕ) → KeepsHandles old → FrontHappens old (Join n) new →
         MayAdd old new (open_own (record { number = next_handle old; tid = old.running.tid; left = n }) []) }
 {}
 
-/// A handle's steps are those that it made, one by one.
+/// A handle gains exactly the steps that it makes.
 pub fn a_step_is_noted_for_its_handle()
     ensures extend { (old new : Front) (h : HandleValue) (n : ℕ) (steps : List Step) → KeepsHandles old →
         FrontHappens old (ExtendHandle h.number n) new →
@@ -46,27 +45,27 @@ pub fn a_step_is_noted_for_its_handle()
         MayGo old (open_own h steps) new (stopped_own h.number h.tid steps) }
 {}
 
-/// Over every run of events, whatever they are, a handle has just the steps on blocks that are its own, in order, behind those that its
-/// holder knew, all in the one transaction.
+/// Over every run of events, a handle gains exactly its own steps on blocks, in order, after those that its holder knew, all in its one
+/// transaction.
 pub fn over_every_run_a_handle_has_its_own_steps()
     ensures { (old new : Journal) (disk after : Disk) (events : List Event) (own : OwnSteps) → KeepsHandles old.front →
         Runs old disk events new after → IsOwn old.front own → HasMade new.front own (steps_by own.number (flat_map block_steps events)) }
 {}
 
-/// What the holder of an open handle knows makes it an open one of the front, of which the running transaction has just these steps.
+/// A handle that is open to its holder is an open one of the front, and the running transaction has exactly its steps.
 pub fn a_handle_that_has_not_stopped_is_open()
     ensures open_handle { (f : Front) (h : HandleValue) (steps : List Step) → IsOwn f (open_own h steps) → IsOpenHandle f h }
     ensures steps { (f : Front) (h : HandleValue) (steps : List Step) → IsOwn f (open_own h steps) → steps_by h.number f.running.steps ≡ steps }
 {}
 
-/// The record bears out each receipt.
+/// The record confirms each receipt.
 pub fn the_record_bears_out_a_receipt()
     ensures { (j : Journal) (own : OwnSteps) → Agrees j → IsOwn j.front own → own.tid ≤ j.front.mark →
         BearsOut j.engine.committed (transactions j.front) own }
 {}
 
-/// Whatever events come once a handle has joined: when its transaction is told to be committed the record bears out that the handle has
-/// just the steps that it made.
+/// Whatever events follow a join: once the handle's transaction is acknowledged, the record confirms that the handle has exactly the steps
+/// that it made.
 pub fn the_record_has_what_a_handle_did()
     ensures { (old mid new : Journal) (disk between after : Disk) (n : ℕ) (events : List Event) → KeepsHandles old.front →
         Happens old disk (FrontStep (Join n)) mid between → Runs mid between events new after → Agrees new →

@@ -1,8 +1,8 @@
-//! What the holder of a handle, of its ticket or of its receipt knows of a journal that threads share, whatever other threads do: its
-//! own steps, in order, stand in the front's record.
+//! Decides what the holder of a handle, ticket or receipt knows of a shared journal, whatever other threads do: its handle's steps are in
+//! the front's record, in order.
 //!
-//! The front is a whole, and what each holder knows a part of it (`parts`). `specs/Own.antt` says what a holder knows, `laws` what
-//! becomes of it by each call of a journal. All of it stands in proofs: no value of these types is made.
+//! Each holder has a fragment of the front (`parts`). `specs/Own.antt` says what a holder knows, `laws` what each call makes of it. All of
+//! it is in proofs: no value of these types is made.
 #![tactic(auto)]
 
 pub mod laws;

@@ -1,4 +1,4 @@
--- What came of clients, and how the command ends with it.
+-- From the clients' outcomes to how the command ends.
 use Rattle.std.proofs.Common.{◌∙◌, sym, ap, subst, arith}
 use Rattle.std.proofs.lemmas.Bool.{false≢true}
 use Rattle.std.specs.Prelude.{◌≡◌, ℕ, ◌<◌, List, [], Option, Some, None, All, IfNone, IfSome, IsNone, Vec, get_or, length, map}
@@ -27,7 +27,7 @@ use Rattle.script_threads.specs.declared.running.Ended.TheVariants.{Judged, Refu
 use Rattle.script_threads.specs.declared.told.ToldHandle.{ToldHandle}
 use Rattle.script_threads.proofs.Lists.{map-map, zip-both, zip-each, zip-through}
 
--- what the record bears out of a receipt, by the handle and the transaction that it names
+-- What the record confirms of a receipt, in terms of the handle and transaction that it names.
 borne : (committed : ℕ) (sealed : History) (r : TicketKnown) (steps : List Step) → r.steps ≡ steps → BearsOut committed sealed (own_of_ticket r) →
     BearsOut committed sealed (stopped_own r.ticket.handle r.ticket.tid steps)
 borne committed sealed r steps same bears = record {
@@ -43,7 +43,7 @@ borne committed sealed r steps same bears = record {
   all = bears.all ∙ same;
 }
 
--- a handle was served that did what its plan says, and of whose receipt, if it has one, the record bears out what it says
+-- A handle that followed its plan, and whose receipt the record confirms, was served.
 served-one : (committed : ℕ) (sealed : History) (plan : HandlePlan) (tid : ℕ) (receipt ticket : Option TicketKnown) (told : ToldHandle) →
     Came plan tid receipt ticket → IfSome receipt (Stands committed sealed) → IsTold tid receipt told → WasServed committed sealed plan.waits (λ n. planned_steps n plan) told
 served-one committed sealed plan tid receipt ticket told (Awaited r waits is did) stands says =
@@ -52,12 +52,12 @@ served-one committed sealed plan tid receipt ticket told (Awaited r waits is did
     (borne committed sealed r (planned_steps r.ticket.handle plan) did.steps_are bears)
 served-one committed sealed plan tid receipt ticket told (Unawaited t waits is keeps did) stands says = WasUnawaited waits (says.receipt_is ∙ ap named_by is)
 
--- what holds where there is none, where there is none
+-- A fact that holds without a refusal holds if there is none.
 where-none : {A : Type 0} (P : Type 0) (o : Option A) → IsNone o → IfNone o P → P
 where-none P None none holds = holds
 where-none P (Some x) none holds = absurd (false≢true (sym none))
 
--- each handle of the clients was, where none of them was refused anything
+-- If no client was refused anything, each handle was served.
 pub each-served : {J R : Type 0} (committed : ℕ) (sealed : History) (plans : List (Vec HandlePlan Global)) (clients : List (ClientOutcome J R)) (told : Told) →
     length clients ≡ length plans →
     All (λ c. IsNone c.refusal) clients →
@@ -80,18 +80,18 @@ each-served committed sealed plans clients told many none followed stand says =
     zip-both _ _ (get_or plans k p).items (get_or clients k c).handles.items (where-none _ (get_or clients k c).refusal (none k c there) (followed k c p less)) (stand k c there)))
     says
 
--- steps of a plan are those that the script says
+-- A plan's steps are those of the script.
 same-steps : (size n : ℕ) (handle : ClientHandle) (plan : HandlePlan) → IsPlanOf size handle plan → planned_steps n plan ≡ script_steps size n handle
 same-steps size n handle plan is = ap (map (touch_step n)) is.touches ∙ map-map (planned size) (touch_step n) handle.touches.items
 
--- a handle of a script was served whose plan was
+-- A handle of a script was served if its plan was.
 served-of : (size committed : ℕ) (sealed : History) (handle : ClientHandle) (plan : HandlePlan) (told : ToldHandle) → IsPlanOf size handle plan →
     WasServed committed sealed plan.waits (λ n. planned_steps n plan) told → WasServed committed sealed handle.waits (λ n. script_steps size n handle) told
 served-of size committed sealed handle plan told is (WasAwaited r waits given tid bears) =
     WasAwaited r (sym is.waits ∙ waits) given tid (subst (λ (ss : List Step). BearsOut committed sealed (stopped_own r.handle r.tid ss)) (same-steps size r.handle handle plan is) bears)
 served-of size committed sealed handle plan told is (WasUnawaited waits none) = WasUnawaited (sym is.waits ∙ waits) none
 
--- and so was each of each client
+-- So was each handle of each client.
 all-of : (size committed : ℕ) (sealed : History) (clients : List (Vec ClientHandle Global)) (plans : List (Vec HandlePlan Global)) (told : Told) → ArePlansOf size clients plans →
     AreServed committed sealed plans told → AreServedOf size committed sealed clients told
 all-of size committed sealed clients plans told are served =
@@ -101,7 +101,7 @@ all-of size committed sealed clients plans told are served =
     (λ c p ts is was. zip-through _ _ _ (λ h q t is_one was_one. served-of size committed sealed h q t is_one was_one) c.items p.items ts.items is was)
     clients plans told are served
 
--- with the plans and the blocks of a script it came to that of the script
+-- A run with a script's plans and blocks is one of the script.
 pub ended-of : (script : ClientScript) (plans : List (Vec HandlePlan Global)) (named : NamedBlocks) → ArePlansOf script.measures.block_size script.clients.items plans →
     All (λ handles. HasTouchedAll handles (keys named.blocks)) (handles_of script) → keys named.directs ≡ [] →
     (ended : Ended) → IsEndedOn plans named ended → IsEnded script ended
@@ -116,7 +116,7 @@ ended-of script plans named are names none (Judged v) is = record {
   verdicts = is.verdicts;
 }
 
--- a text is all that a reader had, by what is known of that
+-- An equal text is also all that the reader had.
 whole-of : (known : Option (List ℕ)) (text same : List ℕ) → text ≡ same → IfSome known (λ bytes. same ≡ bytes) → IfSome known (λ bytes. text ≡ bytes)
 whole-of None text same is all = tt
 whole-of (Some bytes) text same is all = is ∙ all

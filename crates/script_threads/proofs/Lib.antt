@@ -1,3 +1,3 @@
--- The lemmas of this crate: none above it cites them.
+-- The lemmas of this crate; no other crate cites them.
 mod Ending
 mod Lists

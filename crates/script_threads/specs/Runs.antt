@@ -1,4 +1,4 @@
--- What came of the clients of a script that ran in threads.
+-- The result of running the clients of a script in threads.
 use Rattle.std.specs.Prelude.{◌≡◌, ⊤, ℕ, Bool, true, false, List, [], Option, Some, None, All, IfSome, Vec}
 use Rattle.std.specs.BTreeSet.{keys}
 use Rattle.std.specs.Global.{Global}
@@ -23,48 +23,47 @@ use Rattle.script_threads.specs.declared.told.ToldHandle.{ToldHandle}
 use Rattle.script_threads.specs.declared.told.ToldReceipt.{ToldReceipt}
 use Rattle.script_threads.specs.declared.verdicts.Verdicts.{Verdicts}
 
--- what a receipt names
+-- What a receipt names.
 abbrev pub named_by : Option TicketKnown → Option ToldReceipt
 named_by None = None
 named_by (Some r) = Some (record { tid = r.ticket.tid; handle = r.ticket.handle })
 
--- this was told of a handle of this transaction, with this receipt
+-- What was told of a handle of this transaction with this receipt.
 pub record IsTold (tid : ℕ) (receipt : Option TicketKnown) (told : ToldHandle) : Type 0 where
   pub tid_is : told.tid ≡ tid
   pub receipt_is : told.receipt ≡ named_by receipt
 
--- A handle that was to make these steps and to be waited for has a receipt, of the transaction that it was told: the record, of which so
--- many transactions are committed, bears out that the receipt's handle made just these steps, in that transaction, which is committed. One
--- that was not to be waited for has none.
+-- An awaited handle has a receipt of the transaction that it was told. The record, with this many committed transactions, confirms that the
+-- handle made exactly these steps in that transaction. Other handles have no receipt.
 pub data WasServed (committed : ℕ) (sealed : History) (waits : Bool) (steps : ℕ → List Step) (told : ToldHandle) : Type 0 where
   Awaited : (r : ToldReceipt) → waits ≡ true → told.receipt ≡ Some r → r.tid ≡ told.tid → BearsOut committed sealed (stopped_own r.handle r.tid (steps r.handle)) →
       WasServed committed sealed waits steps told
   Unawaited : waits ≡ false → told.receipt ≡ None → WasServed committed sealed waits steps told
 
--- so it was with each handle of these plans
+-- Each handle of these plans was served so.
 abbrev pub AreServed : ℕ → History → List (Vec HandlePlan Global) → Told → Type 0
 AreServed committed sealed plans clients =
     AllZip (λ p ts. AllZip (λ h t. WasServed committed sealed h.waits (λ n. planned_steps n h) t) p.items ts.items) plans clients
 
--- and with each handle of these clients of a script, on blocks of so many bytes
+-- Each handle of these clients of a script was served so, with this block size.
 abbrev pub AreServedOf : ℕ → ℕ → History → List (Vec ClientHandle Global) → Told → Type 0
 AreServedOf size committed sealed clients told =
     AllZip (λ c ts. AllZip (λ h t. WasServed committed sealed h.waits (λ n. script_steps size n h) t) c.items ts.items) clients told
 
--- a journal was left by its clients so, with this credit word and so many entries, and these are the verdicts
+-- The clients were served, the journal was left with this credit word and number of entries, and these are the verdicts.
 pub record AreJudged (plans : List (Vec HandlePlan Global)) (named : NamedBlocks) (v : Verdicts) : Type 0 where
   pub served : Served
   pub each : AreServed served.committed served.sealed plans served.clients
   pub left : IsLeftWith state_of (λ d. Unit {0}) served.device served.sealed served.committed served.word served.entries
   pub verdicts : AreVerdicts served named v
 
--- clients were refused something, or these are the verdicts
+-- Clients were refused something, or these are the verdicts.
 abbrev pub IsEndedOn : List (Vec HandlePlan Global) → NamedBlocks → Ended → Type 0
 IsEndedOn plans named (Refused clients) = ⊤
 IsEndedOn plans named (Judged v) = AreJudged plans named v
 
--- The clients of a script were served: each handle was, as the script says of it. These are the verdicts on what the journal told them,
--- and on what it left, with each block that they touch.
+-- Each handle was served as the script says. The verdicts are on what the journal told, on what it left, and on each block that the clients
+-- touch.
 pub record IsRunOf (script : ClientScript) (v : Verdicts) : Type 0 where
   pub served : Served
   pub each : AreServedOf script.measures.block_size served.committed served.sealed script.clients.items served.clients
@@ -74,12 +73,12 @@ pub record IsRunOf (script : ClientScript) (v : Verdicts) : Type 0 where
   pub no_directs : keys named.directs ≡ []
   pub verdicts : AreVerdicts served named v
 
--- or one was refused something, and nothing is judged
+-- A client was refused something, and nothing is judged; or the script was run.
 abbrev pub IsEnded : ClientScript → Ended → Type 0
 IsEnded script (Refused clients) = ⊤
 IsEnded script (Judged v) = IsRunOf script v
 
--- they were, and all verdicts are true; or one is false
+-- The script was run, and all verdicts are true; or one is false.
 pub record HasRunRight (script : ClientScript) : Type 0 where
   pub v : Verdicts
   pub run : IsRunOf script v
@@ -90,13 +89,13 @@ pub record HasRunWrong (script : ClientScript) : Type 0 where
   pub run : IsRunOf script v
   pub wrong : ¬ AreAllTrue v
 
--- a script of clients is that of all that a reader had, where that is known
+-- The script is that of all bytes that the reader had, if these are known.
 pub record IsOfText (known : Option (List ℕ)) (script : ClientScript) : Type 0 where
   pub text : List ℕ
   pub whole : IfSome known (λ bytes. text ≡ bytes)
   pub is : IsClientScriptOf text script
 
--- such a script was run, and all verdicts are true, or one is false
+-- Such a script was run, and all verdicts are true; or one is false.
 pub record HasServed (known : Option (List ℕ)) : Type 0 where
   pub script : ClientScript
   pub of_text : IsOfText known script

@@ -1,4 +1,4 @@
--- What a journal told of clients, what is left of it, and when the verdicts on that are right.
+-- What a journal told of clients, what is left of it, and when each verdict is right.
 use Rattle.std.specs.Prelude.{◌≡◌, ◌↔◌, ◌+◌, ◌<◌, ◌≤◌, ⊤, ℕ, Bool, true, false, IsTrue, List, [], Option, Some, None, All, Contains, IfSome, length, slice_index_or, take, Vec}
 use Rattle.std.specs.Global.{Global}
 use Rattle.journal_model.specs.declared.number.Area.TheVariants.{Home}
@@ -17,32 +17,32 @@ use Rattle.script_threads.specs.declared.told.ToldHandle.{ToldHandle}
 use Rattle.script_threads.specs.declared.told.ToldReceipt.{ToldReceipt}
 use Rattle.script_threads.specs.declared.verdicts.Verdicts.{Verdicts}
 
--- the credit word is the number of entries, and no more than a transaction can have
+-- The credit word is the number of entries, and within the capacity.
 pub record AreCreditsRight (word entries capacity : ℕ) : Type 0 where
   pub counted : word ≡ entries
   pub within : word ≤ capacity
 
--- the receipt's handle is one of this transaction, which is the receipt's
+-- The transaction is the receipt's, and has its handle.
 pub record IsReceiptOf (transaction : Sealed) (receipt : ToldReceipt) : Type 0 where
   pub tid : transaction.tid ≡ receipt.tid
   pub handle : Contains transaction.handles receipt.handle
 
--- it is one of one of these
+-- One of these transactions is the receipt's, and has its handle.
 pub record StandsIn (transactions : List Sealed) (receipt : ToldReceipt) : Type 0 where
   pub transaction : Sealed
   pub one : Contains transactions transaction
   pub of_it : IsReceiptOf transaction receipt
 
--- so is that of a handle, if it has one
+-- The same of a handle's receipt, if it has one.
 abbrev pub HasReceiptIn : List Sealed → Option ToldReceipt → Type 0
 HasReceiptIn transactions None = ⊤
 HasReceiptIn transactions (Some receipt) = StandsIn transactions receipt
 
--- the transactions of handles never fall
+-- The handles' transactions never fall.
 abbrev pub NeverFall : List ToldHandle → Type 0
 NeverFall handles = (k : ℕ) (d e : ToldHandle) → k + 1 < length handles → (slice_index_or handles k d).tid ≤ (slice_index_or handles (k + 1) e).tid
 
--- this transaction, if it is one, is that of a handle's receipt, if it has one, or a later one
+-- The receipt's transaction, if there is a receipt, is at most `greatest`.
 abbrev pub IsUpTo : Option ℕ → ℕ → Type 0
 IsUpTo None tid = ⊥
 IsUpTo (Some greatest) tid = tid ≤ greatest
@@ -51,11 +51,11 @@ abbrev pub HasReceiptUpTo : Option ℕ → Option ToldReceipt → Type 0
 HasReceiptUpTo greatest None = ⊤
 HasReceiptUpTo greatest (Some receipt) = IsUpTo greatest receipt.tid
 
--- of each client what was told of its handles, in order
+-- For each client, what was told of its handles, in order.
 abbrev pub Told : Type 0
 Told = List (Vec ToldHandle Global)
 
--- this transaction is that of the receipt of one of these handles
+-- One of these handles has a receipt of this transaction.
 pub record IsOfHandle (handles : List ToldHandle) (tid : ℕ) : Type 0 where
   pub handle : ToldHandle
   pub one : Contains handles handle
@@ -63,14 +63,14 @@ pub record IsOfHandle (handles : List ToldHandle) (tid : ℕ) : Type 0 where
   pub has : handle.receipt ≡ Some receipt
   pub tid_is : receipt.tid ≡ tid
 
--- of one of the handles of one of these clients
+-- One of these clients has such a handle.
 pub record IsOfClient (clients : Told) (tid : ℕ) : Type 0 where
   pub client : Vec ToldHandle Global
   pub one : Contains clients client
   pub of_it : IsOfHandle client.items tid
 
--- What a stop left of a device was opened, and gave back what it owes: all up to the transaction that is named, if one is, with the
--- named blocks as that leaves them; or it did not, or was refused, for what stands in it.
+-- The crash image was opened and recovered what it must: all up to the named transaction, if there is one, with the named blocks as that
+-- leaves them. Or it did not, or was refused for its contents.
 pub data IsRecovered (device : MemState) (sealed : History) (shown : Option ℕ) (named : NamedBlocks) (right : Bool) : Type 0 where
   IsOpened : (image : MemState) (opened : OpenedImage) → IsCrashOf device [] image → IsOpenedImage image.shape (state_of image).disk opened →
       (IsTrue right ↔ IsRight sealed shown named (numbered_below opened.report.ends_at sealed) opened.device.shape.block_size (reading (state_of opened.device).disk Home)) →
@@ -78,17 +78,17 @@ pub data IsRecovered (device : MemState) (sealed : History) (shown : Option ℕ)
   IsRefused : (image : MemState) (e : JournalError) → IsCrashOf device [] image → IsRefusedImage image.shape (reading (state_of image).disk) e → right ≡ false →
       IsRecovered device sealed shown named right
 
--- what a journal told its clients, what it counted once they had ended, and what is left of it
+-- What a journal told its clients, its tally after they ended, and its parts.
 pub record Served : Type 0 where
   pub clients : Told
   pub word : ℕ  -- the credit word
-  pub entries : ℕ  -- the entries of the transaction that was not sealed
-  pub capacity : ℕ  -- the most credits of a transaction
+  pub entries : ℕ  -- entries of the unsealed transaction
+  pub capacity : ℕ  -- most credits of a transaction
   pub sealed : History
   pub committed : ℕ
   pub device : MemState
 
--- each verdict is true just where it is so
+-- Each verdict is true exactly if its fact holds.
 pub record AreVerdicts (served : Served) (named : NamedBlocks) (v : Verdicts) : Type 0 where
   pub credits : IsTrue v.credits ↔ AreCreditsRight served.word served.entries served.capacity
   pub receipts : IsTrue v.receipts ↔ All (λ c. All (λ h. HasReceiptIn (take served.committed served.sealed) h.receipt) c.items) served.clients
@@ -98,7 +98,7 @@ pub record AreVerdicts (served : Served) (named : NamedBlocks) (v : Verdicts) : 
   pub some : IfSome shown (IsOfClient served.clients)
   pub recovery : IsRecovered served.device served.sealed shown named v.recovery
 
--- all four are true
+-- All four are true.
 pub record AreAllTrue (v : Verdicts) : Type 0 where
   pub credits : v.credits ≡ true
   pub receipts : v.receipts ≡ true

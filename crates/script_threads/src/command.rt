@@ -14,9 +14,9 @@ use std::io::{Read, Write};
 use std::sync::Wait;
 use std::thread::Threads;
 
-/// Runs the clients of a script in threads, and prints how many clients, handles and receipts there are, and the verdicts. Where a client is
-/// refused something a line on `err` for each such client says what, and nothing else is printed; where the command can't go on, one
-/// line says why, and of a bad script a second one, behind two spaces, where and what is wrong. `path` names the script's file.
+/// Runs the clients of a script in threads, and prints the numbers of clients, handles and receipts, and the verdicts. If clients are
+/// refused something, it prints only one line for each on `err`. If the command can't go on, one line there says why; for a bad script a
+/// second line, indented by two spaces, says where and what is wrong. `path` names the script's file.
 ///
 /// # Errors
 ///
@@ -39,7 +39,7 @@ pub fn threads<T: Threads + Wait + Sync, R: Read + Drop, W: Write + Drop, E: Wri
     }
 }
 
-/// Reads the bytes of a script to their end.
+/// Reads a script to its end.
 fn read_text<R: Read + Drop>(alloc: Global, mut reader: R) -> Result<Vec<u8>, Fault>
     ensures { IfOk result (λ text. IfSome (R.remaining reader) (λ bytes. text.items ≡ bytes)) }
 {
@@ -50,7 +50,7 @@ fn read_text<R: Read + Drop>(alloc: Global, mut reader: R) -> Result<Vec<u8>, Fa
     }
 }
 
-/// Runs the clients of the script that this text is, if it is one.
+/// Runs the clients if the text is a script.
 fn serve_text<T: Threads + Wait + Sync, W: Write + Drop, E: Write + Drop>(
     rt: &T,
     alloc: Global,
@@ -95,7 +95,7 @@ fn serve_script<T: Threads + Wait + Sync, W: Write + Drop, E: Write + Drop>(
     }
 }
 
-/// Says of each client that was refused something what that was.
+/// Prints each refused client, and its refusal.
 fn tell_refused<E: Write + Drop>(clients: &[RefusedClient], err: E) -> io::Result<Status>
     ensures { IfOk result (λ status. status ≡ Refused) }
 {
@@ -133,12 +133,11 @@ fn tell_verdicts<W: Write + Drop>(
     Ok(status_of(verdicts))
 }
 
-/// Prints a verdict.
 fn tell_verdict<W: Write>(out: &mut W, name: &str, right: bool) -> io::Result<()> {
     writeln!(out, "verdict {name} {}", if right { "ok" } else { "false" })
 }
 
-/// How the command ends with these verdicts.
+/// The exit status for these verdicts.
 fn status_of(verdicts: &Verdicts) -> Status
     ensures fine { result ≡ Fine → AreAllTrue verdicts.now }
     ensures wrong { result ≡ VerdictFalse → ¬ AreAllTrue verdicts.now }

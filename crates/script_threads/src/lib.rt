@@ -1,8 +1,9 @@
-//! Runs of a script of clients: each in a thread of its own over one journal that they share, and four verdicts on what came of them.
+//! Decides how a run of a script of clients is judged: each client in a thread of its own over one journal, and four verdicts on the
+//! result.
 //!
-//! `plans` says what each client does in the words of the service, `running` runs them over a disk in memory and ends their journal. `told`
-//! is what the journal told them, as plain values: `verdicts` judges that by the journal's record, and `recovery_verdict` by what a stop
-//! leaves of the disk. `command` reads the script, and prints the verdicts.
+//! `plans` translates clients for the service. `running` runs them over a disk in memory and ends their journal. `told` is what the journal
+//! told them, as plain values. `verdicts` judges that by the journal's record, and `recovery_verdict` by a crash image of the disk.
+//! `command` reads the script and prints the verdicts.
 #![tactic(auto)]
 
 mod command;

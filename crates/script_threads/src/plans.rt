@@ -1,4 +1,4 @@
-//! What each client of a script does, in the words of the service.
+//! Translates each client of a script to a plan of the service.
 ghost use Rattle.std.specs.Prelude.{◌≡◌, ◌++◌, IfOk, drop, length, map, min, take};
 ghost use Rattle.std.specs.List.{AllZip};
 ghost use Rattle.script_client.specs.Performed.{block_from};
@@ -9,8 +9,7 @@ use journal_script::{ClientHandle, ClientTouch};
 use std::alloc::{AllocError, Global};
 use volume_service::{HandlePlan, Touch};
 
-/// What each client does, on blocks of so many bytes.
-/// It fails where memory runs out.
+/// The plans of all clients, for this block size. It fails if memory runs out.
 pub(crate) fn plans_of(
     alloc: Global,
     clients: &[Vec<ClientHandle>],
@@ -26,7 +25,6 @@ pub(crate) fn plans_of(
     Ok(plans)
 }
 
-/// What a client does.
 fn plan_of(
     alloc: Global,
     client: &[ClientHandle],
@@ -42,7 +40,6 @@ fn plan_of(
     Ok(plan)
 }
 
-/// What a handle of it does.
 fn handle_plan(
     alloc: Global,
     handle: &ClientHandle,
@@ -58,7 +55,6 @@ fn handle_plan(
     })
 }
 
-/// What it does with blocks.
 fn touches_of(
     alloc: Global,
     touches: &[ClientTouch],
@@ -74,7 +70,6 @@ fn touches_of(
     Ok(all)
 }
 
-/// What it does with one block.
 fn touch_of(alloc: Global, touch: &ClientTouch, block_size: usize) -> Result<Touch, AllocError>
     ensures { IfOk result (λ same. same ≡ planned block_size touch.now) }
 {
@@ -87,7 +82,7 @@ fn touch_of(alloc: Global, touch: &ClientTouch, block_size: usize) -> Result<Tou
     }
 }
 
-/// A block of `size` bytes: these, at most one block of them, and zeros behind them.
+/// A block of `size` bytes: these bytes, at most one block of them, followed by zeros.
 fn block_of(alloc: Global, size: usize, bytes: &[u8]) -> Result<Block, AllocError>
     ensures { IfOk result (λ block. block ≡ block_from size bytes.now) }
 {
@@ -96,7 +91,7 @@ fn block_of(alloc: Global, size: usize, bytes: &[u8]) -> Result<Block, AllocErro
     Block::new(block)
 }
 
-/// Copies bytes to the front of others, as many as both have.
+/// Copies as many bytes to the front of `to` as both have.
 fn copy_front(to: &mut [u8], from: &[u8])
     ensures { to.new ≡ take (min (length to.old) (length from.now)) from.now ++ drop (min (length to.old) (length from.now)) to.old }
 {

@@ -1,4 +1,4 @@
-//! The verdict on what a stop leaves of the device.
+//! The verdict on the crash image of the device.
 ghost use Rattle.std.specs.Prelude.{◌≡◌, ◌≢◌, ◌↔◌, [], IfOk, IsTrue, false};
 ghost use Rattle.journal_model.specs.declared.refusal.JournalError.TheVariants.{Device, Memory};
 ghost use Rattle.journal_model.specs.declared.number.Area.TheVariants.{Home};
@@ -14,12 +14,11 @@ use journal_script::NamedBlocks;
 use script_run::{OpenedImage, Record, open_image};
 use std::alloc::Global;
 
-/// Whether what a stop leaves of a device, with no write that was not flushed, opens to all that was acknowledged, with each of these
-/// blocks as that leaves it.
+/// Whether the crash image without any unflushed write opens to all acknowledged transactions, with each named block as they leave it.
 ///
 /// # Errors
 ///
-/// `Memory`, and `Device` where memory ran out for the device.
+/// `Memory`; also `Device` if memory ran out for the device.
 pub(crate) fn recovers(
     alloc: Global,
     device: MemDevice,
@@ -34,7 +33,7 @@ pub(crate) fn recovers(
     }
 }
 
-/// The verdict where an image is not opened: it is false, unless there was no memory to open it.
+/// False for an image that is not opened, unless memory ran out.
 fn unopened(e: JournalError) -> Result<bool, JournalError>
     ensures refused { IfOk result (λ right. (e ≢ Device) × (e ≢ Memory)) }
     ensures wrong { IfOk result (λ right. right ≡ false) }
@@ -45,7 +44,7 @@ fn unopened(e: JournalError) -> Result<bool, JournalError>
     }
 }
 
-/// Whether an opening gave back all that was acknowledged, with each of these blocks as that leaves it.
+/// Whether an opening recovered all acknowledged transactions, with each named block as they leave it.
 fn is_recovered(
     alloc: Global,
     opened: OpenedImage,

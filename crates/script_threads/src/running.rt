@@ -1,4 +1,4 @@
-//! Runs the clients of a script, and judges what came of them.
+//! Runs the clients of a script, and judges the result.
 ghost use Rattle.std.specs.Prelude.{◌≡◌, ℕ, ◌<◌, [], All, IfNone, IfOk, IfSome, IsNone, OnOk, length, slice_index_or, take, vec_len};
 ghost use Rattle.std.specs.BTreeSet.{keys};
 ghost use Rattle.std.specs.List.{AllZip};
@@ -28,9 +28,9 @@ use volume_service::{ClientOutcome, HandlePlan, OpenGate, Outcome, Service};
 /// A client that was refused something.
 #[derive(Clone, Copy, Debug, PartialEq, Eq)]
 pub struct RefusedClient {
-    /// Its number, from 1 on.
+    /// Its number, from 1.
     pub number: usize,
-    /// What ended it.
+    /// The refusal that ended it.
     pub why: JournalError,
 }
 
@@ -39,15 +39,15 @@ pub struct RefusedClient {
 pub enum Ended {
     /// These clients were refused something, and nothing is judged.
     Refused(Vec<RefusedClient>),
-    /// None was.
+    /// No client was.
     Judged(Verdicts),
 }
 
-/// Runs the clients of a script over a disk in memory with an empty log, each in a thread of its own, and judges what came of them.
+/// Runs the clients of a script, each in a thread of its own, over a disk in memory with an empty log, and judges the result.
 ///
 /// # Errors
 ///
-/// `Memory`, also where a thread can't be had; `Device` where memory ran out for the disk.
+/// `Memory`, also if a thread can't be had; `Device` if memory ran out for the disk.
 pub fn run<W: Threads + Wait + Sync>(
     rt: &W,
     alloc: Global,
@@ -62,7 +62,7 @@ pub fn run<W: Threads + Wait + Sync>(
     run_on::<Brand, W>(rt, alloc, laid, &plans, &named)
 }
 
-/// The blocks that the clients of a script touch. None of them writes one directly.
+/// The blocks that the clients of a script touch; none is written directly.
 fn named_blocks(alloc: Global, script: &ClientScript) -> Result<NamedBlocks, AllocError>
     ensures names { IfOk result (λ named. All (λ handles. HasTouchedAll handles (keys named.blocks)) (handles_of script.now)) }
     ensures no_directs { IfOk result (λ named. keys named.directs ≡ []) }
@@ -74,7 +74,7 @@ fn named_blocks(alloc: Global, script: &ClientScript) -> Result<NamedBlocks, All
     })
 }
 
-/// A journal on the log of a disk.
+/// An unnamed journal on the log of a disk.
 fn laid_on(
     alloc: Global,
     disk: MemDevice,
@@ -88,7 +88,7 @@ fn laid_on(
     }
 }
 
-/// Runs clients over a laid journal, and judges what came of them by the blocks that they name.
+/// Runs clients over an unnamed journal, and judges the result by the blocks that they name.
 fn run_on<J: JournalName + Send + Sync, W: Threads + Wait + Sync>(
     rt: &W,
     alloc: Global,
@@ -105,7 +105,7 @@ fn run_on<J: JournalName + Send + Sync, W: Threads + Wait + Sync>(
     judge(alloc, outcome, plans, capacity, named)
 }
 
-/// Judges what came of clients with these plans, where none was refused anything.
+/// Judges the outcome, if no client was refused anything.
 fn judge<J: JournalName>(
     alloc: Global,
     outcome: Outcome<J, MemDevice, Vec<Sealed>>,
@@ -135,7 +135,6 @@ fn judge<J: JournalName>(
     Ok(Ended::Judged(verdicts))
 }
 
-/// The clients that were refused something.
 fn refused_of<J: JournalName>(
     alloc: Global,
     clients: &[ClientOutcome<J, Vec<Sealed>>],
@@ -153,7 +152,7 @@ fn refused_of<J: JournalName>(
     Ok(refused)
 }
 
-/// Notes the client of this number, if it was refused something.
+/// Adds a client that was refused something.
 fn note_refused(
     refused: &mut Vec<RefusedClient>,
     number: usize,
@@ -167,7 +166,7 @@ fn note_refused(
     Ok(())
 }
 
-/// The verdicts on what a journal told its clients, what it counted once they had ended, and what is left of it.
+/// The verdicts on what clients were told, on the tally after they ended, and on the journal's parts.
 fn verdicts_of(
     alloc: Global,
     told: &[Vec<ToldHandle>],
@@ -200,7 +199,7 @@ fn verdicts_of(
     })
 }
 
-/// So many of these transactions.
+/// The first `committed` of these transactions.
 fn committed_of(sealed: &[Sealed], committed: u64) -> &[Sealed]
     ensures { result.now ≡ take committed sealed.now }
 {

@@ -11,18 +11,15 @@ use volume_service::{ClientOutcome, HandleOutcome};
 /// What a receipt names.
 #[derive(Clone, Copy, Debug)]
 pub struct ToldReceipt {
-    /// Its transaction.
     pub tid: Tid,
-    /// Its handle.
     pub handle: HandleNo,
 }
 
-/// What a journal told of a handle.
+/// What a client was told of a handle.
 #[derive(Clone, Copy, Debug)]
 pub struct ToldHandle {
-    /// Its transaction.
     pub tid: Tid,
-    /// Its receipt, where its client waited for it.
+    /// Its receipt, if the client waited for it.
     pub receipt: Option<ToldReceipt>,
 }
 
@@ -41,7 +38,6 @@ pub(crate) fn told_of<J: JournalName, R: RecordOf>(
     Ok(told)
 }
 
-/// What was told of the handles of one.
 fn told_client<J: JournalName, R: RecordOf>(
     alloc: Global,
     handles: &[HandleOutcome<J, R>],
@@ -59,7 +55,6 @@ fn told_client<J: JournalName, R: RecordOf>(
     Ok(told)
 }
 
-/// What a receipt names, where there is one.
 fn told_receipt<J: JournalName, R: RecordOf>(receipt: &Option<Receipt<J, R>>) -> Option<ToldReceipt>
     ensures { result ≡ named_by receipt.now }
 {

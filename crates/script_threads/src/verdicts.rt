@@ -1,4 +1,4 @@
-//! Verdicts on what a journal told its clients.
+//! When each verdict on what a journal told its clients is true.
 ghost use Rattle.std.specs.Prelude.{◌≡◌, ◌↔◌, ◌⊎◌, ◌≤◌, ℕ, Some, true, All, Contains, IfSome, IsTrue};
 ghost use Rattle.script_threads.specs.Verdicts.{AreAllTrue, AreCreditsRight, HasReceiptIn, HasReceiptUpTo, IsOfClient, IsOfHandle, IsReceiptOf, IsUpTo, NeverFall, StandsIn};
 ghost use Rattle.script_threads.specs.declared.told.ToldReceipt.{ToldReceipt};
@@ -9,19 +9,19 @@ use journal_model::{Sealed, Tid};
 /// The verdicts on a run of clients.
 #[derive(Clone, Copy, Debug, PartialEq, Eq)]
 pub struct Verdicts {
-    /// The credit word was the number of entries of the transaction that was not sealed, and no more than a transaction can have.
+    /// The credit word is the number of entries of the unsealed transaction, and within the capacity.
     pub credits: bool,
-    /// Each receipt's handle stands in a committed transaction of the record, the receipt's.
+    /// Each receipt's handle stands in the receipt's transaction, which is committed in the record.
     pub receipts: bool,
-    /// Of each client the transactions of its handles never fall.
+    /// Each client's handles have transactions that never fall.
     pub order: bool,
-    /// What a stop leaves of the device opens to all transactions that a receipt was given for, and to none that was not sealed; and each
-    /// block that a client names is as they left it.
+    /// The crash image opens to all transactions of receipts, and to none that was not sealed; each block that a client names is as they
+    /// left it.
     pub recovery: bool,
 }
 
 impl Verdicts {
-    /// Whether all of them are true.
+    /// Whether all four are true.
     pub fn are_right(&self) -> bool
         ensures { IsTrue result ↔ AreAllTrue self.now }
     {
@@ -29,7 +29,7 @@ impl Verdicts {
     }
 }
 
-/// Whether this credit word counts so many entries, and no more than a transaction can have.
+/// Whether the credit word is the number of entries, and within the capacity.
 pub(crate) fn credits_are_right(word: u64, entries: u64, capacity: u64) -> bool
     ensures { IsTrue result ↔ AreCreditsRight word entries capacity }
 {
@@ -48,7 +48,7 @@ pub(crate) fn receipts_stand(clients: &[Vec<ToldHandle>], committed: &[Sealed]) 
     true
 }
 
-/// Whether that of each of these handles does.
+/// `receipts_stand` for one client.
 fn client_stands(handles: &[ToldHandle], committed: &[Sealed]) -> bool
     ensures { IsTrue result ↔ All (λ h. HasReceiptIn committed.now h.receipt) handles.now }
 {
@@ -60,7 +60,7 @@ fn client_stands(handles: &[ToldHandle], committed: &[Sealed]) -> bool
     true
 }
 
-/// Whether that of a handle does, where it has one.
+/// `receipts_stand` for one handle; true without a receipt.
 fn handle_stands(receipt: &Option<ToldReceipt>, committed: &[Sealed]) -> bool
     ensures { IsTrue result ↔ HasReceiptIn committed.now receipt.now }
 {
@@ -70,7 +70,7 @@ fn handle_stands(receipt: &Option<ToldReceipt>, committed: &[Sealed]) -> bool
     }
 }
 
-/// Whether a receipt's handle stands in one of these transactions, the receipt's.
+/// `receipts_stand` for one receipt.
 fn stands_in(receipt: &ToldReceipt, committed: &[Sealed]) -> bool
     ensures { IsTrue result ↔ StandsIn committed.now receipt.now }
 {
@@ -82,14 +82,14 @@ fn stands_in(receipt: &ToldReceipt, committed: &[Sealed]) -> bool
     false
 }
 
-/// Whether a receipt's handle is one of a transaction, which is the receipt's.
+/// Whether the transaction is the receipt's, and has its handle.
 fn is_receipt_of(transaction: &Sealed, receipt: &ToldReceipt) -> bool
     ensures { IsTrue result ↔ IsReceiptOf transaction.now receipt.now }
 {
     transaction.tid == receipt.tid && transaction.handles.as_slice().contains(&receipt.handle)
 }
 
-/// Whether of each client the transactions of its handles never fall.
+/// Whether each client's handles have transactions that never fall.
 pub(crate) fn never_fall(clients: &[Vec<ToldHandle>]) -> bool
     ensures { IsTrue result ↔ All (λ c. NeverFall c.items) clients.now }
 {
@@ -101,7 +101,7 @@ pub(crate) fn never_fall(clients: &[Vec<ToldHandle>]) -> bool
     true
 }
 
-/// Whether those of these handles never do.
+/// `never_fall` for one client.
 fn client_never_falls(handles: &[ToldHandle]) -> bool
     ensures { IsTrue result ↔ NeverFall handles.now }
 {
@@ -126,7 +126,7 @@ pub(crate) fn greatest_receipt(clients: &[Vec<ToldHandle>]) -> Option<Tid>
     greatest
 }
 
-/// The greatest transaction of any receipt of these handles, or this one where none is greater.
+/// The greatest transaction of these handles' receipts and `least`.
 fn greater_receipt(least: Option<Tid>, handles: &[ToldHandle]) -> Option<Tid>
     ensures all { All (λ h. HasReceiptUpTo result h.receipt) handles.now }
     ensures keeps { (tid : ℕ) → IsUpTo least tid → IsUpTo result tid }
@@ -139,7 +139,7 @@ fn greater_receipt(least: Option<Tid>, handles: &[ToldHandle]) -> Option<Tid>
     greatest
 }
 
-/// The transaction of a receipt, or this one where it is later, or there is no receipt.
+/// The later of `greatest` and the receipt's transaction.
 fn later(greatest: Option<Tid>, receipt: Option<ToldReceipt>) -> Option<Tid>
     ensures it { HasReceiptUpTo result receipt }
     ensures keeps { (tid : ℕ) → IsUpTo greatest tid → IsUpTo result tid }

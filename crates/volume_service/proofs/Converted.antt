@@ -1,9 +1,9 @@
--- The clients that are made of tasks, one after the other.
+-- Tasks become clients, one after the other.
 use Rattle.std.proofs.Common.{◌≡◌, ◌≢◌, ℕ, ◌+◌, ◌<◌, List, [], ◌∷◌, ◌++◌, length, length-append, get_or, sym, ◌∙◌, ap, arith, ⊎_elim}
 use Rattle.std.proofs.lemmas.Bool.{cases_eq}
 use Rattle.std.proofs.lemmas.List.{get_or_append_left, get_or_push}
 
--- where each of these is made of the item at its place, so is each with one more
+-- If each item is made of the one at its place, so it is with one more.
 pub one-more : {A T : Type 0} (f : A → T) (xs new : List A) (ts yielded rest : List T) (x : A) (y : T) → new ≡ xs ++ x ∷ [] → f x ≡ y → length xs ≡ length yielded →
     (yielded ++ y ∷ []) ++ rest ≡ ts → ((k : ℕ) (a : A) (t : T) → k < length xs → f (get_or xs k a) ≡ get_or ts k t) →
     (k : ℕ) (a : A) (t : T) → k < length xs + 1 → f (get_or new k a) ≡ get_or ts k t

@@ -2,7 +2,7 @@ use Rattle.std.proofs.Common.{◌∙◌}
 use Rattle.journal_sides.proofs.Landing.{mid-legal}
 use Rattle.journal_sides.proofs.both.into_single.Goals as goal
 
--- the record is legal where reads were honest
+-- The record is legal if device reads were correct.
 pub of-requires-clause-legal : goal.of-requires-clause-legal
 of-requires-clause-legal g c =
     mid-legal c.front.inside.front c.front.inside.met c.engine.inside.engine c.args.engine c.meet.new.front c.front.view_is c.meet.ensures.met.engine_is

@@ -1,7 +1,7 @@
 use Rattle.std.proofs.lemmas.Result.{IfOk-weaker}
 use Rattle.script_threads.proofs.command.serve_script.Goals as goal
 
--- the script was run, with these verdicts
+-- The script was run, with these verdicts.
 pub returns-in-Ok-Judged-clause-done : goal.returns-in-Ok-Judged-clause-done
 returns-in-Ok-Judged-clause-done g c =
     let ran = rw c.in-Ok-Judged.field-0-is at c.in-Ok-Judged.ensures in

@@ -2,7 +2,7 @@ use Rattle.std.proofs.Common.{refl}
 use Rattle.std.proofs.lemmas.Result.{IfOk-weaker}
 use Rattle.script_threads.proofs.command.serve_text.Goals as goal
 
--- the script is that of the text
+-- The script is that of the text.
 pub returns-in-Ok-clause-done : goal.returns-in-Ok-clause-done
 returns-in-Ok-clause-done g c =
     IfOk-weaker c.serve_script.result _ _

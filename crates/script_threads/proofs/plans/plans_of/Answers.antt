@@ -8,7 +8,6 @@ use Rattle.script_threads.specs.Plans.{IsPlanOf}
 use Rattle.script_threads.proofs.Lists.{zips-more}
 use Rattle.script_threads.proofs.plans.plans_of.Goals as goal
 
--- those of one more client
 pub loop-client-preserved : goal.loop-client-preserved
 loop-client-preserved c =
     let size = c.args.block_size in

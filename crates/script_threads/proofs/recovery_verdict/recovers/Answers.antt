@@ -12,13 +12,13 @@ use Rattle.script_threads.specs.Verdicts.{IsRecovered}
 use Rattle.script_threads.specs.Verdicts.IsRecovered.{IsOpened, IsRefused}
 use Rattle.script_threads.proofs.recovery_verdict.recovers.Goals as goal
 
--- an image that was opened
+-- An image that was opened.
 pub returns-in-Ok : goal.returns-in-Ok
 returns-in-Ok c =
     IfOk-weaker c.is_recovered.result _ _
     (λ right says. IsOpened c.crash.result c.in-Ok.opened (record { each = c.crash.ensures.image; shape_is = c.crash.ensures.shape }) c.in-Ok.ensures.opened says) c.is_recovered.ensures
 
--- one that was refused
+-- An image that was refused.
 refused : (device image : MemState) (sealed : History) (shown : Option ℕ) (named : NamedBlocks) (e : JournalError) (end : Result Bool JournalError) → IsCrashOf device [] image →
     IsUnopened image.shape (reading (state_of image).disk) e → IfOk end (λ right. (e ≢ Device) × (e ≢ Memory)) → IfOk end (λ right. right ≡ false) → IfOk end (IsRecovered device sealed shown named)
 refused device image sealed shown named e (Err why) crash unopened other wrong = tt

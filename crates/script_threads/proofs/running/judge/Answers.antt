@@ -9,7 +9,7 @@ use Rattle.script_threads.proofs.Ending.{each-served}
 use Rattle.script_threads.proofs.Lists.{nothing}
 use Rattle.script_threads.proofs.running.judge.Goals as goal
 
--- none was refused anything, so each was served
+-- No client was refused anything, so each was served.
 pub returns : goal.returns
 returns g c =
     let outcome = c.args.outcome in

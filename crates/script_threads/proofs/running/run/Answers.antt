@@ -8,7 +8,7 @@ use Rattle.script_threads.specs.Plans.{ArePlansOf}
 use Rattle.script_threads.proofs.Ending.{ended-of}
 use Rattle.script_threads.proofs.running.run.Goals as goal
 
--- the plans and the blocks are those of the script
+-- The plans and the blocks are the script's.
 pub returns : goal.returns
 returns g c =
     let named = c.in_ok-named.named in

@@ -1,5 +1,5 @@
 use Rattle.script_threads.proofs.running.run.Given as goal
 
--- the name is that of the laid journal
+-- The name is the unnamed journal's.
 abbrev pub ghosts-run_on : goal.ghosts-run_on
 ghosts-run_on g a = record { name = a.laid.name }

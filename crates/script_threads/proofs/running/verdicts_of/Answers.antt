@@ -4,7 +4,7 @@ use Rattle.journal_model.specs.Transaction.{History}
 use Rattle.script_threads.specs.Verdicts.{HasReceiptIn}
 use Rattle.script_threads.proofs.running.verdicts_of.Goals as goal
 
--- each verdict is the right one
+-- Each verdict is the right one.
 pub returns : goal.returns
 returns c = record {
   credits = c.credits_are_right.ensures;

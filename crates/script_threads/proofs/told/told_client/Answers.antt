@@ -5,7 +5,6 @@ use Rattle.script_threads.specs.declared.told.ToldHandle.{ToldHandle}
 use Rattle.script_threads.proofs.Lists.{zips-more}
 use Rattle.script_threads.proofs.told.told_client.Goals as goal
 
--- one more is
 pub loop-handle-preserved : goal.loop-handle-preserved
 loop-handle-preserved g c =
     zips-more (λ (h : HandleOutcome g.row.J.Denot g.row.R.Denot) (t : ToldHandle). IsTold h.tid h.receipt t) c.args.handles.now c.loop-handle.told.items c.push.new.self.items c.loop-handle.handle-index

@@ -9,7 +9,6 @@ use Rattle.script_threads.specs.declared.told.ToldHandle.{ToldHandle}
 use Rattle.script_threads.proofs.Lists.{zips-more}
 use Rattle.script_threads.proofs.told.told_of.Goals as goal
 
--- one more client is
 pub loop-client-preserved : goal.loop-client-preserved
 loop-client-preserved g c =
     zips-more (λ (client : ClientOutcome g.row.J.Denot g.row.R.Denot) (ts : Vec ToldHandle Global). AllZip (λ h t. IsTold h.tid h.receipt t) client.handles.items ts.items) c.args.clients.now

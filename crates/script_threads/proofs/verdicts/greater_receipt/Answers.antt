@@ -7,11 +7,10 @@ use Rattle.script_threads.specs.declared.told.ToldHandle.{ToldHandle}
 use Rattle.script_threads.proofs.Lists.{all-more, begins-one, still-one, up-still}
 use Rattle.script_threads.proofs.verdicts.greater_receipt.Goals as goal
 
--- it is the one before
+-- At first it is `least`.
 pub loop-handle-init : goal.loop-handle-init
 loop-handle-init c = record { all = search rules; keeps = λ tid up. up; some = begins-one c.args.least c.args.handles.now }
 
--- it is that of one more handle too
 pub loop-handle-preserved : goal.loop-handle-preserved
 loop-handle-preserved c =
     let old = c.loop-handle.greatest in
@@ -26,7 +25,6 @@ loop-handle-preserved c =
       some = still-one c.args.least old new c.args.handles.now c.handle-item.result (i, c.loop-handle-test.true, sym c.handle-item.is) c.loop-handle.invariant.some says.some;
     }
 
--- and of all of them
 pub returns-clause-all : goal.returns-clause-all
 returns-clause-all c =
     subst (λ (hs : List ToldHandle). All (λ h. HasReceiptUpTo c.loop-handle.greatest h.receipt) hs) (take_all c.loop-handle.handle-index c.args.handles.now c.loop-handle-test.false)

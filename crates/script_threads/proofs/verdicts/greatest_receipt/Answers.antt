@@ -8,7 +8,6 @@ use Rattle.script_threads.specs.declared.told.ToldHandle.{ToldHandle}
 use Rattle.script_threads.proofs.Lists.{all-more, still-any, up-still}
 use Rattle.script_threads.proofs.verdicts.greatest_receipt.Goals as goal
 
--- it is that of one more client too
 pub loop-client-preserved : goal.loop-client-preserved
 loop-client-preserved c =
     let old = c.loop-client.greatest in
@@ -26,7 +25,6 @@ loop-client-preserved c =
           (subst (λ (hs : List ToldHandle). IfSome new (λ tid. (old ≡ Some tid) ⊎ IsOfHandle hs tid)) c.deref.ensures.value says.some);
     }
 
--- and of all of them
 pub returns-clause-all : goal.returns-clause-all
 returns-clause-all c =
     subst (λ (vs : List (Vec ToldHandle Global)). All (λ v. All (λ h. HasReceiptUpTo c.loop-client.greatest h.receipt) v.items) vs)

@@ -7,7 +7,6 @@ use Rattle.script_threads.specs.declared.told.ToldHandle.{ToldHandle}
 use Rattle.script_threads.proofs.Lists.{all-more}
 use Rattle.script_threads.proofs.verdicts.receipts_stand.Goals as goal
 
--- those of one more client do
 pub loop-client-preserved : goal.loop-client-preserved
 loop-client-preserved c =
     let one : All (λ h. HasReceiptIn c.args.committed.now h.receipt) c.deref.result.now = search rules in
@@ -15,7 +14,6 @@ loop-client-preserved c =
     c.client-item.is c.loop-client.invariant
     (subst (λ (hs : List ToldHandle). All (λ h. HasReceiptIn c.args.committed.now h.receipt) hs) c.deref.ensures.value one)
 
--- those of all of them do
 pub returns : goal.returns
 returns c = (
   λ yes. subst (λ (vs : List (Vec ToldHandle Global)). All (λ v. All (λ h. HasReceiptIn c.args.committed.now h.receipt) v.items) vs)

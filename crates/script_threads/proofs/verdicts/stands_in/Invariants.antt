@@ -2,6 +2,6 @@ use Rattle.std.specs.Prelude.{take}
 use Rattle.script_threads.specs.Verdicts.{StandsIn}
 use Rattle.script_threads.proofs.verdicts.stands_in.Given as goal
 
--- it stands in none so far
+-- It stands in none so far.
 abbrev pub invariant-loop-transaction : goal.invariant-loop-transaction
 invariant-loop-transaction l = StandsIn (take l.transaction-index l.committed) l.receipt → ⊥

@@ -2,11 +2,10 @@ use Rattle.std.proofs.Common.{slice_index_or, subst, arith}
 use Rattle.volume_service.specs.Plan.ServeRefused.{NoMemory}
 use Rattle.volume_service.proofs.tasks.answers_of.Goals as goal
 
--- memory ran out for the list of clients
 pub returns-in-Err-clause-err : goal.returns-in-Err-clause-err
 returns-in-Err-clause-err g c = NoMemory
 
--- a client's promise is that of its task
+-- A client's promise is its task's.
 pub returns-in-Ok-serve_clients-clause-kept : goal.returns-in-Ok-serve_clients-clause-kept
 returns-in-Ok-serve_clients-clause-kept g c = λ k a t less.
     let all = c.in-Ok.ensures.all in

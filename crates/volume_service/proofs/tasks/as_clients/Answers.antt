@@ -5,7 +5,6 @@ use Rattle.volume_service.specs.declared.tasks.TaskClient.{TaskClient}
 use Rattle.volume_service.proofs.Converted.{one-more}
 use Rattle.volume_service.proofs.tasks.as_clients.Goals as goal
 
--- one task more is a client
 pub loop-task-preserved : goal.loop-task-preserved
 loop-task-preserved g c =
     let at = c.loop-task in

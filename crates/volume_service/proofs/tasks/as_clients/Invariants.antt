@@ -2,7 +2,7 @@ use Rattle.std.proofs.Common.{◌≡◌, ◌++◌, ℕ, ◌<◌, get_or, length,
 use Rattle.std.specs.Vec.Iter.{into_iter_items}
 use Rattle.volume_service.proofs.tasks.as_clients.Given as goal
 
--- there is a client for each task so far
+-- Each task so far is a client.
 abbrev pub invariant-loop-task : goal.invariant-loop-task
 invariant-loop-task g l =
     (vec_len l.clients ≡ length l.yielded)

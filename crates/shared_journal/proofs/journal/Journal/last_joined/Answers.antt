@@ -1,6 +1,5 @@
 use Rattle.std.proofs.Common.{refl}
 use Rattle.shared_journal.proofs.journal.Journal.last_joined.Goals as goal
 
--- as it is at that moment
 pub returns : goal.returns
 returns g c = record { old = c.deref.result.now; new = c.deref.result.now; did = (c.last_joined.ensures, refl) }

@@ -1,7 +1,7 @@
 use Rattle.std.proofs.Common.{◌∙◌, sym}
 use Rattle.shared_journal.proofs.journal.Journal.wait_for.Goals as goal
 
--- the device had failed when it was asked
+-- The device had failed when `is_aborted` looked.
 pub returns-then-is_aborted-clause-why : goal.returns-then-is_aborted-clause-why
 returns-then-is_aborted-clause-why g c = record {
   old = c.is_aborted.ensures.old;

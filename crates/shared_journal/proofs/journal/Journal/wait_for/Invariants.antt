@@ -1,6 +1,6 @@
 use Rattle.std.specs.Prelude.{◌≤◌}
 use Rattle.shared_journal.proofs.journal.Journal.wait_for.Given as goal
 
--- the seat has seen no less
+-- The seat has seen no less than at first.
 abbrev pub invariant-looking : goal.invariant-looking
 invariant-looking g l = l.initial.seat.seen ≤ l.seat.seen
