@@ -237,8 +237,8 @@ HasStatus (Waited receipt) outcome old new = (new.names ≡ old.names) × Tells 
 HasStatus Empty outcome old new = Skips outcome old new
 HasStatus (Open h) outcome old new = Skips outcome old new
 
--- a wait for a ticket. If the transaction is committed, the name stands for its receipt. An open one is not awaited. Once the device
--- has failed, the wait for a committed one is refused
+-- a wait for a ticket. If the transaction is committed, the name stands for its receipt. An open one is not awaited. Once the device has
+-- failed, the wait for a committed one is refused
 abbrev pub WaitsFor : {D : Type 0} → TicketValue → Outcome → Slot → ClientValue D → ClientValue D → Type 0
 WaitsFor ticket outcome behind old new =
     ((outcome ≡ Transaction ticket.tid) × IsReceiptTaken ticket old new × (behind ≡ Waited ticket))

@@ -32,8 +32,8 @@ greatest_of (tid ∷ tids) = with_told tid (greatest_of tids)
 abbrev pub AreDirectsOf : List Operation → List (ℕ × List ℕ) → Type 0
 AreDirectsOf operations directs = (b : ℕ) (v : List ℕ) → IsOneOf directs (b, v) → IsDirectOf operations b
 
--- the world of a running journal on a device whose log was opened with this disk, with these direct writes and these transactions
--- answered committed
+-- the world of a running journal on a device whose log was opened with this disk, with these direct writes and these transactions answered
+-- committed
 abbrev pub running_world : (opening : Disk) → Journal → DeviceState → (directs : List (ℕ × List ℕ)) → (answered : List ℕ) → JournalWorld
 running_world opening j state directs answered = record {
   below = record {

@@ -14,8 +14,8 @@ use journal_script::{HANDLE_NAMES, HandleName, Operation};
 use recovery::Opened;
 use std::alloc::{AllocError, Global};
 
-/// More turns than a commit can take. Each turn is a seal or one device call, and there are few more device calls than ring blocks. A
-/// log has fewer than 1,048,576 of these.
+/// More turns than a commit can take. Each turn is a seal or one device call, and there are few more device calls than ring blocks. A log
+/// has fewer than 1,048,576 of these.
 const MOST_TURNS: u32 = 2_000_000;
 
 /// A client, and what the names of its script stand for.
@@ -155,8 +155,7 @@ impl<'a, D: Device + Drop, H: HomeFact> Interpreter<'a, D, H> {
     }
 
     /// Stops the open handles and ends the journal. Returns its device, the sealed transactions, and the greatest transaction that was
-    /// shown
-    /// committed.
+    /// shown committed.
     pub fn finish(self) -> (Parts<D, Vec<Sealed>>, Option<Tid>)
         ensures led { D.honest result.0.device → IsLedTo H.holds self.entry.client.operations (D.state result.0.device) result.0.sealed.items result.1 }
         ensures left { IsLeftOf self.entry.client result.0.device result.0.sealed.items result.1 }

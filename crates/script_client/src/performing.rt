@@ -125,8 +125,7 @@ fn perform_by<D: Device + Drop, H: HomeFact, W: Write>(
 ///
 /// `Applied` has what is left, and how it ended: `Fault::Output` if a line could not be written, else the refusal of the last operation or
 /// of the close. After such an end, or with `Stay`, the journal is not closed: what was committed is in the log or at home, and nothing is
-/// of
-/// a transaction that was not.
+/// of a transaction that was not.
 ///
 /// # Errors
 ///

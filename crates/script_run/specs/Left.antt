@@ -67,9 +67,8 @@ pub record HasRunAnew (script : Script) (stop fail : Option ℕ) (device : MemSt
   pub run : HasRun opened script.operations.items (after_call fail) device sealed shown lines
 
 -- The end of a script's run. Moves of the machine lead from an empty log, on a home of zeros, to a device, to the sealed transactions, and
--- to
--- the greatest one that was answered committed. Each operation up to the script's end was performed, and has a line. The device stopped at
--- the named write or at the end. `image` is a crash image of it, and `named` are the blocks that the script names.
+-- to the greatest one that was answered committed. Each operation up to the script's end was performed, and has a line. The device stopped
+-- at the named write or at the end. `image` is a crash image of it, and `named` are the blocks that the script names.
 pub record IsEndOf (script : Script) (stop : Stop) (failing_call : Option ℕ) (image : MemState) (sealed : History) (shown : Option ℕ) (named : NamedBlocks) : Type 0 where
   pub device : MemState
   pub led : IsLedTo IsZeroHome script.operations.items (state_of device) sealed shown

@@ -16,8 +16,8 @@ use script_client::Fault;
 use std::alloc::Global;
 use std::io::Write;
 
-/// Runs a script as `run` does, and copies the crash image to a device of the script's measures, durably, before it is opened. The
-/// verdict is on what that device has.
+/// Runs a script as `run` does, and copies the crash image to a device of the script's measures, durably, before it is opened. The verdict
+/// is on what that device has.
 ///
 /// # Errors
 ///

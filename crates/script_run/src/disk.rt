@@ -46,8 +46,8 @@ pub fn run_device(disk: MemDevice, stop: Option<u64>, fail: Option<u64>) -> RunD
     )
 }
 
-/// Opens an empty log of these measures, over a device that stops at write `stop`, and whose call `fail` fails, if they are given. Both
-/// are counted from 1 after the opening, which makes no write.
+/// Opens an empty log of these measures, over a device that stops at write `stop`, and whose call `fail` fails, if they are given. Both are
+/// counted from 1 after the opening, which makes no write.
 ///
 /// # Errors
 ///

@@ -69,10 +69,9 @@ impl Stopped {
     }
 }
 
-/// Runs a script over a device in memory. Prints a line for each operation, the dump of the crash image, and the verdict on its
-/// openings, which is also the answer. Writes and calls of the run are numbered from 1 after the format and the opening; writes of the
-/// later opening from 1 again. If a call is to fail, the script goes on after it; else it ends at the first operation that the device
-/// refuses.
+/// Runs a script over a device in memory. Prints a line for each operation, the dump of the crash image, and the verdict on its openings,
+/// which is also the answer. Writes and calls of the run are numbered from 1 after the format and the opening; writes of the later opening
+/// from 1 again. If a call is to fail, the script goes on after it; else it ends at the first operation that the device refuses.
 ///
 /// # Errors
 ///
@@ -214,8 +213,8 @@ fn is_stopped_by(stop: Option<u64>, stopped: &Stopped) -> bool
     }
 }
 
-/// Crashes the device with the unflushed writes of `keep`, dumps the image, opens it, and prints how the named home blocks begin and
-/// the verdict, which is the answer.
+/// Crashes the device with the unflushed writes of `keep`, dumps the image, opens it, and prints how the named home blocks begin and the
+/// verdict, which is the answer.
 ///
 /// # Errors
 ///

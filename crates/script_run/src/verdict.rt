@@ -72,8 +72,7 @@ impl Record {
 
     /// Whether an opening that found the first `n` recorded transactions is right: nothing acknowledged is lost, nothing unsealed is there,
     /// and each named block is as those `n` left it. A block without an entry must be zeros, unless a direct write names it; a block that
-    /// they
-    /// revoked last may hold anything.
+    /// they revoked last may hold anything.
     ///
     /// # Errors
     ///
